@@ -4,7 +4,8 @@ use crate::packets::{
     QOS_0, QUEUED, RETURNING, SUBSCRIBE, SUBSCRIBE_QUEUED, answer, connect, publish, subscribe,
 };
 use anyhow::Context;
-use mqtt_broker::{Engine, EngineError, MemKeep, Outcome};
+use mqtt_broker::{Engine, EngineError, Outcome};
+use mqtt_records::MemKeep;
 
 /// How many publications go before their answers: a turn of sending has as many (4.9).
 const BATCH: u8 = 16;

@@ -7,7 +7,9 @@ mod bed;
 mod packets;
 
 use crate::bed::{Crowd, Lines, Step, Tally, gather, make};
-use mqtt_broker::{Engine, Full, KeepError, Limits, MemKeep};
+use mqtt_broker::{Engine, KeepError, Limits};
+use mqtt_flow::Full;
+use mqtt_records::MemKeep;
 use std::alloc::Global;
 use std::env;
 use std::hash::RandomState;

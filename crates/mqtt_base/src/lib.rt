@@ -2,6 +2,8 @@
 #![tactic(auto)]
 
 mod blob;
+mod escaped;
+mod escaped_laws;
 mod fault;
 mod kind;
 mod laws;
@@ -14,6 +16,8 @@ mod text;
 mod varint;
 
 pub use blob::{Blob, blob_push, blob_read};
+pub use escaped::Escaped;
+pub use escaped_laws::one_word;
 pub use fault::ReadFault;
 pub use kind::Kind;
 pub use laws::{fewest_bytes, one_spelling, text_is_characters};

@@ -6,20 +6,20 @@ use Rattle.std.proofs.lemmas.Bool.{cases_Bool, eqb-true}
 use Rattle.std.proofs.lemmas.Cmp.{nat_eq_equiv}
 use Rattle.std.proofs.lemmas.List.{drop-append-le, take-append-drop, take-append-le}
 use Rattle.mqtt_codec.specs.declared.packet.Packet.{Packet}
-use Rattle.mqtt_codec.specs.Faults.{answer_to}
-use Rattle.mqtt_fields.specs.declared.fault.Fault.{Fault}
+use Rattle.mqtt_codec_parts.specs.Faults.{answer_to}
+use Rattle.mqtt_codec_parts.specs.declared.fault.Fault.{Fault}
 use Rattle.mqtt_packet.specs.Front.{first_of}
 use Rattle.mqtt_packet.specs.Stream.{Ending, EndsAs, Framing, IsCut, IsStream, Item, after, empty, fault_at, place_after, short_at}
 use Rattle.mqtt_packet.proofs.Cuts.{fault_stays, packet_stays}
 use Rattle.mqtt_packet.proofs.Fronts.{first_within}
-use Rattle.mqtt_opening.specs.TheRules.declared.Limits.{Limits}
-use Rattle.mqtt_opening.specs.TheRules.Deeds.{Deed, closing}
-use Rattle.mqtt_opening.specs.TheRules.Lines.{line_number}
-use Rattle.mqtt_opening.specs.TheRules.Piece.{Front, Pieced, begins_connect, bytes_taken, call_by, call_on, code_of, fed, held_on, is_whole, pieced, stepped_if, taken_on, without_by}
-use Rattle.mqtt_opening.specs.TheRules.State.{Broker, Env, Line, MemberChoice, line_at}
-use Rattle.mqtt_opening.specs.TheRules.Step.{BadInput, Call, at_moment, deeds, env_of, on_fault, stepped, told}
-use Rattle.mqtt_opening.proofs.TheRules.Acts.{found_number}
-use Rattle.mqtt_framing.proofs.Held.{nothing_whole}
+use Rattle.mqtt_rules.specs.declared.Limits.{Limits}
+use Rattle.mqtt_rules.specs.Deeds.{Deed, closing}
+use Rattle.mqtt_rules.specs.Lines.{line_number}
+use Rattle.mqtt_rules.specs.Piece.{Front, Pieced, begins_connect, bytes_taken, call_by, call_on, code_of, fed, held_on, is_whole, pieced, stepped_if, taken_on, without_by}
+use Rattle.mqtt_rules.specs.State.{Broker, Env, Line, MemberChoice, line_at}
+use Rattle.mqtt_rules.specs.Step.{BadInput, Call, at_moment, deeds, env_of, on_fault, stepped, told}
+use Rattle.mqtt_rules.proofs.acts.Acts.{found_number}
+use Rattle.mqtt_broker.proofs.HeldBytes.{nothing_whole}
 use Rattle.mqtt_broker.specs.Cut.{Coming, Piece, Other, Giving, IsFrontOf, IsGivenOn, IsGivenWhole, IsNext, IsStanding, after_coming, after_comings, answered, answered_in, fault_in, given_first, packets_of, there_in, whole_in}
 use Rattle.mqtt_broker.specs.Serving.{has_closed}
 use Rattle.mqtt_broker.proofs.Framings.{taken_within}

@@ -5,10 +5,10 @@ use Rattle.std.specs.Prelude.{Ok, Err, is_some}
 use Rattle.std.proofs.lemmas.Bool.{cases_Bool, eqb-true}
 use Rattle.mqtt_packet.specs.Front.{first_of}
 use Rattle.mqtt_packet.specs.Stream.{Framing, empty, without_last}
-use Rattle.mqtt_rows.specs.Order.{has_row, remove_row, row_at}
-use Rattle.mqtt_opening.specs.TheRules.Piece.{Front, bytes_taken, fed, is_whole, taken_by, without_first}
-use Rattle.mqtt_framing.specs.Framers.{HeldLine, changed_at, framing_at, framing_of, given_back, in_framing, line_of, taken_of}
-use Rattle.mqtt_framing.proofs.Held.{nothing_whole}
+use Rattle.mqtt_records_rows.specs.Order.{has_row, remove_row, row_at}
+use Rattle.mqtt_rules.specs.Piece.{Front, bytes_taken, fed, is_whole, taken_by, without_first}
+use Rattle.mqtt_broker.specs.Framers.{HeldLine, changed_at, framing_at, framing_of, given_back, in_framing, line_of, taken_of}
+use Rattle.mqtt_broker.proofs.HeldBytes.{nothing_whole}
 use Rattle.mqtt_broker.specs.Serving.{ended, has_closed, without_closed}
 
 -- ---- changed twice

@@ -5,16 +5,16 @@ use Rattle.std.proofs.lemmas.Bool.{cases_Bool, eqb-true}
 use Rattle.std.proofs.lemmas.Cmp.{nat_eq_equiv}
 use Rattle.mqtt_base.specs.declared.limits.TheConstants.{LINE_LIMIT, LAST_NUMBER}
 use Rattle.mqtt_records.specs.declared.change.Change.{Change}
-use Rattle.mqtt_rows.specs.Order.{IsBelow, has_row}
-use Rattle.mqtt_opening.specs.TheRules.declared.Limits.{Limits}
-use Rattle.mqtt_opening.specs.TheRules.Deeds.{Resume, Close, SetExpiry, DropWill, Subscribe, Unsubscribe, Open, Release, Enter, Mark, Leave, Part, LinePart, Hear, Greet, SetAlias, Went, Deed, Accept, Begin, Name, Count, At, Finish, Keep, Forget, RefuseWill, Link, On, Send, Gone, line_after, on_line, without_place, lines_at, lines_after, given_after, after, after_all, closing, rows_of_all}
-use Rattle.mqtt_opening.specs.TheRules.Lines.{line_number}
-use Rattle.mqtt_opening.specs.TheRules.State.{Line, Broker, MemberChoice, is_of, line_at}
-use Rattle.mqtt_opening.specs.TheRules.Step.{Call, NewLine, Outcome, BrokerStep, at_moment, can_link, deeds, done, stepped, told, with_moment, env_of}
-use Rattle.mqtt_opening.proofs.TheRules.Goods.{AreGood}
-use Rattle.mqtt_opening.proofs.TheRules.NumberBirths.{below_filter}
-use Rattle.mqtt_framing.specs.Framers.{HeldLine, begun, line_of}
-use Rattle.mqtt_opening.specs.TheTables.Doing.{next_line}
+use Rattle.mqtt_records_rows.specs.Order.{IsBelow, has_row}
+use Rattle.mqtt_rules.specs.declared.Limits.{Limits}
+use Rattle.mqtt_rules.specs.Deeds.{Resume, Close, SetExpiry, DropWill, Subscribe, Unsubscribe, Open, Release, Enter, Mark, Leave, Part, LinePart, Hear, Greet, SetAlias, Went, Deed, Accept, Begin, Name, Count, At, Finish, Keep, Forget, RefuseWill, Link, On, Send, Gone, line_after, on_line, without_place, lines_at, lines_after, given_after, after, after_all, closing, rows_of_all}
+use Rattle.mqtt_rules.specs.Lines.{line_number}
+use Rattle.mqtt_rules.specs.State.{Line, Broker, MemberChoice, is_of, line_at}
+use Rattle.mqtt_rules.specs.Step.{Call, NewLine, Outcome, BrokerStep, at_moment, can_link, deeds, done, stepped, told, with_moment, env_of}
+use Rattle.mqtt_rules.proofs.acts.Goods.{AreGood}
+use Rattle.mqtt_rules.proofs.numbers.NumberBirths.{below_filter}
+use Rattle.mqtt_broker.specs.Framers.{HeldLine, begun, line_of}
+use Rattle.mqtt_broker_step.specs.Doing.{next_line}
 use Rattle.mqtt_broker.specs.Serving.{IsOfLines, has_closed, with_linked, without_closed}
 use Rattle.mqtt_broker.proofs.Unlinked.{IsUnlinked, IsOld, un_call}
 

@@ -6,3 +6,5 @@ pub mod Cuts
 pub mod Serving
 pub mod Pieced
 pub mod Opened
+pub mod FirstPackets
+pub mod HeldBytes

@@ -4,15 +4,15 @@ use Rattle.std.proofs.lemmas.List.{length-map}
 use Rattle.std.specs.Prelude.{◌&&◌}
 use Rattle.std.proofs.lemmas.Bool.{ltb-true}
 use Rattle.mqtt_base.specs.declared.limits.TheConstants.{LINE_LIMIT, LAST_NUMBER}
-use Rattle.mqtt_rows.specs.Order.{IsBelow, put_row}
-use Rattle.mqtt_rows.proofs.LookUps.{put_row-last}
-use Rattle.mqtt_opening.specs.TheRules.declared.Limits.{Limits}
-use Rattle.mqtt_opening.specs.TheRules.Deeds.{Deed, Link, fresh_line}
-use Rattle.mqtt_opening.specs.TheRules.Lines.{line_number}
-use Rattle.mqtt_opening.specs.TheRules.State.{Line, Broker}
-use Rattle.mqtt_opening.specs.TheRules.Step.{NewLine, Outcome, BrokerStep, at_moment, can_link, done}
-use Rattle.mqtt_framing.specs.Framers.{HeldLine, begun, line_of}
-use Rattle.mqtt_opening.specs.TheTables.Doing.{next_line}
+use Rattle.mqtt_records_rows.specs.Order.{IsBelow, put_row}
+use Rattle.mqtt_records_rows.proofs.LookUps.{put_row-last}
+use Rattle.mqtt_rules.specs.declared.Limits.{Limits}
+use Rattle.mqtt_rules.specs.Deeds.{Deed, Link, fresh_line}
+use Rattle.mqtt_rules.specs.Lines.{line_number}
+use Rattle.mqtt_rules.specs.State.{Line, Broker}
+use Rattle.mqtt_rules.specs.Step.{NewLine, Outcome, BrokerStep, at_moment, can_link, done}
+use Rattle.mqtt_broker.specs.Framers.{HeldLine, begun, line_of}
+use Rattle.mqtt_broker_step.specs.Doing.{next_line}
 use Rattle.mqtt_broker.specs.Serving.{IsOfLines, with_linked}
 
 below_last : (n : ℕ) (held : List HeldLine) → IsBelow line_of n held → IsBelow line_of (suc n) (held ++ begun n ∷ [])

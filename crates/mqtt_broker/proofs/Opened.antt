@@ -2,14 +2,14 @@
 use Rattle.std.proofs.Common.{◌≡◌, ℕ, List, [], map, sym, subst, ap, ◌∙◌}
 use Rattle.mqtt_records.specs.declared.keep.Keep.{Ghosts}
 use Rattle.mqtt_records.specs.declared.records.Records.{Records}
-use Rattle.mqtt_opening.specs.TheRules.declared.Limits.{Limits}
-use Rattle.mqtt_opening.specs.TheRules.Deeds.{Deed, after_all, rows_of_all}
-use Rattle.mqtt_opening.specs.TheRules.Lines.{line_number}
-use Rattle.mqtt_opening.specs.TheRules.State.{Broker, MemberChoice}
-use Rattle.mqtt_opening.specs.TheRules.Step.{BrokerOpening, env_of, opening_deeds, unopened}
-use Rattle.mqtt_framing.specs.Framers.{HeldLine}
-use Rattle.mqtt_opening.specs.Running.{Running}
-use Rattle.mqtt_opening.specs.Opening.{IsOpened}
+use Rattle.mqtt_rules.specs.declared.Limits.{Limits}
+use Rattle.mqtt_rules.specs.Deeds.{Deed, after_all, rows_of_all}
+use Rattle.mqtt_rules.specs.Lines.{line_number}
+use Rattle.mqtt_rules.specs.State.{Broker, MemberChoice}
+use Rattle.mqtt_rules.specs.Step.{BrokerOpening, env_of, opening_deeds, unopened}
+use Rattle.mqtt_broker.specs.Framers.{HeldLine}
+use Rattle.mqtt_broker_engine.specs.Running.{Running}
+use Rattle.mqtt_broker_engine.specs.Opening.{IsOpened}
 use Rattle.mqtt_broker.specs.Serving.{IsOfLines}
 use Rattle.mqtt_broker.proofs.Left.{moment_lines, numbers_all}
 use Rattle.mqtt_broker.proofs.Unlinked.{un_opening}

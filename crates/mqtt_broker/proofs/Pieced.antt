@@ -1,24 +1,23 @@
 -- What the first bytes of a line ask, done by the engine, is the step of a piece.
 use Rattle.std.proofs.Common.{◌≡◌, ℕ, ◌<◌, ◌≤◌, Bool, true, false, cond, List, [], ◌∷◌, length, Option, Some, None, refl, sym, ap, subst, ◌∙◌, inl}
 use Rattle.std.specs.Prelude.{⊤, ◌≢◌, ◌&&◌, Result, Ok, Err, IsErrOf, is_some, map, suc}
-use Rattle.mqtt_codec.specs.Faults.{answer_to}
+use Rattle.mqtt_codec_parts.specs.Faults.{answer_to}
 use Rattle.mqtt_packet.specs.Front.{first_of}
 use Rattle.mqtt_packet.specs.Stream.{Framing}
 use Rattle.mqtt_records.specs.declared.keep.Keep.{Ghosts}
 use Rattle.mqtt_records.specs.declared.records.Records.{Records}
-use Rattle.mqtt_rows.specs.Order.{IsBelow, has_row, row_at}
-use Rattle.mqtt_opening.specs.TheRules.declared.Limits.{Limits}
-use Rattle.mqtt_opening.specs.TheRules.Piece.{Front, begins_connect, bytes_taken, call_by, call_on, code_of, fed, first_call, held_on, is_spent_if, is_whole, pieced, stepped_if, taken_on, told_if, without_first}
-use Rattle.mqtt_opening.specs.TheRules.State.{Broker, Line, MemberChoice, line_at, stored}
-use Rattle.mqtt_opening.specs.TheRules.Step.{BadInput, Call, Input, at_moment, bytes_out, nothing_told}
-use Rattle.mqtt_opening.specs.TheRules.Step.{Outcome as Told}
-use Rattle.mqtt_opening.proofs.TheRules.Acts.{found_number}
-use Rattle.mqtt_opening.specs.TheTables.declared.call.EngineError.{EngineError}
-use Rattle.mqtt_opening.specs.TheTables.declared.call.EngineError.TheVariants.{Memory, Stopped, Spent}
-use Rattle.mqtt_framing.specs.Framers.{HeldLine, changed_at, framing_at, given_back, line_of, taken_of}
-use Rattle.mqtt_opening.specs.Outcome.{Outcome}
-use Rattle.mqtt_opening.specs.Calling.{Called, KeepsLines, Tells}
-use Rattle.mqtt_opening.specs.Running.{Running}
+use Rattle.mqtt_records_rows.specs.Order.{IsBelow, has_row, row_at}
+use Rattle.mqtt_rules.specs.declared.Limits.{Limits}
+use Rattle.mqtt_rules.specs.Piece.{Front, begins_connect, bytes_taken, call_by, call_on, code_of, fed, first_call, held_on, is_spent_if, is_whole, pieced, stepped_if, taken_on, told_if, without_first}
+use Rattle.mqtt_rules.specs.State.{Broker, Line, MemberChoice, line_at, stored}
+use Rattle.mqtt_rules.specs.Step.{BadInput, Call, Input, at_moment, bytes_out, nothing_told, Outcome as Told}
+use Rattle.mqtt_rules.proofs.acts.Acts.{found_number}
+use Rattle.mqtt_broker_step.specs.declared.call.EngineError.{EngineError}
+use Rattle.mqtt_broker_step.specs.declared.call.EngineError.TheVariants.{Memory, Stopped, Spent}
+use Rattle.mqtt_broker.specs.Framers.{HeldLine, changed_at, framing_at, given_back, line_of, taken_of}
+use Rattle.mqtt_broker_engine.specs.declared.outcome.Outcome.{Outcome}
+use Rattle.mqtt_broker_engine.specs.Calling.{Called, KeepsLines, Tells}
+use Rattle.mqtt_broker_engine.specs.Running.{Running}
 use Rattle.mqtt_broker.specs.Asking.{CalledIf, Rested}
 use Rattle.mqtt_broker.specs.Piece.{IsLeftByAny, IsPieceAnswered, IsSpentBy, PieceCalled}
 use Rattle.mqtt_broker.specs.Serving.{IsOfLines, serving, without_closed}

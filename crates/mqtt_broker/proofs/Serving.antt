@@ -3,17 +3,17 @@ use Rattle.std.proofs.Common.{◌≡◌, ℕ, suc, Bool, true, false, List, Opti
 use Rattle.std.specs.Prelude.{Result, Ok, Err, IfOk, OnErr, IsErrOf, is_some}
 use Rattle.mqtt_records.specs.declared.keep.Keep.{Ghosts}
 use Rattle.mqtt_records.specs.declared.records.Records.{Records}
-use Rattle.mqtt_rows.specs.Order.{IsBelow, has_row}
-use Rattle.mqtt_opening.specs.TheRules.Lines.{line_number}
-use Rattle.mqtt_opening.specs.TheRules.State.{Broker, Line, line_at}
-use Rattle.mqtt_opening.specs.TheRules.Step.{Call, at_moment, nothing_told}
-use Rattle.mqtt_opening.specs.TheTables.declared.call.EngineError.{EngineError}
-use Rattle.mqtt_opening.specs.TheTables.declared.call.EngineError.TheVariants.{Memory, Stopped, Spent}
-use Rattle.mqtt_framing.specs.Framers.{HeldLine, line_of}
-use Rattle.mqtt_opening.specs.Outcome.{Outcome}
-use Rattle.mqtt_opening.specs.Calling.{Called, IsOn, KeepsLines, Tells}
-use Rattle.mqtt_opening.specs.Running.{Running}
-use Rattle.mqtt_opening.proofs.Linked.{passed_over}
+use Rattle.mqtt_records_rows.specs.Order.{IsBelow, has_row}
+use Rattle.mqtt_rules.specs.Lines.{line_number}
+use Rattle.mqtt_rules.specs.State.{Broker, Line, line_at}
+use Rattle.mqtt_rules.specs.Step.{Call, at_moment, nothing_told}
+use Rattle.mqtt_broker_step.specs.declared.call.EngineError.{EngineError}
+use Rattle.mqtt_broker_step.specs.declared.call.EngineError.TheVariants.{Memory, Stopped, Spent}
+use Rattle.mqtt_broker.specs.Framers.{HeldLine, line_of}
+use Rattle.mqtt_broker_engine.specs.declared.outcome.Outcome.{Outcome}
+use Rattle.mqtt_broker_engine.specs.Calling.{Called, IsOn, KeepsLines, Tells}
+use Rattle.mqtt_broker_engine.specs.Running.{Running}
+use Rattle.mqtt_broker_engine.proofs.Linked.{passed_over}
 use Rattle.mqtt_broker.specs.Serving.{IsOfLines, Served, Serving, serving, without_closed}
 use Rattle.mqtt_broker.proofs.Framings.{none_ended}
 use Rattle.mqtt_broker.proofs.Left.{is_linked, of_lines_moment, of_lines_step}

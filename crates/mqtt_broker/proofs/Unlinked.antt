@@ -4,47 +4,48 @@ use Rattle.std.specs.Prelude.{⊤, Ok, Err, find, flat_map, nat_lt, nat_le, opti
 use Rattle.mqtt_props.specs.declared.table.PropName.TheVariants.{SessionExpiryInterval, SubscriptionIdentifier, TopicAlias}
 use Rattle.mqtt_base.specs.Codes.{identifier_in_use}
 use Rattle.mqtt_base.specs.declared.session.Ending.TheVariants.{SessionEnded}
-use Rattle.mqtt_connect.specs.declared.connect.Connect.{Connect as Greeting}
+use Rattle.mqtt_codec_connect.specs.declared.connect.Connect.{Connect as Greeting}
 use Rattle.mqtt_codec.specs.declared.packet.Packet.{Packet}
 use Rattle.mqtt_codec.specs.declared.packet.Packet.TheVariants as packets
 use Rattle.mqtt_codec.specs.declared.publish.Delivery.{Delivery}
 use Rattle.mqtt_codec.specs.declared.publish.Delivery.TheVariants as delivery
 use Rattle.mqtt_codec.specs.declared.publish.Publish.{Publish as Publication}
-use Rattle.mqtt_codec.specs.Subscriptions.{Subscription as Asked}
-use Rattle.mqtt_subscribe.specs.declared.subscribe.Subscribe.{Subscribe as Asking}
-use Rattle.mqtt_subscribe.specs.declared.unsubscribe.Unsubscribe.{Unsubscribe as GivingUp}
+use Rattle.mqtt_codec_subscribe.specs.Subscriptions.{Subscription as Asked}
+use Rattle.mqtt_codec_subscribe.specs.declared.subscribe.Subscribe.{Subscribe as Asking}
+use Rattle.mqtt_codec_subscribe.specs.declared.unsubscribe.Unsubscribe.{Unsubscribe as GivingUp}
 use Rattle.mqtt_flow.specs.declared.entry.Turn.{Turn}
 use Rattle.mqtt_flow.specs.declared.entry.Turn.TheVariants as turns
 use Rattle.mqtt_flow.specs.Outbound.{Answer, resumed_with, way_made}
 use Rattle.mqtt_flow.specs.Outbound as rules
-use Rattle.mqtt_inbound.specs.declared.inflow.Published.{Published}
-use Rattle.mqtt_inbound.specs.declared.inflow.Published.TheVariants.{New, Again, Over}
-use Rattle.mqtt_inbound.specs.declared.inflow.ReleaseAnswer.{ReleaseAnswer}
-use Rattle.mqtt_inbound.specs.declared.inflow.ReleaseAnswer.TheVariants.{Known, Unknown}
-use Rattle.mqtt_inbound.specs.Identifiers.{is_among}
-use Rattle.mqtt_inbound.specs.Inbound.{answer_to_release}
-use Rattle.mqtt_message.specs.declared.message.MessageCopy.{MessageCopy}
-use Rattle.mqtt_message.specs.declared.message.RetainedMessage.{RetainedMessage}
-use Rattle.mqtt_message.specs.declared.message.Will.{Will}
-use Rattle.mqtt_message.specs.Queue.{CopyRow}
+use Rattle.mqtt_flow_inbound.specs.declared.inflow.Published.{Published}
+use Rattle.mqtt_flow_inbound.specs.declared.inflow.Published.TheVariants.{New, Again, Over}
+use Rattle.mqtt_flow_inbound.specs.declared.inflow.ReleaseAnswer.{ReleaseAnswer}
+use Rattle.mqtt_flow_inbound.specs.declared.inflow.ReleaseAnswer.TheVariants.{Known, Unknown}
+use Rattle.mqtt_flow_inbound.specs.Identifiers.{is_among}
+use Rattle.mqtt_flow_inbound.specs.Inbound.{answer_to_release}
+use Rattle.mqtt_records_message.specs.declared.message.MessageCopy.{MessageCopy}
+use Rattle.mqtt_records_message.specs.declared.message.RetainedMessage.{RetainedMessage}
+use Rattle.mqtt_records_message.specs.declared.message.Will.{Will}
+use Rattle.mqtt_records_message.specs.Queue.{CopyRow}
 use Rattle.mqtt_records.specs.declared.session.Session.{Session}
 use Rattle.mqtt_records.specs.declared.records.Records.{Records}
 use Rattle.mqtt_records.specs.Session.{copy_place}
-use Rattle.mqtt_rows.specs.Order.{row_at}
+use Rattle.mqtt_records_rows.specs.Order.{row_at}
 use Rattle.mqtt_topic.specs.Names.{is_empty}
-use Rattle.mqtt_opening.specs.TheRules.Packets.{number_at, publish_of, suback, unsuback, connack, disconnect}
-use Rattle.mqtt_opening.specs.TheRules.State.{Line, Broker, Env, session_at, session_named, line_at, line_of, is_connected, queue_on}
-use Rattle.mqtt_opening.specs.TheRules.Deeds.{Whose, whose, Message, Origin, FromClient, FromWill, Resume, Close, DropWill, Enter, Leave, Hear, Deed, Accept, Begin, Name, Count, At, Finish, Forget, RefuseWill, Link, On, Send, Gone, Act, after_all, always, series, only_if, of_session, with_line, offer}
-use Rattle.mqtt_opening.specs.TheRules.Deeds as deeds
-use Rattle.mqtt_opening.specs.TheRules.Outbound.{leave_deeds, turn_deeds, all_turn_deeds, enter_deeds, queue_limits, since}
-use Rattle.mqtt_opening.specs.TheRules.Routing.{CopyTo, accepted_copies, is_queued, deliver_by, deliver, retained_of, forgets, retain_by, next_publication, publish, is_wanted}
-use Rattle.mqtt_opening.specs.TheRules.Closing.{has_due_will, has_due_end, will_message, publish_or_refuse, will_deeds, publish_will, end_session, settle, close_session, close_connected, close, drop_line}
-use Rattle.mqtt_opening.specs.TheRules.Connect.{largest_of, refusal, refusal_size, refused, of_client, take_over, clear, prepare, resume, begin_named, joins, joins_after, connect_by, on_connect, expiry_of, will_of, greet, connack_properties}
-use Rattle.mqtt_opening.specs.TheRules.Inbound.{Meaning, Means, Wrong, meaning, sets_alias, standing, answer, opens, code_again, code_accepted, publish_new, publish_by, message_of, publish_meant, release_by, on_answer, pump_turns, new_expiry, is_late_expiry, leave_by}
-use Rattle.mqtt_opening.specs.TheRules.Subscribe as sub
-use Rattle.mqtt_opening.specs.TheRules.Tick.{is_silent, silence, lapses, has_lapsed, lapse_deeds, is_stale, first_due, due, on_tick}
-use Rattle.mqtt_opening.specs.TheRules.Step.{Call, NewLine, Input, BadInput, Lost, Pump, Tick, first_packet, next_packet, on_packet, on_fault, late_code, on_pump, deeds_of, close_if, opening}
-use Rattle.mqtt_opening.proofs.TheRules.Goods.{AreGood, GoodAct, GoodActs, good_append, good_series, good_two, good_map, good_flat, good_acts, good_cond, good_if, good_with_session, good_of_session, good_of_client, good_with_line, good_of_entry}
+use Rattle.mqtt_records_message.specs.PassedOn.{number_at}
+use Rattle.mqtt_rules.specs.Packets.{publish_of, suback, unsuback, connack, disconnect}
+use Rattle.mqtt_rules.specs.State.{Line, Broker, Env, session_at, session_named, line_at, line_of, is_connected, queue_on}
+use Rattle.mqtt_rules.specs.Deeds.{Whose, whose, Message, Origin, FromClient, FromWill, Resume, Close, DropWill, Enter, Leave, Hear, Deed, Accept, Begin, Name, Count, At, Finish, Forget, RefuseWill, Link, On, Send, Gone, Act, after_all, always, series, only_if, of_session, with_line, offer}
+use Rattle.mqtt_rules.specs.Deeds as deeds
+use Rattle.mqtt_rules.specs.Outbound.{leave_deeds, turn_deeds, all_turn_deeds, enter_deeds, queue_limits, since}
+use Rattle.mqtt_rules.specs.Routing.{CopyTo, accepted_copies, is_queued, deliver_by, deliver, retained_of, forgets, retain_by, next_publication, publish, is_wanted}
+use Rattle.mqtt_rules.specs.Closing.{has_due_will, has_due_end, will_message, publish_or_refuse, will_deeds, publish_will, end_session, settle, close_session, close_connected, close, drop_line}
+use Rattle.mqtt_rules.specs.Connect.{largest_of, refusal, refusal_size, refused, of_client, take_over, clear, prepare, resume, begin_named, joins, joins_after, connect_by, on_connect, expiry_of, will_of, greet, connack_properties}
+use Rattle.mqtt_rules.specs.Inbound.{Meaning, Means, Wrong, meaning, sets_alias, standing, answer, opens, code_again, code_accepted, publish_new, publish_by, message_of, publish_meant, release_by, on_answer, pump_turns, new_expiry, is_late_expiry, leave_by}
+use Rattle.mqtt_rules.specs.Subscribe as sub
+use Rattle.mqtt_rules.specs.Tick.{is_silent, silence, lapses, has_lapsed, lapse_deeds, is_stale, first_due, due, on_tick}
+use Rattle.mqtt_rules.specs.Step.{Call, NewLine, Input, BadInput, Lost, Pump, Tick, first_packet, next_packet, on_packet, on_fault, late_code, on_pump, deeds_of, close_if, opening}
+use Rattle.mqtt_rules.proofs.acts.Goods.{AreGood, GoodAct, GoodActs, good_append, good_series, good_two, good_map, good_flat, good_acts, good_cond, good_if, good_with_session, good_of_session, good_of_client, good_with_line, good_of_entry}
 
 abbrev pub IsUnlinked : Deed → Broker → Type 0
 IsUnlinked (Link n) b = ⊥

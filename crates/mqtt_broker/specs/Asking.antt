@@ -1,12 +1,12 @@
 -- What the first bytes of a line ask of the engine, if anything is whole (MQTT 5.0, 2.1, 4.13).
 use Rattle.std.specs.Prelude.{◌≡◌, ℕ, Option, Some, None, Result, IfOk, IfErr}
 use Rattle.mqtt_records.specs.declared.keep.Keep.{Ghosts}
-use Rattle.mqtt_opening.specs.TheRules.Step.{Call, at_moment, nothing_told}
-use Rattle.mqtt_opening.specs.TheTables.declared.call.EngineError.{EngineError}
-use Rattle.mqtt_opening.specs.TheTables.declared.call.EngineError.TheVariants.{Memory}
-use Rattle.mqtt_opening.specs.Outcome.{Outcome}
-use Rattle.mqtt_opening.specs.Calling.{Called, Tells}
-use Rattle.mqtt_opening.specs.Running.{Running}
+use Rattle.mqtt_rules.specs.Step.{Call, at_moment, nothing_told}
+use Rattle.mqtt_broker_step.specs.declared.call.EngineError.{EngineError}
+use Rattle.mqtt_broker_step.specs.declared.call.EngineError.TheVariants.{Memory}
+use Rattle.mqtt_broker_engine.specs.declared.outcome.Outcome.{Outcome}
+use Rattle.mqtt_broker_engine.specs.Calling.{Called, Tells}
+use Rattle.mqtt_broker_engine.specs.Running.{Running}
 
 -- nothing came about but that the moment is the greatest handed in; or, for want of memory, not even that
 pub record Rested {K : Type 0} (now : ℕ) (old : Running K) (result : Result Outcome EngineError) (new : Running K) : Type 0 where

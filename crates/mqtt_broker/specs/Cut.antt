@@ -1,13 +1,13 @@
 -- A stream of bytes comes on a line in pieces, with other calls between them: what of it is answered (MQTT 5.0, 2.1, 4.13).
 use Rattle.std.specs.Prelude.{◌≡◌, ⊤, ℕ, Bool, true, false, List, [], ◌∷◌, ◌++◌, drop, map, Option, Some, None, is_some, Result, Ok, Err}
-use Rattle.mqtt_fields.specs.declared.fault.Fault.{Fault}
+use Rattle.mqtt_codec_parts.specs.declared.fault.Fault.{Fault}
 use Rattle.mqtt_codec.specs.declared.packet.Packet.{Packet}
 use Rattle.mqtt_packet.specs.Front.{first_of}
 use Rattle.mqtt_packet.specs.Stream.{Ending, Framing, Item, empty, fault_at, short_at}
-use Rattle.mqtt_opening.specs.TheRules.declared.Limits.{Limits}
-use Rattle.mqtt_opening.specs.TheRules.Piece.{Front, Pieced, fed, pieced}
-use Rattle.mqtt_opening.specs.TheRules.State.{Broker, MemberChoice, line_at}
-use Rattle.mqtt_opening.specs.TheRules.Step.{Call, stepped}
+use Rattle.mqtt_rules.specs.declared.Limits.{Limits}
+use Rattle.mqtt_rules.specs.Piece.{Front, Pieced, fed, pieced}
+use Rattle.mqtt_rules.specs.State.{Broker, MemberChoice, line_at}
+use Rattle.mqtt_rules.specs.Step.{Call, stepped}
 
 -- ---- what comes
 

@@ -3,6 +3,4 @@ pub mod Piece
 pub mod Asking
 pub mod Cut
 pub mod Opening
-pub use Rattle.mqtt_opening.specs.Outcome
-pub use Rattle.mqtt_opening.specs.TheRules
-pub use Rattle.mqtt_opening.specs.TheTables
+pub mod Framers

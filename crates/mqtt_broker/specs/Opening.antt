@@ -1,6 +1,6 @@
 -- A broker that is opened (MQTT 5.0, 4.1).
 use Rattle.std.specs.Prelude.{Result, Ok, Err}
-use Rattle.mqtt_opening.specs.Running.{Running}
+use Rattle.mqtt_broker_engine.specs.Running.{Running}
 use Rattle.mqtt_broker.specs.Serving.{Serving}
 
 -- the engine within, or the refusal

@@ -3,15 +3,15 @@ use Rattle.std.specs.Prelude.{◌≡◌, ◌≢◌, ◌⊎◌, ℕ, true, false,
 use Rattle.mqtt_packet.specs.Stream.{Framing}
 use Rattle.mqtt_records.specs.declared.keep.Keep.{Ghosts}
 use Rattle.mqtt_records.specs.declared.records.Records.{Records}
-use Rattle.mqtt_opening.specs.TheRules.declared.Limits.{Limits}
-use Rattle.mqtt_opening.specs.TheRules.Piece.{PieceStep, Pieced, call_on}
-use Rattle.mqtt_opening.specs.TheRules.State.{Broker, line_at, stored}
-use Rattle.mqtt_opening.specs.TheRules.Step.{Call, SpentStep}
-use Rattle.mqtt_framing.specs.Framers.{changed_at, framing_at}
-use Rattle.mqtt_opening.specs.TheTables.declared.call.EngineError.{EngineError}
-use Rattle.mqtt_opening.specs.TheTables.declared.call.EngineError.TheVariants.{Memory, Stopped, Spent}
-use Rattle.mqtt_opening.specs.Outcome.{Outcome}
-use Rattle.mqtt_opening.specs.Calling.{IsLeftBy, KeepsLines, Tells}
+use Rattle.mqtt_rules.specs.declared.Limits.{Limits}
+use Rattle.mqtt_rules.specs.Piece.{PieceStep, Pieced, call_on}
+use Rattle.mqtt_rules.specs.State.{Broker, line_at, stored}
+use Rattle.mqtt_rules.specs.Step.{Call, SpentStep}
+use Rattle.mqtt_broker.specs.Framers.{changed_at, framing_at}
+use Rattle.mqtt_broker_step.specs.declared.call.EngineError.{EngineError}
+use Rattle.mqtt_broker_step.specs.declared.call.EngineError.TheVariants.{Memory, Stopped, Spent}
+use Rattle.mqtt_broker_engine.specs.declared.outcome.Outcome.{Outcome}
+use Rattle.mqtt_broker_engine.specs.Calling.{IsLeftBy, KeepsLines, Tells}
 use Rattle.mqtt_broker.specs.Serving.{Serving, without_closed}
 
 -- what the line's bytes ask with the piece behind them, if the line is linked and something is whole

@@ -2,15 +2,15 @@
 use Rattle.std.specs.Prelude.{◌≡◌, ℕ, suc, Bool, false, not, nat_eq, List, [], ◌∷◌, ◌++◌, filter, map, Option, Some, None, Result, IsOkAnd, IfOk, OnErr}
 use Rattle.std.specs.List.{list_any}
 use Rattle.mqtt_records.specs.declared.keep.Keep.{Ghosts}
-use Rattle.mqtt_rows.specs.Order.{IsBelow, remove_row}
-use Rattle.mqtt_opening.specs.TheRules.Lines.{line_number}
-use Rattle.mqtt_opening.specs.TheRules.State.{Broker, line_at}
-use Rattle.mqtt_opening.specs.TheRules.Step.{Call, nothing_told}
-use Rattle.mqtt_framing.specs.Framers.{HeldLine, begun, line_of}
-use Rattle.mqtt_opening.specs.TheTables.declared.call.EngineError.{EngineError}
-use Rattle.mqtt_opening.specs.Outcome.{Outcome}
-use Rattle.mqtt_opening.specs.Calling.{Called, IsOn, Tells}
-use Rattle.mqtt_opening.specs.Running.{Running}
+use Rattle.mqtt_records_rows.specs.Order.{IsBelow, remove_row}
+use Rattle.mqtt_rules.specs.Lines.{line_number}
+use Rattle.mqtt_rules.specs.State.{Broker, line_at}
+use Rattle.mqtt_rules.specs.Step.{Call, nothing_told}
+use Rattle.mqtt_broker.specs.Framers.{HeldLine, begun, line_of}
+use Rattle.mqtt_broker_step.specs.declared.call.EngineError.{EngineError}
+use Rattle.mqtt_broker_engine.specs.declared.outcome.Outcome.{Outcome}
+use Rattle.mqtt_broker_engine.specs.Calling.{Called, IsOn, Tells}
+use Rattle.mqtt_broker_engine.specs.Running.{Running}
 
 -- an engine over a store, and what each line that is linked holds: the bytes that came on it and were not answered yet
 pub record Serving (K : Type 0) : Type 0 where

@@ -1,19 +1,21 @@
 //! What comes on a line is asked of the engine: what its first bytes ask, or nothing where the line isn't linked (MQTT
 //! 5.0, 2.1, 4.13).
 ghost use Rattle.std.specs.Prelude.{◌≡◌, ◌≤◌, ℕ, List, None, false, true, length, IfOk, IsOkAnd};
-ghost use Rattle.mqtt_rows.specs.Order.{has_row};
-ghost use Rattle.mqtt_opening.specs.TheRules.Piece.{first_call};
-ghost use Rattle.mqtt_opening.specs.TheRules.State.{line_at};
-ghost use Rattle.mqtt_opening.specs.TheRules.Step.{Call, nothing_told};
-ghost use Rattle.mqtt_framing.specs.Framers.{HeldLine, framing_at, line_of};
-ghost use Rattle.mqtt_opening.specs.Calling.{IsOn, Tells};
+ghost use Rattle.mqtt_records_rows.specs.Order.{has_row};
+ghost use Rattle.mqtt_rules.specs.Piece.{first_call};
+ghost use Rattle.mqtt_rules.specs.State.{line_at};
+ghost use Rattle.mqtt_rules.specs.Step.{Call, nothing_told};
+ghost use Rattle.mqtt_broker.specs.Framers.{HeldLine, framing_at, line_of};
+ghost use Rattle.mqtt_broker_engine.specs.Calling.{IsOn, Tells};
 ghost use Rattle.mqtt_broker.specs.Asking.{CalledIf};
 ghost use Rattle.mqtt_broker.specs.Piece.{PieceCalled};
 ghost use Rattle.mqtt_broker.specs.Serving.{IsOfLines, Served, serving};
 
+use crate::asked::Asked;
+use crate::framers::Framers;
 use crate::held::end_all;
-use mqtt_framing::{Asked, Framers};
-use mqtt_opening::{Engine, EngineError, Outcome};
+use mqtt_broker_engine::{Engine, Outcome};
+use mqtt_broker_step::EngineError;
 use mqtt_records::Keep;
 
 /// What comes, or is asked, on a line that isn't linked does nothing but that the moment is the greatest handed in.

@@ -1,17 +1,18 @@
 //! The engine of the broker over a store, with the bytes of its lines (MQTT 5.0, 2.1, 4.1).
 ghost use Rattle.std.specs.Prelude.{◌≡◌, ◌≤◌, length, IfOk, option_copied};
-ghost use Rattle.mqtt_opening.specs.TheRules.Contents.{IsTaken};
-ghost use Rattle.mqtt_opening.specs.TheRules.Step.{BrokerStep, Input, Lost, NewLine, Pump, Tick, copy_of, nothing_told};
-ghost use Rattle.mqtt_opening.specs.TheTables.Doing.{next_line};
+ghost use Rattle.mqtt_rules.specs.Contents.{IsTaken};
+ghost use Rattle.mqtt_rules.specs.Step.{BrokerStep, Input, Lost, NewLine, Pump, Tick, copy_of, nothing_told};
+ghost use Rattle.mqtt_broker_step.specs.Doing.{next_line};
 ghost use Rattle.mqtt_broker.specs.Piece.{PieceCalled};
 ghost use Rattle.mqtt_broker.specs.Serving.{IsPassedOver, Served, with_linked};
 
 use crate::asking::{pass_over, take_piece};
+use crate::framers::Framers;
 use crate::held::end_closed;
 use mqtt_base::CopyId;
+use mqtt_broker_engine::{Engine as Inner, Outcome};
+use mqtt_broker_step::EngineError;
 use mqtt_codec::Packet;
-use mqtt_framing::Framers;
-use mqtt_opening::{Engine as Inner, EngineError, Outcome};
 use mqtt_records::Keep;
 use std::marker::Model;
 

@@ -2,8 +2,9 @@
 ghost use Rattle.std.specs.Prelude.{◌≡◌, IfOk, OnErr};
 ghost use Rattle.mqtt_broker.specs.Serving.{ended, without_closed};
 
-use mqtt_framing::Framers;
-use mqtt_opening::{EngineError, Outcome};
+use crate::framers::Framers;
+use mqtt_broker_engine::Outcome;
+use mqtt_broker_step::EngineError;
 
 /// Lines close, one after the other.
 fn end_each(framers: &mut Framers, closed: &[u64])

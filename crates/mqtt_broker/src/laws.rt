@@ -1,7 +1,7 @@
 //! However a stream of bytes comes, what is answered is what it is cut into (MQTT 5.0, 2.1).
 ghost use Rattle.std.specs.Prelude.{◌≡◌, ℕ, List};
 ghost use Rattle.mqtt_packet.specs.Stream.{Ending, IsStream, Item};
-ghost use Rattle.mqtt_opening.specs.TheRules.State.{Broker};
+ghost use Rattle.mqtt_rules.specs.State.{Broker};
 ghost use Rattle.mqtt_broker.specs.Cut.{Coming, IsFrontOf, IsGivenOn, IsGivenWhole, after_comings, answered, given_first, there_in};
 
 /// A stream comes on a line in whatever pieces, each a front of what wasn't taken yet, with whatever calls between them,

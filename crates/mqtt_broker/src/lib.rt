@@ -2,17 +2,23 @@
 //! answered (MQTT 5.0, 2.1, 4.1).
 #![tactic(auto)]
 
+mod asked;
 mod asking;
 mod engine;
+mod framers;
+mod framing;
 mod held;
 mod laws;
 mod looks;
 mod opening;
 
+pub use asked::Asked;
 pub use engine::Engine;
+pub use framers::Framers;
 pub use laws::streams_may_come_in_any_pieces;
-pub use mqtt_base::{CopyId, Ending, Qos};
+pub use mqtt_base::CopyId;
+pub use mqtt_broker_engine::Outcome;
+pub use mqtt_broker_step::EngineError;
 pub use mqtt_codec::Packet;
-pub use mqtt_flow::Full;
-pub use mqtt_opening::{EngineError, Limits, Outcome, Report};
-pub use mqtt_records::{Keep, KeepError, MemKeep};
+pub use mqtt_records::{Keep, KeepError};
+pub use mqtt_rules::Limits;

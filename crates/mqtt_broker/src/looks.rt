@@ -1,6 +1,6 @@
 //! What may be looked at between the calls of a broker: its numbers, its sessions' queues and its lines (MQTT 5.0, 4.1, 4.6).
 ghost use Rattle.std.specs.Prelude.{◌≡◌, is_some, length, option_map};
-ghost use Rattle.mqtt_opening.specs.TheRules.State.{line_at, session_named};
+ghost use Rattle.mqtt_rules.specs.State.{line_at, session_named};
 
 use crate::engine::Engine;
 use mqtt_records::Keep;

@@ -1,13 +1,14 @@
 //! A broker is opened over what a store holds (MQTT 5.0, 4.1).
 ghost use Rattle.std.specs.Prelude.{◌≡◌, [], IfOk};
-ghost use Rattle.mqtt_opening.specs.TheRules.Laws.{AreWithin};
-ghost use Rattle.mqtt_opening.specs.Opening.{Opened};
+ghost use Rattle.mqtt_rules.specs.Laws.{AreWithin};
+ghost use Rattle.mqtt_broker_engine.specs.Opening.{Opened};
 ghost use Rattle.mqtt_broker.specs.Opening.{running_in};
 
 use crate::engine::Engine;
-use mqtt_framing::Framers;
-use mqtt_opening::{Limits, open};
+use crate::framers::Framers;
+use mqtt_broker_engine::open;
 use mqtt_records::{Keep, KeepError};
+use mqtt_rules::Limits;
 use std::alloc::Global;
 use std::hash::RandomState;
 

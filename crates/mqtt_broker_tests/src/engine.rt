@@ -3,7 +3,9 @@
 use crate::broker::{Answer, Broker, Call};
 use crate::telling::Telling;
 use bytes::Bytes;
-use mqtt_broker::{Ending, Engine, EngineError, Keep, Outcome, Report};
+use mqtt_base::Ending;
+use mqtt_broker::{Engine, EngineError, Keep, Outcome};
+use mqtt_rules::Report;
 
 /// CONNACK of a new session with an identifier of its client's own (3.2).
 const CONNECTED: &[u8] = b"\x20\x0e\x00\x00\x0b\x21\x00\x14\x22\x00\x0a\x27\x00\x01\x00\x00";

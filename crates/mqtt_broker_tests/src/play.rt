@@ -3,7 +3,8 @@
 use crate::broker::{Answer, Broker, Call};
 use crate::reading::{halves, limits_of, number, read_bytes, read_connect, tell_turned};
 use crate::telling::Telling;
-use mqtt_broker::{EngineError, Full, Limits};
+use mqtt_broker::{EngineError, Limits};
+use mqtt_flow::Full;
 use std::alloc::Global;
 
 /// The limits of the tables, where a full queue refuses.

@@ -1,7 +1,8 @@
 //! What stands in a script: numbers, limits, bytes, and packets that are written in words.
 
 use crate::telling::Telling;
-use mqtt_broker::{Full, Limits};
+use mqtt_broker::Limits;
+use mqtt_flow::Full;
 
 /// The words before and behind the first blank; nothing behind where there is none.
 pub(crate) fn halves(words: &str) -> (&str, &str) {

@@ -6,12 +6,12 @@ use Rattle.mqtt_cli.specs.declared.outcome.TheConstants.{DONE, FAULTY, USAGE, FA
 use Rattle.mqtt_cli.specs.declared.line.LineFault.TheVariants as line
 use Rattle.mqtt_cli.specs.declared.outcome.Outcome.{Outcome}
 use Rattle.mqtt_cli.specs.declared.outcome.Outcome.TheVariants.{Done, Line, NoFile, View, Vectors, Replayed, Replay, Served, Serve}
-use Rattle.mqtt_replay_fault.specs.declared.fault.Played.TheVariants as played
-use Rattle.mqtt_replay_fault.specs.declared.fault.ReplayFault.TheVariants as replay
-use Rattle.mqtt_serve_fault.specs.declared.fault.ServeFault.TheVariants as serve
-use Rattle.mqtt_viewing.specs.declared.vectors_checker.VectorsFault.TheVariants as vectors
-use Rattle.mqtt_viewing.specs.declared.viewer.Status.TheVariants.{Whole, Faulty}
-use Rattle.mqtt_viewing.specs.declared.viewer.ViewFault.TheVariants.{Read, Write, Memory}
+use Rattle.mqtt_script.specs.declared.replay_fault.Played.TheVariants as played
+use Rattle.mqtt_script.specs.declared.replay_fault.ReplayFault.TheVariants as replay
+use Rattle.mqtt_link.specs.declared.serve_fault.ServeFault.TheVariants as serve
+use Rattle.mqtt_view.specs.declared.vectors_checker.VectorsFault.TheVariants as vectors
+use Rattle.mqtt_view.specs.declared.viewer.Status.TheVariants.{Whole, Faulty}
+use Rattle.mqtt_view.specs.declared.viewer.ViewFault.TheVariants.{Read, Write, Memory}
 
 abbrev pub exit_status : Outcome → ℕ
 exit_status (Done Whole) = DONE

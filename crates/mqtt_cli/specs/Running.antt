@@ -7,12 +7,12 @@ use Rattle.mqtt_cli.specs.Line.{AskFor, AsksToReplay, AsksToServe, command_of, f
 use Rattle.mqtt_cli.specs.declared.line.LineFault.TheVariants as line
 use Rattle.mqtt_cli.specs.declared.outcome.Outcome.{Outcome}
 use Rattle.mqtt_cli.specs.declared.outcome.Outcome.TheVariants.{Done, Line, NoFile, View, Vectors, Replayed, Replay, Served, Serve}
-use Rattle.mqtt_replay_fault.specs.declared.fault.Played.{Played}
-use Rattle.mqtt_replay_fault.specs.declared.fault.ReplayFault.{ReplayFault}
+use Rattle.mqtt_script.specs.declared.replay_fault.Played.{Played}
+use Rattle.mqtt_script.specs.declared.replay_fault.ReplayFault.{ReplayFault}
 use Rattle.mqtt_rules.specs.declared.Limits.{Limits}
-use Rattle.mqtt_serve_fault.specs.declared.fault.ServeFault.{ServeFault}
-use Rattle.mqtt_viewing.specs.Vectors.{Reports}
-use Rattle.mqtt_viewing.specs.declared.vectors_checker.VectorsFault.TheVariants as vectors
+use Rattle.mqtt_link.specs.declared.serve_fault.ServeFault.{ServeFault}
+use Rattle.mqtt_view.specs.Vectors.{Reports}
+use Rattle.mqtt_view.specs.declared.vectors_checker.VectorsFault.TheVariants as vectors
 
 -- a command, and its matches
 abbrev pub Asked : Type 0

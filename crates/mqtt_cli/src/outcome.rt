@@ -4,9 +4,9 @@ ghost use Rattle.std.specs.Prelude.{◌≡◌};
 ghost use Rattle.mqtt_cli.specs.Outcome.{exit_status, error_text};
 
 use crate::line::LineFault;
-use mqtt_replay_fault::{Played, ReplayFault};
-use mqtt_serve_fault::ServeFault;
-use mqtt_viewing::{Status, VectorsFault, ViewFault};
+use mqtt_link::ServeFault;
+use mqtt_script::{Played, ReplayFault};
+use mqtt_view::{Status, VectorsFault, ViewFault};
 
 /// The exit status of a command that is done.
 pub const DONE: u8 = 0;

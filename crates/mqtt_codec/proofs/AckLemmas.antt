@@ -8,12 +8,12 @@ use Rattle.mqtt_base.proofs.Steps.{IsBytes, bind_ok, when_ok, ok_is}
 use Rattle.mqtt_base.proofs.Fields.{wide16, number_takes, number_again}
 use Rattle.mqtt_props.specs.declared.place.Place.{Place}
 use Rattle.mqtt_codec.specs.declared.ack.Ack.{Ack}
-use Rattle.mqtt_fields.specs.declared.fault.Fault.TheVariants.{Malformed}
-use Rattle.mqtt_fields.specs.Reading.{malformed}
+use Rattle.mqtt_codec_parts.specs.declared.fault.Fault.TheVariants.{Malformed}
+use Rattle.mqtt_codec_parts.specs.Reading.{malformed}
 use Rattle.mqtt_codec.specs.Tails.{tail_at}
 use Rattle.mqtt_codec.specs.Ack.{FitsAck, IsAckBody, ack_at}
-use Rattle.mqtt_fields.proofs.Parts.{malformed_ok}
-use Rattle.mqtt_fields.proofs.Readers.{IsReader}
+use Rattle.mqtt_codec_parts.proofs.Parts.{malformed_ok}
+use Rattle.mqtt_codec_parts.proofs.Readers.{IsReader}
 use Rattle.mqtt_codec.proofs.TailLemmas.{tail_takes, tail_again}
 
 ack_takes : (kind : Kind) (place : Place) (body : List ℕ) (a : Ack) → IsBytes body → ack_at kind place body ≡ Ok a → FitsAck kind place a × IsAckBody a body

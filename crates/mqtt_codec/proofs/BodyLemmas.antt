@@ -4,7 +4,7 @@ use Rattle.mqtt_base.specs.declared.kind.Kind.TheVariants as kinds
 use Rattle.mqtt_base.specs.declared.session.Qos.TheVariants as qos
 use Rattle.mqtt_base.proofs.Steps.{IsBytes, ok_is}
 use Rattle.mqtt_props.specs.declared.place.Place.TheVariants as places
-use Rattle.mqtt_fields.specs.declared.fault.Fault.{Fault}
+use Rattle.mqtt_codec_parts.specs.declared.fault.Fault.{Fault}
 use Rattle.mqtt_codec.specs.declared.head.Head.{Head}
 use Rattle.mqtt_codec.specs.declared.head.Head.TheVariants as heads
 use Rattle.mqtt_codec.specs.declared.packet.Packet.{Packet}
@@ -12,24 +12,24 @@ use Rattle.mqtt_codec.specs.declared.packet.Packet.TheVariants.{Connect, Connack
 use Rattle.mqtt_codec.specs.declared.publish.Delivery.{Delivery}
 use Rattle.mqtt_codec.specs.declared.publish.Delivery.TheVariants.{AtMostOnce, AtLeastOnce, ExactlyOnce}
 use Rattle.mqtt_codec.specs.declared.publish.Publish.{Publish as Published_packet}
-use Rattle.mqtt_connect.specs.Connect.{connect_at}
+use Rattle.mqtt_codec_connect.specs.Connect.{connect_at}
 use Rattle.mqtt_codec.specs.Connack.{connack_at}
 use Rattle.mqtt_codec.specs.Publish.{delivery_head, FitsPublish, publish_body, publish_at}
 use Rattle.mqtt_codec.specs.Ack.{ack_at}
-use Rattle.mqtt_subscribe.specs.Subscribe.{subscribe_at}
+use Rattle.mqtt_codec_subscribe.specs.Subscribe.{subscribe_at}
 use Rattle.mqtt_codec.specs.Suback.{suback_at}
-use Rattle.mqtt_subscribe.specs.Unsubscribe.{unsubscribe_at}
+use Rattle.mqtt_codec_subscribe.specs.Unsubscribe.{unsubscribe_at}
 use Rattle.mqtt_codec.specs.Notice.{disconnect_at, auth_at}
 use Rattle.mqtt_codec.specs.Packets.{head, Fits, IsBody}
 use Rattle.mqtt_codec.specs.Frames.{made_by, empty_at, body_at}
 use Rattle.mqtt_codec.proofs.HeadLemmas.{IsHead}
-use Rattle.mqtt_connect.proofs.ConnectLemmas.{connect_reads}
+use Rattle.mqtt_codec_connect.proofs.ConnectLemmas.{connect_reads}
 use Rattle.mqtt_codec.proofs.ConnackLemmas.{connack_reads}
 use Rattle.mqtt_codec.proofs.PublishLemmas.{publish_takes, publish_again}
 use Rattle.mqtt_codec.proofs.AckLemmas.{ack_reads}
-use Rattle.mqtt_subscribe.proofs.SubscribeLemmas.{subscribe_reads}
+use Rattle.mqtt_codec_subscribe.proofs.SubscribeLemmas.{subscribe_reads}
 use Rattle.mqtt_codec.proofs.SubackLemmas.{suback_reads}
-use Rattle.mqtt_subscribe.proofs.UnsubscribeLemmas.{unsubscribe_reads}
+use Rattle.mqtt_codec_subscribe.proofs.UnsubscribeLemmas.{unsubscribe_reads}
 use Rattle.mqtt_codec.proofs.NoticeLemmas.{disconnect_reads, auth_reads}
 
 -- what a body of a packet gives, where its first byte says so

@@ -9,12 +9,12 @@ use Rattle.mqtt_props.specs.declared.place.Place.TheVariants as places
 use Rattle.mqtt_props.specs.Properties.{block}
 use Rattle.mqtt_props.specs.Laws.{layout_at}
 use Rattle.mqtt_codec.specs.declared.connack.Connack.{Connack}
-use Rattle.mqtt_fields.specs.declared.fault.Fault.TheVariants.{Malformed}
-use Rattle.mqtt_codec.specs.Heads.{bit}
-use Rattle.mqtt_fields.specs.Reading.{malformed, known}
+use Rattle.mqtt_codec_parts.specs.declared.fault.Fault.TheVariants.{Malformed}
+use Rattle.mqtt_codec_parts.specs.Bits.{bit}
+use Rattle.mqtt_codec_parts.specs.Reading.{malformed, known}
 use Rattle.mqtt_codec.specs.Connack.{FitsConnack, connack_body, session_present_of, connack_at}
-use Rattle.mqtt_fields.proofs.Parts.{malformed_ok, known_ok, both_true}
-use Rattle.mqtt_fields.proofs.Readers.{IsReader}
+use Rattle.mqtt_codec_parts.proofs.Parts.{malformed_ok, known_ok, both_true}
+use Rattle.mqtt_codec_parts.proofs.Readers.{IsReader}
 use Rattle.mqtt_codec.proofs.TailLemmas.{block_ends, block_again_end}
 
 flag_is : (n : ℕ) (b : Bool) → session_present_of n ≡ Some b → n ≡ bit b

@@ -5,10 +5,10 @@ use Rattle.mqtt_base.specs.Reading.{groups_at, varint_at}
 use Rattle.mqtt_base.specs.Items.{items_in, items_at}
 use Rattle.mqtt_props.specs.Reading.{block_at}
 use Rattle.mqtt_props.specs.Laws.{layout_at}
-use Rattle.mqtt_fields.specs.declared.fault.Fault.TheVariants.{Malformed, Protocol}
+use Rattle.mqtt_codec_parts.specs.declared.fault.Fault.TheVariants.{Malformed, Protocol}
 use Rattle.mqtt_codec.specs.declared.packet.Packet.{Packet}
 use Rattle.mqtt_codec.specs.declared.packet.Packet.TheVariants.{Puback, Pingreq, Disconnect, Auth}
-use Rattle.mqtt_connect.specs.Connect.{is_version_5}
+use Rattle.mqtt_codec_connect.specs.Connect.{is_version_5}
 use Rattle.mqtt_codec.specs.Tails.{tail_at}
 use Rattle.mqtt_codec.specs.Ack.{ack_at}
 use Rattle.mqtt_codec.specs.Notice.{auth_at}

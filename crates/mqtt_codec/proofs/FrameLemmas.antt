@@ -7,24 +7,24 @@ use Rattle.mqtt_base.specs.Reading.{◌>>=◌, varint_at, text_at, u8_at}
 use Rattle.mqtt_base.proofs.Steps.{IsBytes, IsBytes-rest, bind_ok, when_ok, chosen, ok_is}
 use Rattle.mqtt_base.proofs.Fields.{text_takes, text_again, byte_takes}
 use Rattle.mqtt_base.proofs.Varints.{varint_reads, varint_rereads}
-use Rattle.mqtt_fields.specs.declared.fault.Fault.{Fault}
-use Rattle.mqtt_fields.specs.declared.fault.Fault.TheVariants.{Malformed, Protocol, Version}
+use Rattle.mqtt_codec_parts.specs.declared.fault.Fault.{Fault}
+use Rattle.mqtt_codec_parts.specs.declared.fault.Fault.TheVariants.{Malformed, Protocol, Version}
 use Rattle.mqtt_codec.specs.declared.head.Head.{Head}
 use Rattle.mqtt_codec.specs.declared.head.Head.TheVariants as heads
 use Rattle.mqtt_codec.specs.declared.packet.Packet.{Packet}
 use Rattle.mqtt_codec.specs.Heads.{first, head_of}
-use Rattle.mqtt_fields.specs.Reading.{Gives, malformed, known}
+use Rattle.mqtt_codec_parts.specs.Reading.{Gives, malformed, known}
 use Rattle.mqtt_codec.specs.declared.packet.Packet.TheVariants.{Connect, Connack, Publish, Puback, Pubrec, Pubrel, Pubcomp, Subscribe, Suback, Unsubscribe, Unsuback, Pingreq, Pingresp, Disconnect, Auth}
 use Rattle.mqtt_codec.specs.declared.publish.Delivery.{Delivery}
 use Rattle.mqtt_codec.specs.declared.publish.Delivery.TheVariants.{AtMostOnce, AtLeastOnce, ExactlyOnce}
-use Rattle.mqtt_connect.specs.ConnectFlags.{flags_byte}
-use Rattle.mqtt_connect.specs.Connect.{is_version_5, mqtt, flags_of_connect, connect_fields}
+use Rattle.mqtt_codec_connect.specs.ConnectFlags.{flags_byte}
+use Rattle.mqtt_codec_connect.specs.Connect.{is_version_5, mqtt, flags_of_connect, connect_fields}
 use Rattle.mqtt_codec.specs.Publish.{delivery_head}
 use Rattle.mqtt_codec.specs.Packets.{head, Fits, IsBody, framed, HasLayout, is_lawful, Spells, IsOtherVersion, Refusal}
 use Rattle.mqtt_codec.specs.Frames.{sized_at, frame_at, body_at, versioned_at, version_by, version_at, lawful_at, packet_at}
-use Rattle.mqtt_fields.proofs.Parts.{malformed_ok, known_ok}
+use Rattle.mqtt_codec_parts.proofs.Parts.{malformed_ok, known_ok}
 use Rattle.mqtt_codec.proofs.HeadLemmas.{head_is, IsHead, is_head}
-use Rattle.mqtt_connect.proofs.ConnectLemmas.{mqtt_is_text}
+use Rattle.mqtt_codec_connect.proofs.ConnectLemmas.{mqtt_is_text}
 use Rattle.mqtt_codec.proofs.BodyLemmas.{body_takes, body_again}
 
 -- ---- frames

@@ -3,12 +3,12 @@ use Rattle.std.proofs.Common.{◌≡◌, ℕ, Bool, true, false, cond, List, Res
 use Rattle.mqtt_base.specs.declared.kind.Kind.TheVariants as kinds
 use Rattle.mqtt_base.specs.Reading.{◌>>=◌}
 use Rattle.mqtt_props.specs.declared.place.Place.TheVariants as places
-use Rattle.mqtt_fields.specs.declared.fault.Fault.{Fault}
-use Rattle.mqtt_fields.specs.declared.fault.Fault.TheVariants.{Protocol}
-use Rattle.mqtt_fields.specs.Reading.{malformed}
-use Rattle.mqtt_connect.specs.Connect.{connect_at}
-use Rattle.mqtt_subscribe.specs.Subscribe.{subscribe_at}
-use Rattle.mqtt_subscribe.specs.Unsubscribe.{unsubscribe_at}
+use Rattle.mqtt_codec_parts.specs.declared.fault.Fault.{Fault}
+use Rattle.mqtt_codec_parts.specs.declared.fault.Fault.TheVariants.{Protocol}
+use Rattle.mqtt_codec_parts.specs.Reading.{malformed}
+use Rattle.mqtt_codec_connect.specs.Connect.{connect_at}
+use Rattle.mqtt_codec_subscribe.specs.Subscribe.{subscribe_at}
+use Rattle.mqtt_codec_subscribe.specs.Unsubscribe.{unsubscribe_at}
 use Rattle.mqtt_codec.specs.declared.head.Head.{Head}
 use Rattle.mqtt_codec.specs.declared.head.Head.TheVariants as heads
 use Rattle.mqtt_codec.specs.declared.packet.Packet.{Packet}

@@ -7,12 +7,12 @@ use Rattle.mqtt_props.specs.declared.place.Place.TheVariants as places
 use Rattle.mqtt_props.specs.Properties.{Prop, block}
 use Rattle.mqtt_props.specs.Laws.{layout_at}
 use Rattle.mqtt_codec.specs.declared.notice.Notice.{Notice}
-use Rattle.mqtt_fields.specs.declared.fault.Fault.TheVariants.{Malformed}
-use Rattle.mqtt_fields.specs.Reading.{malformed}
+use Rattle.mqtt_codec_parts.specs.declared.fault.Fault.TheVariants.{Malformed}
+use Rattle.mqtt_codec_parts.specs.Reading.{malformed}
 use Rattle.mqtt_codec.specs.Tails.{IsTail, tail_at}
 use Rattle.mqtt_codec.specs.Notice.{FitsNotice, disconnect_at, IsAuthBody, auth_body_of, auth_body, auth_at}
-use Rattle.mqtt_fields.proofs.Parts.{malformed_ok, both_true}
-use Rattle.mqtt_fields.proofs.Readers.{IsReader}
+use Rattle.mqtt_codec_parts.proofs.Parts.{malformed_ok, both_true}
+use Rattle.mqtt_codec_parts.proofs.Readers.{IsReader}
 use Rattle.mqtt_codec.proofs.TailLemmas.{tail_takes, tail_again, block_ends, block_again_end}
 
 disconnect_takes : (body : List ℕ) (n : Notice) → IsBytes body → disconnect_at body ≡ Ok n → FitsNotice kinds.Disconnect places.Disconnect n × IsTail n.reason.0 n.properties body

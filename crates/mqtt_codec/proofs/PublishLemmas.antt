@@ -15,9 +15,9 @@ use Rattle.mqtt_codec.specs.declared.head.Head.TheVariants as heads
 use Rattle.mqtt_codec.specs.declared.publish.Delivery.{Delivery}
 use Rattle.mqtt_codec.specs.declared.publish.Delivery.TheVariants.{AtMostOnce, AtLeastOnce, ExactlyOnce}
 use Rattle.mqtt_codec.specs.declared.publish.Publish.{Publish}
-use Rattle.mqtt_fields.specs.Reading.{malformed}
+use Rattle.mqtt_codec_parts.specs.Reading.{malformed}
 use Rattle.mqtt_codec.specs.Publish.{delivery_head, identifier_field, FitsDelivery, FitsPublish, publish_body, delivery_at, publish_at}
-use Rattle.mqtt_fields.proofs.Parts.{malformed_ok}
+use Rattle.mqtt_codec_parts.proofs.Parts.{malformed_ok}
 use Rattle.mqtt_codec.proofs.HeadLemmas.{IsHead, without_dup}
 
 record Delivers (dup : Bool) (q : Qos) (bytes : List ℕ) (d : Delivery) (rest : List ℕ) : Type 0 where

@@ -10,12 +10,12 @@ use Rattle.mqtt_props.specs.declared.place.Place.{Place}
 use Rattle.mqtt_props.specs.Properties.{block}
 use Rattle.mqtt_props.specs.Laws.{layout_at}
 use Rattle.mqtt_props.proofs.Blocks.{layout_takes, layout_again}
-use Rattle.mqtt_fields.specs.declared.fault.Fault.TheVariants.{Malformed}
+use Rattle.mqtt_codec_parts.specs.declared.fault.Fault.TheVariants.{Malformed}
 use Rattle.mqtt_codec.specs.declared.suback.Suback.{Suback}
-use Rattle.mqtt_fields.specs.Reading.{malformed}
+use Rattle.mqtt_codec_parts.specs.Reading.{malformed}
 use Rattle.mqtt_codec.specs.Suback.{are_codes, FitsSuback, suback_body, suback_at}
-use Rattle.mqtt_fields.proofs.Parts.{malformed_ok}
-use Rattle.mqtt_fields.proofs.Readers.{IsReader}
+use Rattle.mqtt_codec_parts.proofs.Parts.{malformed_ok}
+use Rattle.mqtt_codec_parts.proofs.Readers.{IsReader}
 
 suback_takes : (kind : Kind) (place : Place) (body : List ℕ) (s : Suback) → IsBytes body → suback_at kind place body ≡ Ok s → FitsSuback kind place s × (body ≡ suback_body s)
 unfolding suback_at

@@ -9,11 +9,11 @@ use Rattle.mqtt_props.specs.declared.place.Place.{Place}
 use Rattle.mqtt_props.specs.Properties.{Prop, props, block}
 use Rattle.mqtt_props.specs.Laws.{layout_at}
 use Rattle.mqtt_props.proofs.Blocks.{layout_takes, layout_again}
-use Rattle.mqtt_fields.specs.declared.fault.Fault.TheVariants.{Malformed}
-use Rattle.mqtt_fields.specs.Reading.{malformed}
-use Rattle.mqtt_fields.specs.Blocks.{Stands}
+use Rattle.mqtt_codec_parts.specs.declared.fault.Fault.TheVariants.{Malformed}
+use Rattle.mqtt_codec_parts.specs.Reading.{malformed}
+use Rattle.mqtt_codec_parts.specs.Blocks.{Stands}
 use Rattle.mqtt_codec.specs.Tails.{IsTail, tail, tail_at}
-use Rattle.mqtt_fields.proofs.Parts.{malformed_ok}
+use Rattle.mqtt_codec_parts.proofs.Parts.{malformed_ok}
 
 -- a list without properties may stand everywhere
 none_stand : (place : Place) → Stands place []

@@ -8,10 +8,10 @@ use Rattle.mqtt_base.specs.Reasons.{is_code}
 use Rattle.mqtt_props.specs.declared.place.Place.{Place}
 use Rattle.mqtt_codec.specs.declared.ack.Ack.{Ack}
 use Rattle.mqtt_codec.specs.declared.ack.AckRef.{AckRef}
-use Rattle.mqtt_fields.specs.declared.fault.Fault.{Fault}
-use Rattle.mqtt_fields.specs.declared.fault.Fault.TheVariants.{Malformed}
-use Rattle.mqtt_fields.specs.Reading.{malformed}
-use Rattle.mqtt_fields.specs.Blocks.{Stands, keeps_laws}
+use Rattle.mqtt_codec_parts.specs.declared.fault.Fault.{Fault}
+use Rattle.mqtt_codec_parts.specs.declared.fault.Fault.TheVariants.{Malformed}
+use Rattle.mqtt_codec_parts.specs.Reading.{malformed}
+use Rattle.mqtt_codec_parts.specs.Blocks.{Stands, keeps_laws}
 use Rattle.mqtt_codec.specs.Tails.{IsTail, tail, tail_at}
 
 -- its parts have a spelling, with the codes and the properties of its packet

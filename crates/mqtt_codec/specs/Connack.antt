@@ -9,11 +9,11 @@ use Rattle.mqtt_props.specs.Properties.{block}
 use Rattle.mqtt_props.specs.Laws.{layout_at}
 use Rattle.mqtt_codec.specs.declared.connack.Connack.{Connack}
 use Rattle.mqtt_codec.specs.declared.connack.ConnackRef.{ConnackRef}
-use Rattle.mqtt_fields.specs.declared.fault.Fault.{Fault}
-use Rattle.mqtt_fields.specs.declared.fault.Fault.TheVariants.{Malformed}
-use Rattle.mqtt_fields.specs.Bits.{bit}
-use Rattle.mqtt_fields.specs.Reading.{malformed, known}
-use Rattle.mqtt_fields.specs.Blocks.{Stands, keeps_laws}
+use Rattle.mqtt_codec_parts.specs.declared.fault.Fault.{Fault}
+use Rattle.mqtt_codec_parts.specs.declared.fault.Fault.TheVariants.{Malformed}
+use Rattle.mqtt_codec_parts.specs.Bits.{bit}
+use Rattle.mqtt_codec_parts.specs.Reading.{malformed, known}
+use Rattle.mqtt_codec_parts.specs.Blocks.{Stands, keeps_laws}
 
 -- its parts have a spelling
 abbrev pub FitsConnack : Connack → Type 0

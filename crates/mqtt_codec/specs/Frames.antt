@@ -4,8 +4,8 @@ use Rattle.mqtt_base.specs.declared.fault.ReadFault.{ReadFault}
 use Rattle.mqtt_base.specs.declared.kind.Kind.TheVariants as kinds
 use Rattle.mqtt_base.specs.Reading.{◌>>=◌, varint_at, text_at, u8_at}
 use Rattle.mqtt_props.specs.declared.place.Place.TheVariants as places
-use Rattle.mqtt_fields.specs.declared.fault.Fault.{Fault}
-use Rattle.mqtt_fields.specs.declared.fault.Fault.TheVariants.{Malformed, Protocol, Version}
+use Rattle.mqtt_codec_parts.specs.declared.fault.Fault.{Fault}
+use Rattle.mqtt_codec_parts.specs.declared.fault.Fault.TheVariants.{Malformed, Protocol, Version}
 use Rattle.mqtt_codec.specs.declared.head.Head.{Head}
 use Rattle.mqtt_codec.specs.declared.head.Head.TheVariants as heads
 use Rattle.mqtt_codec.specs.declared.packet.Packet.{Packet}
@@ -13,14 +13,14 @@ use Rattle.mqtt_codec.specs.declared.packet.Packet.TheVariants.{Connect, Connack
 use Rattle.mqtt_codec.specs.declared.packet.PacketRef.{PacketRef}
 use Rattle.mqtt_codec.specs.declared.packet.PacketRef.TheVariants as refs
 use Rattle.mqtt_codec.specs.Heads.{head_of}
-use Rattle.mqtt_fields.specs.Reading.{malformed, known}
-use Rattle.mqtt_connect.specs.Connect.{connect_at, connect_of, is_version_5, lawful_connect}
+use Rattle.mqtt_codec_parts.specs.Reading.{malformed, known}
+use Rattle.mqtt_codec_connect.specs.Connect.{connect_at, connect_of, is_version_5, lawful_connect}
 use Rattle.mqtt_codec.specs.Connack.{connack_at, connack_of, lawful_connack}
 use Rattle.mqtt_codec.specs.Publish.{publish_at, publish_of, lawful_publish}
 use Rattle.mqtt_codec.specs.Ack.{ack_at, ack_of, lawful_ack}
-use Rattle.mqtt_subscribe.specs.Subscribe.{subscribe_at, subscribe_of, lawful_subscribe}
+use Rattle.mqtt_codec_subscribe.specs.Subscribe.{subscribe_at, subscribe_of, lawful_subscribe}
 use Rattle.mqtt_codec.specs.Suback.{suback_at, suback_of, lawful_suback}
-use Rattle.mqtt_subscribe.specs.Unsubscribe.{unsubscribe_at, unsubscribe_of, lawful_unsubscribe}
+use Rattle.mqtt_codec_subscribe.specs.Unsubscribe.{unsubscribe_at, unsubscribe_of, lawful_unsubscribe}
 use Rattle.mqtt_codec.specs.Notice.{disconnect_at, auth_at, notice_of, lawful_disconnect, lawful_auth}
 use Rattle.mqtt_codec.specs.Packets.{is_lawful}
 

@@ -1,8 +1,8 @@
 -- First bytes: the type in the high four bits, the flags in the low four (MQTT 5.0, 2.1.2, 2.1.3, 3.3.1).
 use Rattle.std.specs.Prelude.{ℕ, ◌+◌, ◌*◌, true, false, List, [], ◌∷◌, Option, Some, None, ◌==◌, if◌then◌else◌}
 use Rattle.mqtt_base.specs.declared.session.Qos.TheVariants as qos
-pub use Rattle.mqtt_base.specs.Service.{qos_number}
-pub use Rattle.mqtt_fields.specs.Bits.{bit}
+use Rattle.mqtt_base.specs.Service.{qos_number}
+use Rattle.mqtt_codec_parts.specs.Bits.{bit}
 use Rattle.mqtt_codec.specs.declared.head.Head.{Head}
 use Rattle.mqtt_codec.specs.declared.head.Head.TheVariants as heads
 

@@ -12,10 +12,10 @@ use Rattle.mqtt_props.specs.Properties.{Prop, block}
 use Rattle.mqtt_props.specs.Laws.{layout_at, has}
 use Rattle.mqtt_codec.specs.declared.notice.Notice.{Notice}
 use Rattle.mqtt_codec.specs.declared.notice.NoticeRef.{NoticeRef}
-use Rattle.mqtt_fields.specs.declared.fault.Fault.{Fault}
-use Rattle.mqtt_fields.specs.declared.fault.Fault.TheVariants.{Malformed}
-use Rattle.mqtt_fields.specs.Reading.{malformed}
-use Rattle.mqtt_fields.specs.Blocks.{Stands, keeps_laws}
+use Rattle.mqtt_codec_parts.specs.declared.fault.Fault.{Fault}
+use Rattle.mqtt_codec_parts.specs.declared.fault.Fault.TheVariants.{Malformed}
+use Rattle.mqtt_codec_parts.specs.Reading.{malformed}
+use Rattle.mqtt_codec_parts.specs.Blocks.{Stands, keeps_laws}
 use Rattle.mqtt_codec.specs.Tails.{tail, tail_at}
 
 -- its parts have a spelling, with the codes and the properties of its packet

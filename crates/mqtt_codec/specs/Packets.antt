@@ -5,22 +5,22 @@ use Rattle.mqtt_base.specs.declared.kind.Kind.TheVariants as kinds
 use Rattle.mqtt_base.specs.Values.{varint, blob, FitsText}
 use Rattle.mqtt_props.specs.declared.place.Place.TheVariants as places
 use Rattle.mqtt_props.specs.Properties.{Prop}
-use Rattle.mqtt_fields.specs.declared.fault.Fault.{Fault}
-use Rattle.mqtt_fields.specs.declared.fault.Fault.TheVariants as faults
+use Rattle.mqtt_codec_parts.specs.declared.fault.Fault.{Fault}
+use Rattle.mqtt_codec_parts.specs.declared.fault.Fault.TheVariants as faults
 use Rattle.mqtt_codec.specs.declared.head.Head.{Head}
 use Rattle.mqtt_codec.specs.declared.head.Head.TheVariants as heads
 use Rattle.mqtt_codec.specs.declared.packet.Packet.{Packet}
 use Rattle.mqtt_codec.specs.declared.packet.Packet.TheVariants.{Connect, Connack, Publish, Puback, Pubrec, Pubrel, Pubcomp, Subscribe, Suback, Unsubscribe, Unsuback, Pingreq, Pingresp, Disconnect, Auth}
 use Rattle.mqtt_codec.specs.Heads.{first}
-use Rattle.mqtt_fields.specs.Blocks.{keeps_laws}
+use Rattle.mqtt_codec_parts.specs.Blocks.{keeps_laws}
 use Rattle.mqtt_codec.specs.Tails.{IsTail}
-use Rattle.mqtt_connect.specs.Connect.{FitsConnect, connect_body, lawful_connect, is_version_5}
+use Rattle.mqtt_codec_connect.specs.Connect.{FitsConnect, connect_body, lawful_connect, is_version_5}
 use Rattle.mqtt_codec.specs.Connack.{FitsConnack, connack_body, lawful_connack}
 use Rattle.mqtt_codec.specs.Publish.{FitsPublish, publish_body, delivery_head, lawful_publish}
 use Rattle.mqtt_codec.specs.Ack.{FitsAck, IsAckBody, ack_body, lawful_ack}
-use Rattle.mqtt_subscribe.specs.Subscribe.{FitsSubscribe, subscribe_body, lawful_subscribe}
+use Rattle.mqtt_codec_subscribe.specs.Subscribe.{FitsSubscribe, subscribe_body, lawful_subscribe}
 use Rattle.mqtt_codec.specs.Suback.{FitsSuback, suback_body, lawful_suback}
-use Rattle.mqtt_subscribe.specs.Unsubscribe.{FitsUnsubscribe, unsubscribe_body, lawful_unsubscribe}
+use Rattle.mqtt_codec_subscribe.specs.Unsubscribe.{FitsUnsubscribe, unsubscribe_body, lawful_unsubscribe}
 use Rattle.mqtt_codec.specs.Notice.{FitsNotice, disconnect_body, IsAuthBody, auth_body, lawful_auth}
 
 -- its control packet type (2.1.2)

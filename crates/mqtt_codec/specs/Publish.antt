@@ -10,15 +10,15 @@ use Rattle.mqtt_props.specs.declared.place.Place.TheVariants as places
 use Rattle.mqtt_props.specs.declared.table.PropName.TheVariants.{TopicAlias}
 use Rattle.mqtt_props.specs.Properties.{block}
 use Rattle.mqtt_props.specs.Laws.{layout_at, has}
-use Rattle.mqtt_fields.specs.declared.fault.Fault.{Fault}
+use Rattle.mqtt_codec_parts.specs.declared.fault.Fault.{Fault}
 use Rattle.mqtt_codec.specs.declared.head.Head.{Head}
 use Rattle.mqtt_codec.specs.declared.head.Head.TheVariants as heads
 use Rattle.mqtt_codec.specs.declared.publish.Delivery.{Delivery}
 use Rattle.mqtt_codec.specs.declared.publish.Delivery.TheVariants.{AtMostOnce, AtLeastOnce, ExactlyOnce}
 use Rattle.mqtt_codec.specs.declared.publish.Publish.{Publish}
 use Rattle.mqtt_codec.specs.declared.publish.PublishRef.{PublishRef}
-use Rattle.mqtt_fields.specs.Reading.{malformed}
-use Rattle.mqtt_fields.specs.Blocks.{Stands, keeps_laws}
+use Rattle.mqtt_codec_parts.specs.Reading.{malformed}
+use Rattle.mqtt_codec_parts.specs.Blocks.{Stands, keeps_laws}
 
 -- the first byte of a PUBLISH (3.3.1)
 abbrev pub delivery_head : Delivery → Bool → Head

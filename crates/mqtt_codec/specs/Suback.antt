@@ -9,12 +9,12 @@ use Rattle.mqtt_base.specs.Reasons.{is_code}
 use Rattle.mqtt_props.specs.declared.place.Place.{Place}
 use Rattle.mqtt_props.specs.Properties.{block}
 use Rattle.mqtt_props.specs.Laws.{layout_at}
-use Rattle.mqtt_fields.specs.declared.fault.Fault.{Fault}
-use Rattle.mqtt_fields.specs.declared.fault.Fault.TheVariants.{Malformed}
+use Rattle.mqtt_codec_parts.specs.declared.fault.Fault.{Fault}
+use Rattle.mqtt_codec_parts.specs.declared.fault.Fault.TheVariants.{Malformed}
 use Rattle.mqtt_codec.specs.declared.suback.Suback.{Suback}
 use Rattle.mqtt_codec.specs.declared.suback.SubackRef.{SubackRef}
-use Rattle.mqtt_fields.specs.Reading.{malformed}
-use Rattle.mqtt_fields.specs.Blocks.{Stands, keeps_laws}
+use Rattle.mqtt_codec_parts.specs.Reading.{malformed}
+use Rattle.mqtt_codec_parts.specs.Blocks.{Stands, keeps_laws}
 
 abbrev pub are_codes : Kind → List ℕ → Bool
 are_codes kind codes = list_all (is_code kind) codes

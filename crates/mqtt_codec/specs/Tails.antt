@@ -5,9 +5,9 @@ use Rattle.mqtt_base.specs.Reading.{◌>>=◌}
 use Rattle.mqtt_props.specs.declared.place.Place.{Place}
 use Rattle.mqtt_props.specs.Properties.{Prop, block}
 use Rattle.mqtt_props.specs.Laws.{layout_at}
-use Rattle.mqtt_fields.specs.declared.fault.Fault.{Fault}
-use Rattle.mqtt_fields.specs.declared.fault.Fault.TheVariants.{Malformed}
-use Rattle.mqtt_fields.specs.Reading.{malformed}
+use Rattle.mqtt_codec_parts.specs.declared.fault.Fault.{Fault}
+use Rattle.mqtt_codec_parts.specs.declared.fault.Fault.TheVariants.{Malformed}
+use Rattle.mqtt_codec_parts.specs.Reading.{malformed}
 
 -- nothing, which stands for the code 0; a code; or a code and properties
 abbrev pub IsTail : ℕ → List Prop → List ℕ → Type 0

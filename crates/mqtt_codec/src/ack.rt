@@ -1,13 +1,13 @@
 //! PUBACK, PUBREC, PUBREL and PUBCOMP: the packets of the handshakes (3.4 to 3.7).
 
 ghost use Rattle.std.specs.Prelude.{◌≡◌, ◌<◌, ◌^◌, ◌++◌, IfOk, OnOk, OnErr, IsTrue, ◌↔◌, length};
-ghost use Rattle.mqtt_fields.specs.Reading.{Gives};
-ghost use Rattle.mqtt_fields.specs.Writing.{KeepsFront};
+ghost use Rattle.mqtt_codec_parts.specs.Reading.{Gives};
+ghost use Rattle.mqtt_codec_parts.specs.Writing.{KeepsFront};
 ghost use Rattle.mqtt_codec.specs.Ack.{ack_at, ack_of, ack_body, FitsAck, lawful_ack};
 
 use crate::tail::{tail_len, tail_push, tail_read};
 use mqtt_base::{Kind, Reason, u16_push, u16_read};
-use mqtt_fields::{Fault, stands};
+use mqtt_codec_parts::{Fault, stands};
 use mqtt_props::{Place, PropList, PropsRef};
 use std::alloc::{AllocError, Global};
 
@@ -63,7 +63,7 @@ impl AckRef<'_> {
 
     /// Writes the shortest body at the end.
     #[inline(always)]
-    #[tactic(auto, using(std::proofs::lemmas::List::append_assoc, mqtt_fields::proofs::Fronts::begins_same, mqtt_fields::proofs::Fronts::begins_less))]
+    #[tactic(auto, using(std::proofs::lemmas::List::append_assoc, mqtt_codec_parts::proofs::Fronts::begins_same, mqtt_codec_parts::proofs::Fronts::begins_less))]
     pub(crate) fn push(&self, out: &mut Vec<u8>) -> Result<(), AllocError>
         ensures ok { OnOk result (out.new.items ≡ out.old.items ++ ack_body (ack_of self.now)) }
         ensures front { OnErr result (KeepsFront out.old.items out.new.items) }

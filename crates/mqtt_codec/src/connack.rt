@@ -1,12 +1,12 @@
 //! CONNACK: the answer to CONNECT (3.2).
 
 ghost use Rattle.std.specs.Prelude.{◌≡◌, ◌<◌, ◌^◌, ◌++◌, IfOk, OnOk, OnErr, IsTrue, ◌↔◌, length};
-ghost use Rattle.mqtt_fields.specs.Reading.{Gives};
-ghost use Rattle.mqtt_fields.specs.Writing.{KeepsFront};
+ghost use Rattle.mqtt_codec_parts.specs.Reading.{Gives};
+ghost use Rattle.mqtt_codec_parts.specs.Writing.{KeepsFront};
 ghost use Rattle.mqtt_codec.specs.Connack.{connack_at, connack_of, connack_body, session_present_of, FitsConnack, lawful_connack};
 
 use mqtt_base::{Kind, Reason, u8_read};
-use mqtt_fields::{Fault, stands};
+use mqtt_codec_parts::{Fault, stands};
 use mqtt_props::{Place, PropList, PropsRef, layout_read};
 use std::alloc::{AllocError, Global};
 
@@ -80,7 +80,7 @@ impl ConnackRef<'_> {
 
     /// Writes the body at the end.
     #[inline(always)]
-    #[tactic(auto, using(std::proofs::lemmas::List::append_assoc, mqtt_fields::proofs::Fronts::begins_same, mqtt_fields::proofs::Fronts::begins_less))]
+    #[tactic(auto, using(std::proofs::lemmas::List::append_assoc, mqtt_codec_parts::proofs::Fronts::begins_same, mqtt_codec_parts::proofs::Fronts::begins_less))]
     pub(crate) fn push(&self, out: &mut Vec<u8>) -> Result<(), AllocError>
         ensures ok { OnOk result (out.new.items ≡ out.old.items ++ connack_body (connack_of self.now)) }
         ensures front { OnErr result (KeepsFront out.old.items out.new.items) }

@@ -2,11 +2,11 @@
 
 ghost use Rattle.std.specs.Prelude.{◌≡◌, ◌<◌, ◌+◌, ◌^◌, ◌⊎◌, ◌↔◌, ◌++◌, ◌∷◌, ℕ, List, length, true, IfOk, IfErr, IsTrue, OnOk, OnErr, Ok};
 ghost use Rattle.mqtt_base.specs.Values.{varint};
-ghost use Rattle.mqtt_fields.specs.declared.fault.Fault.TheVariants as faults;
+ghost use Rattle.mqtt_codec_parts.specs.declared.fault.Fault.TheVariants as faults;
 ghost use Rattle.mqtt_codec.specs.declared.packet.Packet.{Packet};
 ghost use Rattle.mqtt_codec.specs.Heads.{first};
-ghost use Rattle.mqtt_fields.specs.Reading.{Gives};
-ghost use Rattle.mqtt_fields.specs.Writing.{KeepsFront};
+ghost use Rattle.mqtt_codec_parts.specs.Reading.{Gives};
+ghost use Rattle.mqtt_codec_parts.specs.Writing.{KeepsFront};
 ghost use Rattle.mqtt_codec.specs.Packets.{head, Fits, Spells, Refusal, is_lawful, shortest_body, shortest_of, HasSpelling, IsShortest};
 ghost use Rattle.mqtt_codec.specs.Frames.{sized_at, frame_at, empty_at, versioned_at, version_at, IsAck, IsOfSubscriptions, judged_at, lawful_at, packet_at, packet_of};
 
@@ -19,8 +19,8 @@ use crate::packet::{Packet, PacketRef};
 use mqtt_base::{
     Kind, ReadFault, VARINT_LIMIT, text_read, u8_read, varint_len, varint_push, varint_read,
 };
-use mqtt_connect::is_version_5;
-use mqtt_fields::Fault;
+use mqtt_codec_connect::is_version_5;
+use mqtt_codec_parts::Fault;
 use mqtt_props::Place;
 use std::alloc::{AllocError, Global};
 
@@ -349,7 +349,7 @@ fn encode_lent(alloc: Global, packet: &PacketRef<'_>) -> Result<Vec<u8>, AllocEr
 
 /// Writes the shortest spelling at the end, whose body takes so many bytes.
 #[inline(always)]
-#[tactic(auto, using(std::proofs::lemmas::List::append_assoc, mqtt_fields::proofs::Fronts::begins_same, mqtt_fields::proofs::Fronts::begins_less))]
+#[tactic(auto, using(std::proofs::lemmas::List::append_assoc, mqtt_codec_parts::proofs::Fronts::begins_same, mqtt_codec_parts::proofs::Fronts::begins_less))]
 fn frame_push(packet: &PacketRef<'_>, len: usize, out: &mut Vec<u8>) -> Result<(), AllocError>
     requires spelling { HasSpelling (packet_of packet.now) }
     requires len { len ≡ length (shortest_body (packet_of packet.now)) }

@@ -1,9 +1,9 @@
 //! Bodies that are read and judged by their laws, a kind each (1.2, 4.13).
 
-ghost use Rattle.mqtt_fields.specs.Reading.{Gives};
-ghost use Rattle.mqtt_connect.specs.Connect.{connect_at, connect_of, lawful_connect};
-ghost use Rattle.mqtt_subscribe.specs.Subscribe.{subscribe_at, subscribe_of, lawful_subscribe};
-ghost use Rattle.mqtt_subscribe.specs.Unsubscribe.{unsubscribe_at, unsubscribe_of, lawful_unsubscribe};
+ghost use Rattle.mqtt_codec_parts.specs.Reading.{Gives};
+ghost use Rattle.mqtt_codec_connect.specs.Connect.{connect_at, connect_of, lawful_connect};
+ghost use Rattle.mqtt_codec_subscribe.specs.Subscribe.{subscribe_at, subscribe_of, lawful_subscribe};
+ghost use Rattle.mqtt_codec_subscribe.specs.Unsubscribe.{unsubscribe_at, unsubscribe_of, lawful_unsubscribe};
 ghost use Rattle.mqtt_codec.specs.Ack.{ack_at, ack_of, lawful_ack};
 ghost use Rattle.mqtt_codec.specs.Connack.{connack_at, connack_of, lawful_connack};
 ghost use Rattle.mqtt_codec.specs.Notice.{disconnect_at, auth_at, notice_of, lawful_disconnect, lawful_auth};
@@ -17,10 +17,10 @@ use crate::notice::{NoticeRef, auth_read, disconnect_read};
 use crate::publish::{PublishRef, publish_read};
 use crate::suback::{SubackRef, suback_read};
 use mqtt_base::{Kind, Qos};
-use mqtt_connect::{ConnectRef, connect_read};
-use mqtt_fields::Fault;
+use mqtt_codec_connect::{ConnectRef, connect_read};
+use mqtt_codec_parts::Fault;
+use mqtt_codec_subscribe::{SubscribeRef, UnsubscribeRef, subscribe_read, unsubscribe_read};
 use mqtt_props::Place;
-use mqtt_subscribe::{SubscribeRef, UnsubscribeRef, subscribe_read, unsubscribe_read};
 
 /// The part that was read, if its test says that it keeps its laws.
 macro_rules! judged {

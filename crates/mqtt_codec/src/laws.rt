@@ -1,7 +1,7 @@
 //! Laws of spellings (2.1, 4.13).
 
 ghost use Rattle.std.specs.Prelude.{◌≡◌, ℕ, List};
-ghost use Rattle.mqtt_fields.specs.declared.fault.Fault.{Fault};
+ghost use Rattle.mqtt_codec_parts.specs.declared.fault.Fault.{Fault};
 ghost use Rattle.mqtt_codec.specs.declared.packet.Packet.{Packet};
 ghost use Rattle.mqtt_codec.specs.Packets.{Spells, Refusal, HasSpelling, shortest_of};
 

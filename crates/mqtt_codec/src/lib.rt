@@ -18,9 +18,9 @@ pub use connack::{Connack, ConnackRef};
 pub use frame::{decode, encode, encode_into, lawful, look_at, spelled_len};
 pub use head::{Head, head_read};
 pub use laws::{one_packet, round_trip};
-pub use mqtt_connect::{Connect, ConnectRef, Will, WillRef};
-pub use mqtt_fields::Fault;
-pub use mqtt_subscribe::{
+pub use mqtt_codec_connect::{Connect, ConnectRef, Will, WillRef};
+pub use mqtt_codec_parts::Fault;
+pub use mqtt_codec_subscribe::{
     Filters, FiltersRef, Subscribe, SubscribeRef, SubscriptionRef, Subscriptions, SubscriptionsRef,
     Unsubscribe, UnsubscribeRef, options_read,
 };

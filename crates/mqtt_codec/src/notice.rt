@@ -1,14 +1,14 @@
 //! DISCONNECT and AUTH: a reason code and properties (3.14, 3.15).
 
 ghost use Rattle.std.specs.Prelude.{◌≡◌, ◌<◌, ◌^◌, ◌++◌, IfOk, OnOk, OnErr, IsTrue, ◌↔◌, length};
-ghost use Rattle.mqtt_fields.specs.Blocks.{keeps_laws};
-ghost use Rattle.mqtt_fields.specs.Reading.{Gives};
-ghost use Rattle.mqtt_fields.specs.Writing.{KeepsFront};
+ghost use Rattle.mqtt_codec_parts.specs.Blocks.{keeps_laws};
+ghost use Rattle.mqtt_codec_parts.specs.Reading.{Gives};
+ghost use Rattle.mqtt_codec_parts.specs.Writing.{KeepsFront};
 ghost use Rattle.mqtt_codec.specs.Notice.{disconnect_at, disconnect_body, auth_at, auth_body, notice_of, FitsNotice, lawful_auth};
 
 use crate::tail::{tail_len, tail_push, tail_read};
 use mqtt_base::{Kind, Reason};
-use mqtt_fields::{Fault, stands};
+use mqtt_codec_parts::{Fault, stands};
 use mqtt_props::{Place, PropList, PropName, PropsRef, layout_read};
 use std::alloc::{AllocError, Global};
 
@@ -87,7 +87,7 @@ impl NoticeRef<'_> {
 
     /// Writes the shortest body of DISCONNECT at the end.
     #[inline(always)]
-    #[tactic(auto, using(mqtt_fields::proofs::Fronts::begins_same, mqtt_fields::proofs::Fronts::begins_less))]
+    #[tactic(auto, using(mqtt_codec_parts::proofs::Fronts::begins_same, mqtt_codec_parts::proofs::Fronts::begins_less))]
     pub(crate) fn push_disconnect(&self, out: &mut Vec<u8>) -> Result<(), AllocError>
         ensures ok { OnOk result (out.new.items ≡ out.old.items ++ disconnect_body (notice_of self.now)) }
         ensures front { OnErr result (KeepsFront out.old.items out.new.items) }
@@ -97,7 +97,7 @@ impl NoticeRef<'_> {
 
     /// Writes the shortest body of AUTH at the end.
     #[inline(always)]
-    #[tactic(auto, using(std::proofs::lemmas::List::append_assoc, mqtt_fields::proofs::Fronts::begins_same, mqtt_fields::proofs::Fronts::begins_less))]
+    #[tactic(auto, using(std::proofs::lemmas::List::append_assoc, mqtt_codec_parts::proofs::Fronts::begins_same, mqtt_codec_parts::proofs::Fronts::begins_less))]
     pub(crate) fn push_auth(&self, out: &mut Vec<u8>) -> Result<(), AllocError>
         ensures ok { OnOk result (out.new.items ≡ out.old.items ++ auth_body (notice_of self.now)) }
         ensures front { OnErr result (KeepsFront out.old.items out.new.items) }

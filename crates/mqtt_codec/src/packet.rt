@@ -10,9 +10,9 @@ use crate::notice::{Notice, NoticeRef};
 use crate::publish::{Publish, PublishRef};
 use crate::suback::{Suback, SubackRef};
 use mqtt_base::Kind;
-use mqtt_connect::{Connect, ConnectRef};
+use mqtt_codec_connect::{Connect, ConnectRef};
+use mqtt_codec_subscribe::{Subscribe, SubscribeRef, Unsubscribe, UnsubscribeRef};
 use mqtt_props::{Place, PropsRef};
-use mqtt_subscribe::{Subscribe, SubscribeRef, Unsubscribe, UnsubscribeRef};
 use std::alloc::{AllocError, Global};
 
 /// A control packet (2.1.2).

@@ -2,15 +2,15 @@
 
 ghost use Rattle.std.specs.Prelude.{◌≡◌, ◌<◌, ◌++◌, Bool, IfOk, OnOk, OnErr, IsTrue, ◌↔◌, length};
 ghost use Rattle.mqtt_base.specs.Reading.{Reads};
-ghost use Rattle.mqtt_fields.specs.Reading.{Gives};
-ghost use Rattle.mqtt_fields.specs.Writing.{KeepsFront};
+ghost use Rattle.mqtt_codec_parts.specs.Reading.{Gives};
+ghost use Rattle.mqtt_codec_parts.specs.Writing.{KeepsFront};
 ghost use Rattle.mqtt_codec.specs.declared.head.Head.TheVariants as heads;
 ghost use Rattle.mqtt_codec.specs.Heads.{first};
 ghost use Rattle.mqtt_codec.specs.Publish.{delivery_head, delivery_qos, delivery_dup, delivery_identifier, delivery_at, publish_at, publish_of, publish_body, identifier_field, FitsPublish, FitsDelivery, lawful_identifier, lawful_publish};
 
 use bytes::Bytes;
 use mqtt_base::{Qos, ReadFault, Text, blob_push, text_read, u16_push, u16_read};
-use mqtt_fields::{Fault, both, stands};
+use mqtt_codec_parts::{Fault, both, stands};
 use mqtt_props::{Place, PropList, PropName, PropsRef, layout_read};
 use std::alloc::{AllocError, Global};
 
@@ -162,7 +162,7 @@ impl Delivery {
     }
 
     #[inline(always)]
-    #[tactic(auto, using(mqtt_fields::proofs::Fronts::begins_same, mqtt_fields::proofs::Fronts::begins_less))]
+    #[tactic(auto, using(mqtt_codec_parts::proofs::Fronts::begins_same, mqtt_codec_parts::proofs::Fronts::begins_less))]
     fn push(self, out: &mut Vec<u8>) -> Result<(), AllocError>
         ensures ok { OnOk result (out.new.items ≡ out.old.items ++ identifier_field self) }
         ensures front { OnErr result (KeepsFront out.old.items out.new.items) }
@@ -188,7 +188,7 @@ impl PublishRef<'_> {
 
     /// Writes the body at the end.
     #[inline(always)]
-    #[tactic(auto, using(std::proofs::lemmas::List::append_assoc, mqtt_fields::proofs::Fronts::begins_same, mqtt_fields::proofs::Fronts::begins_less))]
+    #[tactic(auto, using(std::proofs::lemmas::List::append_assoc, mqtt_codec_parts::proofs::Fronts::begins_same, mqtt_codec_parts::proofs::Fronts::begins_less))]
     pub(crate) fn push(&self, out: &mut Vec<u8>) -> Result<(), AllocError>
         requires { FitsPublish (publish_of self.now) }
         ensures ok { OnOk result (out.new.items ≡ out.old.items ++ publish_body (publish_of self.now)) }

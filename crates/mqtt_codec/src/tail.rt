@@ -2,11 +2,11 @@
 //! (3.4.2, 3.14.2, 3.15.2).
 
 ghost use Rattle.std.specs.Prelude.{◌≡◌, ◌∷◌, ◌<◌, ◌^◌, ◌++◌, OnOk, OnErr, length};
-ghost use Rattle.mqtt_fields.specs.Reading.{Gives};
-ghost use Rattle.mqtt_fields.specs.Writing.{KeepsFront};
+ghost use Rattle.mqtt_codec_parts.specs.Reading.{Gives};
+ghost use Rattle.mqtt_codec_parts.specs.Writing.{KeepsFront};
 ghost use Rattle.mqtt_codec.specs.Tails.{tail_at, tail};
 
-use mqtt_fields::Fault;
+use mqtt_codec_parts::Fault;
 use mqtt_props::{Place, PropsRef, layout_read};
 use std::alloc::AllocError;
 
@@ -32,7 +32,7 @@ pub(crate) fn tail_read(place: Place, bytes: &[u8]) -> Result<(u8, PropsRef<'_>)
 
 /// Writes the shortest tail at the end.
 #[inline(always)]
-#[tactic(auto, using(std::proofs::lemmas::List::append_assoc, mqtt_fields::proofs::Fronts::begins_same, mqtt_fields::proofs::Fronts::begins_less))]
+#[tactic(auto, using(std::proofs::lemmas::List::append_assoc, mqtt_codec_parts::proofs::Fronts::begins_same, mqtt_codec_parts::proofs::Fronts::begins_less))]
 pub(crate) fn tail_push(
     out: &mut Vec<u8>,
     code: u8,

@@ -6,8 +6,8 @@ use Rattle.mqtt_base.specs.declared.Ending.{Ending}
 use Rattle.mqtt_base.specs.declared.Ending.TheVariants.{Taken, Refused, Expired, TooLarge, Dropped}
 use Rattle.mqtt_base.specs.declared.Qos.{Qos}
 use Rattle.mqtt_base.specs.declared.Qos.TheVariants.{AtMostOnce, AtLeastOnce, ExactlyOnce}
-use Rattle.mqtt_inbound.specs.declared.fault.FlowFault.{FlowFault}
-use Rattle.mqtt_inbound.specs.declared.fault.FlowFault.TheVariants.{Full, WrongStep, Memory}
+use Rattle.mqtt_flow_inbound.specs.declared.fault.FlowFault.{FlowFault}
+use Rattle.mqtt_flow_inbound.specs.declared.fault.FlowFault.TheVariants.{Full, WrongStep, Memory}
 use Rattle.mqtt_base.specs.declared.limits.TheConstants.{PUMP_LIMIT}
 use Rattle.mqtt_flow.specs.declared.entry.QueuedCopy.{QueuedCopy}
 use Rattle.mqtt_flow.specs.declared.entry.Due.{Due}
@@ -20,7 +20,7 @@ use Rattle.mqtt_flow.specs.declared.entry.Turn.TheVariants.{Send, Resend, Releas
 use Rattle.mqtt_flow.specs.declared.entry.Way.{Way}
 use Rattle.mqtt_flow.specs.declared.pump.Step.{Step}
 use Rattle.mqtt_flow.specs.declared.pump.Step.TheVariants.{Stop, GoOn, Take}
-use Rattle.mqtt_inbound.specs.Identifiers.{ids_without, free_identifier}
+use Rattle.mqtt_flow_inbound.specs.Identifiers.{ids_without, free_identifier}
 use Rattle.mqtt_flow.specs.Pacing.{Pacing}
 use Rattle.mqtt_flow.specs.Queue.{identifiers, holder, next_order, in_window, entering, after, after_all, order_given}
 

@@ -14,7 +14,7 @@ use Rattle.mqtt_flow.specs.declared.entry.Turn.TheVariants.{Send, Resend, Releas
 use Rattle.mqtt_flow.specs.Queue.{entering, marked}
 use Rattle.mqtt_flow.specs.Outbound as rules
 use Rattle.mqtt_flow.specs.Outbound.{has_room, way_made, expired, unsent, resumed_with}
-use Rattle.mqtt_inbound.specs.Line.{away, sent_on}
+use Rattle.mqtt_flow_inbound.specs.Line.{away, sent_on}
 use Rattle.mqtt_flow.specs.Receiver.{Body, Output, connack, no_connack, publish, pubrel, disconnect, Answer, connect, puback, pubrec, pubcomp, Hop, spared, leaves, down_comes, gives_up, joins}
 
 -- what a copy carries

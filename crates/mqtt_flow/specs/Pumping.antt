@@ -4,7 +4,7 @@ use Rattle.mqtt_flow.specs.declared.entry.Entry.{Entry}
 use Rattle.mqtt_flow.specs.declared.entry.Turn.{Turn}
 use Rattle.mqtt_flow.specs.declared.entry.Turn.TheVariants.{Send, Resend, Release, Outgrow, Repeat, Unknown, Leave}
 use Rattle.mqtt_flow.specs.declared.entry.Way.{Way}
-use Rattle.mqtt_inbound.specs.Identifiers.{is_among}
+use Rattle.mqtt_flow_inbound.specs.Identifiers.{is_among}
 use Rattle.mqtt_flow.specs.Queue.{Above, Ascends, in_window, after_all}
 use Rattle.mqtt_flow.specs.Outbound.{pump}
 

@@ -1,8 +1,8 @@
 -- A conforming receiver, its line, and the line that it gave up last (MQTT 5.0, 4.3, 4.4).
 use Rattle.std.specs.Prelude.{◌≡◌, ℕ, ◌+◌, ◌<◌, Bool, true, false, cond, ◌||◌, List, [], ◌∷◌, ◌++◌, nat_eq, if◌then◌else◌, All, ⊤}
 use Rattle.mqtt_base.specs.Codes.{success, identifier_not_found}
-use Rattle.mqtt_inbound.specs.Identifiers.{is_among, ids_without}
-use Rattle.mqtt_inbound.specs.Line.{Link, away, asked, live, sent_on}
+use Rattle.mqtt_flow_inbound.specs.Identifiers.{is_among, ids_without}
+use Rattle.mqtt_flow_inbound.specs.Line.{Link, away, asked, live, sent_on}
 
 -- what a copy carries. `twice` says that its granted QoS is 2, not 1
 pub record Body : Type 0 where

@@ -7,7 +7,7 @@ use crate::entry::Turn;
 use crate::look::{look_puback, look_pubcomp, look_pubrec};
 use crate::outflow::Outflow;
 use mqtt_base::{Ending, LAST_NUMBER, Phase, Qos, Reason};
-use mqtt_inbound::FlowFault;
+use mqtt_flow_inbound::FlowFault;
 
 /// The end that a reason code gives.
 fn ending_of(code: Reason) -> Ending

@@ -1,13 +1,13 @@
 //! The packet identifiers that a session's outbound copies have (2.2.1).
 
 ghost use Rattle.std.specs.Prelude.{◌≡◌, ◌≤◌, ℕ, List, ◌++◌, length, map, IfErr, OnOk};
-ghost use Rattle.mqtt_inbound.specs.Identifiers.{ids_without};
+ghost use Rattle.mqtt_flow_inbound.specs.Identifiers.{ids_without};
 ghost use Rattle.mqtt_flow.specs.Queue.{also, identifiers};
 ghost use Rattle.mqtt_flow.specs.Outbound.{freed};
 
 use crate::row::QueueRow;
 use mqtt_base::Phase;
-use mqtt_inbound::FlowFault;
+use mqtt_flow_inbound::FlowFault;
 
 /// Adds an identifier, if there is one.
 fn push_identifier(used: &mut Vec<u16>, identifier: Option<u16>) -> Result<(), FlowFault>

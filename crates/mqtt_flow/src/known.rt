@@ -9,7 +9,7 @@ use crate::plan::{greatest_order, in_window};
 use crate::pump::{first_pace, push_pumped};
 use crate::row::QueueRow;
 use mqtt_base::{LAST_NUMBER, Phase, QUEUE_LIMIT};
-use mqtt_inbound::FlowFault;
+use mqtt_flow_inbound::FlowFault;
 use std::alloc::Global;
 
 /// What is known of a queue without a look at it.

@@ -19,7 +19,7 @@ pub use known::{Known, know, pump_known};
 pub use look::{
     holder, look_enter, look_expire, look_puback, look_pubcomp, look_pubrec, look_pump, look_resume,
 };
-pub use mqtt_inbound::{
+pub use mqtt_flow_inbound::{
     FlowFault, Inflow, Published, ReleaseAnswer, inbound_once, own_identifier_alone, would_publish,
     would_release,
 };

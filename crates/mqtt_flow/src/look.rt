@@ -13,7 +13,7 @@ use crate::plan::{
 use crate::pump::{first_pace, push_pumped};
 use crate::row::QueueRow;
 use mqtt_base::{LAST_NUMBER, QUEUE_LIMIT, Reason};
-use mqtt_inbound::FlowFault;
+use mqtt_flow_inbound::FlowFault;
 use std::alloc::Global;
 
 /// The turns by which a full queue makes way for a copy; `since` is the first place that the broker gives in this step

@@ -5,7 +5,7 @@ ghost use Rattle.mqtt_base.specs.declared.Ending.TheVariants.{Expired, Dropped};
 ghost use Rattle.mqtt_flow.specs.declared.entry.Entry.{Entry};
 ghost use Rattle.mqtt_flow.specs.declared.entry.QueueLimits.{QueueLimits};
 ghost use Rattle.mqtt_flow.specs.declared.entry.Way.{Way};
-ghost use Rattle.mqtt_inbound.specs.Identifiers.{free_identifier};
+ghost use Rattle.mqtt_flow_inbound.specs.Identifiers.{free_identifier};
 ghost use Rattle.mqtt_flow.specs.Queue.{greatest_given, next_order, next_place};
 ghost use Rattle.mqtt_flow.specs.Outbound.{order_asked, pubrec, pump, way_open};
 ghost use Rattle.mqtt_flow.specs.Pumping.{InQueueOrder, WithinWindow, IsLowestFree};

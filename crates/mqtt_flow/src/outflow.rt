@@ -10,7 +10,7 @@ use crate::entry::{Entry, QueuedCopy, Turn};
 use crate::look::holder;
 use crate::plan::{greatest_order, greatest_place};
 use mqtt_base::{LAST_NUMBER, Phase, QUEUE_LIMIT};
-use mqtt_inbound::FlowFault;
+use mqtt_flow_inbound::FlowFault;
 use std::alloc::Global;
 use std::marker::Model;
 

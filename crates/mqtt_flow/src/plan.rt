@@ -8,7 +8,7 @@ ghost use Rattle.mqtt_flow.specs.Outbound.{is_waiting, gives_way, staying, has_r
 use crate::entry::{Due, Entry, Full, QueueLimits, Turn, Way};
 use crate::row::QueueRow;
 use mqtt_base::{Ending, Phase};
-use mqtt_inbound::FlowFault;
+use mqtt_flow_inbound::FlowFault;
 
 /// Whether a phase has an identifier.
 pub(crate) fn holds(phase: Phase, identifier: u16) -> bool

@@ -8,7 +8,7 @@ use crate::in_use::{free, push_identifiers};
 use crate::plan::{is_large, is_late};
 use crate::row::QueueRow;
 use mqtt_base::{Ending, PUMP_LIMIT, Phase, Qos};
-use mqtt_inbound::{FlowFault, lowest_free};
+use mqtt_flow_inbound::{FlowFault, lowest_free};
 use std::alloc::Global;
 use std::marker::Model;
 

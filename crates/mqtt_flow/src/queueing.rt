@@ -9,7 +9,7 @@ use crate::entry::{QueueLimits, QueuedCopy, Turn, Way};
 use crate::look::{look_enter, look_expire, look_pump, look_resume};
 use crate::outflow::Outflow;
 use mqtt_base::{LAST_NUMBER, QUEUE_LIMIT};
-use mqtt_inbound::FlowFault;
+use mqtt_flow_inbound::FlowFault;
 use std::alloc::Global;
 
 impl Outflow {

@@ -2,9 +2,11 @@
 #![tactic(auto)]
 
 mod link;
+mod serve_fault;
 mod sockets;
 mod waiting;
 
 pub use link::{Got, Link};
+pub use serve_fault::ServeFault;
 pub use sockets::{NetLink, got};
 pub use waiting::{WAITING_LIMIT, Waiting, WaitingFault};

@@ -1,7 +1,7 @@
 -- What fronts of streams begin with, by computing (2.1).
 use Rattle.std.proofs.Common.{◌≡◌, [], ◌∷◌, None, Ok, Err, refl}
 use Rattle.mqtt_base.specs.Reading.{groups_at, varint_at}
-use Rattle.mqtt_fields.specs.declared.fault.Fault.TheVariants.{Malformed, TooLarge}
+use Rattle.mqtt_codec_parts.specs.declared.fault.Fault.TheVariants.{Malformed, TooLarge}
 use Rattle.mqtt_packet.specs.Front.{size_at, first_of}
 
 -- 30 fc ff 03 begins a packet of 65,536 bytes

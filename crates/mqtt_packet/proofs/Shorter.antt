@@ -4,8 +4,8 @@ use Rattle.std.proofs.lemmas.Bool.{ltb-true}
 use Rattle.std.proofs.lemmas.List.{take-append-drop, take-append-le, drop-take, length-take}
 use Rattle.mqtt_base.specs.declared.fault.ReadFault.TheVariants.{Short, Overlong, BadText}
 use Rattle.mqtt_base.specs.Reading.{groups_at, varint_at}
-use Rattle.mqtt_fields.specs.declared.fault.Fault.{Fault}
-use Rattle.mqtt_fields.specs.declared.fault.Fault.TheVariants.{TooLarge}
+use Rattle.mqtt_codec_parts.specs.declared.fault.Fault.{Fault}
+use Rattle.mqtt_codec_parts.specs.declared.fault.Fault.TheVariants.{TooLarge}
 use Rattle.mqtt_base.specs.declared.limits.TheConstants.{PACKET_LIMIT}
 use Rattle.mqtt_codec.specs.declared.head.Head.{Head}
 use Rattle.mqtt_codec.specs.declared.packet.Packet.{Packet}

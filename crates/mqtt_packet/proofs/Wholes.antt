@@ -8,8 +8,8 @@ use Rattle.mqtt_base.specs.Values.{varint, blob}
 use Rattle.mqtt_base.specs.Reading.{varint_at}
 use Rattle.mqtt_base.proofs.Steps.{IsBytes, IsBytes-take}
 use Rattle.mqtt_base.proofs.Varints.{varint_rereads}
-use Rattle.mqtt_fields.specs.declared.fault.Fault.{Fault}
-use Rattle.mqtt_fields.specs.declared.fault.Fault.TheVariants.{TooLarge}
+use Rattle.mqtt_codec_parts.specs.declared.fault.Fault.{Fault}
+use Rattle.mqtt_codec_parts.specs.declared.fault.Fault.TheVariants.{TooLarge}
 use Rattle.mqtt_base.specs.declared.limits.TheConstants.{PACKET_LIMIT}
 use Rattle.mqtt_codec.specs.declared.head.Head.{Head}
 use Rattle.mqtt_codec.specs.declared.packet.Packet.{Packet}

@@ -1,7 +1,7 @@
 -- The cut of a stream of bytes into packets, and what cuts it (MQTT 5.0, 2.1).
 use Rattle.std.specs.Prelude.{◌≡◌, ◌≢◌, ℕ, ◌+◌, ◌-◌, ◌%◌, ◌^◌, ◌≤◌, List, [], ◌∷◌, ◌++◌, length, take, drop, Option, None, Some, Ok, Err}
-use Rattle.mqtt_fields.specs.declared.fault.Fault.{Fault}
-use Rattle.mqtt_fields.specs.declared.fault.Fault.TheVariants.{Memory}
+use Rattle.mqtt_codec_parts.specs.declared.fault.Fault.{Fault}
+use Rattle.mqtt_codec_parts.specs.declared.fault.Fault.TheVariants.{Memory}
 use Rattle.mqtt_codec.specs.declared.packet.Packet.{Packet}
 use Rattle.mqtt_base.specs.declared.limits.TheConstants.{PACKET_LIMIT}
 use Rattle.mqtt_codec.specs.Packets.{Spells}

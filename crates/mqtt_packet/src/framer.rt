@@ -1,7 +1,7 @@
 //! The cut of a stream of bytes into packets, however it comes (2.1).
 
 ghost use Rattle.std.specs.Prelude.{◌≡◌, ◌≢◌, ◌-◌, ◌<◌, ◌≤◌, ◌++◌, length, take, drop, min, IfOk, IfErr, IfNone, IfSome, OnErr, OnOk, OnSome, IsOk, Ok, None};
-ghost use Rattle.mqtt_fields.specs.declared.fault.Fault.{Fault};
+ghost use Rattle.mqtt_codec_parts.specs.declared.fault.Fault.{Fault};
 ghost use Rattle.mqtt_base.specs.declared.limits.TheConstants.{PACKET_LIMIT};
 ghost use Rattle.mqtt_packet.specs.Front.{first_of};
 ghost use Rattle.mqtt_packet.specs.Stream.{Framing, empty, after, first_byte, without_last, Stands, Refuses, Finds, FindsSized, Gives};
@@ -11,7 +11,8 @@ ghost use Rattle.mqtt_codec.specs.Frames.{packet_of};
 use crate::front::first_read;
 use crate::store::Store;
 use mqtt_base::{PACKET_LIMIT, Text};
-use mqtt_codec::{Fault, Packet, PacketRef, Publish, PublishRef};
+use mqtt_codec::{Packet, PacketRef, Publish, PublishRef};
+use mqtt_codec_parts::Fault;
 use mqtt_props::PropList;
 use std::alloc::{AllocError, Global};
 use std::marker::Model;

@@ -6,7 +6,8 @@ ghost use Rattle.mqtt_codec.specs.Packets.{Fits};
 ghost use Rattle.mqtt_codec.specs.Frames.{packet_of};
 
 use mqtt_base::{PACKET_LIMIT, ReadFault, varint_read};
-use mqtt_codec::{Fault, PacketRef, head_read, look_at};
+use mqtt_codec::{PacketRef, head_read, look_at};
+use mqtt_codec_parts::Fault;
 
 /// The size of the whole packet at the front, if it has come.
 #[inline(always)]

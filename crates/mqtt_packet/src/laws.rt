@@ -3,8 +3,8 @@
 ghost use Rattle.std.specs.Prelude.{◌≡◌, ◌≢◌, ℕ, ◌+◌, ◌<◌, ◌≤◌, take, slice_index, ◌∷◌, [], ◌++◌, ◌⊎◌, List, length, Ok, Err, Some, None, true, false};
 ghost use Rattle.mqtt_base.specs.Reading.{varint_at};
 ghost use Rattle.mqtt_base.specs.declared.fault.ReadFault.TheVariants.{Overlong};
-ghost use Rattle.mqtt_fields.specs.declared.fault.Fault.{Fault};
-ghost use Rattle.mqtt_fields.specs.declared.fault.Fault.TheVariants.{Malformed, TooLarge};
+ghost use Rattle.mqtt_codec_parts.specs.declared.fault.Fault.{Fault};
+ghost use Rattle.mqtt_codec_parts.specs.declared.fault.Fault.TheVariants.{Malformed, TooLarge};
 ghost use Rattle.mqtt_base.specs.declared.limits.TheConstants.{PACKET_LIMIT};
 ghost use Rattle.mqtt_codec.specs.declared.head.Head.{Head};
 ghost use Rattle.mqtt_codec.specs.declared.packet.Packet.{Packet};

@@ -9,9 +9,13 @@ mod store;
 pub use framer::Framer;
 pub use laws::{any_pieces, first_spelled, joined_cut, moments, one_cut};
 pub use mqtt_codec::{
-    Ack, AckRef, Connack, ConnackRef, Connect, ConnectRef, Delivery, Fault, Filters, FiltersRef,
-    Notice, NoticeRef, Packet, PacketRef, Publish, PublishRef, Suback, SubackRef, Subscribe,
-    SubscribeRef, SubscriptionRef, Subscriptions, SubscriptionsRef, Unsubscribe, UnsubscribeRef,
-    Will, WillRef, decode, encode, encode_into, lawful, look_at, one_packet, round_trip,
-    spelled_len,
+    Ack, AckRef, Connack, ConnackRef, Delivery, Notice, NoticeRef, Packet, PacketRef, Publish,
+    PublishRef, Suback, SubackRef, decode, encode, encode_into, lawful, look_at, one_packet,
+    round_trip, spelled_len,
+};
+pub use mqtt_codec_connect::{Connect, ConnectRef, Will, WillRef};
+pub use mqtt_codec_parts::Fault;
+pub use mqtt_codec_subscribe::{
+    Filters, FiltersRef, Subscribe, SubscribeRef, SubscriptionRef, Subscriptions, SubscriptionsRef,
+    Unsubscribe, UnsubscribeRef,
 };

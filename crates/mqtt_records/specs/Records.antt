@@ -5,8 +5,8 @@ use Rattle.mqtt_base.specs.declared.limits.TheConstants.{SUBSCRIPTION_LIMIT, OPE
 use Rattle.mqtt_base.specs.declared.session.Cause.{Cause}
 use Rattle.mqtt_base.specs.declared.session.Cause.TheVariants.{Direct, Share, Retained}
 use Rattle.mqtt_base.specs.Phases.{order_of}
-use Rattle.mqtt_message.specs.Queue.{CopyRow}
-use Rattle.mqtt_message.specs.declared.message.RetainedMessage.{RetainedMessage}
+use Rattle.mqtt_records_message.specs.Queue.{CopyRow}
+use Rattle.mqtt_records_message.specs.declared.message.RetainedMessage.{RetainedMessage}
 use Rattle.mqtt_records.specs.declared.subscription.Subscription.{Subscription}
 use Rattle.mqtt_records.specs.declared.session.Session.{Session}
 use Rattle.mqtt_records.specs.declared.session.Columns.{Columns}
@@ -15,7 +15,7 @@ use Rattle.mqtt_records.specs.declared.change.Counter.{Counter}
 use Rattle.mqtt_records.specs.declared.change.Counter.TheVariants.{Births, Publications, Subscribes, Autos, Moment}
 use Rattle.mqtt_records.specs.declared.change.Change.{Change}
 use Rattle.mqtt_records.specs.declared.change.Change.TheVariants.{SetCounter, PutSession, SetSession, RemoveSession, PutWill, RemoveWill, PutSubscription, RemoveSubscription, PutInbound, RemoveInbound, PutCopy, SetCopy, RemoveCopy, PutRetained, RemoveRetained}
-use Rattle.mqtt_rows.specs.Order.{HasRoomFor, row_at, has_row, put_row, remove_row, change_row}
+use Rattle.mqtt_records_rows.specs.Order.{HasRoomFor, row_at, has_row, put_row, remove_row, change_row}
 use Rattle.mqtt_records.specs.Session.{birth_of, place_of, number_of, copy_place, fresh, with_columns, with_will, without_filter, with_subscription, without_subscription, with_open, without_open, with_copy, with_phase, without_copy}
 
 abbrev pub kept_place : RetainedMessage → ℕ

@@ -1,9 +1,9 @@
 -- What a row can say of the item that a change puts: for the rest a table has no word (4.1).
 use Rattle.std.specs.Prelude.{◌≢◌, List, [], ◌∷◌, Some}
 use Rattle.mqtt_props.specs.Properties.{FitsBlock}
-use Rattle.mqtt_message.specs.PassedOn.{IsPassedOn}
-use Rattle.mqtt_message.specs.Queue.{first_sent}
-use Rattle.mqtt_message.specs.declared.message.MessageCopy.{MessageCopy}
+use Rattle.mqtt_records_message.specs.PassedOn.{IsPassedOn}
+use Rattle.mqtt_records_message.specs.Queue.{first_sent}
+use Rattle.mqtt_records_message.specs.declared.message.MessageCopy.{MessageCopy}
 use Rattle.mqtt_records.specs.declared.change.Change.{Change}
 use Rattle.mqtt_records.specs.declared.change.Change.TheVariants.{PutWill, PutSubscription, PutCopy, PutRetained}
 

@@ -2,14 +2,14 @@
 use Rattle.std.specs.Prelude.{◌≡◌, refl, ℕ, codes, not, bytes_eq, List, [], filter, Option, Some, None}
 use Rattle.mqtt_base.specs.declared.session.Phase.{Phase}
 use Rattle.mqtt_base.specs.declared.limits.TheConstants.{SUBSCRIPTION_LIMIT, OPEN_LIMIT, QUEUE_LIMIT}
-use Rattle.mqtt_message.specs.declared.message.Will.{Will}
-use Rattle.mqtt_message.specs.Queue.{CopyRow}
+use Rattle.mqtt_records_message.specs.declared.message.Will.{Will}
+use Rattle.mqtt_records_message.specs.Queue.{CopyRow}
 use Rattle.mqtt_records.specs.declared.subscription.Subscription.{Subscription}
 use Rattle.mqtt_records.specs.declared.session.Session.{Session}
 use Rattle.mqtt_records.specs.declared.session.Columns.{Columns}
 use Rattle.mqtt_records.specs.declared.session.SessionPart.{SessionPart}
 use Rattle.mqtt_records.specs.declared.session.SessionPart.TheVariants.{SetColumns, PutWill, RemoveWill, PutSubscription, RemoveSubscription, PutInbound, RemoveInbound, PutCopy, SetCopy, RemoveCopy}
-use Rattle.mqtt_rows.specs.Order.{put_row, remove_row, change_row}
+use Rattle.mqtt_records_rows.specs.Order.{put_row, remove_row, change_row}
 
 -- ---- the keys of the lists
 

@@ -5,8 +5,8 @@ ghost use Rattle.mqtt_records.specs.Saying.{PassesOn, AllPassOn};
 use crate::session::{Columns, SessionRow};
 use crate::subscription::Subscription;
 use mqtt_base::{Phase, Text};
-use mqtt_message::{CopyRow, RetainedMessage, Will};
-use mqtt_rows::Boxed;
+use mqtt_records_message::{CopyRow, RetainedMessage, Will};
+use mqtt_records_rows::Boxed;
 use std::alloc::{AllocError, Global};
 
 /// A number that is kept.

@@ -1,6 +1,6 @@
 //! Laws of records, in other words than their definitions.
 ghost use Rattle.std.specs.Prelude.{◌≡◌, ◌≢◌, ◌≤◌, ℕ, None, List, []};
-ghost use Rattle.mqtt_rows.specs.Order.{row_at};
+ghost use Rattle.mqtt_records_rows.specs.Order.{row_at};
 ghost use Rattle.mqtt_records.specs.Session.{birth_of};
 ghost use Rattle.mqtt_records.specs.declared.records.Records.{Records};
 ghost use Rattle.mqtt_records.specs.declared.change.Change.{Change};

@@ -14,11 +14,11 @@ pub use change::{Change, Counter, all_pass_on, clone_all};
 pub use keep::{Keep, KeepError};
 pub use laws::{ended_session_leaves_nothing, numbers_never_fall};
 pub use memory::MemKeep;
-pub use mqtt_message::{
+pub use mqtt_records_message::{
     Content, CopyFault, CopyRow, MessageCopy, PassedOn, RetainedMessage, SubscriptionIdentifiers,
     Will,
 };
-pub use mqtt_rows::{
+pub use mqtt_records_rows::{
     Boxed, CloneRow, Editable, Named, Parted, Row, Rows, newest_comes_last, rows_are_determined,
     rows_are_found,
 };

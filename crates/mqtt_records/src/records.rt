@@ -7,8 +7,8 @@ ghost use Rattle.mqtt_records.specs.Session.{part_changed};
 use crate::change::{Change, Counter};
 use crate::session::{Session, SessionPart, SessionRow};
 use mqtt_base::{RETAINED_LIMIT, SESSION_LIMIT};
-use mqtt_message::{CopyRow, RetainedMessage};
-use mqtt_rows::{Boxed, Rows};
+use mqtt_records_message::{CopyRow, RetainedMessage};
+use mqtt_records_rows::{Boxed, Rows};
 use std::alloc::{AllocError, Global};
 
 /// All that is kept.

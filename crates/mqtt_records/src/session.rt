@@ -4,8 +4,8 @@ ghost use Rattle.mqtt_records.specs.Session.{fresh, with_columns, with_will};
 
 use crate::subscription::{Subscription, put_by_filter};
 use mqtt_base::{OPEN_LIMIT, Phase, QUEUE_LIMIT, SUBSCRIPTION_LIMIT, Text};
-use mqtt_message::{CopyRow, Will};
-use mqtt_rows::{Boxed, CloneRow, Editable, Named, Parted, Row, Rows};
+use mqtt_records_message::{CopyRow, Will};
+use mqtt_records_rows::{Boxed, CloneRow, Editable, Named, Parted, Row, Rows};
 use std::alloc::{AllocError, Global};
 use std::marker::Model;
 use std::mem;
@@ -369,7 +369,7 @@ impl Parted for Session {
 
     type Taken = Boxed<CopyRow>;
 
-    ghost use Rattle.mqtt_rows.specs.Order.{row_at};
+    ghost use Rattle.mqtt_records_rows.specs.Order.{row_at};
     ghost use Rattle.mqtt_records.specs.Session.{copy_place, without_copy};
 
     ghost taken = { λ place session. row_at copy_place place session.queue };

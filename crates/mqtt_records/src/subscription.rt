@@ -3,7 +3,7 @@ ghost use Rattle.std.specs.Prelude.{◌≡◌};
 ghost use Rattle.mqtt_records.specs.Session.{put_subscription};
 
 use mqtt_base::{SUBSCRIPTION_LIMIT, SubscriptionOptions, Text};
-use mqtt_rows::{Boxed, CloneRow, Named, Row, Rows};
+use mqtt_records_rows::{Boxed, CloneRow, Named, Row, Rows};
 use std::alloc::AllocError;
 
 /// A subscription (3.8).

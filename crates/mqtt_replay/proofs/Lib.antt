@@ -2,3 +2,4 @@
 pub mod Examples
 pub mod Pieces
 pub mod Shown
+pub mod ToldExamples

@@ -5,8 +5,8 @@ use Rattle.std.proofs.lemmas.List.Splits.{slice_split_none, slice_split_at}
 use Rattle.std.specs.Io.KnownBytes.{Keeps, Consumes, IsAtEnd}
 use Rattle.std.proofs.KnownBytes.{Appends-trans, Appends-nil, Consumes-trans, Consumes-nil}
 use Rattle.mqtt_script.specs.Telling.{line_feed}
-use Rattle.mqtt_replay_fault.specs.declared.fault.Played.{Played}
-use Rattle.mqtt_replay_fault.specs.declared.fault.Played.TheVariants.{Whole, Bad}
+use Rattle.mqtt_script.specs.declared.replay_fault.Played.{Played}
+use Rattle.mqtt_script.specs.declared.replay_fault.Played.TheVariants.{Whole, Bad}
 use Rattle.mqtt_replay.specs.Playing.{Play, Standing}
 use Rattle.mqtt_replay.specs.Replaying.{Feeds, IsPlain, LineShows, Shows, ShowsFront, lines_of}
 use Rattle.mqtt_replay.proofs.Shown.{front_behind, front_none, line_alone, lines_join, shows_bad, shows_behind}

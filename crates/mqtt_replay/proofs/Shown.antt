@@ -5,8 +5,8 @@ use Rattle.std.proofs.KnownBytes.{Appends-trans, Appends-nil, Appends-kept}
 use Rattle.mqtt_script.specs.declared.event.Event.{Event}
 use Rattle.mqtt_script.specs.Lines.{IsLineOf, is_passed_over}
 use Rattle.mqtt_script.specs.Telling.{bad_text}
-use Rattle.mqtt_replay_fault.specs.declared.fault.Played.{Played}
-use Rattle.mqtt_replay_fault.specs.declared.fault.Played.TheVariants.{Whole, Bad}
+use Rattle.mqtt_script.specs.declared.replay_fault.Played.{Played}
+use Rattle.mqtt_script.specs.declared.replay_fault.Played.TheVariants.{Whole, Bad}
 use Rattle.mqtt_replay.specs.Playing.{Play, Standing, last_lines}
 use Rattle.mqtt_replay.specs.Replaying.{LinePlays, LinesPlay, Shows, ShowsFront, LineShows, EventShows}
 

@@ -1,14 +1,14 @@
 -- What can happen in a world, and what a script's events come to there (ours).
 use Rattle.std.specs.Prelude.{◌≡◌, ℕ, ◌+◌, List, [], ◌++◌, Option, None, Some, option_to_list}
 use Rattle.std.specs.List.{flat_map}
-use Rattle.mqtt_laws.specs.Tellings.{Telling}
+use Rattle.mqtt_world_model.specs.Tellings.{Telling}
 use Rattle.mqtt_script.specs.declared.event.Event.{Event}
 use Rattle.mqtt_script.specs.declared.event.Event.TheVariants.{Publisher, Receiver}
 use Rattle.mqtt_script.specs.Lines.{first_word}
 use Rattle.mqtt_script.specs.Telling.{publisher_text, receiver_text, broker_text, bad_text}
-use Rattle.mqtt_told.specs.Told.{told_text}
-use Rattle.mqtt_replay_fault.specs.declared.fault.Played.{Played}
-use Rattle.mqtt_replay_fault.specs.declared.fault.Played.TheVariants.{Whole, Bad}
+use Rattle.mqtt_replay.specs.Told.{told_text}
+use Rattle.mqtt_script.specs.declared.replay_fault.Played.{Played}
+use Rattle.mqtt_script.specs.declared.replay_fault.Played.TheVariants.{Whole, Bad}
 use Rattle.mqtt_replay.specs.declared.ends.End.{End}
 use Rattle.mqtt_replay.specs.declared.ends.End.TheVariants as end
 

@@ -5,8 +5,8 @@ use Rattle.std.specs.Io.KnownBytes.{Appends}
 use Rattle.mqtt_script.specs.declared.event.Event.{Event}
 use Rattle.mqtt_script.specs.Lines.{IsLineOf, IsNoLine, is_passed_over}
 use Rattle.mqtt_script.specs.Telling.{bad_text, line_feed}
-use Rattle.mqtt_replay_fault.specs.declared.fault.Played.{Played}
-use Rattle.mqtt_replay_fault.specs.declared.fault.Played.TheVariants.{Whole, Bad}
+use Rattle.mqtt_script.specs.declared.replay_fault.Played.{Played}
+use Rattle.mqtt_script.specs.declared.replay_fault.Played.TheVariants.{Whole, Bad}
 use Rattle.mqtt_replay.specs.Playing.{Play, Standing, Happened, start, last_lines}
 
 -- the lines of a script: what stands between its line feeds

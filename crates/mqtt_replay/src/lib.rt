@@ -7,7 +7,9 @@ mod playing;
 mod replaying;
 mod runs;
 mod script;
+mod told;
 
-pub use mqtt_replay_fault::{Played, ReplayFault};
+pub use mqtt_script::{Played, ReplayFault};
 pub use replaying::replay;
 pub use runs::Runs;
+pub use told::{push_report, push_told};

@@ -8,8 +8,7 @@ ghost use Rattle.mqtt_replay.specs.Replaying.{EventShows, LineShows, Shows, Show
 
 use crate::runs::Runs;
 use crate::script::Script;
-use mqtt_replay_fault::{Played, ReplayFault};
-use mqtt_script::{Event, ScriptFault, event_of, is_passed_over};
+use mqtt_script::{Event, Played, ReplayFault, ScriptFault, event_of, is_passed_over};
 use std::alloc::Global;
 use std::io::Write;
 

@@ -6,7 +6,7 @@ ghost use Rattle.mqtt_replay.specs.Replaying.{IsPlain, PieceShows, Replays, Repl
 use crate::playing::{play_last, play_line};
 use crate::runs::Runs;
 use crate::script::Script;
-use mqtt_replay_fault::{Played, ReplayFault};
+use mqtt_script::{Played, ReplayFault};
 use std::alloc::Global;
 use std::io::{ErrorKind, Read, Write};
 

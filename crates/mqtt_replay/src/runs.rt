@@ -1,11 +1,11 @@
 //! A world in which the events of a script happen (ours).
 
 ghost use Rattle.std.specs.Prelude.{◌≡◌, ℕ, IfOk, IsErrOf};
-ghost use Rattle.mqtt_peers.specs.declared.told.RunFault.{RunFault};
+ghost use Rattle.mqtt_world_peers.specs.declared.told.RunFault.{RunFault};
 ghost use Rattle.mqtt_replay.specs.Playing.{Play};
 
-use mqtt_peers::{RunFault, Told};
 use mqtt_script::Event;
+use mqtt_world_peers::{RunFault, Told};
 use std::alloc::{AllocError, Global};
 
 /// A world in which the events of a script happen, and what is seen of it.

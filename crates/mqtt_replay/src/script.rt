@@ -4,15 +4,14 @@ ghost use Rattle.std.specs.Prelude.{◌≡◌, ◌+◌, ◌++◌, OnOk, IfOk, op
 ghost use Rattle.std.specs.String.{string_bytes};
 ghost use Rattle.mqtt_script.specs.Lines.{first_word};
 ghost use Rattle.mqtt_script.specs.Telling.{bad_text};
-ghost use Rattle.mqtt_told.specs.Told.{told_text};
+ghost use Rattle.mqtt_replay.specs.Told.{told_text};
 ghost use Rattle.mqtt_replay.specs.Playing.{AddsLine, last_lines, made_by, start};
 
 use crate::ends::{End, push_ends, push_made};
 use crate::runs::Runs;
-use mqtt_peers::{RunFault, Told};
-use mqtt_replay_fault::{Played, ReplayFault};
-use mqtt_script::{Event, push_bad, push_broker};
-use mqtt_told::push_told;
+use crate::told::push_told;
+use mqtt_script::{Event, Played, ReplayFault, push_bad, push_broker};
+use mqtt_world_peers::{RunFault, Told};
 use std::alloc::{AllocError, Global};
 use std::marker::Model;
 

@@ -5,6 +5,8 @@
 #[cfg(test)]
 mod devices;
 #[cfg(test)]
+mod lines;
+#[cfg(test)]
 mod refusals;
 #[cfg(test)]
 mod scripts;

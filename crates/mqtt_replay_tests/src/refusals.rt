@@ -2,8 +2,8 @@
 
 use crate::devices::{Brittle, Drip};
 use crate::scripts::toy_of;
-use mqtt_peers::RunFault;
 use mqtt_replay::{Played, ReplayFault, replay};
+use mqtt_world_peers::RunFault;
 use std::alloc::Global;
 use std::test::Fail;
 

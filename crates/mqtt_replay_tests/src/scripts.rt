@@ -3,8 +3,8 @@
 use crate::devices::{Brittle, Drip};
 use crate::toy::Toy;
 use mqtt_base::Text;
-use mqtt_peers::RunFault;
 use mqtt_replay::{Played, ReplayFault, replay};
+use mqtt_world_peers::RunFault;
 use std::alloc::{AllocError, Global};
 use std::test::Fail;
 

@@ -1,10 +1,10 @@
 //! A world that tells what was worked out by hand of one script, whatever happens there.
 
 use mqtt_base::{Cause, CopyId, Ending, Text};
-use mqtt_peers::{RunFault, Told};
 use mqtt_replay::Runs;
 use mqtt_rules::Report;
 use mqtt_script::Event;
+use mqtt_world_peers::{RunFault, Told};
 use std::alloc::{AllocError, Global};
 
 /// A world in which a message of QoS 2 is accepted by the event 13, and its copy taken by the event 22.

@@ -4,8 +4,8 @@ use Rattle.std.specs.List.{count_by, list_any}
 use Rattle.std.proofs.lemmas.Bool.Decides.{nat_tests}
 use Rattle.std.proofs.lemmas.List.Sums.{sum_by-cons, sum_by-insert}
 use Rattle.mqtt_topic.specs.Levels.{levels}
-use Rattle.mqtt_tree.specs.Tree.{AreOrdered, IsPlace, in_order, once}
-use Rattle.mqtt_tree.proofs.PlaceLemmas.{order_itself, put_ordered, map_insert}
+use Rattle.mqtt_routes_tree.specs.Tree.{AreOrdered, IsPlace, in_order, once}
+use Rattle.mqtt_routes_tree.proofs.PlaceLemmas.{order_itself, put_ordered, map_insert}
 use Rattle.mqtt_routes.specs.declared.spot.Spot.{Spot}
 use Rattle.mqtt_routes.specs.Subscriptions.{Subscriber, subs_of}
 use Rattle.mqtt_routes.proofs.SpotLemmas.{split, lt-yes, lt-no, eq-yes, eq-below, eq-above}

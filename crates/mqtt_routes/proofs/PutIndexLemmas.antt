@@ -2,7 +2,7 @@
 use Rattle.std.proofs.Common.{◌≡◌, ℕ, suc, ◌<◌, Bool, true, false, cond, List, [], ◌∷◌, ◌++◌, length, insert, refl, sym, ap, ◌∙◌, nat_eq, eqb-true, arith}
 use Rattle.std.proofs.lemmas.Bool.Decides.{nat_tests}
 use Rattle.mqtt_topic.specs.Filters.{matching_part_of}
-use Rattle.mqtt_tree.specs.Tree.{IsPlace}
+use Rattle.mqtt_routes_tree.specs.Tree.{IsPlace}
 use Rattle.mqtt_routes.specs.declared.spot.Spot.{Spot}
 use Rattle.mqtt_routes.specs.declared.subscription.Subscription.{Subscription}
 use Rattle.mqtt_routes.specs.Subscriptions.{Subscriber, AreInOrder, subs_of, put, has_filter, subscribed, standing}

@@ -7,7 +7,7 @@ use Rattle.std.proofs.lemmas.List.{length-map}
 use Rattle.std.proofs.lemmas.List.Folds.{list_any-append, list_any_more}
 use Rattle.std.proofs.lemmas.List.Sums.{sum_by-cons}
 use Rattle.mqtt_topic.specs.Matching.{is_match}
-use Rattle.mqtt_tree.specs.Tree.{AreMatching, once}
+use Rattle.mqtt_routes_tree.specs.Tree.{AreMatching, once}
 use Rattle.mqtt_routes.specs.declared.spot.Spot.{Spot}
 use Rattle.mqtt_routes.specs.declared.subscription.Subscription.{Subscription}
 use Rattle.mqtt_routes.specs.Subscriptions.{Subscriber, subs_of}

@@ -3,7 +3,7 @@ use Rattle.std.specs.Prelude.{◌≡◌, ⊤, ℕ, zero, suc, ◌-◌, ◌<◌, 
 use Rattle.std.specs.List.{count_by, list_any, position}
 use Rattle.mqtt_topic.specs.Levels.{levels}
 use Rattle.mqtt_topic.specs.Filters.{matching_part_of}
-use Rattle.mqtt_tree.specs.Tree.{in_order}
+use Rattle.mqtt_routes_tree.specs.Tree.{in_order}
 use Rattle.mqtt_routes.specs.declared.spot.Spot.{Spot}
 use Rattle.mqtt_routes.specs.declared.subscription.Subscription.{Subscription}
 use Rattle.mqtt_routes.specs.Subscriptions.{Subscriber, subscriber, subs_of, is_to}

@@ -2,7 +2,7 @@
 ghost use Rattle.std.specs.Prelude.{◌≡◌};
 ghost use Rattle.mqtt_routes.specs.declared.fault.RoutesFault.TheVariants.{Memory};
 
-use mqtt_tree::TreeFault;
+use mqtt_routes_tree::TreeFault;
 use std::alloc::{AllocError, AllocFailed};
 use thiserror::Error;
 

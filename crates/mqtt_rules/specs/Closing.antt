@@ -1,9 +1,10 @@
 -- Wills, the end of a session, settling, and closing a line (MQTT 5.0, 3.1.2.5, 3.1.2.11.2, 3.1.3.2.2, 3.14.4, 4.1).
 use Rattle.std.specs.Prelude.{ℕ, ◌*◌, min, Bool, true, false, not, cond, List, [], ◌∷◌, ◌++◌, map, nat_eq, nat_le, Option, Some, None}
 use Rattle.mqtt_base.specs.declared.session.Ending.TheVariants.{SessionEnded}
-use Rattle.mqtt_message.specs.declared.message.Will.{Will}
+use Rattle.mqtt_records_message.specs.declared.message.Will.{Will}
 use Rattle.mqtt_records.specs.declared.session.Session.{Session}
-use Rattle.mqtt_rules.specs.Packets.{passed_on, disconnect}
+use Rattle.mqtt_records_message.specs.PassedOn.{passed_on}
+use Rattle.mqtt_rules.specs.Packets.{disconnect}
 use Rattle.mqtt_rules.specs.State.{Line, Env, later}
 use Rattle.mqtt_rules.specs.Deeds.{Whose, whose, Message, FromWill, Close, DropWill, Leave, Deed, At, Finish, RefuseWill, Send, Gone, Act, always, series, only_if, of_session}
 use Rattle.mqtt_rules.specs.Routing.{CopyTo, accepted_copies, publish}

@@ -5,17 +5,18 @@ use Rattle.std.specs.Prelude.{nat_eq}
 use Rattle.mqtt_props.specs.declared.table.PropName.TheVariants.{SessionExpiryInterval, AssignedClientIdentifier, AuthenticationMethod, WillDelayInterval, ReceiveMaximum, TopicAliasMaximum, MaximumPacketSize}
 use Rattle.mqtt_props.specs.Properties.{Prop, U16, U32, Text}
 use Rattle.mqtt_props.specs.Laws.{has}
-use Rattle.mqtt_connect.specs.declared.connect.Connect.{Connect}
-use Rattle.mqtt_connect.specs.declared.connect.Will.{Will as WillAsked}
+use Rattle.mqtt_codec_connect.specs.declared.connect.Connect.{Connect}
+use Rattle.mqtt_codec_connect.specs.declared.connect.Will.{Will as WillAsked}
 use Rattle.mqtt_topic.specs.Names.{is_topic_name, is_empty}
 use Rattle.mqtt_base.specs.Codes.{success, client_identifier_not_valid, bad_authentication_method, session_taken_over, topic_name_invalid, packet_too_large, quota_exceeded}
 use Rattle.mqtt_base.specs.declared.limits.TheConstants.{OPEN_LIMIT, ALIAS_LIMIT, PACKET_LIMIT, CLIENT_LIMIT}
 use Rattle.mqtt_flow.specs.Outbound.{resumed_with}
-use Rattle.mqtt_message.specs.declared.message.Will.{Will}
+use Rattle.mqtt_records_message.specs.declared.message.Will.{Will}
 use Rattle.mqtt_records.specs.declared.session.Columns.{Columns}
 use Rattle.mqtt_records.specs.declared.session.Session.{Session}
 use Rattle.mqtt_records.specs.declared.records.Records.{Records}
-use Rattle.mqtt_rules.specs.Packets.{number_or, property, connack}
+use Rattle.mqtt_rules.specs.Packets.{number_or, connack}
+use Rattle.mqtt_records_message.specs.PassedOn.{property}
 use Rattle.mqtt_rules.specs.State.{Line, Env, session_named, line_of, queue_on}
 use Rattle.mqtt_rules.specs.Deeds.{whose, Resume, Greet, Deed, Begin, Name, At, On, Send, Gone, Act, after_all, always, series, only_if, with_session, with_line}
 use Rattle.mqtt_rules.specs.Outbound.{all_turn_deeds}

@@ -11,18 +11,18 @@ use Rattle.mqtt_codec.specs.declared.packet.Packet.{Packet}
 use Rattle.mqtt_codec.specs.Packets.{HasSpelling}
 use Rattle.mqtt_topic.specs.Names.{IsTopicName}
 use Rattle.mqtt_topic.specs.Filters.{is_filter}
-use Rattle.mqtt_lawful.specs.Lawful.{IsIdentifier}
+use Rattle.mqtt_records_lawful.specs.Lawful.{IsIdentifier}
 use Rattle.mqtt_base.specs.declared.limits.TheConstants.{ROW_LIMIT}
-use Rattle.mqtt_message.specs.declared.message.MessageCopy.{MessageCopy}
+use Rattle.mqtt_records_message.specs.declared.message.MessageCopy.{MessageCopy}
 use Rattle.mqtt_records.specs.declared.subscription.Subscription.{Subscription}
-use Rattle.mqtt_message.specs.Queue.{CopyRow}
-use Rattle.mqtt_message.specs.declared.message.Content.{Content}
-use Rattle.mqtt_message.specs.declared.message.Will.{Will}
-use Rattle.mqtt_message.specs.declared.message.RetainedMessage.{RetainedMessage}
+use Rattle.mqtt_records_message.specs.Queue.{CopyRow}
+use Rattle.mqtt_records_message.specs.declared.message.Content.{Content}
+use Rattle.mqtt_records_message.specs.declared.message.Will.{Will}
+use Rattle.mqtt_records_message.specs.declared.message.RetainedMessage.{RetainedMessage}
 use Rattle.mqtt_records.specs.declared.session.Session.{Session}
 use Rattle.mqtt_records.specs.declared.records.Records.{Records}
 use Rattle.mqtt_records.specs.Session.{place_of}
-use Rattle.mqtt_rows.specs.Order.{IsTable}
+use Rattle.mqtt_records_rows.specs.Order.{IsTable}
 use Rattle.mqtt_rules.specs.Packets.{size_of}
 use Rattle.mqtt_rules.specs.State.{Line, Broker}
 use Rattle.mqtt_rules.specs.Step.{Call, Input}

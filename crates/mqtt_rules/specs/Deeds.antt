@@ -8,11 +8,11 @@ use Rattle.mqtt_base.specs.declared.session.Ending.{Ending}
 use Rattle.mqtt_props.specs.Properties.{Prop}
 use Rattle.mqtt_codec.specs.declared.packet.Packet.{Packet}
 use Rattle.mqtt_topic.specs.Aliases.{no_aliases, after_resolve}
-use Rattle.mqtt_inbound.specs.Identifiers.{ids_without}
-use Rattle.mqtt_message.specs.declared.message.MessageCopy.{MessageCopy}
-use Rattle.mqtt_message.specs.declared.message.RetainedMessage.{RetainedMessage}
-use Rattle.mqtt_message.specs.declared.message.Will.{Will}
-use Rattle.mqtt_message.specs.Queue.{CopyRow}
+use Rattle.mqtt_flow_inbound.specs.Identifiers.{ids_without}
+use Rattle.mqtt_records_message.specs.declared.message.MessageCopy.{MessageCopy}
+use Rattle.mqtt_records_message.specs.declared.message.RetainedMessage.{RetainedMessage}
+use Rattle.mqtt_records_message.specs.declared.message.Will.{Will}
+use Rattle.mqtt_records_message.specs.Queue.{CopyRow}
 use Rattle.mqtt_records.specs.declared.subscription.Subscription.{Subscription}
 use Rattle.mqtt_records.specs.declared.session.Session.{Session}
 use Rattle.mqtt_records.specs.declared.session.Columns.{Columns}

@@ -2,9 +2,9 @@
 use Rattle.std.specs.Prelude.{◌≡◌, ℕ, List, Option, Some, None}
 use Rattle.mqtt_base.specs.Phases.{identifier_of}
 use Rattle.std.specs.List.{AllByRecursion}
-use Rattle.mqtt_message.specs.Queue.{CopyRow}
+use Rattle.mqtt_records_message.specs.Queue.{CopyRow}
 use Rattle.mqtt_records.specs.declared.records.Records.{Records}
-use Rattle.mqtt_rows.specs.Order.{IsAscending, row_at}
+use Rattle.mqtt_records_rows.specs.Order.{IsAscending, row_at}
 use Rattle.mqtt_records.specs.Session.{copy_place}
 
 -- the packet identifier of the copy at a place of a queue

@@ -11,16 +11,17 @@ use Rattle.mqtt_topic.specs.declared.fault.TopicFault.{TopicFault}
 use Rattle.mqtt_topic.specs.declared.fault.TopicFault.TheVariants.{Empty, WildcardInName, WildcardPlace, Share, AliasRange, AliasUnknown, Memory, NotText}
 use Rattle.mqtt_topic.specs.Aliases.{AliasTable, topic_of}
 use Rattle.mqtt_flow.specs.declared.entry.Turn.{Turn}
-use Rattle.mqtt_inbound.specs.declared.inflow.Published.{Published}
-use Rattle.mqtt_inbound.specs.declared.inflow.Published.TheVariants.{New, Again, Over}
-use Rattle.mqtt_inbound.specs.declared.inflow.ReleaseAnswer.{ReleaseAnswer}
-use Rattle.mqtt_inbound.specs.declared.inflow.ReleaseAnswer.TheVariants.{Known, Unknown}
+use Rattle.mqtt_flow_inbound.specs.declared.inflow.Published.{Published}
+use Rattle.mqtt_flow_inbound.specs.declared.inflow.Published.TheVariants.{New, Again, Over}
+use Rattle.mqtt_flow_inbound.specs.declared.inflow.ReleaseAnswer.{ReleaseAnswer}
+use Rattle.mqtt_flow_inbound.specs.declared.inflow.ReleaseAnswer.TheVariants.{Known, Unknown}
 use Rattle.mqtt_base.specs.Codes.{success, normal_disconnection, no_matching_subscribers, unspecified_error, protocol_error, topic_name_invalid, identifier_in_use, identifier_not_found, receive_maximum_exceeded, topic_alias_invalid, quota_exceeded}
-use Rattle.mqtt_inbound.specs.Inbound.{answer_to, answer_to_release}
+use Rattle.mqtt_flow_inbound.specs.Inbound.{answer_to, answer_to_release}
 use Rattle.mqtt_flow.specs.Outbound.{Answer, pump}
 use Rattle.mqtt_flow.specs.Outbound as rules
 use Rattle.mqtt_records.specs.declared.session.Session.{Session}
-use Rattle.mqtt_rules.specs.Packets.{puback, pubrec, pubcomp, number_at, passed_on}
+use Rattle.mqtt_rules.specs.Packets.{puback, pubrec, pubcomp}
+use Rattle.mqtt_records_message.specs.PassedOn.{number_at, passed_on}
 use Rattle.mqtt_rules.specs.State.{Line, Env, queue_on}
 use Rattle.mqtt_rules.specs.Deeds.{whose, Message, FromClient, SetExpiry, Open, Release, SetAlias, Deed, At, On, Send, Act, always, series}
 use Rattle.mqtt_rules.specs.Outbound.{turn_deeds, all_turn_deeds, way_of}

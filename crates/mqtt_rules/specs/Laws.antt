@@ -7,8 +7,8 @@ use Rattle.std.specs.List.{AllByRecursion, starts_with}
 use Rattle.mqtt_base.specs.declared.limits.TheConstants.{SUBSCRIPTION_LIMIT, OPEN_LIMIT, QUEUE_LIMIT, SESSION_LIMIT, RETAINED_LIMIT}
 use Rattle.mqtt_records.specs.declared.session.Session.{Session}
 use Rattle.mqtt_records.specs.declared.records.Records.{Records}
-use Rattle.mqtt_message.specs.declared.message.RetainedMessage.{RetainedMessage}
-use Rattle.mqtt_rows.specs.Order.{IsTable, row_at}
+use Rattle.mqtt_records_message.specs.declared.message.RetainedMessage.{RetainedMessage}
+use Rattle.mqtt_records_rows.specs.Order.{IsTable, row_at}
 use Rattle.mqtt_records.specs.Session.{birth_of, place_of, number_of, copy_place, auto}
 use Rattle.mqtt_records.specs.Records.{kept_place, nothing, IsNumber, IsMoment}
 use Rattle.mqtt_rules.specs.declared.Limits.{Limits}

@@ -1,7 +1,7 @@
 -- The lines, and the sessions that are connected on them (MQTT 5.0, 3.1.4, 4.1).
 use Rattle.std.specs.Prelude.{◌≡◌, ℕ, suc, Option, Some, None, option_map}
 use Rattle.mqtt_records.specs.declared.records.Records.{Records}
-use Rattle.mqtt_rows.specs.Order.{IsAscending, IsBelow}
+use Rattle.mqtt_records_rows.specs.Order.{IsAscending, IsBelow}
 use Rattle.mqtt_rules.specs.State.{Line, Broker, session_at, line_at}
 
 abbrev pub line_number : Line → ℕ

@@ -4,7 +4,7 @@ use Rattle.std.specs.Prelude.{◌≡◌, ℕ, suc, ◌≤◌, List, [], ◌∷�
 use Rattle.std.specs.List.{AllByRecursion}
 use Rattle.mqtt_records.specs.declared.session.Session.{Session}
 use Rattle.mqtt_records.specs.declared.records.Records.{Records}
-use Rattle.mqtt_rows.specs.Order.{IsBelow, IsAscending}
+use Rattle.mqtt_records_rows.specs.Order.{IsBelow, IsAscending}
 use Rattle.mqtt_records.specs.Session.{birth_of, place_of, number_of, copy_place}
 use Rattle.mqtt_records.specs.Records.{kept_place}
 use Rattle.mqtt_rules.specs.State.{Broker}

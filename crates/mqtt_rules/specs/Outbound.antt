@@ -9,11 +9,11 @@ use Rattle.mqtt_flow.specs.declared.entry.QueueLimits.{QueueLimits}
 use Rattle.mqtt_flow.specs.declared.entry.Way.{Way}
 use Rattle.mqtt_flow.specs.Outbound.{staying, way_made}
 use Rattle.mqtt_base.specs.Codes.{success, identifier_not_found}
-use Rattle.mqtt_message.specs.declared.message.MessageCopy.{MessageCopy}
-use Rattle.mqtt_message.specs.Queue.{CopyRow}
+use Rattle.mqtt_records_message.specs.declared.message.MessageCopy.{MessageCopy}
+use Rattle.mqtt_records_message.specs.Queue.{CopyRow}
 use Rattle.mqtt_records.specs.declared.session.Session.{Session}
 use Rattle.mqtt_records.specs.declared.records.Records.{Records}
-use Rattle.mqtt_rows.specs.Order.{row_at}
+use Rattle.mqtt_records_rows.specs.Order.{row_at}
 use Rattle.mqtt_records.specs.Session.{copy_place}
 use Rattle.mqtt_rules.specs.Packets.{publish_of, pubrel}
 use Rattle.mqtt_rules.specs.State.{Line, Env, queue_on, next_of}

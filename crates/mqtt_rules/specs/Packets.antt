@@ -10,13 +10,13 @@ use Rattle.mqtt_codec.specs.declared.publish.Delivery.{Delivery}
 use Rattle.mqtt_codec.specs.declared.publish.Delivery.TheVariants as delivery
 use Rattle.mqtt_codec.specs.declared.packet.Packet.{Packet}
 use Rattle.mqtt_codec.specs.declared.packet.Packet.TheVariants.{Connack, Publish, Puback, Pubrec, Pubrel, Pubcomp, Suback, Unsuback, Disconnect}
-use Rattle.mqtt_codec.specs.Bits.{qos_of}
+use Rattle.mqtt_codec_parts.specs.Bits.{qos_of}
 use Rattle.mqtt_codec.specs.Packets.{shortest_of}
 use Rattle.mqtt_flow.specs.Outbound.{is_past}
-pub use Rattle.mqtt_message.specs.PassedOn.{number_in, number_at, property, passed_on, aged, identified}
-use Rattle.mqtt_message.specs.PassedOn.{sent_after}
-use Rattle.mqtt_message.specs.declared.message.Content.{Content}
-use Rattle.mqtt_message.specs.declared.message.MessageCopy.{MessageCopy}
+use Rattle.mqtt_records_message.specs.PassedOn.{number_at}
+use Rattle.mqtt_records_message.specs.PassedOn.{sent_after}
+use Rattle.mqtt_records_message.specs.declared.message.Content.{Content}
+use Rattle.mqtt_records_message.specs.declared.message.MessageCopy.{MessageCopy}
 
 -- ---- properties
 

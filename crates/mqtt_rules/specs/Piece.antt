@@ -3,9 +3,9 @@ use Rattle.std.specs.Prelude.{◌≡◌, ℕ, ◌-◌, ◌/◌, min, Bool, true,
 use Rattle.mqtt_base.specs.Codes.{unspecified_error}
 use Rattle.mqtt_base.specs.declared.limits.TheConstants.{PACKET_LIMIT}
 use Rattle.mqtt_base.specs.declared.reason.Reason.{Reason}
-use Rattle.mqtt_fields.specs.declared.fault.Fault.{Fault}
+use Rattle.mqtt_codec_parts.specs.declared.fault.Fault.{Fault}
 use Rattle.mqtt_codec.specs.declared.packet.Packet.{Packet}
-use Rattle.mqtt_codec.specs.Faults.{answer_to}
+use Rattle.mqtt_codec_parts.specs.Faults.{answer_to}
 use Rattle.mqtt_packet.specs.Front.{first_of}
 use Rattle.mqtt_packet.specs.Stream.{Framing, after}
 use Rattle.mqtt_rules.specs.declared.Limits.{Limits}

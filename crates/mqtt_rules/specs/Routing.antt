@@ -4,7 +4,7 @@ use Rattle.mqtt_base.specs.declared.session.Qos.{Qos}
 use Rattle.mqtt_base.specs.declared.session.Qos.TheVariants as qos
 use Rattle.mqtt_base.specs.declared.session.Cause.{Cause}
 use Rattle.mqtt_base.specs.declared.session.Cause.TheVariants.{Direct, Share}
-use Rattle.mqtt_codec.specs.Heads.{qos_number}
+use Rattle.mqtt_base.specs.Service.{qos_number}
 use Rattle.mqtt_topic.specs.Names.{is_empty}
 use Rattle.mqtt_routes.specs.declared.subscription.Subscription.{Subscription as RoutedSubscription}
 use Rattle.mqtt_routes.specs.Subscriptions.{Subscriber}
@@ -12,8 +12,8 @@ use Rattle.mqtt_routes.specs.Intended.{Publication, Answers, Copy, published}
 use Rattle.mqtt_routes.specs.Intended as intended
 use Rattle.mqtt_routes.specs.Acceptance.{Served, Routed, copies_in}
 use Rattle.mqtt_routes.specs.Acceptance as acceptance
-use Rattle.mqtt_message.specs.declared.message.MessageCopy.{MessageCopy}
-use Rattle.mqtt_message.specs.declared.message.RetainedMessage.{RetainedMessage}
+use Rattle.mqtt_records_message.specs.declared.message.MessageCopy.{MessageCopy}
+use Rattle.mqtt_records_message.specs.declared.message.RetainedMessage.{RetainedMessage}
 use Rattle.mqtt_records.specs.declared.subscription.Subscription.{Subscription}
 use Rattle.mqtt_records.specs.declared.session.Session.{Session}
 use Rattle.mqtt_records.specs.declared.records.Records.{Records}

@@ -2,19 +2,20 @@
 use Rattle.std.specs.Prelude.{ℕ, suc, ◌+◌, min, Bool, false, List, find, map, nat_eq, bytes_eq, Option, Some, None, is_none}
 use Rattle.mqtt_flow.specs.declared.entry.Entry.{Entry as FlowEntry}
 use Rattle.mqtt_flow.specs.declared.entry.QueuedCopy.{QueuedCopy}
-use Rattle.mqtt_inbound.specs.Identifiers.{is_among}
+use Rattle.mqtt_flow_inbound.specs.Identifiers.{is_among}
 use Rattle.mqtt_base.specs.declared.limits.TheConstants.{LAST_NUMBER}
 use Rattle.mqtt_props.specs.declared.table.PropName.TheVariants.{MessageExpiryInterval}
 use Rattle.mqtt_topic.specs.Aliases.{AliasTable}
-use Rattle.mqtt_message.specs.declared.message.MessageCopy.{MessageCopy}
-use Rattle.mqtt_message.specs.Queue.{CopyRow}
+use Rattle.mqtt_records_message.specs.declared.message.MessageCopy.{MessageCopy}
+use Rattle.mqtt_records_message.specs.Queue.{CopyRow}
 use Rattle.mqtt_records.specs.declared.session.Session.{Session}
 use Rattle.mqtt_records.specs.declared.records.Records.{Records}
-use Rattle.mqtt_rows.specs.Order.{row_at}
+use Rattle.mqtt_records_rows.specs.Order.{row_at}
 use Rattle.mqtt_records.specs.Session.{birth_of}
 use Rattle.mqtt_routes.specs.Intended.{greatest}
 use Rattle.mqtt_rules.specs.declared.Limits.{Limits}
-use Rattle.mqtt_rules.specs.Packets.{number_at, publish_of, size_of}
+use Rattle.mqtt_records_message.specs.PassedOn.{number_at}
+use Rattle.mqtt_rules.specs.Packets.{publish_of, size_of}
 
 -- a line: one connection
 pub record Line : Type 0 where

@@ -18,7 +18,8 @@ use Rattle.mqtt_records.specs.declared.session.Session.{Session}
 use Rattle.mqtt_records.specs.declared.records.Records.{Records}
 use Rattle.mqtt_rules.specs.declared.Limits.{Limits}
 use Rattle.mqtt_rules.specs.declared.Report.{Report}
-use Rattle.mqtt_rules.specs.Packets.{connack, number_at}
+use Rattle.mqtt_rules.specs.Packets.{connack}
+use Rattle.mqtt_records_message.specs.PassedOn.{number_at}
 use Rattle.mqtt_rules.specs.State.{Line, Broker, Env, session_at, line_at, is_connected, queue_on, capped, MemberChoice}
 use Rattle.mqtt_rules.specs.Deeds.{whose, Close, Hear, Deed, Link, On, Send, At, Act, after_all, rows_of_all, always, series, of_session, with_line, output, closing, report}
 use Rattle.mqtt_rules.specs.Closing.{close, drop_line, settle}

@@ -6,23 +6,24 @@ use Rattle.mqtt_base.specs.declared.session.RetainHandling.{RetainHandling}
 use Rattle.mqtt_base.specs.declared.session.RetainHandling.TheVariants.{SendAlways, SendIfNew, DoNotSend}
 use Rattle.mqtt_base.specs.declared.session.SubscriptionOptions.{SubscriptionOptions}
 use Rattle.mqtt_props.specs.declared.table.PropName.TheVariants.{SubscriptionIdentifier}
-use Rattle.mqtt_subscribe.specs.declared.subscribe.Subscribe.{Subscribe}
-use Rattle.mqtt_subscribe.specs.declared.unsubscribe.Unsubscribe.{Unsubscribe}
-use Rattle.mqtt_codec.specs.Subscriptions.{Subscription as Asked}
-use Rattle.mqtt_codec.specs.Options.{options_of}
-use Rattle.mqtt_codec.specs.Heads.{qos_number}
+use Rattle.mqtt_codec_subscribe.specs.declared.subscribe.Subscribe.{Subscribe}
+use Rattle.mqtt_codec_subscribe.specs.declared.unsubscribe.Unsubscribe.{Unsubscribe}
+use Rattle.mqtt_codec_subscribe.specs.Subscriptions.{Subscription as Asked}
+use Rattle.mqtt_codec_subscribe.specs.Options.{options_of}
+use Rattle.mqtt_base.specs.Service.{qos_number}
 use Rattle.mqtt_topic.specs.Filters.{is_filter, begins_share}
 use Rattle.mqtt_routes.specs.declared.retained.Kept.{Kept}
 use Rattle.mqtt_routes.specs.Retained.{kept_for}
 use Rattle.mqtt_base.specs.Codes.{success, no_subscription_existed, topic_filter_invalid, identifier_in_use, quota_exceeded}
-use Rattle.mqtt_inbound.specs.Identifiers.{is_among}
-use Rattle.mqtt_message.specs.declared.message.MessageCopy.{MessageCopy}
-use Rattle.mqtt_message.specs.declared.message.RetainedMessage.{RetainedMessage}
+use Rattle.mqtt_flow_inbound.specs.Identifiers.{is_among}
+use Rattle.mqtt_records_message.specs.declared.message.MessageCopy.{MessageCopy}
+use Rattle.mqtt_records_message.specs.declared.message.RetainedMessage.{RetainedMessage}
 use Rattle.mqtt_records.specs.declared.subscription.Subscription.{Subscription}
 use Rattle.mqtt_base.specs.declared.limits.TheConstants.{SUBSCRIPTION_LIMIT}
 use Rattle.mqtt_records.specs.declared.session.Session.{Session}
 use Rattle.mqtt_records.specs.declared.records.Records.{Records}
-use Rattle.mqtt_rules.specs.Packets.{number_at, quality, is_expired, publish_of, suback, unsuback}
+use Rattle.mqtt_records_message.specs.PassedOn.{number_at}
+use Rattle.mqtt_rules.specs.Packets.{quality, is_expired, publish_of, suback, unsuback}
 use Rattle.mqtt_rules.specs.State.{Broker, Env, session_at, line_at}
 use Rattle.mqtt_rules.specs.Deeds.{whose, Deed, Count, At, Act, after_all, always, series, offer}
 use Rattle.mqtt_rules.specs.Deeds as deeds

@@ -4,7 +4,7 @@ use Rattle.mqtt_base.specs.Codes.{keep_alive_timeout}
 use Rattle.mqtt_base.specs.declared.limits.TheConstants.{CONNECT_TIME}
 use Rattle.mqtt_flow.specs.declared.entry.Turn.{Turn}
 use Rattle.mqtt_flow.specs.Outbound.{expired}
-use Rattle.mqtt_message.specs.declared.message.RetainedMessage.{RetainedMessage}
+use Rattle.mqtt_records_message.specs.declared.message.RetainedMessage.{RetainedMessage}
 use Rattle.mqtt_records.specs.declared.session.Session.{Session}
 use Rattle.mqtt_rules.specs.Packets.{is_expired}
 use Rattle.mqtt_rules.specs.State.{Line, Broker, Env, later, queue_on}

@@ -1,10 +1,10 @@
 //! Laws of what stored messages hold: what came in a lawful packet stays lawful (3.1.2.5, 3.3).
 ghost use Rattle.std.specs.Prelude.{ℕ, Option};
-ghost use Rattle.mqtt_lawful.specs.Lawful.{HasLawfulWill, IsMessage};
-ghost use Rattle.mqtt_message.specs.Queue.{IsSpelled, first_sent};
-ghost use Rattle.mqtt_message.specs.declared.message.Content.{Content};
-ghost use Rattle.mqtt_message.specs.declared.message.MessageCopy.{MessageCopy};
-ghost use Rattle.mqtt_message.specs.declared.message.Will.{Will};
+ghost use Rattle.mqtt_records_lawful.specs.Lawful.{HasLawfulWill, IsMessage};
+ghost use Rattle.mqtt_records_message.specs.Queue.{IsSpelled, first_sent};
+ghost use Rattle.mqtt_records_message.specs.declared.message.Content.{Content};
+ghost use Rattle.mqtt_records_message.specs.declared.message.MessageCopy.{MessageCopy};
+ghost use Rattle.mqtt_records_message.specs.declared.message.Will.{Will};
 ghost use Rattle.mqtt_props.specs.declared.place.Place.TheVariants as places;
 ghost use Rattle.mqtt_records.specs.Records.{nothing};
 ghost use Rattle.mqtt_records.specs.declared.records.Records.{Records};

@@ -1,7 +1,7 @@
 //! Laws of what is sent of a stored copy (3.3).
 ghost use Rattle.std.specs.Prelude.{◌≡◌, ℕ, Bool, false};
-ghost use Rattle.mqtt_message.specs.Queue.{publish_size};
-ghost use Rattle.mqtt_message.specs.declared.message.MessageCopy.{MessageCopy};
+ghost use Rattle.mqtt_records_message.specs.Queue.{publish_size};
+ghost use Rattle.mqtt_records_message.specs.declared.message.MessageCopy.{MessageCopy};
 ghost use Rattle.mqtt_rules.specs.Packets.{publish_of, size_of};
 
 /// A copy's PUBLISH has as many bytes whenever it is sent, with whichever flag and packet identifier: the

@@ -1,9 +1,9 @@
 //! Laws of the records that a store may be opened with.
 ghost use Rattle.std.specs.Prelude.{◌↔◌, ℕ, List};
 ghost use Rattle.mqtt_base.specs.declared.limits.TheConstants.{OPEN_LIMIT};
-ghost use Rattle.mqtt_inbound.specs.Inbound.{IsOpenList};
-ghost use Rattle.mqtt_lawful.specs.Lawful.{IsLawful};
-ghost use Rattle.mqtt_rows.specs.Order.{IsTable};
+ghost use Rattle.mqtt_flow_inbound.specs.Inbound.{IsOpenList};
+ghost use Rattle.mqtt_records_lawful.specs.Lawful.{IsLawful};
+ghost use Rattle.mqtt_records_rows.specs.Order.{IsTable};
 ghost use Rattle.mqtt_records.specs.Session.{number_of};
 ghost use Rattle.mqtt_records.specs.declared.records.Records.{Records};
 ghost use Rattle.mqtt_rules.specs.Contents.{HasLawfulContents};

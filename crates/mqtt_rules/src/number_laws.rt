@@ -1,11 +1,11 @@
 //! Laws of the numbers that the broker gives: births, numbers and places only grow and are unique.
 ghost use Rattle.std.specs.Prelude.{◌≡◌, ◌≤◌, ◌+◌, ℕ, suc, List, None, false, length};
-ghost use Rattle.mqtt_rows.specs.Order.{IsAbove, IsAscending, IsBelow};
+ghost use Rattle.mqtt_records_rows.specs.Order.{IsAbove, IsAscending, IsBelow};
 ghost use Rattle.mqtt_records.specs.Session.{copy_place, number_of};
 ghost use Rattle.mqtt_records.specs.Records.{nothing, kept_place};
-ghost use Rattle.mqtt_message.specs.declared.message.MessageCopy.{MessageCopy};
-ghost use Rattle.mqtt_message.specs.declared.message.RetainedMessage.{RetainedMessage};
-ghost use Rattle.mqtt_message.specs.Queue.{CopyRow};
+ghost use Rattle.mqtt_records_message.specs.declared.message.MessageCopy.{MessageCopy};
+ghost use Rattle.mqtt_records_message.specs.declared.message.RetainedMessage.{RetainedMessage};
+ghost use Rattle.mqtt_records_message.specs.Queue.{CopyRow};
 ghost use Rattle.mqtt_records.specs.declared.records.Records.{Records};
 ghost use Rattle.mqtt_records.specs.declared.session.Session.{Session};
 ghost use Rattle.mqtt_rules.specs.declared.Limits.{Limits as TheLimits};

@@ -1,13 +1,13 @@
 //! Laws of routing: each member of a group can be chosen, and copies enter where there is room.
 ghost use Rattle.std.specs.Prelude.{◌≡◌, ℕ, ◌<◌, ◌≤◌, ◌++◌, List, [], ◌∷◌, filter, length, Some, true};
 ghost use Rattle.std.specs.Option.{option_and_then};
-ghost use Rattle.mqtt_message.specs.declared.message.MessageCopy.{MessageCopy};
+ghost use Rattle.mqtt_records_message.specs.declared.message.MessageCopy.{MessageCopy};
 ghost use Rattle.mqtt_records.specs.Session.{birth_of};
 ghost use Rattle.mqtt_records.specs.declared.records.Records.{Records};
 ghost use Rattle.mqtt_records.specs.declared.session.Session.{Session};
 ghost use Rattle.mqtt_routes.specs.Acceptance.{Served, routed, is_eligible, serve, serve_one};
 ghost use Rattle.mqtt_routes.specs.Intended.{Answers, Copy, Member, Publication, in_group};
-ghost use Rattle.mqtt_rows.specs.Order.{IsAscending};
+ghost use Rattle.mqtt_records_rows.specs.Order.{IsAscending};
 ghost use Rattle.mqtt_rules.specs.Deeds.{Message, after_all};
 ghost use Rattle.mqtt_rules.specs.Laws.{HasEntered, IsAmong, IsOrdered, QueuesWithin, is_entering, served_by};
 ghost use Rattle.mqtt_rules.specs.Outbound.{enter_deeds, room, room_at};

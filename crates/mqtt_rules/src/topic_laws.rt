@@ -7,7 +7,7 @@ ghost use Rattle.mqtt_topic.specs.declared.fault.TopicFault.{TopicFault};
 ghost use Rattle.mqtt_topic.specs.declared.fault.TopicFault.TheVariants.{Memory, NotText};
 ghost use Rattle.mqtt_topic.specs.Aliases.{AliasTable, Resolves, RefusesAlias};
 ghost use Rattle.mqtt_base.specs.Codes.{protocol_error};
-ghost use Rattle.mqtt_rules.specs.Packets.{number_at};
+ghost use Rattle.mqtt_records_message.specs.PassedOn.{number_at};
 ghost use Rattle.mqtt_rules.specs.Inbound.{Means, Wrong, meaning, topic_code};
 
 /// What a PUBLISH means is the name to which its topic and alias resolve, and what resolves to none is

@@ -5,8 +5,7 @@ ghost use Rattle.std.specs.List.{flat_map};
 ghost use Rattle.std.specs.String.{string_bytes};
 ghost use Rattle.mqtt_script.specs.Telling.{accepted_text, bad_text, broker_text, ended_text, ending_text, entered_text, next_number, number_text, numbers_text, out_text, publications_text, publisher_text, receiver_text, released_text, will_refused_text};
 
-use mqtt_base::Ending;
-use mqtt_escaped::Escaped;
+use mqtt_base::{Ending, Escaped};
 use std::alloc::AllocError;
 use std::fmt;
 

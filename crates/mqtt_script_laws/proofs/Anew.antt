@@ -1,14 +1,14 @@
 -- Ends that are made before all else are made where no session of their names stands, if none is stored (MQTT 5.0, 3.1.2.4).
 use Rattle.std.proofs.Common.{◌≡◌, Bool, true, false, cond, not, ◌&&◌, List, [], ◌∷◌, Option, Some, None, refl, sym, ap, ◌∙◌, inl, inr}
 use Rattle.std.proofs.lemmas.Bool.{cases_Bool}
-use Rattle.mqtt_rules.proofs.Copies.{each_more}
+use Rattle.mqtt_rules.proofs.numbers.Copies.{each_more}
 use Rattle.mqtt_rules.specs.State.{Broker, session_named}
 use Rattle.mqtt_rules.specs.declared.Limits.{Limits}
-use Rattle.mqtt_laws.specs.Run.{Turn, run, setting, turned}
-use Rattle.mqtt_laws.specs.World.{Event, World, ask, clock, connect_end, give_up, happens, is_bad, publish, publisher, receiver, restart, start}
-use Rattle.mqtt_laws.specs.World.{stop_after, stop_before, subscribe, to_end}
+use Rattle.mqtt_world_model.specs.Run.{Turn, run, setting, turned}
+use Rattle.mqtt_world_model.specs.World.{Event, World, ask, clock, connect_end, give_up, happens, is_bad, publish, publisher, receiver, restart, start}
+use Rattle.mqtt_world_model.specs.World.{stop_after, stop_before, subscribe, to_end}
 use Rattle.mqtt_script.specs.declared.event.Event.{Event as Line}
-use Rattle.mqtt_unrolled_laws.specs.Unrolled.{Unrolls}
+use Rattle.mqtt_world_single_step_laws.specs.Unrolled.{Unrolls}
 use Rattle.mqtt_script_laws.specs.Cleanly.{AreMadeAnew, HaveNoSession, IsMadeAnewIf, makes_end, makes_ends_first, makes_no_end}
 use Rattle.mqtt_script_laws.specs.Scripted.{AreTurnsFor, event_of, of_drain, of_event}
 use Rattle.mqtt_script_laws.specs.Turns.{events_of}

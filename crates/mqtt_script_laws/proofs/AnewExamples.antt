@@ -9,13 +9,13 @@ use Rattle.mqtt_base.specs.Reading.{groups_at, varint_at, blob_at, text_at}
 use Rattle.mqtt_base.specs.Items.{items_in, items_at}
 use Rattle.mqtt_props.specs.Reading.{value_at, prop_at, block_at}
 use Rattle.mqtt_props.specs.Laws.{layout_at}
-use Rattle.mqtt_codec.specs.Connect.{will_at, user_name_at, password_at, fields_at, connect_at}
+use Rattle.mqtt_codec_connect.specs.Connect.{will_at, user_name_at, password_at, fields_at, connect_at}
 use Rattle.mqtt_codec.specs.Frames.{frame_at, body_at, versioned_at, lawful_at, packet_at}
 use Rattle.mqtt_packet.specs.Front.{size_at, first_of}
-use Rattle.mqtt_rules.proofs.Play.{bytes, usual}
-use Rattle.mqtt_laws.specs.Run.{after, begins_clean}
-use Rattle.mqtt_laws.specs.World.{World, ask, is_bad, publisher, receiver, stranger}
-use Rattle.mqtt_laws.proofs.Scripts.{p1, r1, turns}
+use Rattle.mqtt_rules.proofs.examples.Play.{bytes, usual}
+use Rattle.mqtt_world_model.specs.Run.{after, begins_clean}
+use Rattle.mqtt_world_model.specs.World.{World, ask, is_bad, publisher, receiver, stranger}
+use Rattle.mqtt_world_model.proofs.examples.Scripts.{p1, r1, turns}
 
 -- a stranger's CONNECT has the client identifier r1
 abbrev taken : World

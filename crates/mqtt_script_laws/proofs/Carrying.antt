@@ -4,27 +4,29 @@ use Rattle.std.specs.Prelude.{⊤, is_none}
 use Rattle.std.specs.List.{AllByRecursion}
 use Rattle.mqtt_rules.specs.Laws.{AreWithin}
 use Rattle.mqtt_rules.specs.declared.Limits.{Limits}
-use Rattle.mqtt_laws.specs.Ends.{Publisher, Receiver}
-use Rattle.mqtt_laws.specs.Run.{Turn, are_beginnings_clean, begins_clean, is_asked, run, setting, turned, waits_clean}
-use Rattle.mqtt_laws.specs.Tellings.{Telling}
-use Rattle.mqtt_laws.specs.World.{Asking, Event, World, ask, break, clock, connect_end, give_up, link_of, old_to_broker, publish, publisher}
-use Rattle.mqtt_laws.specs.World.{pump, receiver, restart, start, stop_after, stop_before, stranger, subscribe, tick, to_broker, to_end}
+use Rattle.mqtt_world_model.specs.Ends.{Publisher, Receiver}
+use Rattle.mqtt_world_model.specs.Run.{Turn, are_beginnings_clean, begins_clean, is_asked, run, setting, turned, waits_clean}
+use Rattle.mqtt_world_model.specs.Tellings.{Telling}
+use Rattle.mqtt_world_model.specs.World.{Asking, Event, World, ask, break, clock, connect_end, give_up, link_of, old_to_broker, publish, publisher}
+use Rattle.mqtt_world_model.specs.World.{pump, receiver, restart, start, stop_after, stop_before, stranger, subscribe, tick, to_broker, to_end}
 use Rattle.mqtt_script.specs.declared.event.Event.{Event as Line}
-use Rattle.mqtt_unrolled_laws.specs.Unrolled.{AreAllAlike, HoldNoPacket, Unrolls, UnrollsAsking, UnrollsStop, come_in}
-use Rattle.mqtt_unrolled_laws.proofs.Alike.{step_alike}
-use Rattle.mqtt_unrolled_laws.proofs.Waiting.{step_waits}
-use Rattle.mqtt_world_laws.specs.Fair.{IsFair}
-use Rattle.mqtt_world_laws.specs.Identities.{TellsApart}
-use Rattle.mqtt_handed_laws.specs.Drains.{times}
-use Rattle.mqtt_every_run_laws.specs.Untouched.{IsUntouched}
-use Rattle.mqtt_every_run_laws.proofs.Untouched.{start_untouched}
-use Rattle.mqtt_world_laws.proofs.OnceRuns.{start_apart}
+use Rattle.mqtt_world_single_step_laws.specs.Unrolled.{AreAllAlike, HoldNoPacket, Unrolls, UnrollsAsking, UnrollsStop, come_in}
+use Rattle.mqtt_world_single_step_laws.proofs.Alike.{step_alike}
+use Rattle.mqtt_world_single_step_laws.proofs.Waiting.{step_waits}
+use Rattle.mqtt_world_acceptance_laws.specs.Fair.{IsFair}
+use Rattle.mqtt_world_acceptance_laws.specs.Spending.{run_spends}
+use Rattle.mqtt_world_receiver_laws.specs.Drains.{times}
+use Rattle.mqtt_world_delivery_laws.specs.Untouched.{IsUntouched}
+use Rattle.mqtt_world_headline_laws.specs.Delivery.{DeliversExactlyOnce}
+use Rattle.mqtt_world_headline_laws.specs.Lives.{BeginsWell}
+use Rattle.mqtt_world_headline_laws.proofs.Delivered.{run_delivers_all}
+use Rattle.mqtt_world_headline_laws.proofs.Lives.{start_begins}
 use Rattle.mqtt_script_laws.specs.Cleanly.{AreMadeAnew, BeginClean, IsMadeAnew, IsMadeAnewIf, ScriptDelivers, is_named, keep_clean_starts, keeps_clean, keeps_if, named_after, named_if}
 use Rattle.mqtt_script_laws.specs.Drains.{AreTurnsOfRound, AreTurnsOfRounds}
 use Rattle.mqtt_script_laws.specs.Scripted.{AreTurnsFor, AreTurnsOf, IsRunOf, RunsTo, event_of, of_drain, of_event}
 use Rattle.mqtt_script_laws.specs.Turns.{events_of}
 use Rattle.mqtt_script_laws.proofs.Cleanly.{Known, step_known, waits_named}
-use Rattle.mqtt_script_laws.proofs.Scripts.{runs_by_turns, script_delivers}
+use Rattle.mqtt_script_laws.proofs.Scripts.{runs_by_turns}
 
 -- ---- events, one after the other
 
@@ -87,7 +89,7 @@ turns_carry limits (t ∷ ts) names w known keeps made =
     let rest = turns_carry limits ts (named_after t.event names) (turned limits t w) (step_known (setting limits t) t.event names w known) both.1 (nobody_first (events_of ts) (turned limits t w) made.1) in
     (and_true (begins_clean t.event w) (are_beginnings_clean limits ts (turned limits t w)) (event_carries t.event names w known both.0 made.0) rest.0, rest.1)
 
-carry_joined : (limits : Limits) (xs ys : List Turn) (w : World) → are_beginnings_clean limits xs w ≡ true → are_beginnings_clean limits ys (run limits xs w) ≡ true
+pub carry_joined : (limits : Limits) (xs ys : List Turn) (w : World) → are_beginnings_clean limits xs w ≡ true → are_beginnings_clean limits ys (run limits xs w) ≡ true
     → are_beginnings_clean limits (xs ++ ys) w ≡ true
 carry_joined limits [] ys w h k = k
 carry_joined limits (t ∷ xs) ys w h k =
@@ -237,22 +239,24 @@ script_fair limits es tells w after within untouched clean runs =
     let known = nobody_known [] w untouched.new.publishers untouched.new.receivers in
     (by.turns, record { within = within; unspent = by.unspent; clean = script_carries limits es [] by.turns w known clean.starts clean.made by.are }, by.is)
 
-pub delivers_once : (limits : Limits) (es : List Line) (tells : List Telling) (w after : World) → AreWithin limits → IsUntouched limits w → TellsApart w.broker.records
+-- of whatever turns they come to, that spend no number, all holds that does of every run
+pub all_deliver : (limits : Limits) (es : List Line) (turns : List Turn) (w : World) → AreWithin limits → BeginsWell limits w → BeginClean limits es w
+    → AreTurnsOf limits es turns w → run_spends limits turns w ≡ false → DeliversExactlyOnce limits turns w
+all_deliver limits es turns w within begins clean are unspent =
+    let known = nobody_known [] w begins.untouched.new.publishers begins.untouched.new.receivers in
+    run_delivers_all limits turns w begins (record { within = within; unspent = unspent; clean = script_carries limits es [] turns w known clean.starts clean.made are })
+
+pub delivers_once : (limits : Limits) (es : List Line) (tells : List Telling) (w after : World) → AreWithin limits → BeginsWell limits w
     → BeginClean limits es w → RunsTo limits es tells w after → ScriptDelivers limits es w after
-delivers_once limits es tells w after within untouched apart clean runs =
-    let by : IsRunOf limits es w after = runs_by_turns limits es tells w after runs in
-    let known = nobody_known [] w untouched.new.publishers untouched.new.receivers in
-    record {
-      turns = by.turns;
-      are = by.are;
-      is = by.is;
-      delivers = script_delivers limits by.turns w within untouched apart by.unspent (script_carries limits es [] by.turns w known clean.starts clean.made by.are);
-    }
+delivers_once limits es tells w after within begins clean runs = record {
+  is_run = runs_by_turns limits es tells w after runs;
+  all = λ turns are unspent. all_deliver limits es turns w within begins clean are unspent;
+}
 
 pub start_delivers : (limits : Limits) (es : List Line) (tells : List Telling) (after : World) → AreWithin limits → BeginClean limits es start
     → RunsTo limits es tells start after → ScriptDelivers limits es start after
 start_delivers limits es tells after within clean runs =
-    delivers_once limits es tells start after within (start_untouched limits within) start_apart clean runs
+    delivers_once limits es tells start after within (start_begins limits within) clean runs
 
 -- ---- strangers
 

@@ -6,42 +6,43 @@ use Rattle.std.proofs.lemmas.Bool.{cases_Bool, eqb-true}
 use Rattle.mqtt_base.specs.Codes.{protocol_error}
 use Rattle.mqtt_base.specs.declared.session.CopyId.{CopyId}
 use Rattle.mqtt_base.specs.declared.limits.TheConstants.{SUBSCRIPTION_LIMIT}
-use Rattle.mqtt_codec.specs.Subscriptions.{Subscription as Asked}
-use Rattle.mqtt_connect.specs.declared.connect.Connect.{Connect as Greeting}
+use Rattle.mqtt_codec_subscribe.specs.Subscriptions.{Subscription as Asked}
+use Rattle.mqtt_codec_connect.specs.declared.connect.Connect.{Connect as Greeting}
 use Rattle.mqtt_flow.specs.Outbound.{Answer}
 use Rattle.mqtt_flow.specs.Outbound as rules
 use Rattle.mqtt_flow.specs.Receiver.{connect, puback, pubcomp, pubrec}
-use Rattle.mqtt_inbound.specs.Identifiers.{is_among}
-use Rattle.mqtt_laws.specs.Ends.{Back, Receiver, answers, asks_for, wire_back}
-use Rattle.mqtt_laws.specs.Hops.{IsKept, IsTaken}
-use Rattle.mqtt_laws.specs.Seats.{IsHis, IsNamed}
-use Rattle.mqtt_laws.proofs.CleanConnects.{clear_is}
-use Rattle.mqtt_laws.proofs.Connects.{left_by, named_taken, prepare_front, taken_client, taken_from, taken_will}
-use Rattle.mqtt_laws.proofs.OwnSeats.{line_of_on}
-use Rattle.mqtt_laws.proofs.OwnStep.{heard_of, input_is}
-use Rattle.mqtt_laws.proofs.Publishes.{act_none, drop_is}
-use Rattle.mqtt_laws.proofs.Seats.{kept_of}
+use Rattle.mqtt_flow_inbound.specs.Identifiers.{is_among}
+use Rattle.mqtt_world_model.specs.Ends.{Back, Receiver, answers, asks_for, wire_back}
+use Rattle.mqtt_world_model.specs.Hops.{IsKept, IsTaken}
+use Rattle.mqtt_world_model.specs.Seats.{IsHis, IsNamed}
+use Rattle.mqtt_world_model.proofs.connects.CleanConnects.{clear_is}
+use Rattle.mqtt_world_model.proofs.connects.Connects.{left_by, named_taken, prepare_front, taken_client, taken_from, taken_will}
+use Rattle.mqtt_world_model.proofs.seats.OwnSeats.{line_of_on}
+use Rattle.mqtt_world_model.proofs.own.OwnStep.{heard_of, input_is}
+use Rattle.mqtt_world_model.proofs.own.Publishes.{act_none, drop_is}
+use Rattle.mqtt_world_model.proofs.seats.Seats.{kept_of}
 use Rattle.mqtt_props.specs.declared.table.PropName.TheVariants.{SubscriptionIdentifier}
 use Rattle.mqtt_records.specs.declared.records.Records.{Records}
 use Rattle.mqtt_records.specs.declared.session.Session.{Session}
-use Rattle.mqtt_rules.proofs.Leads.{found_passes}
+use Rattle.mqtt_rules.proofs.acts.Leads.{found_passes}
 use Rattle.mqtt_rules.specs.Closing.{drop_line, end_session, never, settle}
 use Rattle.mqtt_rules.specs.Connect.{clear, connect_by, joins, joins_after, of_client, on_connect, prepare, refusal, take_over}
 use Rattle.mqtt_rules.specs.Deeds.{Act, At, Count, Deed, Hear, On, after_all, offer, only_if, series, whose, with_session}
 use Rattle.mqtt_rules.specs.Deeds as deeds_of
 use Rattle.mqtt_rules.specs.Inbound.{on_answer}
 use Rattle.mqtt_rules.specs.Outbound.{room}
-use Rattle.mqtt_rules.specs.Packets.{number_at, suback}
+use Rattle.mqtt_records_message.specs.PassedOn.{number_at}
+use Rattle.mqtt_rules.specs.Packets.{suback}
 use Rattle.mqtt_rules.specs.Routing.{CopyTo, deliver, deliver_by, is_queued}
 use Rattle.mqtt_rules.specs.State.{Line as BrokerLine, Broker, Env, MemberChoice, is_of, line_at, line_of, queue_on, session_at, session_named}
 use Rattle.mqtt_rules.specs.Step.{Input, deeds, env_of, next_packet}
 use Rattle.mqtt_rules.specs.Subscribe.{FilterAnswer, FilterAnswers, Wish, answer_by, before, brought, filter_answer_of, filter_answers, granted_filter, has_filter, late_sends, next_number, subscribe_by, subscription, wish_of}
 use Rattle.mqtt_rules.specs.declared.Limits.{Limits}
-use Rattle.mqtt_subscribe.specs.declared.subscribe.Subscribe.{Subscribe}
-use Rattle.mqtt_handed_laws.proofs.Pumps.{its_session}
-use Rattle.mqtt_handed_laws.proofs.Resuming.{call_is, greeting}
-use Rattle.mqtt_every_run_laws.specs.Standing.{IsPlaced}
-use Rattle.mqtt_every_run_laws.proofs.Fronts.{Connects, IsJoined, front}
+use Rattle.mqtt_codec_subscribe.specs.declared.subscribe.Subscribe.{Subscribe}
+use Rattle.mqtt_world_receiver_laws.proofs.queue.Pumps.{its_session}
+use Rattle.mqtt_world_receiver_laws.proofs.connects.Resuming.{call_is, greeting}
+use Rattle.mqtt_world_delivery_laws.specs.Standing.{IsPlaced}
+use Rattle.mqtt_world_delivery_laws.proofs.own.Fronts.{Connects, IsJoined, front}
 
 -- the same surroundings, with another choice
 abbrev pub chosen : MemberChoice → Env → Env

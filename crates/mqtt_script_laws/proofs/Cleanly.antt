@@ -12,19 +12,19 @@ use Rattle.mqtt_codec.specs.declared.publish.Publish.{Publish as Publication}
 use Rattle.mqtt_codec.specs.declared.packet.Packet.{Packet}
 use Rattle.mqtt_codec.specs.declared.packet.Packet.TheVariants as packets
 use Rattle.mqtt_flow.specs.Receiver.{connect}
-use Rattle.mqtt_inbound.specs.Line.{Link, away, asked, live}
-use Rattle.mqtt_inbound.specs.Publisher.{ToPublisher, CONNECT, CONNACK, CONNACK_REFUSED, PUBACK, PUBREC, PUBCOMP, DISCONNECT, in_flight, on_new_session, on_puback, on_pubcomp}
-use Rattle.mqtt_inbound.specs.Publisher.{on_pubrec, pubrel_for, resent_from}
+use Rattle.mqtt_flow_inbound.specs.Line.{Link, away, asked, live}
+use Rattle.mqtt_flow_inbound.specs.Publisher.{ToPublisher, CONNECT, CONNACK, CONNACK_REFUSED, PUBACK, PUBREC, PUBCOMP, DISCONNECT, in_flight, on_new_session, on_puback, on_pubcomp}
+use Rattle.mqtt_flow_inbound.specs.Publisher.{on_pubrec, pubrel_for, resent_from}
 use Rattle.mqtt_rules.specs.Step.{Call, NewLine}
-use Rattle.mqtt_laws.specs.Ends.{Back, Content, Draft, Publisher, Receiver, Sent, answers, connected, goes, goes_out, greeted, heard, hears, published, publisher_reads, reads, reads_connack}
-use Rattle.mqtt_laws.specs.Ends.{reads_if, reads_publish, receiver_connack, receiver_reads, send_all, send_one, send_unsent, shake}
-use Rattle.mqtt_laws.specs.Lines.{Down, Line, gives_up, joined, left}
-use Rattle.mqtt_laws.specs.World.{Asking, Event, Setting, World, answers_rest, ask, asks, asks_wish, before, break, call_of, call_of_stranger}
-use Rattle.mqtt_laws.specs.World.{calls_if, clock, comes, connect_end, first_step, give_up, happens, held_count, is_bad, is_open_line, linked_at}
-use Rattle.mqtt_laws.specs.World.{links, next_held, next_line, old_to_broker, publish, publisher, publisher_named, pump, receiver, receiver_named}
-use Rattle.mqtt_laws.specs.World.{restart, restarts, step, stop_after, stop_before, stranger, stranger_named, subscribe, taken_old, taken_up, tick, to_broker, to_end, with_line}
-use Rattle.mqtt_laws.specs.Run.{is_clean, waits_clean}
-use Rattle.mqtt_unrolled_laws.proofs.Alike.{same_name}
+use Rattle.mqtt_world_model.specs.Ends.{Back, Content, Draft, Publisher, Receiver, Sent, answers, connected, goes, goes_out, greeted, heard, hears, published, publisher_reads, reads, reads_connack}
+use Rattle.mqtt_world_model.specs.Ends.{reads_if, reads_publish, receiver_connack, receiver_reads, send_all, send_one, send_unsent, shake}
+use Rattle.mqtt_world_model.specs.Lines.{Down, Line, gives_up, joined, left}
+use Rattle.mqtt_world_model.specs.World.{Asking, Event, Setting, World, answers_rest, ask, asks, asks_wish, before, break, call_of, call_of_stranger}
+use Rattle.mqtt_world_model.specs.World.{calls_if, clock, comes, connect_end, first_step, give_up, happens, held_count, is_bad, is_open_line, linked_at}
+use Rattle.mqtt_world_model.specs.World.{links, next_held, next_line, old_to_broker, publish, publisher, publisher_named, pump, receiver, receiver_named}
+use Rattle.mqtt_world_model.specs.World.{restart, restarts, step, stop_after, stop_before, stranger, stranger_named, subscribe, taken_old, taken_up, tick, to_broker, to_end, with_line}
+use Rattle.mqtt_world_model.specs.Run.{is_clean, waits_clean}
+use Rattle.mqtt_world_single_step_laws.proofs.Alike.{same_name}
 use Rattle.mqtt_script_laws.specs.Cleanly.{is_named, named_after}
 
 -- ---- what leaves an end's Clean Start, or ends it

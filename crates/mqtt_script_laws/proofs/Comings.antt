@@ -7,18 +7,18 @@ use Rattle.mqtt_rules.specs.Deeds.{Link}
 use Rattle.mqtt_rules.specs.State.{Broker, MemberChoice}
 use Rattle.mqtt_rules.specs.Step.{Call, NewLine, Outcome, at_moment, can_link, done, is_opening_spent, opened, outcome_of, stepped, told}
 use Rattle.mqtt_rules.specs.declared.Limits.{Limits}
-use Rattle.mqtt_laws.specs.Ends.{Publisher, Receiver}
-use Rattle.mqtt_laws.specs.Lines.{Down, Line, is_one_of, sent_to, told_by, unless_closed}
-use Rattle.mqtt_laws.specs.Run.{Reading, read_asked, read_if, read_rest, the_deeds}
-use Rattle.mqtt_laws.specs.Tellings.{Telling, silent, telling}
-use Rattle.mqtt_laws.specs.World.{Asking, Setting, Stranger, World, ask, before, break, call_of_stranger, call_on, calls, calls_if, comes}
-use Rattle.mqtt_laws.specs.World.{held_after, held_count, is_bad, is_bad_asking, linked_at, next_held, next_line, old_to_broker, publisher_restarted}
-use Rattle.mqtt_laws.specs.World.{publisher_told, pump, receiver_restarted, receiver_told, restarts, stop_before, stranger, stranger_named}
-use Rattle.mqtt_laws.specs.World.{taken_old, taken_up, tick, to_broker, unlinked, with_line, with_stranger}
-use Rattle.mqtt_unrolled_laws.specs.Unrolled.{AreAlike, bytes_come}
-use Rattle.mqtt_unrolled_laws.proofs.Answered.{asks_both, come, come_found, comes_both, comes_is, with_strangers}
-use Rattle.mqtt_unrolled_laws.proofs.Strangers.{changed, held_by}
-use Rattle.mqtt_world_laws.specs.Spending.{spending}
+use Rattle.mqtt_world_model.specs.Ends.{Publisher, Receiver}
+use Rattle.mqtt_world_model.specs.Lines.{Down, Line, is_one_of, sent_to, told_by, unless_closed}
+use Rattle.mqtt_world_model.specs.Run.{Reading, read_asked, read_if, read_rest, the_deeds}
+use Rattle.mqtt_world_model.specs.Tellings.{Telling, silent, telling}
+use Rattle.mqtt_world_model.specs.World.{Asking, Setting, Stranger, World, ask, before, break, call_of_stranger, call_on, calls, calls_if, comes}
+use Rattle.mqtt_world_model.specs.World.{held_after, held_count, is_bad, is_bad_asking, linked_at, next_held, next_line, old_to_broker, publisher_restarted}
+use Rattle.mqtt_world_model.specs.World.{publisher_told, pump, receiver_restarted, receiver_told, restarts, stop_before, stranger, stranger_named}
+use Rattle.mqtt_world_model.specs.World.{taken_old, taken_up, tick, to_broker, unlinked, with_line, with_stranger}
+use Rattle.mqtt_world_single_step_laws.specs.Unrolled.{AreAlike, bytes_come}
+use Rattle.mqtt_world_single_step_laws.proofs.Answered.{asks_both, come, come_found, comes_both, comes_is, with_strangers}
+use Rattle.mqtt_world_single_step_laws.proofs.Strangers.{changed, held_by}
+use Rattle.mqtt_world_acceptance_laws.specs.Spending.{spending}
 use Rattle.mqtt_script_laws.specs.Scripted.{Happens}
 use Rattle.mqtt_script_laws.specs.Turns.{IsPlain, IsReopened, IsTurn, by_choice, newcomer, welcomed}
 use Rattle.mqtt_script_laws.proofs.Pieces.{piece_does, piece_read}

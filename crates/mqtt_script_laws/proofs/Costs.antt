@@ -1,9 +1,9 @@
 -- None of some turns and those behind them spends a number, where neither do.
 use Rattle.std.proofs.Common.{◌≡◌, Bool, true, false, ◌||◌, List, [], ◌∷◌, ◌++◌}
-use Rattle.mqtt_laws.specs.Run.{Turn, run, turned, read_at, setting}
-use Rattle.mqtt_laws.specs.World.{World}
+use Rattle.mqtt_world_model.specs.Run.{Turn, run, turned, read_at, setting}
+use Rattle.mqtt_world_model.specs.World.{World}
 use Rattle.mqtt_rules.specs.declared.Limits.{Limits}
-use Rattle.mqtt_world_laws.specs.Spending.{run_spends, spending}
+use Rattle.mqtt_world_acceptance_laws.specs.Spending.{run_spends, spending}
 
 or_none : {b c : Bool} (a : Bool) → (a || b) ≡ false → (b ≡ false → c ≡ false) → (a || c) ≡ false
 or_none true h k = h

@@ -1,13 +1,13 @@
 -- The turns of a drain, each by its own choice (MQTT 5.0, 4.3, 4.4, 4.6).
 use Rattle.std.proofs.Common.{◌≡◌, ℕ, zero, suc, true, false, List, [], ◌∷◌, ◌++◌, refl, sym, ap, subst, ◌∙◌}
-use Rattle.mqtt_laws.specs.Run.{Turn, run}
-use Rattle.mqtt_laws.specs.Tellings.{Telling}
-use Rattle.mqtt_laws.specs.World.{Event, World, ask, pump, receiver_named, to_broker, to_end}
+use Rattle.mqtt_world_model.specs.Run.{Turn, run}
+use Rattle.mqtt_world_model.specs.Tellings.{Telling}
+use Rattle.mqtt_world_model.specs.World.{Event, World, ask, pump, receiver_named, to_broker, to_end}
 use Rattle.mqtt_rules.specs.declared.Limits.{Limits}
-use Rattle.mqtt_unrolled_laws.specs.Unrolled.{turn}
-use Rattle.mqtt_world_laws.specs.Spending.{run_spends}
-use Rattle.mqtt_handed_laws.specs.Drains.{downs_by, is_over, times, ups_by}
-use Rattle.mqtt_handed_laws.proofs.DrainRuns.{run_append}
+use Rattle.mqtt_world_single_step_laws.specs.Unrolled.{turn}
+use Rattle.mqtt_world_acceptance_laws.specs.Spending.{run_spends}
+use Rattle.mqtt_world_receiver_laws.specs.Drains.{downs_by, is_over, times, ups_by}
+use Rattle.mqtt_world_receiver_laws.proofs.drains.DrainRuns.{run_append}
 use Rattle.mqtt_script_laws.specs.Drains.{AreTurnsOfRound, AreTurnsOfRounds, IsRound, MakesRounds, Repeats}
 use Rattle.mqtt_script_laws.specs.Turns.{IsTurn, events_of}
 use Rattle.mqtt_script_laws.proofs.Costs.{spent_joined}

@@ -2,19 +2,19 @@
 -- 4.3, 4.4, 4.6).
 use Rattle.std.proofs.Common.{◌≡◌, ◌≤◌, ◌+◌, ℕ, zero, suc, Bool, true, false, not, ◌||◌, List, [], ◌∷◌, ◌++◌, length, refl, sym, ap, subst, arith}
 use Rattle.std.specs.Prelude.{is_some}
-use Rattle.mqtt_laws.specs.Run.{Turn, read_in, run, the_deeds}
-use Rattle.mqtt_laws.specs.Tellings.{Telling, silent, telling}
-use Rattle.mqtt_laws.specs.World.{Event, World, ask, is_bad, is_end, publisher_named, pump, receiver_named, to_broker, to_end}
+use Rattle.mqtt_world_model.specs.Run.{Turn, read_in, run, the_deeds}
+use Rattle.mqtt_world_model.specs.Tellings.{Telling, silent, telling}
+use Rattle.mqtt_world_model.specs.World.{Event, World, ask, is_bad, is_end, publisher_named, pump, receiver_named, to_broker, to_end}
 use Rattle.mqtt_rules.specs.State.{MemberChoice}
 use Rattle.mqtt_rules.specs.declared.Limits.{Limits}
-use Rattle.mqtt_world_laws.specs.Copies.{entered_from}
-use Rattle.mqtt_world_laws.specs.Spending.{run_spends}
-use Rattle.mqtt_handed_laws.specs.Drains.{after_round, all_to_broker, all_to_end, copies_left, count_by_end, downs_by, drain_by, drain_turns, drained, enough_rounds, is_bad_drain, is_over, round_turns, rounds_taken, times, turn_of, ups_by}
-use Rattle.mqtt_handed_laws.proofs.DrainRuns.{run_append}
-use Rattle.mqtt_every_run_laws.specs.Taking.{any_size}
-use Rattle.mqtt_every_run_laws.proofs.Drains.{ends_over}
-use Rattle.mqtt_every_run_laws.proofs.EveryRun.{over_or_drained, spent_append}
-use Rattle.mqtt_every_run_laws.proofs.Runs.{IsKept}
+use Rattle.mqtt_world_acceptance_laws.specs.Copies.{entered_from}
+use Rattle.mqtt_world_acceptance_laws.specs.Spending.{run_spends}
+use Rattle.mqtt_world_receiver_laws.specs.Drains.{after_round, all_to_broker, all_to_end, copies_left, count_by_end, downs_by, drain_by, drain_turns, drained, enough_rounds, is_bad_drain, is_over, round_turns, rounds_taken, times, turn_of, ups_by}
+use Rattle.mqtt_world_receiver_laws.proofs.drains.DrainRuns.{run_append}
+use Rattle.mqtt_world_delivery_laws.specs.Taking.{any_size}
+use Rattle.mqtt_world_delivery_laws.proofs.drains.Drains.{ends_over}
+use Rattle.mqtt_world_delivery_laws.proofs.whole.EveryRun.{over_or_drained, spent_append}
+use Rattle.mqtt_world_delivery_laws.proofs.others.Runs.{IsKept}
 use Rattle.mqtt_script_laws.specs.Drains.{DrainHappens, IsRound, MakesRounds, Repeats}
 use Rattle.mqtt_script_laws.specs.Turns.{IsTurn, both_tell, by_choice}
 use Rattle.mqtt_script_laws.proofs.Drained.{grown, has_receiver}

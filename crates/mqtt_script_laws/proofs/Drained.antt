@@ -1,23 +1,23 @@
 -- A drain of a script, round by round, is that by any one choice; so its rounds are few, and it ends (MQTT 5.0, 4.3, 4.4, 4.6).
 use Rattle.std.proofs.Common.{◌≡◌, ◌≤◌, ◌+◌, ℕ, zero, suc, Bool, true, false, not, ◌||◌, List, [], ◌∷◌, ◌++◌, length, Option, Some, None, refl, sym, ap, subst, ◌∙◌, arith}
 use Rattle.std.specs.Prelude.{⊤, is_some}
-use Rattle.mqtt_laws.specs.Ends.{Receiver}
-use Rattle.mqtt_laws.specs.Run.{Turn, deeds_over, run}
-use Rattle.mqtt_laws.specs.Tellings.{Telling, silent, telling}
-use Rattle.mqtt_laws.specs.World.{World, ask, pump, receiver_named, to_broker, to_end}
+use Rattle.mqtt_world_model.specs.Ends.{Receiver}
+use Rattle.mqtt_world_model.specs.Run.{Turn, deeds_over, run}
+use Rattle.mqtt_world_model.specs.Tellings.{Telling, silent, telling}
+use Rattle.mqtt_world_model.specs.World.{World, ask, pump, receiver_named, to_broker, to_end}
 use Rattle.mqtt_rules.specs.Laws.{AreWithin}
 use Rattle.mqtt_rules.specs.State.{MemberChoice}
 use Rattle.mqtt_rules.specs.declared.Limits.{Limits}
 use Rattle.mqtt_script.specs.declared.event.Event.{Event}
-use Rattle.mqtt_world_laws.specs.Copies.{entered_from}
-use Rattle.mqtt_world_laws.specs.Spending.{run_spends}
-use Rattle.mqtt_handed_laws.specs.Drains.{after_round, copies_left, count_by_end, downs_by, drain_by, drain_turns, enough_rounds, is_none_left, is_over, line_stands, round_turns, rounds_taken, times, turn_of, ups_by}
-use Rattle.mqtt_every_run_laws.specs.Taking.{any_size}
-use Rattle.mqtt_every_run_laws.specs.Untouched.{IsUntouched}
-use Rattle.mqtt_every_run_laws.proofs.Drains.{ends_over, ends_within, round_carried}
-use Rattle.mqtt_every_run_laws.proofs.EveryRun.{fair_run_kept, over_or_drained}
-use Rattle.mqtt_every_run_laws.proofs.QueueGrowth.{queue_grows}
-use Rattle.mqtt_every_run_laws.proofs.Runs.{IsKept}
+use Rattle.mqtt_world_acceptance_laws.specs.Copies.{entered_from}
+use Rattle.mqtt_world_acceptance_laws.specs.Spending.{run_spends}
+use Rattle.mqtt_world_receiver_laws.specs.Drains.{after_round, copies_left, count_by_end, downs_by, drain_by, drain_turns, enough_rounds, is_none_left, is_over, line_stands, round_turns, rounds_taken, times, turn_of, ups_by}
+use Rattle.mqtt_world_delivery_laws.specs.Taking.{any_size}
+use Rattle.mqtt_world_delivery_laws.specs.Untouched.{IsUntouched}
+use Rattle.mqtt_world_delivery_laws.proofs.drains.Drains.{ends_over, ends_within, round_carried}
+use Rattle.mqtt_world_delivery_laws.proofs.whole.EveryRun.{fair_run_kept, over_or_drained}
+use Rattle.mqtt_world_delivery_laws.proofs.order.QueueGrowth.{queue_grows}
+use Rattle.mqtt_world_delivery_laws.proofs.others.Runs.{IsKept}
 use Rattle.mqtt_script_laws.specs.Cleanly.{BeginClean}
 use Rattle.mqtt_script_laws.specs.Drains.{DrainHappens, DrainsBy, IsRound, MakesRounds}
 use Rattle.mqtt_script_laws.specs.Scripted.{RunsTo}

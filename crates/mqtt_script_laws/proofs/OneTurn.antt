@@ -2,11 +2,11 @@
 use Rattle.std.proofs.Common.{◌≡◌, ℕ, Bool, true, false, cond, ◌||◌, List, [], ◌∷◌, refl, sym, ap, ◌∙◌}
 use Rattle.mqtt_rules.specs.State.{MemberChoice}
 use Rattle.mqtt_rules.specs.declared.Limits.{Limits}
-use Rattle.mqtt_laws.specs.Run.{Turn, deeds_over, read_in, run}
-use Rattle.mqtt_laws.specs.Tellings.{Telling, telling}
-use Rattle.mqtt_laws.specs.World.{Event, World, ask, is_bad, pump, to_broker, to_end}
-use Rattle.mqtt_unrolled_laws.specs.Unrolled.{turn}
-use Rattle.mqtt_world_laws.specs.Spending.{run_spends, spending}
+use Rattle.mqtt_world_model.specs.Run.{Turn, deeds_over, read_in, run}
+use Rattle.mqtt_world_model.specs.Tellings.{Telling, telling}
+use Rattle.mqtt_world_model.specs.World.{Event, World, ask, is_bad, pump, to_broker, to_end}
+use Rattle.mqtt_world_single_step_laws.specs.Unrolled.{turn}
+use Rattle.mqtt_world_acceptance_laws.specs.Spending.{run_spends, spending}
 use Rattle.mqtt_script_laws.specs.Scripted.{Happens, is_heard, tells_if, tells_in}
 use Rattle.mqtt_script_laws.specs.Turns.{IsTurn, by_choice, events_of}
 use Rattle.mqtt_script_laws.proofs.Single.{turn_deeds, turn_is}

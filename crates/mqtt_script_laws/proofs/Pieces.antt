@@ -7,15 +7,15 @@ use Rattle.mqtt_packet.specs.Front.{first_of}
 use Rattle.mqtt_rules.specs.Deeds.{Deed, output, report}
 use Rattle.mqtt_rules.specs.Step.{Call}
 use Rattle.mqtt_rules.specs.declared.Limits.{Limits}
-use Rattle.mqtt_laws.specs.Run.{Reading, Turn, deeds_over, read_asked, read_if, read_in, read_rest, run, the_deeds}
-use Rattle.mqtt_laws.specs.Tellings.{Telling, silent, telling}
-use Rattle.mqtt_laws.specs.World.{Event, Setting, World, ask, asks, bytes_held, call_of_stranger, comes}
-use Rattle.mqtt_laws.specs.World.{held_after, held_count, is_bad, stop_after, stranger, stranger_named}
-use Rattle.mqtt_unrolled_laws.specs.Unrolled.{AreAlike, AreCut, IsDecided, IsWhole, UnrollsAsking, bytes_come, turn}
-use Rattle.mqtt_unrolled_laws.proofs.Answered.{Holds, enough, next_holds, next_world, none_behind}
-use Rattle.mqtt_unrolled_laws.proofs.Answered.{none_longer, nothing_asked, still}
-use Rattle.mqtt_unrolled_laws.proofs.Stopped.{comes_holds}
-use Rattle.mqtt_world_laws.specs.Spending.{run_spends}
+use Rattle.mqtt_world_model.specs.Run.{Reading, Turn, deeds_over, read_asked, read_if, read_in, read_rest, run, the_deeds}
+use Rattle.mqtt_world_model.specs.Tellings.{Telling, silent, telling}
+use Rattle.mqtt_world_model.specs.World.{Event, Setting, World, ask, asks, bytes_held, call_of_stranger, comes}
+use Rattle.mqtt_world_model.specs.World.{held_after, held_count, is_bad, stop_after, stranger, stranger_named}
+use Rattle.mqtt_world_single_step_laws.specs.Unrolled.{AreAlike, AreCut, IsDecided, IsWhole, UnrollsAsking, bytes_come, turn}
+use Rattle.mqtt_world_single_step_laws.proofs.Answered.{Holds, enough, next_holds, next_world, none_behind}
+use Rattle.mqtt_world_single_step_laws.proofs.Answered.{none_longer, nothing_asked, still}
+use Rattle.mqtt_world_single_step_laws.proofs.Stopped.{comes_holds}
+use Rattle.mqtt_world_acceptance_laws.specs.Spending.{run_spends}
 use Rattle.mqtt_script_laws.specs.Scripted.{Happens}
 use Rattle.mqtt_script_laws.specs.Turns.{IsReopened, IsTurn, both_tell, by_choice, events_of}
 use Rattle.mqtt_script_laws.proofs.Costs.{spent_joined}

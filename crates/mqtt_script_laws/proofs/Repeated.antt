@@ -2,21 +2,21 @@
 use Rattle.std.proofs.Common.{◌≡◌, ℕ, zero, suc, ◌+◌, Bool, true, false, ◌&&◌, List, [], ◌∷◌, ◌++◌, map, Option, Some, None, refl, sym, ap, subst, ◌∙◌, arith}
 use Rattle.std.specs.Prelude.{is_some}
 use Rattle.std.proofs.lemmas.List.{append-nil, append_assoc}
-use Rattle.mqtt_laws.specs.Ends.{Back, Publisher, Receiver, wire_back}
-use Rattle.mqtt_laws.specs.Run.{Turn, are_beginnings_clean, begins_clean, deeds_over, read_if, read_in, run, turned, read_at, setting, the_deeds}
-use Rattle.mqtt_laws.specs.Tellings.{Telling, silent, telling}
-use Rattle.mqtt_laws.specs.World.{Event, View, World, ask, calls_if, happens, input_on, pump, pump_on, publisher_told, receiver_named, receiver_told, taken_up, to_broker, to_end, view_by, view_of, with_line}
+use Rattle.mqtt_world_model.specs.Ends.{Back, Publisher, Receiver, wire_back}
+use Rattle.mqtt_world_model.specs.Run.{Turn, are_beginnings_clean, begins_clean, deeds_over, read_if, read_in, run, turned, read_at, setting, the_deeds}
+use Rattle.mqtt_world_model.specs.Tellings.{Telling, silent, telling}
+use Rattle.mqtt_world_model.specs.World.{Event, View, World, ask, calls_if, happens, input_on, pump, pump_on, publisher_told, receiver_named, receiver_told, taken_up, to_broker, to_end, view_by, view_of, with_line}
 use Rattle.mqtt_rules.specs.Deeds.{Deed}
 use Rattle.mqtt_rules.specs.State.{MemberChoice}
 use Rattle.mqtt_rules.specs.Step.{Call, Input, Pump, at_moment, deeds, done, is_spent, outcome_of, rows_written}
 use Rattle.mqtt_rules.specs.declared.Limits.{Limits}
-use Rattle.mqtt_world_laws.specs.Spending.{run_spends, spending}
-use Rattle.mqtt_handed_laws.specs.Drains.{times, turn_of}
-use Rattle.mqtt_handed_laws.proofs.DrainRuns.{run_append}
-use Rattle.mqtt_every_run_laws.specs.Standing.{IsPlaced, IsSeen}
-use Rattle.mqtt_every_run_laws.specs.Taking.{any_size}
-use Rattle.mqtt_every_run_laws.proofs.Ledgers.{run_remains}
-use Rattle.mqtt_every_run_laws.proofs.Runs.{IsKept, run_kept}
+use Rattle.mqtt_world_acceptance_laws.specs.Spending.{run_spends, spending}
+use Rattle.mqtt_world_receiver_laws.specs.Drains.{times, turn_of}
+use Rattle.mqtt_world_receiver_laws.proofs.drains.DrainRuns.{run_append}
+use Rattle.mqtt_world_delivery_laws.specs.Standing.{IsPlaced, IsSeen}
+use Rattle.mqtt_world_delivery_laws.specs.Taking.{any_size}
+use Rattle.mqtt_world_delivery_laws.proofs.whole.Ledgers.{run_remains}
+use Rattle.mqtt_world_delivery_laws.proofs.others.Runs.{IsKept, run_kept}
 use Rattle.mqtt_script_laws.specs.Drains.{Repeats}
 use Rattle.mqtt_script_laws.specs.Turns.{IsTurn, both_tell, by_choice}
 use Rattle.mqtt_script_laws.proofs.Chosen.{deeds_same}

@@ -1,19 +1,13 @@
 -- A script's events, one after the other: the turns that they come to, and runs behind runs.
-use Rattle.std.proofs.Common.{◌≡◌, ℕ, true, false, List, [], ◌∷◌, ◌++◌, Some, refl, sym, subst, ◌∙◌}
-use Rattle.mqtt_laws.specs.Run.{Turn, are_beginnings_clean, run}
-use Rattle.mqtt_laws.specs.Tellings.{Telling}
-use Rattle.mqtt_laws.specs.World as world
-use Rattle.mqtt_laws.specs.World.{World}
-use Rattle.mqtt_rules.specs.Laws.{AreWithin}
+use Rattle.std.proofs.Common.{◌≡◌, ℕ, List, [], ◌∷◌, ◌++◌, Some, refl, sym, subst, ◌∙◌}
+use Rattle.mqtt_world_model.specs.Run.{Turn, run}
+use Rattle.mqtt_world_model.specs.Tellings.{Telling}
+use Rattle.mqtt_world_model.specs.World as world
+use Rattle.mqtt_world_model.specs.World.{World}
 use Rattle.mqtt_rules.specs.declared.Limits.{Limits}
 use Rattle.mqtt_script.specs.declared.event.Event.{Event}
 use Rattle.mqtt_script.specs.declared.event.Event.TheVariants.{Drain}
-use Rattle.mqtt_world_laws.specs.Identities.{TellsApart}
-use Rattle.mqtt_world_laws.specs.Spending.{run_spends}
-use Rattle.mqtt_handed_laws.proofs.DrainRuns.{run_append}
-use Rattle.mqtt_every_run_laws.specs.Scripts.{DeliversOnce}
-use Rattle.mqtt_every_run_laws.specs.Untouched.{IsUntouched}
-use Rattle.mqtt_every_run_laws.proofs.Scripts.{run_delivers}
+use Rattle.mqtt_world_receiver_laws.proofs.drains.DrainRuns.{run_append}
 use Rattle.mqtt_script_laws.specs.Drains.{DrainHappens}
 use Rattle.mqtt_script_laws.specs.Scripted.{AreTurnsFor, Happens, IsRunOf, Passes, RunsTo, as_drain, as_event, event_of, of_drain, of_event}
 pub use Rattle.mqtt_script_laws.proofs.Costs.{spent_joined}
@@ -53,6 +47,3 @@ runs_further limits es tells e x t w mid after runs at does = runs_join limits e
 pub runs_drained : (limits : Limits) (es : List Event) (tells : List Telling) (client : List ℕ) (t : Telling) (w mid after : World) → RunsTo limits es tells w mid
     → DrainHappens limits client t mid after → RunsTo limits (es ++ Drain client ∷ []) (tells ++ t ∷ []) w after
 runs_drained limits es tells client t w mid after runs does = runs_join limits es (Drain client ∷ []) tells (t ∷ []) w mid after runs (after, as_drain client refl does, (refl, refl))
-
-pub script_delivers : (limits : Limits) (turns : List Turn) (w : World) → AreWithin limits → IsUntouched limits w → TellsApart w.broker.records → run_spends limits turns w ≡ false → are_beginnings_clean limits turns w ≡ true → DeliversOnce limits turns w
-script_delivers limits turns w within untouched apart unspent carried = run_delivers limits turns w untouched apart (record { within = within; unspent = unspent; clean = carried })

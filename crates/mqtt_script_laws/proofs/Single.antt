@@ -5,16 +5,16 @@ use Rattle.mqtt_rules.specs.Deeds.{Link}
 use Rattle.mqtt_rules.specs.State.{MemberChoice}
 use Rattle.mqtt_rules.specs.Step.{Call, can_link, deeds, is_opening_spent, is_step_spent}
 use Rattle.mqtt_rules.specs.declared.Limits.{Limits}
-use Rattle.mqtt_laws.specs.Lines.{left}
-use Rattle.mqtt_laws.specs.Run.{Turn, deeds_at, deeds_over, read_if, read_in, run, the_deeds}
-use Rattle.mqtt_laws.specs.Tellings.{Telling, silent, telling, tells}
-use Rattle.mqtt_laws.specs.World.{Asking, Event, World, ask, asks, before, break, call_of, calls, calls_if, clock, connect_end, first_step}
-use Rattle.mqtt_laws.specs.World.{give_up, happens, is_bad, is_bad_asking, links, next_line, old_to_broker, publish, publisher, pump}
-use Rattle.mqtt_laws.specs.World.{receiver, restart, restarts, stop_after, stop_before, stranger, subscribe, tick, to_broker, to_end}
-use Rattle.mqtt_laws.specs.World.{with_line}
-use Rattle.mqtt_unrolled_laws.specs.Unrolled.{Unrolls, turn}
-use Rattle.mqtt_world_laws.specs.Spending.{run_spends, spending}
-use Rattle.mqtt_handed_laws.proofs.DrainRuns.{run_append}
+use Rattle.mqtt_world_model.specs.Lines.{left}
+use Rattle.mqtt_world_model.specs.Run.{Turn, deeds_at, deeds_over, read_if, read_in, run, the_deeds}
+use Rattle.mqtt_world_model.specs.Tellings.{Telling, silent, telling, tells}
+use Rattle.mqtt_world_model.specs.World.{Asking, Event, World, ask, asks, before, break, call_of, calls, calls_if, clock, connect_end, first_step}
+use Rattle.mqtt_world_model.specs.World.{give_up, happens, is_bad, is_bad_asking, links, next_line, old_to_broker, publish, publisher, pump}
+use Rattle.mqtt_world_model.specs.World.{receiver, restart, restarts, stop_after, stop_before, stranger, subscribe, tick, to_broker, to_end}
+use Rattle.mqtt_world_model.specs.World.{with_line}
+use Rattle.mqtt_world_single_step_laws.specs.Unrolled.{Unrolls, turn}
+use Rattle.mqtt_world_acceptance_laws.specs.Spending.{run_spends, spending}
+use Rattle.mqtt_world_receiver_laws.proofs.drains.DrainRuns.{run_append}
 use Rattle.mqtt_script_laws.specs.Scripted.{Happens, is_heard, tells_if, tells_in}
 use Rattle.mqtt_script_laws.specs.Turns.{IsPlain, IsQuiet, IsReopened, IsTurn, by_choice}
 use Rattle.mqtt_script_laws.proofs.Costs.{spent_joined}

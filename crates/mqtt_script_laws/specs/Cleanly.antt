@@ -4,12 +4,13 @@ use Rattle.std.specs.Prelude.{◌≡◌, ⊤, ℕ, Bool, true, false, cond, not,
 use Rattle.std.specs.List.{AllByRecursion, list_any}
 use Rattle.mqtt_rules.specs.State.{session_named}
 use Rattle.mqtt_rules.specs.declared.Limits.{Limits}
-use Rattle.mqtt_laws.specs.Run.{Turn, run}
-use Rattle.mqtt_laws.specs.World as world
-use Rattle.mqtt_laws.specs.World.{World}
-use Rattle.mqtt_every_run_laws.specs.Scripts.{DeliversOnce}
+use Rattle.mqtt_world_model.specs.Run.{Turn, run}
+use Rattle.mqtt_world_model.specs.World as world
+use Rattle.mqtt_world_model.specs.World.{World}
+use Rattle.mqtt_world_headline_laws.specs.Delivery.{DeliversExactlyOnce}
+use Rattle.mqtt_world_acceptance_laws.specs.Spending.{run_spends}
 use Rattle.mqtt_script.specs.declared.event.Event.{Event}
-use Rattle.mqtt_script_laws.specs.Scripted.{AreTurnsFor, AreTurnsOf, event_of}
+use Rattle.mqtt_script_laws.specs.Scripted.{AreTurnsFor, AreTurnsOf, IsRunOf, event_of}
 
 -- an end that has connected with Clean Start 1 gives no line up, and each further CONNECT of it has Clean Start 1; these are the
 -- names of those that have so far
@@ -81,9 +82,9 @@ HaveNoSession es w = AllByRecursion (λ (e : Event). IsMadeAnewIf (event_of e) w
 
 -- ---- exactly-once delivery, of a script
 
--- the events come to turns that lead there, and of these turns all is true that is proved of every run
+-- the events come to turns that lead there and spend no number; and whatever turns they come to that spend none, of those all is
+-- true that is proved of every run
 pub record ScriptDelivers (limits : Limits) (es : List Event) (w after : World) : Type 0 where
-  pub turns : List Turn
-  pub are : AreTurnsOf limits es turns w
-  pub is : after ≡ run limits turns w
-  pub delivers : DeliversOnce limits turns w
+  pub is_run : IsRunOf limits es w after
+  pub all : (turns : List Turn) → AreTurnsOf limits es turns w → run_spends limits turns w ≡ false
+      → DeliversExactlyOnce limits turns w

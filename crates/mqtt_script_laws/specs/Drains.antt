@@ -2,11 +2,11 @@
 use Rattle.std.specs.Prelude.{◌≡◌, ℕ, zero, suc, true, false, List, [], ◌∷◌, ◌++◌}
 use Rattle.mqtt_rules.specs.State.{MemberChoice}
 use Rattle.mqtt_rules.specs.declared.Limits.{Limits}
-use Rattle.mqtt_laws.specs.Run.{Turn, deeds_over, run}
-use Rattle.mqtt_laws.specs.Tellings.{Telling, silent, telling}
-use Rattle.mqtt_laws.specs.World.{Event, World, ask, pump, receiver_named, to_broker, to_end}
-use Rattle.mqtt_handed_laws.specs.Drains.{downs_by, drain_turns, drained, is_bad_drain, is_over, rounds_taken, times, ups_by}
-use Rattle.mqtt_world_laws.specs.Spending.{run_spends}
+use Rattle.mqtt_world_model.specs.Run.{Turn, deeds_over, run}
+use Rattle.mqtt_world_model.specs.Tellings.{Telling, silent, telling}
+use Rattle.mqtt_world_model.specs.World.{Event, World, ask, pump, receiver_named, to_broker, to_end}
+use Rattle.mqtt_world_receiver_laws.specs.Drains.{downs_by, drain_turns, drained, is_bad_drain, is_over, rounds_taken, times, ups_by}
+use Rattle.mqtt_world_acceptance_laws.specs.Spending.{run_spends}
 use Rattle.mqtt_script_laws.specs.Turns.{IsTurn, both_tell, events_of}
 
 -- ---- rounds

@@ -5,21 +5,21 @@ use Rattle.mqtt_codec.specs.declared.packet.Packet.{Packet}
 use Rattle.mqtt_rules.specs.Contents.{IsTaken}
 use Rattle.mqtt_rules.specs.declared.Limits.{Limits}
 use Rattle.mqtt_rules.specs.Step.{Call, NewLine, Input, BadInput, Lost, Pump, Tick}
-use Rattle.mqtt_laws.specs.Run.{Turn, deeds_over, run}
-use Rattle.mqtt_laws.specs.Tellings.{Telling, silent, telling}
-use Rattle.mqtt_laws.specs.World as world
-use Rattle.mqtt_laws.specs.World.{World, is_bad, input_on, view_of}
-use Rattle.mqtt_peers.specs.Publishers.{draft_of}
-use Rattle.mqtt_peers.specs.Receivers.{wish_of}
+use Rattle.mqtt_world_model.specs.Run.{Turn, deeds_over, run}
+use Rattle.mqtt_world_model.specs.Tellings.{Telling, silent, telling}
+use Rattle.mqtt_world_model.specs.World as world
+use Rattle.mqtt_world_model.specs.World.{World, is_bad, input_on, view_of}
+use Rattle.mqtt_world_peers.specs.Publishers.{draft_of}
+use Rattle.mqtt_world_peers.specs.Receivers.{wish_of}
 use Rattle.mqtt_script.specs.declared.event.Asking.{Asking}
 use Rattle.mqtt_script.specs.declared.event.Asking.TheVariants as asking
 use Rattle.mqtt_script.specs.declared.event.Event.{Event}
 use Rattle.mqtt_script.specs.declared.event.Event.TheVariants.{Publisher, Receiver, Connect, GiveUp, Publish, Subscribe}
 use Rattle.mqtt_script.specs.declared.event.Event.TheVariants.{ToBroker, ToEnd, Break, Pump as PumpEvent, Clock, Tick as TickEvent}
 use Rattle.mqtt_script.specs.declared.event.Event.TheVariants.{Restart, StopBefore, StopAfter, Stranger, Drain}
-use Rattle.mqtt_handed_laws.specs.Drains.{is_bad_drain}
-use Rattle.mqtt_unrolled_laws.specs.Unrolled.{Unrolls}
-use Rattle.mqtt_world_laws.specs.Spending.{run_spends}
+use Rattle.mqtt_world_receiver_laws.specs.Drains.{is_bad_drain}
+use Rattle.mqtt_world_single_step_laws.specs.Unrolled.{Unrolls}
+use Rattle.mqtt_world_acceptance_laws.specs.Spending.{run_spends}
 use Rattle.mqtt_script_laws.specs.Drains.{AreTurnsOfDrain, DrainHappens}
 use Rattle.mqtt_script_laws.specs.Turns.{events_of}
 

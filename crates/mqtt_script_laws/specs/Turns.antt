@@ -3,12 +3,12 @@ use Rattle.std.specs.Prelude.{◌≡◌, ℕ, ◌+◌, ⊤, false, List, [], ◌
 use Rattle.mqtt_rules.specs.State.{MemberChoice}
 use Rattle.mqtt_rules.specs.Step.{NewLine, is_opening_spent}
 use Rattle.mqtt_rules.specs.declared.Limits.{Limits}
-use Rattle.mqtt_laws.specs.Run.{Turn, read_in, the_deeds}
-use Rattle.mqtt_laws.specs.Tellings.{Telling, telling}
-use Rattle.mqtt_laws.specs.World.{Asking, Event, Setting, Stranger, World, ask, break, calls, clock, connect_end, give_up, happens, is_bad, next_line, old_to_broker}
-use Rattle.mqtt_laws.specs.World.{publish, publisher, pump, receiver, restart, restarts, stop_after, stop_before, stranger, subscribe}
-use Rattle.mqtt_laws.specs.World.{tick, to_broker, to_end}
-use Rattle.mqtt_world_laws.specs.Spending.{spending}
+use Rattle.mqtt_world_model.specs.Run.{Turn, read_in, the_deeds}
+use Rattle.mqtt_world_model.specs.Tellings.{Telling, telling}
+use Rattle.mqtt_world_model.specs.World.{Asking, Event, Setting, Stranger, World, ask, break, calls, clock, connect_end, give_up, happens, is_bad, next_line, old_to_broker}
+use Rattle.mqtt_world_model.specs.World.{publish, publisher, pump, receiver, restart, restarts, stop_after, stop_before, stranger, subscribe}
+use Rattle.mqtt_world_model.specs.World.{tick, to_broker, to_end}
+use Rattle.mqtt_world_acceptance_laws.specs.Spending.{spending}
 
 abbrev pub by_choice : Limits → MemberChoice → Setting
 by_choice limits choice = record { limits = limits; choice = choice }

@@ -1,10 +1,10 @@
 //! Laws of drains in scripts, turn by turn: of their rounds, and of the choices of members in them (4.3, 4.4, 4.6).
 ghost use Rattle.std.specs.Prelude.{◌≡◌, ◌≤◌, ◌+◌, ℕ, List, false, length, suc, true};
-ghost use Rattle.mqtt_every_run_laws.specs.Untouched.{IsUntouched};
-ghost use Rattle.mqtt_handed_laws.specs.Drains.{copies_left, drain_turns, drained, enough_rounds, is_bad_drain, is_over, round_turns};
-ghost use Rattle.mqtt_laws.specs.Tellings.{Telling};
-ghost use Rattle.mqtt_laws.specs.World as world;
-ghost use Rattle.mqtt_laws.specs.World.{World, ask, pump, to_broker, to_end};
+ghost use Rattle.mqtt_world_delivery_laws.specs.Untouched.{IsUntouched};
+ghost use Rattle.mqtt_world_receiver_laws.specs.Drains.{copies_left, drain_turns, drained, enough_rounds, is_bad_drain, is_over, round_turns};
+ghost use Rattle.mqtt_world_model.specs.Tellings.{Telling};
+ghost use Rattle.mqtt_world_model.specs.World as world;
+ghost use Rattle.mqtt_world_model.specs.World.{World, ask, pump, to_broker, to_end};
 ghost use Rattle.mqtt_rules.specs.Laws.{AreWithin};
 ghost use Rattle.mqtt_rules.specs.State.{MemberChoice};
 ghost use Rattle.mqtt_rules.specs.declared.Limits.{Limits};
@@ -13,8 +13,8 @@ ghost use Rattle.mqtt_script_laws.specs.Cleanly.{BeginClean};
 ghost use Rattle.mqtt_script_laws.specs.Drains.{DrainHappens, DrainsBy, IsRound, MakesRounds, Repeats};
 ghost use Rattle.mqtt_script_laws.specs.Scripted.{Happens, RunsTo};
 ghost use Rattle.mqtt_script_laws.specs.Turns.{IsTurn, both_tell};
-ghost use Rattle.mqtt_world_laws.specs.Copies.{entered_from};
-ghost use Rattle.mqtt_world_laws.specs.Spending.{run_spends};
+ghost use Rattle.mqtt_world_acceptance_laws.specs.Copies.{entered_from};
+ghost use Rattle.mqtt_world_acceptance_laws.specs.Spending.{run_spends};
 
 /// What a receiver sends publishes nothing, and its session has no Will: so in a drain no choice of members is asked for. From
 /// wherever a script has come to, its rounds are those by any one choice, and with them what is told; so is the whole drain, of

@@ -1,19 +1,20 @@
 //! Laws of the runs of scripts (4.1, 4.3, 4.4, 4.6).
-ghost use Rattle.std.specs.Prelude.{◌≡◌, ℕ, List, [], ◌∷◌, ◌++◌, Some, false, true};
-ghost use Rattle.mqtt_every_run_laws.specs.Scripts.{DeliversOnce};
-ghost use Rattle.mqtt_every_run_laws.specs.Untouched.{IsUntouched};
-ghost use Rattle.mqtt_laws.specs.Run.{Turn, are_beginnings_clean};
-ghost use Rattle.mqtt_laws.specs.Tellings.{Telling};
-ghost use Rattle.mqtt_laws.specs.World as world;
-ghost use Rattle.mqtt_laws.specs.World.{World};
+ghost use Rattle.std.specs.Prelude.{◌≡◌, ℕ, List, [], ◌∷◌, ◌++◌, Some, false};
+ghost use Rattle.mqtt_world_headline_laws.specs.Delivery.{DeliversExactlyOnce};
+ghost use Rattle.mqtt_world_headline_laws.specs.Lives.{BeginsWell};
+ghost use Rattle.mqtt_world_model.specs.Run.{Turn};
+ghost use Rattle.mqtt_world_model.specs.Tellings.{Telling};
+ghost use Rattle.mqtt_world_model.specs.World as world;
+ghost use Rattle.mqtt_world_model.specs.World.{World};
 ghost use Rattle.mqtt_rules.specs.Laws.{AreWithin};
 ghost use Rattle.mqtt_rules.specs.declared.Limits.{Limits};
 ghost use Rattle.mqtt_script.specs.declared.event.Event.{Event};
 ghost use Rattle.mqtt_script.specs.declared.event.Event.TheVariants.{Drain};
+ghost use Rattle.mqtt_script_laws.specs.Cleanly.{BeginClean};
 ghost use Rattle.mqtt_script_laws.specs.Drains.{DrainHappens};
 ghost use Rattle.mqtt_script_laws.specs.Scripted.{AreTurnsOf, Happens, IsRunOf, RunsTo, event_of};
-ghost use Rattle.mqtt_world_laws.specs.Identities.{TellsApart};
-ghost use Rattle.mqtt_world_laws.specs.Spending.{run_spends};
+ghost use Rattle.mqtt_world_acceptance_laws.specs.Fair.{IsFair};
+ghost use Rattle.mqtt_world_acceptance_laws.specs.Spending.{run_spends};
 
 /// What a script's events do, one after the other, is what turns of the world do that are of one step of the broker each, and
 /// none of them spends a number (4.1).
@@ -37,11 +38,12 @@ pub fn scripts_follow_one_another()
 {}
 
 /// Exactly-once delivery, of scripts: whatever turns a script's events come to, all that is proved of every run of the world
-/// holds of them, where no number is spent and ends begin clean. Of where the script begins is asked what
-/// every run asks (3.3.4, 4.3, 4.4, 4.6, 4.8, 4.9).
+/// holds of them, where no number is spent and ends begin clean: in these turns (`delivers`), or by the script's events
+/// (`all`). Of where the script begins is asked what every run asks (3.1.2.4, 3.3.4, 4.3, 4.4, 4.6, 4.8, 4.9).
 pub fn whatever_a_script_does()
     ensures delivers { (limits : Limits) (es : List Event) (turns : List Turn) (w : World)
-        → AreWithin limits → IsUntouched limits w → TellsApart w.broker.records → AreTurnsOf limits es turns w
-        → run_spends limits turns w ≡ false → are_beginnings_clean limits turns w ≡ true
-        → DeliversOnce limits turns w }
+        → BeginsWell limits w → AreTurnsOf limits es turns w → IsFair limits turns w → DeliversExactlyOnce limits turns w }
+    ensures all { (limits : Limits) (es : List Event) (turns : List Turn) (w : World) → AreWithin limits → BeginsWell limits w
+        → BeginClean limits es w → AreTurnsOf limits es turns w → run_spends limits turns w ≡ false
+        → DeliversExactlyOnce limits turns w }
 {}

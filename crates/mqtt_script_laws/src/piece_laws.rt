@@ -1,15 +1,15 @@
 //! Laws of the bytes of a stranger, as they come piece by piece (2.1, 4.13).
 ghost use Rattle.std.specs.Prelude.{◌≡◌, ◌⊎◌, ℕ, false, List, [], ◌++◌, Ok, None, Some};
-ghost use Rattle.mqtt_laws.specs.Run.{read_if, the_deeds};
-ghost use Rattle.mqtt_laws.specs.Tellings.{Telling, silent, telling};
-ghost use Rattle.mqtt_laws.specs.World.{Stranger, World, ask, call_on, calls_if, held_after, is_bad, next_held, stop_after, stranger, stranger_named, with_stranger};
+ghost use Rattle.mqtt_world_model.specs.Run.{read_if, the_deeds};
+ghost use Rattle.mqtt_world_model.specs.Tellings.{Telling, silent, telling};
+ghost use Rattle.mqtt_world_model.specs.World.{Stranger, World, ask, call_on, calls_if, held_after, is_bad, next_held, stop_after, stranger, stranger_named, with_stranger};
 ghost use Rattle.mqtt_packet.specs.Front.{first_of};
 ghost use Rattle.mqtt_rules.specs.State.{MemberChoice};
 ghost use Rattle.mqtt_rules.specs.declared.Limits.{Limits};
 ghost use Rattle.mqtt_script_laws.specs.Scripted.{Happens};
 ghost use Rattle.mqtt_script_laws.specs.Turns.{IsReopened, IsTurn, both_tell, by_choice, welcomed};
-ghost use Rattle.mqtt_unrolled_laws.specs.Unrolled.{AreAlike, IsDecided, IsWhole, bytes_come};
-ghost use Rattle.mqtt_world_laws.specs.Spending.{spending};
+ghost use Rattle.mqtt_world_single_step_laws.specs.Unrolled.{AreAlike, IsDecided, IsWhole, bytes_come};
+ghost use Rattle.mqtt_world_acceptance_laws.specs.Spending.{spending};
 
 /// The bytes of a stranger happen piece by piece: each but the last ends with a packet, and tells before what comes behind it
 /// does; and of bytes at which the broker stops those up to the first packet come (2.1, 4.1).

@@ -1,8 +1,8 @@
 //! Laws of whole scripts: exactly-once delivery, and what strangers hold (2.1, 4.1, 4.3, 4.4, 4.6).
 ghost use Rattle.std.specs.Prelude.{◌≡◌, List, [], true};
-ghost use Rattle.mqtt_every_run_laws.specs.Untouched.{IsUntouched};
-ghost use Rattle.mqtt_laws.specs.Tellings.{Telling};
-ghost use Rattle.mqtt_laws.specs.World.{World, start};
+ghost use Rattle.mqtt_world_headline_laws.specs.Lives.{BeginsWell};
+ghost use Rattle.mqtt_world_model.specs.Tellings.{Telling};
+ghost use Rattle.mqtt_world_model.specs.World.{World, start};
 ghost use Rattle.mqtt_records.specs.Records.{nothing};
 ghost use Rattle.mqtt_rules.specs.Laws.{AreWithin};
 ghost use Rattle.mqtt_rules.specs.State.{MemberChoice};
@@ -10,20 +10,19 @@ ghost use Rattle.mqtt_rules.specs.declared.Limits.{Limits};
 ghost use Rattle.mqtt_script.specs.declared.event.Event.{Event};
 ghost use Rattle.mqtt_script_laws.specs.Cleanly.{AreMadeAnew, BeginClean, HaveNoSession, ScriptDelivers, makes_ends_first};
 ghost use Rattle.mqtt_script_laws.specs.Scripted.{RunsTo};
-ghost use Rattle.mqtt_unrolled_laws.specs.Unrolled.{AreAllAlike, HoldNoPacket};
-ghost use Rattle.mqtt_world_laws.specs.Fair.{opened_world};
-ghost use Rattle.mqtt_world_laws.specs.Identities.{TellsApart};
+ghost use Rattle.mqtt_world_single_step_laws.specs.Unrolled.{AreAllAlike, HoldNoPacket};
+ghost use Rattle.mqtt_world_acceptance_laws.specs.Fair.{opened_world};
 
-/// Exactly-once delivery, of every script that ran, whatever was lost, given up, restarted or stopped in it: each message of a
-/// publisher was accepted once, each publication routed, and its copies entered, each once, and wait or have one end; and each
-/// receiver was handed its copies once and in order. Asked of the script is but that its ends begin clean: its Clean Starts are
-/// carried through, which is read off its events, since an end that has connected with Clean Start 1 gives no line up, and
-/// connects so again; and no session of an end's name stands when it is made. From nothing stored nothing else is asked (3.1.2.4,
-/// 3.3.4, 4.3, 4.4, 4.6, 4.8, 4.9).
+/// Exactly-once delivery, of every script that ran, whatever was lost, given up, restarted or stopped in it, and whatever turns
+/// it came to: each message of a publisher was accepted once, with what it carries; of each publication exactly the intended
+/// copies entered queues, each once, and wait or have one end, for its cause; and each receiver was handed its copies once and
+/// in order. Asked of the script is but that its ends begin clean: its Clean Starts are carried through, which is read off its
+/// events, since an end that has connected with Clean Start 1 gives no line up, and connects so again; and no session of an
+/// end's name stands when it is made. From nothing stored nothing else is asked (3.1.2.4, 3.3.4, 4.3, 4.4, 4.6, 4.8, 4.9).
 pub fn scripts_deliver_exactly_once()
     ensures delivers { (limits : Limits) (es : List Event) (tells : List Telling) (w after : World) → AreWithin limits
-        → IsUntouched limits w → TellsApart w.broker.records → BeginClean limits es w
-        → RunsTo limits es tells w after → ScriptDelivers limits es w after }
+        → BeginsWell limits w → BeginClean limits es w → RunsTo limits es tells w after
+        → ScriptDelivers limits es w after }
     ensures empty { (limits : Limits) (choice : MemberChoice) → opened_world limits choice 0 nothing ≡ start }
     ensures from_nothing { (limits : Limits) (es : List Event) (tells : List Telling) (after : World) → AreWithin limits
         → BeginClean limits es start → RunsTo limits es tells start after → ScriptDelivers limits es start after }

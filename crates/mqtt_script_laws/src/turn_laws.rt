@@ -1,13 +1,13 @@
 //! Laws of single events of a script: each happens as a turn of the world, or a few (2.1, 4.1).
 ghost use Rattle.std.specs.Prelude.{◌≡◌, false, true, List, ◌∷◌, ◌++◌, [], ℕ, Bool, None, is_some};
-ghost use Rattle.mqtt_laws.specs.Tellings.{Telling, silent, tells};
-ghost use Rattle.mqtt_laws.specs.World.{Asking, Event, Setting, World, ask, before, calls, connect_end, happens, is_bad, is_bad_asking, links, next_line, restart, restarts, stop_after, stop_before, stranger, stranger_named};
+ghost use Rattle.mqtt_world_model.specs.Tellings.{Telling, silent, tells};
+ghost use Rattle.mqtt_world_model.specs.World.{Asking, Event, Setting, World, ask, before, calls, connect_end, happens, is_bad, is_bad_asking, links, next_line, restart, restarts, stop_after, stop_before, stranger, stranger_named};
 ghost use Rattle.mqtt_rules.specs.State.{MemberChoice};
 ghost use Rattle.mqtt_rules.specs.Step.{NewLine, is_opening_spent, stepped};
 ghost use Rattle.mqtt_rules.specs.declared.Limits.{Limits};
 ghost use Rattle.mqtt_script_laws.specs.Scripted.{Happens, is_heard, tells_if, tells_in};
 ghost use Rattle.mqtt_script_laws.specs.Turns.{IsPlain, IsQuiet, IsReopened, IsTurn, by_choice, newcomer};
-ghost use Rattle.mqtt_unrolled_laws.specs.Unrolled.{Unrolls, turn};
+ghost use Rattle.mqtt_world_single_step_laws.specs.Unrolled.{Unrolls, turn};
 
 /// An event that comes to one turn happens by it; what ends do tells nothing, and asks the broker for no step but a new line;
 /// a restart, and a stop before or after a commit, tell nothing either (4.1).

@@ -15,7 +15,7 @@ use Rattle.mqtt_records.specs.declared.keep.Keep as keep
 use Rattle.mqtt_records.specs.declared.records.Records.{Records}
 use Rattle.mqtt_store.specs.Holding.{Holds, Leaves}
 use Rattle.mqtt_store.specs.Opening.{OpensAnew, rolled_back}
-use Rattle.mqtt_serving.specs.Turns.{Runs}
+use Rattle.mqtt_serve_turns.specs.Turns.{Runs}
 
 -- the question for the moment of the newest step
 abbrev pub moment_query : List ℕ

@@ -3,7 +3,7 @@ ghost use Rattle.std.specs.Prelude.{◌≡◌, ◌≤◌, max, Some, IfOk, IfErr
 ghost use Rattle.mqtt_serve.specs.Clock.{milliseconds, milliseconds_of, moment_after, first_reading};
 
 use mqtt_base::LAST_NUMBER;
-use mqtt_serving::Timer;
+use mqtt_serve_turns::Timer;
 use std::io;
 use std::rt::Clock;
 use std::time::{Duration, SystemTime};

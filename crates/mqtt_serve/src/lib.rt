@@ -7,7 +7,8 @@ mod serving;
 mod store;
 
 pub use clock::SteadyClock;
-pub use mqtt_serve_fault::ServeFault;
-pub use mqtt_serving::{Full, Limits, Timer};
+pub use mqtt_link::ServeFault;
+pub use mqtt_rules::Limits;
+pub use mqtt_serve_turns::Timer;
 pub use serving::{serve, serve_over};
 pub use sqlite::{Start, Unknown};

@@ -3,7 +3,7 @@ ghost use Rattle.std.specs.Prelude.{◌≡◌, ◌≢◌, [], codes, OnOk, IfOk,
 ghost use Rattle.std.specs.Io.KnownBytes.{Appends, Keeps};
 ghost use Rattle.sqlite.specs.WalFiles.{image_at};
 ghost use Rattle.mqtt_rules.specs.Laws.{AreWithin};
-ghost use Rattle.mqtt_serving.specs.Turns.{Begins, Runs, RunsAlone};
+ghost use Rattle.mqtt_serve_turns.specs.Turns.{Begins, Runs, RunsAlone};
 ghost use Rattle.mqtt_serve.specs.Announcing.{Announces, done, listening};
 ghost use Rattle.mqtt_serve.specs.Database.{RunsOnDatabase, RunsOnFiles};
 
@@ -12,8 +12,11 @@ use crate::poll_link::PollLink;
 use crate::store::{
     close_database, open_database, open_engine, stopped_by, store_over, stored_moment,
 };
-use mqtt_serve_fault::ServeFault;
-use mqtt_serving::{Engine, Keep, Limits, Links, run_turns};
+use mqtt_broker::Engine;
+use mqtt_link::ServeFault;
+use mqtt_records::Keep;
+use mqtt_rules::Limits;
+use mqtt_serve_turns::{Links, run_turns};
 use mqtt_store::SqlKeep;
 use sqlite::{Alter, Connection, FileFrom, FileStore, Start};
 use std::io;

@@ -6,11 +6,14 @@ ghost use Rattle.sqlite.specs.Held.{IsNew, state};
 ghost use Rattle.sqlite.specs.Files.{file_state, IsOpened};
 ghost use Rattle.sqlite.specs.Start.{FindsIn};
 ghost use Rattle.mqtt_rules.specs.Laws.{AreWithin};
-ghost use Rattle.mqtt_serving.specs.Turns.{Begins};
+ghost use Rattle.mqtt_serve_turns.specs.Turns.{Begins};
 ghost use Rattle.mqtt_serve.specs.Database.{IsAsked, IsStoreOver};
 
-use mqtt_serve_fault::ServeFault;
-use mqtt_serving::{Engine, EngineError, Keep, KeepError, Limits};
+use mqtt_broker::Engine;
+use mqtt_broker_step::EngineError;
+use mqtt_link::ServeFault;
+use mqtt_records::{Keep, KeepError};
+use mqtt_rules::Limits;
 use mqtt_store::SqlKeep;
 use sqlite::{Alter, Connection, Error, ErrorCode, FileFrom, FileStore, Start};
 use std::alloc::Global;

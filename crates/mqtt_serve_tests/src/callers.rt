@@ -1,7 +1,8 @@
 //! A client that calls the server as soon as it is told where it listens (MQTT 5.0, 4.2).
 ghost use Rattle.mqtt_rules.specs.Laws.{AreWithin};
 
-use mqtt_serve::{Full, Limits, ServeFault, Unknown, serve};
+use mqtt_flow::Full;
+use mqtt_serve::{Limits, ServeFault, Unknown, serve};
 use std::io::{ErrorKind, Read, Write};
 use std::net::{Ipv4Addr, SocketAddr, TcpStream};
 use std::test::Fail;

@@ -1,6 +1,7 @@
 //! The limits that a server is given (MQTT 5.0, 3.3.4, 3.4.2.1, 4.9).
 use crate::callers::{Run, first_wrong, forget};
-use mqtt_serve::{Full, Limits};
+use mqtt_flow::Full;
+use mqtt_serve::Limits;
 use std::test::Fail;
 
 /// One message in a queue, of which the oldest makes way, two sessions and one retained message.

@@ -7,12 +7,12 @@ use Rattle.sqlite.proofs.StateLemmas.{survives_weaker}
 use Rattle.mqtt_records.specs.declared.records.Records.{Records}
 use Rattle.mqtt_records.specs.declared.change.Change.{Change}
 use Rattle.mqtt_records.specs.Records.{changed, changed_all, FitAll}
-use Rattle.mqtt_sql_schema.specs.Tables.{keep_schema}
-use Rattle.mqtt_sql_step.specs.Step.{IsSettled}
-use Rattle.mqtt_sql_kept.specs.Written.{KeepsRows, AreInOrder, AllSayable}
-use Rattle.mqtt_sql_kept.proofs.Statements.{statement_keeps, statement_asks}
-use Rattle.mqtt_sql_changes.specs.Making.{MakeAll, NeedAll, MayCommit}
-use Rattle.mqtt_sql_changes.specs.Shortened.{shortened}
+use Rattle.mqtt_store_schema.specs.Tables.{keep_schema}
+use Rattle.mqtt_store_write.specs.Step.{IsSettled}
+use Rattle.mqtt_store_laws.specs.Written.{KeepsRows, AreInOrder, AllSayable}
+use Rattle.mqtt_store_laws.proofs.Statements.{statement_keeps, statement_asks}
+use Rattle.mqtt_store.specs.Making.{MakeAll, NeedAll, MayCommit}
+use Rattle.mqtt_store.specs.Shortened.{shortened}
 use Rattle.mqtt_store.specs.Holding.{Holds, IsReady, OnlySteps}
 use Rattle.mqtt_store.proofs.Held.{not_both}
 use Rattle.mqtt_store.proofs.Shortened.{shortened_same, shortened_fit, shortened_sayable}

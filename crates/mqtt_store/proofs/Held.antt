@@ -6,14 +6,14 @@ use Rattle.sqlite.specs.Effect.{Database}
 use Rattle.sqlite.specs.State.{State}
 use Rattle.mqtt_records.specs.declared.records.Records.{Records}
 use Rattle.mqtt_records.specs.Records.{nothing}
-use Rattle.mqtt_sql_schema.specs.Tables.{keep_schema}
-use Rattle.mqtt_sql_schema.specs.Creation.{first, IsNewStore}
-use Rattle.mqtt_sql_read.specs.Kept.{Keeps, HasNow, IsLeft}
-use Rattle.mqtt_sql_kept.specs.Written.{KeepsRows, AreInOrder}
-use Rattle.mqtt_sql_found.proofs.Alike.{alike}
-use Rattle.mqtt_sql_found.proofs.Found.{found_distinct}
-use Rattle.mqtt_sql_found.proofs.Kept.{distinct_kept, kept_distinct}
-use Rattle.mqtt_sql_found.proofs.New.{new_keeps}
+use Rattle.mqtt_store_schema.specs.Tables.{keep_schema}
+use Rattle.mqtt_store_schema.specs.Creation.{first, IsNewStore}
+use Rattle.mqtt_store_read.specs.Kept.{Keeps, HasNow, IsLeft}
+use Rattle.mqtt_store_laws.specs.Written.{KeepsRows, AreInOrder}
+use Rattle.mqtt_store_load_laws.proofs.Alike.{alike}
+use Rattle.mqtt_store_load_laws.proofs.Found.{found_distinct}
+use Rattle.mqtt_store_load_laws.proofs.Kept.{distinct_kept, kept_distinct}
+use Rattle.mqtt_store_load_laws.proofs.New.{new_keeps}
 pub use Rattle.mqtt_store.specs.Ones.{not_both, found_one, load_finds, leaves_held}
 use Rattle.mqtt_store.specs.Holding.{ShowsKept, Finds, Has, Holds, HasKept, Leaves, OnlyLoads, OnlySteps}
 

@@ -4,3 +4,4 @@ pub mod Loads
 pub mod Opened
 pub mod Applies
 pub mod Shortened
+pub mod Inside

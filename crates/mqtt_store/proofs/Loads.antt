@@ -7,9 +7,9 @@ use Rattle.sqlite.specs.Held.{Held}
 use Rattle.sqlite.specs.State.{State, HasCleanDisk, Survives, IsLive}
 use Rattle.mqtt_records.specs.declared.records.Records.{Records}
 use Rattle.mqtt_records.specs.declared.keep.KeepError.{KeepError}
-use Rattle.mqtt_sql_schema.specs.Settled.{IsSettled}
-use Rattle.mqtt_sql_read.specs.Kept.{Keeps, HasNow, MakesNew, Refuses, IsLeft}
-use Rattle.mqtt_sql_kept.specs.Written.{AreInOrder}
+use Rattle.mqtt_store_schema.specs.Settled.{IsSettled}
+use Rattle.mqtt_store_read.specs.Kept.{Keeps, HasNow, MakesNew, Refuses, IsLeft}
+use Rattle.mqtt_store_laws.specs.Written.{AreInOrder}
 use Rattle.mqtt_store.specs.Holding.{IsTidy, IsLoaded, Holds, HasKept, Leaves, OnlyLoads}
 use Rattle.mqtt_store.specs.Ordered.{IsOrdered}
 use Rattle.mqtt_store.proofs.Held.{load_finds, loaded_kept, has_now}

@@ -18,7 +18,7 @@ use Rattle.sqlite.specs.Held.{Held, state}
 use Rattle.sqlite.specs.State.{State, HasCleanDisk, Opens, IsLive, store_error}
 use Rattle.sqlite.specs.Steps.{FailsToOpen}
 use Rattle.mqtt_records.specs.declared.records.Records.{Records}
-use Rattle.mqtt_sql_read.specs.Kept.{Keeps}
+use Rattle.mqtt_store_read.specs.Kept.{Keeps}
 use Rattle.mqtt_store.specs.Holding.{ShowsKept, Finds, Has, Holds, Leaves}
 use Rattle.mqtt_store.specs.Opening.{OpensAnew, IsUnharmed, RefusesToOpen, rolled_back}
 use Rattle.mqtt_store.specs.Ordered.{IsOrdered}

@@ -10,10 +10,10 @@ use Rattle.sqlite_catalog.specs.Listing.{IsSound}
 use Rattle.sqlite_catalog.proofs.LayoutLemmas.{laid_out, objects_rise}
 use Rattle.sqlite.specs.Effect.{Database}
 use Rattle.sqlite.specs.State.{State, HasCleanDisk, Opens, IsLive}
-use Rattle.mqtt_sql_schema.specs.Tables.{keep_schema}
-use Rattle.mqtt_sql_schema.specs.Creation.{IsNewStore, first_numbers}
-use Rattle.mqtt_sql_write.specs.Content.{IsShapedAt}
-use Rattle.mqtt_sql_kept.specs.Written.{AreInOrder}
+use Rattle.mqtt_store_schema.specs.Tables.{keep_schema}
+use Rattle.mqtt_store_schema.specs.Creation.{IsNewStore, first_numbers}
+use Rattle.mqtt_store_write.specs.Content.{IsShapedAt}
+use Rattle.mqtt_store_laws.specs.Written.{AreInOrder}
 use Rattle.mqtt_store.specs.Ordered.{IsOrdered}
 
 -- a store that is not broken has its trees in order

@@ -7,9 +7,9 @@ use Rattle.mqtt_records.specs.declared.records.Records.{Records}
 use Rattle.mqtt_records.specs.declared.session.Session.{Session}
 use Rattle.mqtt_records.specs.Records.{changed, changed_all, FitAll}
 use Rattle.mqtt_records.specs.Session.{birth_of, without_copy}
-use Rattle.mqtt_rows.specs.Order.{change_row, remove_row}
-use Rattle.mqtt_sql_kept.specs.Written.{AllSayable}
-use Rattle.mqtt_sql_changes.specs.Shortened.{ends_session, goes_anyway, shortened}
+use Rattle.mqtt_records_rows.specs.Order.{change_row, remove_row}
+use Rattle.mqtt_store_laws.specs.Written.{AllSayable}
+use Rattle.mqtt_store.specs.Shortened.{ends_session, goes_anyway, shortened}
 
 -- ---- a copy that is removed before its session is
 

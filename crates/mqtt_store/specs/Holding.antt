@@ -5,11 +5,11 @@ use Rattle.sqlite.specs.Effect.{Database}
 use Rattle.sqlite.specs.State.{State, HasCleanDisk, Survives}
 use Rattle.mqtt_records.specs.declared.records.Records.{Records}
 use Rattle.mqtt_records.specs.Records.{nothing}
-use Rattle.mqtt_sql_schema.specs.Tables.{keep_schema}
-use Rattle.mqtt_sql_schema.specs.Creation.{first}
-use Rattle.mqtt_sql_schema.specs.Settled.{IsSettled}
-use Rattle.mqtt_sql_read.specs.Kept.{HasRecords, Keeps, MakesNew, IsLeft}
-use Rattle.mqtt_sql_kept.specs.Written.{KeepsRows}
+use Rattle.mqtt_store_schema.specs.Tables.{keep_schema}
+use Rattle.mqtt_store_schema.specs.Creation.{first}
+use Rattle.mqtt_store_schema.specs.Settled.{IsSettled}
+use Rattle.mqtt_store_read.specs.Kept.{HasRecords, Keeps, MakesNew, IsLeft}
+use Rattle.mqtt_store_laws.specs.Written.{KeepsRows}
 
 -- the rows of the store's tables are those of these records; and an empty database has none yet
 abbrev pub ShowsKept : Database → Records → Type 0

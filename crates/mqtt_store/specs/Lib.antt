@@ -3,3 +3,6 @@ pub mod Ones
 pub mod Opening
 pub mod Ordered
 pub mod Props
+pub mod Parts
+pub mod Making
+pub mod Shortened

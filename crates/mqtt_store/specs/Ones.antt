@@ -5,13 +5,13 @@ use Rattle.sqlite_trees.specs.Tree.{Trees}
 use Rattle.sqlite.specs.Effect.{Database}
 use Rattle.sqlite.specs.State.{State}
 use Rattle.mqtt_records.specs.declared.records.Records.{Records}
-use Rattle.mqtt_sql_schema.specs.Tables.{keep_schema}
-use Rattle.mqtt_sql_schema.specs.Creation.{first}
-use Rattle.mqtt_sql_read.specs.Kept.{HasRecords, Keeps}
-use Rattle.mqtt_sql_kept.specs.Written.{KeepsRows}
-use Rattle.mqtt_sql_found.proofs.Alike.{alike}
-use Rattle.mqtt_sql_found.proofs.Found.{found_distinct}
-use Rattle.mqtt_sql_found.proofs.Kept.{kept_distinct}
+use Rattle.mqtt_store_schema.specs.Tables.{keep_schema}
+use Rattle.mqtt_store_schema.specs.Creation.{first}
+use Rattle.mqtt_store_read.specs.Kept.{HasRecords, Keeps}
+use Rattle.mqtt_store_laws.specs.Written.{KeepsRows}
+use Rattle.mqtt_store_load_laws.proofs.Alike.{alike}
+use Rattle.mqtt_store_load_laws.proofs.Found.{found_distinct}
+use Rattle.mqtt_store_load_laws.proofs.Kept.{kept_distinct}
 use Rattle.mqtt_store.specs.Holding.{ShowsKept, Holds, Leaves}
 
 -- an empty database has not the store's tables

@@ -1,8 +1,8 @@
 -- In which order the rows of a store's tables stand.
 use Rattle.std.specs.Prelude.{◌≡◌, IsTrue}
 use Rattle.sqlite.specs.State.{State, HasCleanDisk}
-use Rattle.mqtt_sql_schema.specs.Tables.{keep_schema}
-use Rattle.mqtt_sql_kept.specs.Written.{AreInOrder}
+use Rattle.mqtt_store_schema.specs.Tables.{keep_schema}
+use Rattle.mqtt_store_laws.specs.Written.{AreInOrder}
 
 -- where it is open and has the store's tables, their rows rise by their numbers
 abbrev pub IsOrdered : State → Type 0

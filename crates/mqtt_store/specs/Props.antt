@@ -5,8 +5,8 @@ use Rattle.sqlite_trees.specs.declared.store.Shape.TheVariants.{Table}
 use Rattle.sqlite_trees.specs.Props.{IsShaped-prop}
 use Rattle.sqlite_trees.specs.Tree.{Trees}
 use Rattle.sqlite.specs.State.{State}
-use Rattle.mqtt_sql_write.specs.Content.{IsShapedAt}
-use Rattle.mqtt_sql_kept.specs.Written.{AreInOrder}
+use Rattle.mqtt_store_write.specs.Content.{IsShapedAt}
+use Rattle.mqtt_store_laws.specs.Written.{AreInOrder}
 use Rattle.mqtt_store.specs.Ordered.{IsOrdered}
 
 shaped_prop : (db : Trees) (t : ℕ) → IsProp (IsShapedAt db t)

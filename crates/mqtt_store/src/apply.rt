@@ -4,14 +4,14 @@ ghost use Rattle.sqlite.specs.Held.{state};
 ghost use Rattle.sqlite.specs.State.{HasCleanDisk, Survives};
 ghost use Rattle.mqtt_records.specs.declared.records.Records.{Records as Kept};
 ghost use Rattle.mqtt_records.specs.Records.{changed_all, FitAll};
-ghost use Rattle.mqtt_sql_kept.specs.Written.{AllSayable};
-ghost use Rattle.mqtt_sql_changes.specs.Making.{MayCommit};
+ghost use Rattle.mqtt_store_laws.specs.Written.{AllSayable};
+ghost use Rattle.mqtt_store.specs.Making.{MayCommit};
 ghost use Rattle.mqtt_store.specs.Holding.{Holds, Leaves, IsReady, IsLoaded};
 ghost use Rattle.mqtt_store.specs.Ordered.{IsOrdered};
 
+use crate::commit::commit_changes;
 use mqtt_records::{Change, KeepError};
-use mqtt_sql_changes::commit_changes;
-use mqtt_sql_read::probe;
+use mqtt_store_read::probe;
 use sqlite::{Alter, Connection, Error, ErrorCode};
 use std::alloc::Global;
 

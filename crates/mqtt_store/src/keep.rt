@@ -92,7 +92,7 @@ impl<S: Alter + Drop> SqlKeep<S> {
 impl<S: Alter + Drop> Keep for SqlKeep<S> {
     ghost use Rattle.sqlite.specs.Held.{state};
     ghost use Rattle.sqlite.specs.State.{HasCleanDisk};
-    ghost use Rattle.mqtt_sql_read.specs.Kept.{Refuses};
+    ghost use Rattle.mqtt_store_read.specs.Kept.{Refuses};
     ghost use Rattle.mqtt_store.specs.Holding.{Holds, Leaves, IsLoaded};
     ghost use Rattle.mqtt_store.specs.Ones.{leaves_held as held};
 

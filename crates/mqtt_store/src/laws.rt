@@ -4,9 +4,9 @@ ghost use Rattle.sqlite_schema.specs.Rules.{Obeys};
 ghost use Rattle.sqlite.specs.Effect.{Database};
 ghost use Rattle.sqlite.specs.Held.{Held, state};
 ghost use Rattle.mqtt_records.specs.declared.records.Records.{Records};
-ghost use Rattle.mqtt_sql_schema.specs.Tables.{keep_schema};
-ghost use Rattle.mqtt_sql_read.specs.Kept.{Keeps, HasNow};
-ghost use Rattle.mqtt_sql_kept.specs.Written.{AreInOrder};
+ghost use Rattle.mqtt_store_schema.specs.Tables.{keep_schema};
+ghost use Rattle.mqtt_store_read.specs.Kept.{Keeps, HasNow};
+ghost use Rattle.mqtt_store_laws.specs.Written.{AreInOrder};
 ghost use Rattle.mqtt_store.specs.Holding.{ShowsKept, HasKept, Holds, Leaves, OnlyLoads, OnlySteps};
 
 use sqlite::Alter;

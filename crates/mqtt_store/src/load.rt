@@ -3,12 +3,12 @@ ghost use Rattle.std.specs.Prelude.{◌≡◌, false, IfOk, IfErr};
 ghost use Rattle.sqlite.specs.Held.{state};
 ghost use Rattle.sqlite.specs.State.{HasCleanDisk};
 ghost use Rattle.mqtt_records.specs.declared.records.Records.{Records as Kept};
-ghost use Rattle.mqtt_sql_read.specs.Kept.{Refuses};
+ghost use Rattle.mqtt_store_read.specs.Kept.{Refuses};
 ghost use Rattle.mqtt_store.specs.Holding.{Holds, Leaves, HasKept};
 ghost use Rattle.mqtt_store.specs.Ordered.{IsOrdered};
 
 use mqtt_records::{KeepError, Records};
-use mqtt_sql_read::load_from;
+use mqtt_store_read::load_from;
 use sqlite::{Alter, Connection};
 use std::alloc::Global;
 

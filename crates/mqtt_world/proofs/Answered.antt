@@ -3,19 +3,18 @@ use Rattle.std.proofs.Common.{◌≡◌, ℕ, min, max, length, Bool, true, fals
 use Rattle.std.specs.Prelude.{Result, Ok, Err}
 use Rattle.mqtt_base.specs.declared.limits.TheConstants.{LAST_NUMBER}
 use Rattle.mqtt_records.specs.declared.keep.Keep.{Ghosts}
-use Rattle.mqtt_laws.specs.Tellings.{Telling}
-use Rattle.mqtt_opening.specs.Calling.{Tells}
-use Rattle.mqtt_broker.specs.Outcome.{Outcome}
-use Rattle.mqtt_broker.specs.TheRules.State.{Broker, MemberChoice}
-use Rattle.mqtt_broker.specs.TheRules.Step.{Call, at_moment, deeds, deeds_of, done, env_of, is_spent, is_step_spent, outcome_of, rows_written, stepped, told}
-use Rattle.mqtt_broker.specs.TheRules.Step.{Outcome as Answer}
-use Rattle.mqtt_broker.specs.TheRules.declared.Limits.{Limits}
-use Rattle.mqtt_broker.specs.TheTables.declared.call.EngineError.{EngineError}
+use Rattle.mqtt_world_model.specs.Tellings.{Telling}
+use Rattle.mqtt_broker_engine.specs.Calling.{Tells}
+use Rattle.mqtt_broker_engine.specs.declared.outcome.Outcome.{Outcome}
+use Rattle.mqtt_rules.specs.State.{Broker, MemberChoice}
+use Rattle.mqtt_rules.specs.Step.{Call, at_moment, deeds, deeds_of, done, env_of, is_spent, is_step_spent, outcome_of, rows_written, stepped, told, Outcome as Answer}
+use Rattle.mqtt_rules.specs.declared.Limits.{Limits}
+use Rattle.mqtt_broker_step.specs.declared.call.EngineError.{EngineError}
 use Rattle.mqtt_broker.specs.Serving.{Serving, Served, has_closed}
-use Rattle.mqtt_framing.specs.Framers.{HeldLine}
-use Rattle.mqtt_peers.specs.declared.told.RunFault.{RunFault}
-use Rattle.mqtt_clients.specs.Ends.{Ends}
-use Rattle.mqtt_clients.specs.Telling.{AreSpelled, ends_told}
+use Rattle.mqtt_broker.specs.Framers.{HeldLine}
+use Rattle.mqtt_world_peers.specs.declared.told.RunFault.{RunFault}
+use Rattle.mqtt_world_clients.specs.Ends.{Ends}
+use Rattle.mqtt_world_clients.specs.Telling.{AreSpelled, ends_told}
 use Rattle.mqtt_world.specs.Scenes.{Calls, HoldNone, HoldsNone, IsPlayable, Played}
 
 -- ---- moments

@@ -4,28 +4,28 @@ use Rattle.std.specs.Prelude.{Result, Ok, Err, is_some}
 use Rattle.std.specs.List.{AllByRecursion}
 use Rattle.std.proofs.lemmas.Bool.{eqb-true}
 use Rattle.std.proofs.lemmas.List.{append-nil, take-append-drop}
-use Rattle.mqtt_codec.specs.Faults.{answer_to}
+use Rattle.mqtt_codec_parts.specs.Faults.{answer_to}
 use Rattle.mqtt_packet.specs.Front.{first_of}
 use Rattle.mqtt_records.specs.declared.keep.Keep.{Ghosts}
-use Rattle.mqtt_framing.specs.Framers.{AreBytes}
-use Rattle.mqtt_framing.proofs.Held.{first_taken, nothing_asked}
-use Rattle.mqtt_laws.specs.Tellings.{Telling, silent}
-use Rattle.mqtt_laws.specs.World.{Event, Setting, Stranger, World, ask, bytes_held, call_on, calls, calls_if, held_after, held_by, is_bad, is_bad_asking, next_line, stranger, stranger_named}
-use Rattle.mqtt_broker.specs.TheRules.Laws.{AreWithin}
-use Rattle.mqtt_broker.specs.TheRules.Piece.{Front, begins_connect, call_by, code_of, first_call}
-use Rattle.mqtt_broker.specs.TheRules.State.{MemberChoice}
-use Rattle.mqtt_broker.specs.TheRules.Step.{BadInput, Call, Input, NewLine}
-use Rattle.mqtt_broker.specs.TheRules.declared.Limits.{Limits}
-use Rattle.mqtt_broker.specs.TheRules.declared.Report.{Report}
-use Rattle.mqtt_clients.specs.Ends.{in_world as among_ends}
-use Rattle.mqtt_unrolled_laws.specs.Unrolled.{AreAlike, AreAllAlike, HoldNoPacket, HoldsThese, IsDecided, IsFound, IsWhole, bytes_come}
-use Rattle.mqtt_unrolled_laws.proofs.Answered.{not_both, nothing_first}
-use Rattle.mqtt_unrolled_laws.proofs.Strangers.{find_one_more, holds_one_more, none_holds}
+use Rattle.mqtt_broker.specs.Framers.{AreBytes}
+use Rattle.mqtt_broker.proofs.HeldBytes.{first_taken, nothing_asked}
+use Rattle.mqtt_world_model.specs.Tellings.{Telling, silent}
+use Rattle.mqtt_world_model.specs.World.{Event, Setting, Stranger, World, ask, bytes_held, call_on, calls, calls_if, held_after, held_by, is_bad, is_bad_asking, next_line, stranger, stranger_named}
+use Rattle.mqtt_rules.specs.Laws.{AreWithin}
+use Rattle.mqtt_rules.specs.Piece.{Front, begins_connect, call_by, code_of, first_call}
+use Rattle.mqtt_rules.specs.State.{MemberChoice}
+use Rattle.mqtt_rules.specs.Step.{BadInput, Call, Input, NewLine}
+use Rattle.mqtt_rules.specs.declared.Limits.{Limits}
+use Rattle.mqtt_rules.specs.declared.Report.{Report}
+use Rattle.mqtt_world_clients.specs.Ends.{in_world as among_ends}
+use Rattle.mqtt_world_single_step_laws.specs.Unrolled.{AreAlike, AreAllAlike, HoldNoPacket, HoldsThese, IsDecided, IsFound, IsWhole, bytes_come}
+use Rattle.mqtt_world_single_step_laws.proofs.Answered.{not_both, nothing_first}
+use Rattle.mqtt_world_single_step_laws.proofs.Strangers.{find_one_more, holds_one_more, none_holds}
 use Rattle.mqtt_script_laws.specs.Turns.{IsTurn, both_tell, by_choice, welcomed}
 use Rattle.mqtt_script_laws.proofs.Comings.{piece_first, piece_there}
-use Rattle.mqtt_strangers.specs.Fronts.{AsksFor, IsNextPiece, NamesThese, is_end_among}
-use Rattle.mqtt_strangers.specs.Strangers.{Comes, held_of, in_world as among_strangers, line_of, named, newcomer}
-use Rattle.mqtt_strangers.proofs.Steps.{first_good, good_first}
+use Rattle.mqtt_world_strangers.specs.Fronts.{AsksFor, IsNextPiece, NamesThese, is_end_among}
+use Rattle.mqtt_world_strangers.specs.Strangers.{Comes, held_of, in_world as among_strangers, line_of, named, newcomer}
+use Rattle.mqtt_world_strangers.proofs.Steps.{first_good, good_first}
 use Rattle.mqtt_world.specs.Events.{IsReached, SpellsAll, TakesPacket, world_of}
 use Rattle.mqtt_world.specs.Scenes.{Calls, IsPlayable, Played}
 use Rattle.mqtt_world.specs.Stages.{IsStanding, Staged, broker_of, world_at}

@@ -2,8 +2,8 @@
 use Rattle.std.proofs.Common.{◌≡◌, ℕ, suc, ◌+◌, ◌<◌, ◌≤◌, Bool, ◌&&◌, true, false, cond, List, [], ◌∷◌, filter, find, length, nat_eq, nat_lt, is_some, refl, sym, ap, arith, true≢false, lt_trans, Some, None}
 use Rattle.std.proofs.lemmas.Bool.{eqb-true, le-ltb, lt-ltb, ltb-true}
 use Rattle.mqtt_base.specs.declared.limits.TheConstants.{LAST_NUMBER, LINE_LIMIT}
-use Rattle.mqtt_laws.specs.World.{next_line}
-use Rattle.mqtt_broker.specs.TheRules.State.{Broker, Line}
+use Rattle.mqtt_world_model.specs.World.{next_line}
+use Rattle.mqtt_rules.specs.State.{Broker, Line}
 
 module _ {X : Type 0} (number : X → ℕ) where
   abbrev pub above : ℕ → X → Bool

@@ -2,20 +2,20 @@
 use Rattle.std.proofs.Common.{◌≡◌, List, [], ◌∷◌, ◌++◌, IfErr, IfOk, OnOk, Option, None, Some, append-nil, append_assoc, refl, sym, ap, subst, ◌∙◌}
 use Rattle.std.specs.Prelude.{ℕ, length, Result, Ok, Err}
 use Rattle.mqtt_records.specs.declared.keep.Keep.{Ghosts}
-use Rattle.mqtt_laws.specs.Tellings.{Telling}
-use Rattle.mqtt_laws.specs.World.{World}
-use Rattle.mqtt_peers.specs.declared.told.RunFault.{RunFault}
-use Rattle.mqtt_peers.specs.declared.told.RunFault.TheVariants as fault
+use Rattle.mqtt_world_model.specs.Tellings.{Telling}
+use Rattle.mqtt_world_model.specs.World.{World}
+use Rattle.mqtt_world_peers.specs.declared.told.RunFault.{RunFault}
+use Rattle.mqtt_world_peers.specs.declared.told.RunFault.TheVariants as fault
 use Rattle.mqtt_script.specs.declared.event.Event.{Event}
 use Rattle.mqtt_script.specs.declared.event.Event.TheVariants.{Drain}
 use Rattle.mqtt_script_laws.specs.Scripted.{IsBadHere, RunsTo, as_drain, as_event, bad_drain, bad_event}
 use Rattle.mqtt_script_laws.specs.Drains.{DrainHappens}
-use Rattle.mqtt_emptied_laws.specs.Done.{IsEmptied}
-use Rattle.mqtt_emptied_laws.proofs.Done.{script_empties}
+use Rattle.mqtt_script_drain_laws.specs.Done.{IsEmptied}
+use Rattle.mqtt_script_drain_laws.proofs.Done.{script_empties}
 use Rattle.mqtt_script_laws.proofs.Carrying.{delivers_once}
 use Rattle.mqtt_script_laws.proofs.Scripts.{runs_join}
-use Rattle.mqtt_broker.specs.TheRules.Laws.{AreWithin}
-use Rattle.mqtt_broker.specs.TheRules.declared.Limits.{Limits}
+use Rattle.mqtt_rules.specs.Laws.{AreWithin}
+use Rattle.mqtt_rules.specs.declared.Limits.{Limits}
 use Rattle.mqtt_world.specs.Draining.{PlaysDrain}
 use Rattle.mqtt_world.specs.Events.{IsReached}
 use Rattle.mqtt_world.specs.Openings.{AlwaysSound}
@@ -184,9 +184,9 @@ module _ {K : Type 0} (g : Ghosts K) where
   one_comes start e (Err f) old new sound h r come = come_refused start e f old new sound r come
 
 pub delivered : {K : Type 0} (start : World) (w : Lasting K) → HasCome start w → HasDelivered start w
-delivered {K} start w come = λ s is untouched apart clean.
+delivered {K} start w come = λ s is begins clean.
     let c = come s is in
-    delivers_once s.limits w.events c.tells start (world_at s) c.within untouched apart clean c.runs
+    delivers_once s.limits w.events c.tells start (world_at s) c.within begins clean c.runs
 
 module _ {K : Type 0} (g : Ghosts K) where
   -- ---- what a step of the world comes to

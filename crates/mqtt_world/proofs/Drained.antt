@@ -2,15 +2,15 @@
 use Rattle.std.proofs.Common.{◌≡◌, ℕ, suc, ◌+◌, Bool, true, false, not, length, List, Option, Some, None, option_map, append-nil, arith, refl, sym, ap, subst, ◌∙◌}
 use Rattle.std.specs.Prelude.{IfOk, OnOk, Ok, Err, Result, unwrap_or}
 use Rattle.mqtt_records.specs.declared.keep.Keep.{Ghosts}
-use Rattle.mqtt_laws.specs.Ends.{Receiver}
-use Rattle.mqtt_laws.specs.Lines.{stands}
-use Rattle.mqtt_laws.specs.Tellings.{Telling, silent}
-use Rattle.mqtt_laws.specs.World.{Event, Stranger, World, ask, pump, receiver_named, to_broker, to_end}
-use Rattle.mqtt_handed_laws.specs.Drains.{copies_left, downs_by, is_bad_drain, is_none_left, is_over, line_stands, ups_by}
+use Rattle.mqtt_world_model.specs.Ends.{Receiver}
+use Rattle.mqtt_world_model.specs.Lines.{stands}
+use Rattle.mqtt_world_model.specs.Tellings.{Telling, silent}
+use Rattle.mqtt_world_model.specs.World.{Event, Stranger, World, ask, pump, receiver_named, to_broker, to_end}
+use Rattle.mqtt_world_receiver_laws.specs.Drains.{copies_left, downs_by, is_bad_drain, is_none_left, is_over, line_stands, ups_by}
 use Rattle.mqtt_broker.specs.Serving.{Serving}
-use Rattle.mqtt_broker.specs.TheRules.declared.Limits.{Limits}
-use Rattle.mqtt_clients.specs.Ends.{Ends, in_world}
-use Rattle.mqtt_peers.specs.declared.told.RunFault.{RunFault}
+use Rattle.mqtt_rules.specs.declared.Limits.{Limits}
+use Rattle.mqtt_world_clients.specs.Ends.{Ends, in_world}
+use Rattle.mqtt_world_peers.specs.declared.told.RunFault.{RunFault}
 use Rattle.mqtt_script_laws.specs.Drains.{IsRound, Repeats}
 use Rattle.mqtt_script_laws.specs.Scripted.{Happens}
 use Rattle.mqtt_script_laws.specs.Turns.{IsTurn, both_tell}

@@ -2,14 +2,14 @@
 use Rattle.std.proofs.Common.{◌≡◌, ℕ, Bool, true, false, not, List, Some, None, refl, sym, ap, subst, ◌∙◌, inr, true≢false}
 use Rattle.mqtt_codec.specs.declared.packet.Packet.{Packet}
 use Rattle.mqtt_records.specs.declared.keep.Keep.{Ghosts}
-use Rattle.mqtt_laws.specs.Tellings.{Telling, silent, telling}
-use Rattle.mqtt_laws.specs.World.{Asking, Event, Setting, Stranger, World, ask, before, call_of, calls, happens, is_bad, is_bad_asking, is_end}
+use Rattle.mqtt_world_model.specs.Tellings.{Telling, silent, telling}
+use Rattle.mqtt_world_model.specs.World.{Asking, Event, Setting, Stranger, World, ask, before, call_of, calls, happens, is_bad, is_bad_asking, is_end}
 use Rattle.mqtt_broker.specs.Serving.{Serving}
-use Rattle.mqtt_broker.specs.TheRules.Contents.{IsTaken}
-use Rattle.mqtt_broker.specs.TheRules.State.{Broker, MemberChoice}
-use Rattle.mqtt_broker.specs.TheRules.Step.{Call, Input, deeds, is_step_spent, stepped, told}
-use Rattle.mqtt_broker.specs.TheRules.declared.Limits.{Limits}
-use Rattle.mqtt_clients.specs.Ends.{Ends, reading}
+use Rattle.mqtt_rules.specs.Contents.{IsTaken}
+use Rattle.mqtt_rules.specs.State.{Broker, MemberChoice}
+use Rattle.mqtt_rules.specs.Step.{Call, Input, deeds, is_step_spent, stepped, told}
+use Rattle.mqtt_rules.specs.declared.Limits.{Limits}
+use Rattle.mqtt_world_clients.specs.Ends.{Ends, reading}
 use Rattle.mqtt_script_laws.specs.Scripted.{Happens, IsBadEvent, front_of, packet_of, IsRefused}
 use Rattle.mqtt_script_laws.specs.Turns.{IsPlain, IsQuiet, by_choice}
 use Rattle.mqtt_script_laws.proofs.Single.{asks_call, asks_nothing, left_by, plain_happens, quiet}

@@ -8,30 +8,29 @@ use Rattle.std.proofs.lemmas.Bool.{eqb-true}
 use Rattle.std.proofs.lemmas.Cmp.{nat_eq_equiv}
 use Rattle.mqtt_base.specs.declared.limits.TheConstants.{LAST_NUMBER, PACKET_LIMIT}
 use Rattle.mqtt_codec.specs.declared.packet.Packet.{Packet}
-use Rattle.mqtt_codec.specs.Faults.{answer_to}
+use Rattle.mqtt_codec_parts.specs.Faults.{answer_to}
 use Rattle.mqtt_codec.specs.Packets.{HasSpelling}
 use Rattle.mqtt_packet.specs.Front.{first_of, size_at}
 use Rattle.mqtt_packet.specs.Stream.{Framing}
 use Rattle.mqtt_records.specs.declared.keep.Keep.{Ghosts}
-use Rattle.mqtt_laws.specs.Tellings.{Telling}
-use Rattle.mqtt_laws.specs.World.{held_after, held_by}
-use Rattle.mqtt_opening.specs.Calling.{Tells}
-use Rattle.mqtt_opening.proofs.TheRules.Acts.{found_number}
-use Rattle.mqtt_broker.specs.Outcome.{Outcome}
+use Rattle.mqtt_world_model.specs.Tellings.{Telling}
+use Rattle.mqtt_world_model.specs.World.{held_after, held_by}
+use Rattle.mqtt_broker_engine.specs.Calling.{Tells}
+use Rattle.mqtt_rules.proofs.acts.Acts.{found_number}
+use Rattle.mqtt_broker_engine.specs.declared.outcome.Outcome.{Outcome}
 use Rattle.mqtt_broker.specs.Piece.{IsPieceAnswered, PieceCalled}
-use Rattle.mqtt_broker.specs.TheRules.Piece.{Front, PieceStep, Pieced, begins_connect, bytes_taken, code_of, call_by, call_on, fed, first_call, held_on, is_spent_if, stepped_if, told_if, without_by, without_first}
-use Rattle.mqtt_broker.specs.TheRules.State.{Broker, Env, Line, MemberChoice, line_at}
-use Rattle.mqtt_broker.specs.TheRules.Step.{BadInput, Call, Input, at_moment, deeds, env_of, is_step_spent, nothing_told, on_fault, outcome_of, stepped, told}
-use Rattle.mqtt_broker.specs.TheRules.Step.{Outcome as Answer}
-use Rattle.mqtt_broker.specs.TheRules.Deeds.{closing}
-use Rattle.mqtt_broker.specs.TheRules.declared.Limits.{Limits}
-use Rattle.mqtt_broker.specs.TheTables.declared.call.EngineError.{EngineError}
+use Rattle.mqtt_rules.specs.Piece.{Front, PieceStep, Pieced, begins_connect, bytes_taken, code_of, call_by, call_on, fed, first_call, held_on, is_spent_if, stepped_if, told_if, without_by, without_first}
+use Rattle.mqtt_rules.specs.State.{Broker, Env, Line, MemberChoice, line_at}
+use Rattle.mqtt_rules.specs.Step.{BadInput, Call, Input, at_moment, deeds, env_of, is_step_spent, nothing_told, on_fault, outcome_of, stepped, told, Outcome as Answer}
+use Rattle.mqtt_rules.specs.Deeds.{closing}
+use Rattle.mqtt_rules.specs.declared.Limits.{Limits}
+use Rattle.mqtt_broker_step.specs.declared.call.EngineError.{EngineError}
 use Rattle.mqtt_broker.specs.Serving.{Serving, has_closed, without_closed}
-use Rattle.mqtt_framing.specs.Framers.{HeldLine, changed_at, framing_at, framing_of, in_framing, line_of}
-use Rattle.mqtt_rows.specs.Order.{row_at}
-use Rattle.mqtt_peers.specs.declared.told.RunFault.{RunFault}
-use Rattle.mqtt_clients.specs.Ends.{Ends}
-use Rattle.mqtt_clients.specs.Telling.{AreSpelled, ends_told}
+use Rattle.mqtt_broker.specs.Framers.{HeldLine, changed_at, framing_at, framing_of, in_framing, line_of}
+use Rattle.mqtt_records_rows.specs.Order.{row_at}
+use Rattle.mqtt_world_peers.specs.declared.told.RunFault.{RunFault}
+use Rattle.mqtt_world_clients.specs.Ends.{Ends}
+use Rattle.mqtt_world_clients.specs.Telling.{AreSpelled, ends_told}
 use Rattle.mqtt_world.specs.Scenes.{Calls, HoldNone, IsPlayable, Played}
 use Rattle.mqtt_world.proofs.Answered.{deeds_capped, kept_none, none_held, spent_capped, stepped_capped}
 

@@ -1,11 +1,11 @@
 -- An end that joins: its CONNECT on a new line, if there is one (MQTT 5.0, 3.1, 4.2).
 use Rattle.std.proofs.Common.{◌≡◌, ℕ, Bool, false, List, Option, Some, None, refl, sym, ap, subst, ◌∙◌}
 use Rattle.mqtt_records.specs.declared.keep.Keep.{Ghosts}
-use Rattle.mqtt_laws.specs.Tellings.{Telling, silent}
-use Rattle.mqtt_laws.specs.World.{Stranger, connect_end, is_bad, links, next_line}
+use Rattle.mqtt_world_model.specs.Tellings.{Telling, silent}
+use Rattle.mqtt_world_model.specs.World.{Stranger, connect_end, is_bad, links, next_line}
 use Rattle.mqtt_broker.specs.Serving.{Serving}
-use Rattle.mqtt_broker.specs.TheRules.Step.{NewLine}
-use Rattle.mqtt_clients.specs.Ends.{Become, Ends, joins}
+use Rattle.mqtt_rules.specs.Step.{NewLine}
+use Rattle.mqtt_world_clients.specs.Ends.{Become, Ends, joins}
 use Rattle.mqtt_script_laws.specs.Scripted.{Happens}
 use Rattle.mqtt_script_laws.specs.Turns.{by_choice}
 use Rattle.mqtt_script_laws.proofs.Single as single

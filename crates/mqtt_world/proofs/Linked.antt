@@ -2,18 +2,17 @@
 use Rattle.std.proofs.Common.{◌≡◌, ℕ, min, length, Bool, true, false, List, [], ◌∷◌, ◌++◌, map, Option, Some, None, refl, sym, ap, subst, ◌∙◌}
 use Rattle.mqtt_base.specs.declared.limits.TheConstants.{LAST_NUMBER}
 use Rattle.mqtt_records.specs.declared.keep.Keep.{Ghosts}
-use Rattle.mqtt_laws.specs.Ends.{Publisher, Receiver}
-use Rattle.mqtt_laws.specs.Lines.{Down, Line, told_by}
-use Rattle.mqtt_laws.specs.Tellings.{silent}
-use Rattle.mqtt_laws.specs.World.{publisher_told, receiver_told}
-use Rattle.mqtt_broker.specs.TheRules.State.{Broker, MemberChoice}
-use Rattle.mqtt_broker.specs.TheRules.Step.{BrokerStep, NewLine, at_moment, can_link, nothing_told, outcome_of, stepped, told}
-use Rattle.mqtt_broker.specs.TheRules.Step.{Outcome as Answer}
-use Rattle.mqtt_broker.specs.TheRules.declared.Limits.{Limits}
+use Rattle.mqtt_world_model.specs.Ends.{Publisher, Receiver}
+use Rattle.mqtt_world_model.specs.Lines.{Down, Line, told_by}
+use Rattle.mqtt_world_model.specs.Tellings.{silent}
+use Rattle.mqtt_world_model.specs.World.{publisher_told, receiver_told}
+use Rattle.mqtt_rules.specs.State.{Broker, MemberChoice}
+use Rattle.mqtt_rules.specs.Step.{BrokerStep, NewLine, at_moment, can_link, nothing_told, outcome_of, stepped, told, Outcome as Answer}
+use Rattle.mqtt_rules.specs.declared.Limits.{Limits}
 use Rattle.mqtt_broker.specs.Serving.{Serving, with_linked}
-use Rattle.mqtt_framing.specs.Framers.{HeldLine, begun}
-use Rattle.mqtt_clients.specs.Ends.{Ends}
-use Rattle.mqtt_clients.specs.Telling.{ends_told}
+use Rattle.mqtt_broker.specs.Framers.{HeldLine, begun}
+use Rattle.mqtt_world_clients.specs.Ends.{Ends}
+use Rattle.mqtt_world_clients.specs.Telling.{ends_told}
 use Rattle.mqtt_world.specs.Scenes.{Calls, HoldNone, IsPlayable, Played}
 use Rattle.mqtt_world.proofs.Answered.{deeds_capped, spent_capped, stepped_capped}
 

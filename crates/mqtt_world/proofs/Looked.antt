@@ -2,14 +2,14 @@
 use Rattle.std.proofs.Common.{◌≡◌, ℕ, Bool, true, false, cond, length, List, Option, Some, None, option_map, refl, sym, ap, subst, ◌∙◌}
 use Rattle.std.specs.Prelude.{Err, IfOk, Ok, Result, count_by, is_some}
 use Rattle.mqtt_records.specs.declared.session.Session.{Session}
-use Rattle.mqtt_laws.specs.Ends.{Publisher}
-use Rattle.mqtt_laws.specs.Tellings.{queue_length}
-use Rattle.mqtt_laws.specs.World.{Stranger, World, is_end, publisher_named}
+use Rattle.mqtt_world_model.specs.Ends.{Publisher}
+use Rattle.mqtt_world_model.specs.Tellings.{queue_length}
+use Rattle.mqtt_world_model.specs.World.{Stranger, World, is_end, publisher_named}
 use Rattle.mqtt_script.specs.declared.event.Event.{Event}
 use Rattle.mqtt_broker.specs.Serving.{Serving}
-use Rattle.mqtt_broker.specs.TheRules.State.{session_named}
-use Rattle.mqtt_broker.specs.TheRules.declared.Limits.{Limits}
-use Rattle.mqtt_clients.specs.Ends.{Ends}
+use Rattle.mqtt_rules.specs.State.{session_named}
+use Rattle.mqtt_rules.specs.declared.Limits.{Limits}
+use Rattle.mqtt_world_clients.specs.Ends.{Ends}
 use Rattle.mqtt_world.specs.Events.{played, world_of}
 use Rattle.mqtt_world.specs.Scenes.{Played}
 use Rattle.mqtt_world.specs.Stages.{Staged, world_at}

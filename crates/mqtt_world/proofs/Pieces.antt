@@ -2,11 +2,11 @@
 use Rattle.std.proofs.Common.{◌≡◌, ◌≢◌, ℕ, Bool, true, false, List, Option, None, Some, IfOk, refl, sym, ap, subst, ◌∙◌}
 use Rattle.std.specs.Prelude.{Result, Ok, Err}
 use Rattle.mqtt_records.specs.declared.keep.Keep.{Ghosts}
-use Rattle.mqtt_laws.specs.Tellings.{Telling}
-use Rattle.mqtt_laws.specs.World as world
-use Rattle.mqtt_peers.specs.Publishers.{draft_of}
-use Rattle.mqtt_peers.specs.Receivers.{wish_of}
-use Rattle.mqtt_peers.specs.declared.told.RunFault.{RunFault}
+use Rattle.mqtt_world_model.specs.Tellings.{Telling}
+use Rattle.mqtt_world_model.specs.World as world
+use Rattle.mqtt_world_peers.specs.Publishers.{draft_of}
+use Rattle.mqtt_world_peers.specs.Receivers.{wish_of}
+use Rattle.mqtt_world_peers.specs.declared.told.RunFault.{RunFault}
 use Rattle.mqtt_script.specs.declared.event.Asking.{Asking}
 use Rattle.mqtt_script.specs.declared.event.Asking.TheVariants as asking
 use Rattle.mqtt_script.specs.declared.event.Event.{Event}
@@ -18,8 +18,8 @@ use Rattle.mqtt_script.specs.declared.event.Wish.{Wish}
 use Rattle.mqtt_script_laws.specs.Scripted as scripted
 use Rattle.mqtt_script_laws.specs.Scripted.{asking_of, event_of}
 use Rattle.mqtt_script_laws.specs.Turns.{IsPlain}
-use Rattle.mqtt_clients.specs.Ends.{reading}
-use Rattle.mqtt_broker.specs.TheRules.declared.Limits.{Limits}
+use Rattle.mqtt_world_clients.specs.Ends.{reading}
+use Rattle.mqtt_rules.specs.declared.Limits.{Limits}
 use Rattle.mqtt_world.specs.Draining.{TellsDrain}
 use Rattle.mqtt_world.specs.Events.{Does}
 use Rattle.mqtt_world.specs.Scenes.{Played}

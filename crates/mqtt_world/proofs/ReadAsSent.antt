@@ -1,10 +1,10 @@
 -- Whatever a broker sends that began on records with identifiers of two bytes has a spelling.
-use Rattle.mqtt_broker.specs.TheRules.Contents.{TakesLawful}
-use Rattle.mqtt_broker.specs.TheRules.State.{Broker}
-use Rattle.mqtt_broker.specs.TheRules.Step.{Call, NewLine, Input, BadInput, Lost, Pump, Tick}
-use Rattle.mqtt_broker.specs.TheRules.declared.Limits.{Limits}
-use Rattle.mqtt_spelled_laws.specs.Sending.{SendsWell, TellsFault}
-use Rattle.mqtt_spelled_laws.proofs.Steps.{well_begun, well_reopened, well_spelled, well_stepped}
+use Rattle.mqtt_rules.specs.Contents.{TakesLawful}
+use Rattle.mqtt_rules.specs.State.{Broker}
+use Rattle.mqtt_rules.specs.Step.{Call, NewLine, Input, BadInput, Lost, Pump, Tick}
+use Rattle.mqtt_rules.specs.declared.Limits.{Limits}
+use Rattle.mqtt_rules_spelling_laws.specs.Sending.{SendsWell, TellsFault}
+use Rattle.mqtt_rules_spelling_laws.proofs.Steps.{well_begun, well_reopened, well_spelled, well_stepped}
 use Rattle.mqtt_world.specs.Events.{IsReached, opens, opens_again, steps, SpellsAll, TakesPacket}
 
 lawful : (call : Call) → TakesPacket call → TakesLawful call

@@ -4,15 +4,15 @@ use Rattle.std.specs.Prelude.{Err, Ok, Result}
 use Rattle.mqtt_base.specs.declared.limits.TheConstants.{LAST_NUMBER}
 use Rattle.mqtt_records.specs.declared.keep.Keep.{Ghosts}
 use Rattle.mqtt_records.specs.declared.records.Records.{Records}
-use Rattle.mqtt_laws.specs.Ends.{Publisher, Receiver}
-use Rattle.mqtt_laws.specs.World.{publisher_restarted, receiver_restarted}
-use Rattle.mqtt_opening.specs.Opening.{IsOpened}
+use Rattle.mqtt_world_model.specs.Ends.{Publisher, Receiver}
+use Rattle.mqtt_world_model.specs.World.{publisher_restarted, receiver_restarted}
+use Rattle.mqtt_broker_engine.specs.Opening.{IsOpened}
 use Rattle.mqtt_broker.specs.Opening.{running_in}
 use Rattle.mqtt_broker.specs.Serving.{Serving}
-use Rattle.mqtt_broker.specs.TheRules.State.{Broker, MemberChoice, capped}
-use Rattle.mqtt_broker.specs.TheRules.Step.{done, env_of, is_opening_spent, is_spent, opened, opening, rows_written, unopened}
-use Rattle.mqtt_broker.specs.TheRules.declared.Limits.{Limits}
-use Rattle.mqtt_clients.specs.Ends.{Ends}
+use Rattle.mqtt_rules.specs.State.{Broker, MemberChoice, capped}
+use Rattle.mqtt_rules.specs.Step.{done, env_of, is_opening_spent, is_spent, opened, opening, rows_written, unopened}
+use Rattle.mqtt_rules.specs.declared.Limits.{Limits}
+use Rattle.mqtt_world_clients.specs.Ends.{Ends}
 use Rattle.mqtt_world.specs.Openings.{Begins, Opens, Reopens, ends_restarted, no_ends}
 use Rattle.mqtt_world.specs.Scenes.{HoldNone, IsPlayable, Played}
 use Rattle.mqtt_world.proofs.Answered.{min_twice}

@@ -2,14 +2,14 @@
 use Rattle.std.proofs.Common.{◌≡◌, ℕ, false, List, map, Option, Some, None, refl, sym, ap, subst, ◌∙◌}
 use Rattle.std.specs.Prelude.{Err, IfOk, Ok, Result}
 use Rattle.mqtt_records.specs.declared.keep.Keep.{Ghosts}
-use Rattle.mqtt_laws.specs.Tellings.{Telling, silent}
-use Rattle.mqtt_laws.specs.World.{Asking, Event, Stranger, World, ask, clock, restart, restarts, stop_after, stop_before, unlinked}
+use Rattle.mqtt_world_model.specs.Tellings.{Telling, silent}
+use Rattle.mqtt_world_model.specs.World.{Asking, Event, Stranger, World, ask, clock, restart, restarts, stop_after, stop_before, unlinked}
 use Rattle.mqtt_broker.specs.Serving.{Serving}
-use Rattle.mqtt_broker.specs.TheRules.Laws.{AreWithin}
-use Rattle.mqtt_broker.specs.TheRules.State.{later}
-use Rattle.mqtt_broker.specs.TheRules.Step.{is_opening_spent}
-use Rattle.mqtt_broker.specs.TheRules.declared.Limits.{Limits}
-use Rattle.mqtt_peers.specs.declared.told.RunFault.{RunFault}
+use Rattle.mqtt_rules.specs.Laws.{AreWithin}
+use Rattle.mqtt_rules.specs.State.{later}
+use Rattle.mqtt_rules.specs.Step.{is_opening_spent}
+use Rattle.mqtt_rules.specs.declared.Limits.{Limits}
+use Rattle.mqtt_world_peers.specs.declared.told.RunFault.{RunFault}
 use Rattle.mqtt_script_laws.specs.Scripted.{IsBadEvent}
 use Rattle.mqtt_script_laws.specs.Turns.{IsPlain, IsReopened, by_choice}
 use Rattle.mqtt_script_laws.proofs.Single.{quiet, reopens, stops_before}

@@ -1,18 +1,18 @@
 -- A world that begins, from what the opening of its broker is (MQTT 5.0, 4.1).
 use Rattle.std.proofs.Common.{◌≡◌, List, [], refl, sym, ap, subst, ◌∙◌}
 use Rattle.std.specs.Prelude.{Ok}
-use Rattle.mqtt_lawful.specs.Lawful.{IsLawful}
+use Rattle.mqtt_records_lawful.specs.Lawful.{IsLawful}
 use Rattle.mqtt_records.specs.declared.keep.Keep.{Ghosts}
 use Rattle.mqtt_records.specs.declared.records.Records.{Records}
-use Rattle.mqtt_laws.specs.World.{Stranger, World}
+use Rattle.mqtt_world_model.specs.World.{Stranger, World}
 use Rattle.mqtt_script.specs.declared.event.Event.{Event}
-use Rattle.mqtt_spelled_laws.specs.Sending.{HaveSentPhases}
-use Rattle.mqtt_world_laws.specs.Fair.{opened_world}
-use Rattle.mqtt_broker.specs.TheRules.Laws.{AreWithin}
-use Rattle.mqtt_broker.specs.TheRules.State.{Broker}
-use Rattle.mqtt_broker.specs.TheRules.Step.{opened}
-use Rattle.mqtt_broker.specs.TheRules.declared.Limits.{Limits}
-use Rattle.mqtt_clients.specs.Ends.{Ends}
+use Rattle.mqtt_rules_spelling_laws.specs.Sending.{HaveSentPhases}
+use Rattle.mqtt_world_acceptance_laws.specs.Fair.{opened_world}
+use Rattle.mqtt_rules.specs.Laws.{AreWithin}
+use Rattle.mqtt_rules.specs.State.{Broker}
+use Rattle.mqtt_rules.specs.Step.{opened}
+use Rattle.mqtt_rules.specs.declared.Limits.{Limits}
+use Rattle.mqtt_world_clients.specs.Ends.{Ends}
 use Rattle.mqtt_world.specs.Events.{IsReached, opens, world_of}
 use Rattle.mqtt_world.specs.Openings.{Begins, Opens, no_ends}
 use Rattle.mqtt_world.specs.Scenes.{Played}

@@ -2,17 +2,17 @@
 use Rattle.std.proofs.Common.{◌≡◌, ℕ, false, List, [], ◌∷◌, ◌++◌, map, refl, sym, ap, subst, ◌∙◌}
 use Rattle.std.proofs.lemmas.List.{map-append}
 use Rattle.mqtt_records.specs.declared.keep.Keep.{Ghosts}
-use Rattle.mqtt_laws.specs.Run.{Turn, run}
-use Rattle.mqtt_laws.specs.Tellings.{Telling, silent}
-use Rattle.mqtt_laws.specs.World.{Asking, Event, Stranger, World, ask, break, old_to_broker, pump, restart}
-use Rattle.mqtt_laws.specs.World.{stop_after, stranger, tick, to_broker, unlinked}
-use Rattle.mqtt_unrolled_laws.specs.Unrolled.{Unrolls, turn}
-use Rattle.mqtt_world_laws.specs.Spending.{run_spends}
-use Rattle.mqtt_handed_laws.proofs.DrainRuns.{run_append}
-use Rattle.mqtt_broker.specs.TheRules.State.{Broker}
-use Rattle.mqtt_broker.specs.TheRules.Step.{opened}
-use Rattle.mqtt_broker.specs.TheRules.declared.Limits.{Limits}
-use Rattle.mqtt_clients.specs.Ends.{Ends}
+use Rattle.mqtt_world_model.specs.Run.{Turn, run}
+use Rattle.mqtt_world_model.specs.Tellings.{Telling, silent}
+use Rattle.mqtt_world_model.specs.World.{Asking, Event, Stranger, World, ask, break, old_to_broker, pump, restart}
+use Rattle.mqtt_world_model.specs.World.{stop_after, stranger, tick, to_broker, unlinked}
+use Rattle.mqtt_world_single_step_laws.specs.Unrolled.{Unrolls, turn}
+use Rattle.mqtt_world_acceptance_laws.specs.Spending.{run_spends}
+use Rattle.mqtt_world_receiver_laws.proofs.drains.DrainRuns.{run_append}
+use Rattle.mqtt_rules.specs.State.{Broker}
+use Rattle.mqtt_rules.specs.Step.{opened}
+use Rattle.mqtt_rules.specs.declared.Limits.{Limits}
+use Rattle.mqtt_world_clients.specs.Ends.{Ends}
 use Rattle.mqtt_script_laws.specs.Scripted.{Happens}
 use Rattle.mqtt_script_laws.specs.Turns.{IsPlain, IsReopened}
 use Rattle.mqtt_script_laws.proofs.Scripts.{spent_joined}

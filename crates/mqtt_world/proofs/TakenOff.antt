@@ -2,11 +2,11 @@
 use Rattle.std.proofs.Common.{◌≡◌, ℕ, Bool, true, false, not, List, Some, None, MatchBool, refl, sym, ap, subst, ◌∙◌, inl, true≢false}
 use Rattle.std.specs.Prelude.{◌↔◌, IsTrue}
 use Rattle.mqtt_codec.specs.declared.packet.Packet.{Packet}
-use Rattle.mqtt_laws.specs.World.{Asking, Setting, Stranger, World, before, break, call_of, is_bad_asking, pump, stop_before, tick}
+use Rattle.mqtt_world_model.specs.World.{Asking, Setting, Stranger, World, before, break, call_of, is_bad_asking, pump, stop_before, tick}
 use Rattle.mqtt_broker.specs.Serving.{Serving}
-use Rattle.mqtt_broker.specs.TheRules.Contents.{IsTaken}
-use Rattle.mqtt_broker.specs.TheRules.Step.{Input}
-use Rattle.mqtt_clients.specs.Ends.{Ends, in_world, reading}
+use Rattle.mqtt_rules.specs.Contents.{IsTaken}
+use Rattle.mqtt_rules.specs.Step.{Input}
+use Rattle.mqtt_world_clients.specs.Ends.{Ends, in_world, reading}
 use Rattle.mqtt_script_laws.specs.Scripted.{IsBadEvent, IsRefused, front_of, packet_of}
 use Rattle.mqtt_script_laws.specs.Scripted as script
 use Rattle.mqtt_script_laws.specs.Turns.{IsPlain}

@@ -2,12 +2,12 @@
 use Rattle.std.proofs.Common.{◌≡◌, ℕ, ◌^◌, Bool, true, false, ◌&&◌, ◌||◌, List, [], ◌∷◌, ◌++◌, Some, None, refl, sym, ap, subst, ◌∙◌, inl}
 use Rattle.std.specs.Prelude.{nat_lt}
 use Rattle.mqtt_records.specs.declared.keep.Keep.{Ghosts}
-use Rattle.mqtt_laws.specs.Ends.{new_publisher, new_receiver}
-use Rattle.mqtt_laws.specs.Tellings.{Telling, silent}
-use Rattle.mqtt_laws.specs.World.{Event, Setting, Stranger, World, happens, is_bad, is_window, publisher, receiver}
+use Rattle.mqtt_world_model.specs.Ends.{new_publisher, new_receiver}
+use Rattle.mqtt_world_model.specs.Tellings.{Telling, silent}
+use Rattle.mqtt_world_model.specs.World.{Event, Setting, Stranger, World, happens, is_bad, is_window, publisher, receiver}
 use Rattle.mqtt_broker.specs.Serving.{Serving}
-use Rattle.mqtt_broker.specs.TheRules.State.{Broker}
-use Rattle.mqtt_clients.specs.Ends.{BecomeAt, Ends, in_world}
+use Rattle.mqtt_rules.specs.State.{Broker}
+use Rattle.mqtt_world_clients.specs.Ends.{BecomeAt, Ends, in_world}
 use Rattle.mqtt_script_laws.specs.Turns.{IsQuiet}
 use Rattle.mqtt_world.specs.Scenes.{IsPlayable, Played}
 use Rattle.mqtt_world.specs.Events.{Does, played, world_of}

@@ -3,16 +3,16 @@ use Rattle.std.proofs.Common.{◌≡◌, ℕ, Bool, true, false, cond, List, [],
 use Rattle.std.proofs.lemmas.List.{take-append-drop}
 use Rattle.std.specs.Prelude.{IfOk, Result, is_some}
 use Rattle.mqtt_records.specs.declared.keep.Keep.{Ghosts}
-use Rattle.mqtt_laws.specs.Tellings.{Telling, silent}
-use Rattle.mqtt_laws.specs.World.{Event, Setting, Stranger, World, happens, is_bad, is_bad_asking, step, stop_after, stop_before, stranger}
-use Rattle.mqtt_broker.specs.TheRules.declared.Limits.{Limits}
-use Rattle.mqtt_unrolled_laws.specs.Unrolled.{IsDecided, IsWhole, bytes_come}
+use Rattle.mqtt_world_model.specs.Tellings.{Telling, silent}
+use Rattle.mqtt_world_model.specs.World.{Event, Setting, Stranger, World, happens, is_bad, is_bad_asking, step, stop_after, stop_before, stranger}
+use Rattle.mqtt_rules.specs.declared.Limits.{Limits}
+use Rattle.mqtt_world_single_step_laws.specs.Unrolled.{IsDecided, IsWhole, bytes_come}
 use Rattle.mqtt_script_laws.specs.Scripted.{Happens}
 use Rattle.mqtt_script_laws.specs.Turns.{IsReopened, IsTurn, both_tell, by_choice}
 use Rattle.mqtt_script_laws.proofs.Comings.{stops_before_first, stops_before_there}
 use Rattle.mqtt_script_laws.proofs.Pieces.{last_piece, piece_and_more, stops_after_piece}
-use Rattle.mqtt_strangers.specs.Strangers.{named, newcomer}
-use Rattle.mqtt_strangers.proofs.Steps.{good_rest}
+use Rattle.mqtt_world_strangers.specs.Strangers.{named, newcomer}
+use Rattle.mqtt_world_strangers.proofs.Steps.{good_rest}
 use Rattle.mqtt_world.specs.Events.{IsReached, SpellsAll, world_of}
 use Rattle.mqtt_world.specs.Scenes.{Played}
 use Rattle.mqtt_world.specs.Stages.{IsStanding, Plays, Restages, Staged, broker_of, world_at}

@@ -2,10 +2,10 @@
 -- 4.3, 4.4, 4.6).
 use Rattle.std.specs.Prelude.{◌≡◌, ℕ, true, List, Option, None, Some, option_map}
 use Rattle.mqtt_records.specs.declared.keep.Keep.{Ghosts}
-use Rattle.mqtt_laws.specs.Tellings.{Telling}
-use Rattle.mqtt_laws.specs.World.{Event, Stranger, World, ask, receiver_named, to_broker, to_end}
-use Rattle.mqtt_handed_laws.specs.Drains.{downs_by, is_bad_drain, is_over, ups_by}
-use Rattle.mqtt_broker.specs.TheRules.declared.Limits.{Limits}
+use Rattle.mqtt_world_model.specs.Tellings.{Telling}
+use Rattle.mqtt_world_model.specs.World.{Event, Stranger, World, ask, receiver_named, to_broker, to_end}
+use Rattle.mqtt_world_receiver_laws.specs.Drains.{downs_by, is_bad_drain, is_over, ups_by}
+use Rattle.mqtt_rules.specs.declared.Limits.{Limits}
 use Rattle.mqtt_script_laws.specs.Drains.{DrainHappens, IsRound, MakesRounds, Repeats}
 use Rattle.mqtt_script_laws.specs.Turns.{IsTurn, both_tell}
 use Rattle.mqtt_world.specs.Events.{IsReached, SpellsAll, world_of}

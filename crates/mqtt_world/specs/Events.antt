@@ -1,22 +1,22 @@
 -- What an event of a script makes of a broker and its ends, in the world in which they stand (MQTT 5.0, 4.1 to 4.4).
 use Rattle.std.specs.Prelude.{◌≡◌, ⊤, ℕ, false, List, Option, Some, None}
-use Rattle.mqtt_codec.specs.Faults.{answer_to}
-use Rattle.mqtt_fields.specs.declared.fault.Fault.{Fault}
-use Rattle.mqtt_lawful.specs.Lawful.{IsLawful}
+use Rattle.mqtt_codec_parts.specs.Faults.{answer_to}
+use Rattle.mqtt_codec_parts.specs.declared.fault.Fault.{Fault}
+use Rattle.mqtt_records_lawful.specs.Lawful.{IsLawful}
 use Rattle.mqtt_records.specs.declared.keep.Keep.{Ghosts}
 use Rattle.mqtt_records.specs.declared.records.Records.{Records}
-use Rattle.mqtt_laws.specs.Tellings.{Telling}
-use Rattle.mqtt_laws.specs.World.{Event, Stranger, World}
-use Rattle.mqtt_broker.specs.TheRules.Contents.{IsTaken}
-use Rattle.mqtt_broker.specs.TheRules.Piece.{code_of}
-use Rattle.mqtt_broker.specs.TheRules.State.{Broker, MemberChoice}
-use Rattle.mqtt_broker.specs.TheRules.Step.{Call, NewLine, Input, BadInput, Lost, Pump, Tick, is_opening_spent, is_step_spent, opened, stepped, told}
-use Rattle.mqtt_broker.specs.TheRules.declared.Limits.{Limits}
+use Rattle.mqtt_world_model.specs.Tellings.{Telling}
+use Rattle.mqtt_world_model.specs.World.{Event, Stranger, World}
+use Rattle.mqtt_rules.specs.Contents.{IsTaken}
+use Rattle.mqtt_rules.specs.Piece.{code_of}
+use Rattle.mqtt_rules.specs.State.{Broker, MemberChoice}
+use Rattle.mqtt_rules.specs.Step.{Call, NewLine, Input, BadInput, Lost, Pump, Tick, is_opening_spent, is_step_spent, opened, stepped, told}
+use Rattle.mqtt_rules.specs.declared.Limits.{Limits}
 use Rattle.mqtt_broker.specs.Serving.{Serving}
-use Rattle.mqtt_clients.specs.Ends.{Ends}
-use Rattle.mqtt_clients.specs.Telling.{AreSpelled}
+use Rattle.mqtt_world_clients.specs.Ends.{Ends}
+use Rattle.mqtt_world_clients.specs.Telling.{AreSpelled}
 use Rattle.mqtt_script_laws.specs.Scripted.{Happens, IsBadEvent}
-use Rattle.mqtt_spelled_laws.specs.Sending.{HaveSentPhases}
+use Rattle.mqtt_rules_spelling_laws.specs.Sending.{HaveSentPhases}
 use Rattle.mqtt_world.specs.Scenes.{IsPlayable, Played}
 
 -- ---- the brokers that there are: what opens on lawful records with identifiers of two bytes, what steps lead to, and what opens again on what they left

@@ -1,14 +1,14 @@
 -- A broker that is opened over a store, and one that is closed and opened again (MQTT 5.0, 4.1).
 use Rattle.std.specs.Prelude.{◌≡◌, ℕ, false, map, []}
-use Rattle.mqtt_lawful.specs.Lawful.{IsLawful}
+use Rattle.mqtt_records_lawful.specs.Lawful.{IsLawful}
 use Rattle.mqtt_records.specs.declared.keep.Keep.{Ghosts}
 use Rattle.mqtt_records.specs.declared.records.Records.{Records}
-use Rattle.mqtt_opening.specs.Opening.{IsLoad}
-use Rattle.mqtt_laws.specs.World.{publisher_restarted, receiver_restarted}
-use Rattle.mqtt_broker.specs.TheRules.State.{MemberChoice}
-use Rattle.mqtt_broker.specs.TheRules.Step.{is_opening_spent, opened}
-use Rattle.mqtt_broker.specs.TheRules.declared.Limits.{Limits}
-use Rattle.mqtt_clients.specs.Ends.{Ends}
+use Rattle.mqtt_broker_engine.specs.Opening.{IsLoad}
+use Rattle.mqtt_world_model.specs.World.{publisher_restarted, receiver_restarted}
+use Rattle.mqtt_rules.specs.State.{MemberChoice}
+use Rattle.mqtt_rules.specs.Step.{is_opening_spent, opened}
+use Rattle.mqtt_rules.specs.declared.Limits.{Limits}
+use Rattle.mqtt_world_clients.specs.Ends.{Ends}
 use Rattle.mqtt_world.specs.Scenes.{IsPlayable, Played}
 
 -- the device of a store always returns what was written

@@ -2,13 +2,13 @@
 use Rattle.std.specs.Prelude.{◌≡◌, ℕ, false, List, []}
 use Rattle.std.specs.List.{AllByRecursion}
 use Rattle.mqtt_records.specs.declared.keep.Keep.{Ghosts}
-use Rattle.mqtt_laws.specs.Tellings.{Telling, telling}
-use Rattle.mqtt_broker.specs.TheRules.State.{MemberChoice}
-use Rattle.mqtt_broker.specs.TheRules.Step.{Call, deeds, is_step_spent, stepped, told}
+use Rattle.mqtt_world_model.specs.Tellings.{Telling, telling}
+use Rattle.mqtt_rules.specs.State.{MemberChoice}
+use Rattle.mqtt_rules.specs.Step.{Call, deeds, is_step_spent, stepped, told}
 use Rattle.mqtt_broker.specs.Serving.{Serving}
-use Rattle.mqtt_framing.specs.Framers.{HeldLine}
-use Rattle.mqtt_clients.specs.Ends.{Ends}
-use Rattle.mqtt_clients.specs.Telling.{AreSpelled, ends_told}
+use Rattle.mqtt_broker.specs.Framers.{HeldLine}
+use Rattle.mqtt_world_clients.specs.Ends.{Ends}
+use Rattle.mqtt_world_clients.specs.Telling.{AreSpelled, ends_told}
 
 pub record Played (K : Type 0) : Type 0 where
   pub engine : Serving K

@@ -1,11 +1,11 @@
 -- A world that stands: a broker with its ends, strangers and the moment, and what an event makes of it (MQTT 5.0, 4.1 to 4.4).
 use Rattle.std.specs.Prelude.{◌≡◌, ℕ, List, map, Option, Some}
 use Rattle.mqtt_records.specs.declared.keep.Keep.{Ghosts}
-use Rattle.mqtt_laws.specs.Tellings.{Telling, silent}
-use Rattle.mqtt_laws.specs.World.{Event, Stranger, World, unlinked}
-use Rattle.mqtt_broker.specs.TheRules.Laws.{AreWithin}
-use Rattle.mqtt_broker.specs.TheRules.State.{Broker}
-use Rattle.mqtt_broker.specs.TheRules.declared.Limits.{Limits}
+use Rattle.mqtt_world_model.specs.Tellings.{Telling, silent}
+use Rattle.mqtt_world_model.specs.World.{Event, Stranger, World, unlinked}
+use Rattle.mqtt_rules.specs.Laws.{AreWithin}
+use Rattle.mqtt_rules.specs.State.{Broker}
+use Rattle.mqtt_rules.specs.declared.Limits.{Limits}
 use Rattle.mqtt_world.specs.Events.{IsDone, IsReached, SpellsAll, world_of}
 use Rattle.mqtt_world.specs.Openings.{AlwaysSound, Reopens}
 use Rattle.mqtt_world.specs.Scenes.{IsPlayable, Played}

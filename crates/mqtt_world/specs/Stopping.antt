@@ -1,6 +1,6 @@
 -- What a stop before its commit leaves of what ends ask of the broker (MQTT 5.0, 4.1).
 use Rattle.std.specs.Prelude.{◌≡◌, ℕ, Bool, true, false, List}
-use Rattle.mqtt_laws.specs.World.{Asking, Event, Setting, Stranger, before, is_bad_asking, stop_after, stop_before}
+use Rattle.mqtt_world_model.specs.World.{Asking, Event, Setting, Stranger, before, is_bad_asking, stop_after, stop_before}
 use Rattle.mqtt_script_laws.specs.Scripted.{IsBadEvent, IsRefused, front_of}
 use Rattle.mqtt_world.specs.Events.{world_of}
 use Rattle.mqtt_world.specs.Scenes.{Played}

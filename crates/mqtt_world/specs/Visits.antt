@@ -2,17 +2,17 @@
 use Rattle.std.specs.Prelude.{◌≡◌, ◌≤◌, ◌<◌, ◌⊎◌, ℕ, Bool, false, true, List, [], length, take, drop, Option, None, is_some, Ok}
 use Rattle.mqtt_records.specs.declared.keep.Keep.{Ghosts}
 use Rattle.mqtt_packet.specs.Front.{first_of}
-use Rattle.mqtt_laws.specs.Run.{read_if, the_deeds}
-use Rattle.mqtt_laws.specs.Tellings.{Telling, silent, telling}
-use Rattle.mqtt_laws.specs.World.{Event, Stranger, World, ask, calls_if, is_bad, stranger}
-use Rattle.mqtt_broker.specs.TheRules.State.{MemberChoice}
-use Rattle.mqtt_broker.specs.TheRules.Step.{Call}
-use Rattle.mqtt_world_laws.specs.Spending.{spending}
-use Rattle.mqtt_unrolled_laws.specs.Unrolled.{AreAlike}
+use Rattle.mqtt_world_model.specs.Run.{read_if, the_deeds}
+use Rattle.mqtt_world_model.specs.Tellings.{Telling, silent, telling}
+use Rattle.mqtt_world_model.specs.World.{Event, Stranger, World, ask, calls_if, is_bad, stranger}
+use Rattle.mqtt_rules.specs.State.{MemberChoice}
+use Rattle.mqtt_rules.specs.Step.{Call}
+use Rattle.mqtt_world_acceptance_laws.specs.Spending.{spending}
+use Rattle.mqtt_world_single_step_laws.specs.Unrolled.{AreAlike}
 use Rattle.mqtt_script_laws.specs.Scripted.{Happens}
 use Rattle.mqtt_script_laws.specs.Turns.{IsReopened, IsTurn, both_tell, by_choice}
-use Rattle.mqtt_strangers.specs.Fronts.{IsNextPiece}
-use Rattle.mqtt_strangers.specs.Strangers.{held_of, named}
+use Rattle.mqtt_world_strangers.specs.Fronts.{IsNextPiece}
+use Rattle.mqtt_world_strangers.specs.Strangers.{held_of, named}
 use Rattle.mqtt_world.specs.Events.{IsReached, SpellsAll, world_of}
 use Rattle.mqtt_world.specs.Scenes.{IsPlayable, Played}
 use Rattle.mqtt_world.specs.Stages.{IsStanding, Staged, broker_of, world_at}

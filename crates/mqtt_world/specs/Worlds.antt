@@ -4,13 +4,13 @@ use Rattle.std.specs.Prelude.{◌≡◌, ⊤, ℕ, Bool, false, List, [], ◌∷
 use Rattle.std.specs.Prelude.{Some, Result, Ok, Err, option_map}
 use Rattle.mqtt_records.specs.declared.keep.Keep.{Ghosts}
 use Rattle.mqtt_records.specs.declared.records.Records.{Records}
-use Rattle.mqtt_lawful.specs.Lawful.{IsLawful}
-use Rattle.mqtt_laws.specs.Tellings.{Telling, done_by, handed_by, queue_length}
-use Rattle.mqtt_laws.specs.World as world
-use Rattle.mqtt_laws.specs.World.{World, is_end, publisher_named, receiver_named}
-use Rattle.mqtt_peers.specs.declared.told.RunFault.{RunFault}
-use Rattle.mqtt_peers.specs.declared.told.RunFault.TheVariants as fault
-use Rattle.mqtt_opening.specs.Opening.{IsLoad}
+use Rattle.mqtt_records_lawful.specs.Lawful.{IsLawful}
+use Rattle.mqtt_world_model.specs.Tellings.{Telling, done_by, handed_by, queue_length}
+use Rattle.mqtt_world_model.specs.World as world
+use Rattle.mqtt_world_model.specs.World.{World, is_end, publisher_named, receiver_named}
+use Rattle.mqtt_world_peers.specs.declared.told.RunFault.{RunFault}
+use Rattle.mqtt_world_peers.specs.declared.told.RunFault.TheVariants as fault
+use Rattle.mqtt_broker_engine.specs.Opening.{IsLoad}
 use Rattle.mqtt_script.specs.declared.event.Event.{Event}
 use Rattle.mqtt_script.specs.declared.event.Event.TheVariants.{Publisher, Receiver, Connect, GiveUp, Publish, Subscribe}
 use Rattle.mqtt_script.specs.declared.event.Event.TheVariants.{ToBroker, ToEnd, Break, Pump, Clock, Tick, Restart, StopBefore}
@@ -18,15 +18,15 @@ use Rattle.mqtt_script.specs.declared.event.Event.TheVariants.{StopAfter, Strang
 use Rattle.mqtt_script_laws.specs.Cleanly.{BeginClean, ScriptDelivers}
 use Rattle.mqtt_script_laws.specs.Drains.{DrainHappens}
 use Rattle.mqtt_script_laws.specs.Scripted.{IsBadHere, RunsTo, event_of}
-use Rattle.mqtt_emptied_laws.specs.Done.{IsEmptied}
-use Rattle.mqtt_spelled_laws.specs.Sending.{HaveSentPhases}
-use Rattle.mqtt_every_run_laws.specs.Untouched.{IsUntouched}
-use Rattle.mqtt_world_laws.specs.Fair.{opened_world}
-use Rattle.mqtt_world_laws.specs.Identities.{TellsApart}
-use Rattle.mqtt_broker.specs.TheRules.Laws.{AreWithin}
-use Rattle.mqtt_broker.specs.TheRules.State.{MemberChoice, session_named}
-use Rattle.mqtt_broker.specs.TheRules.Step.{is_opening_spent}
-use Rattle.mqtt_broker.specs.TheRules.declared.Limits.{Limits}
+use Rattle.mqtt_script_drain_laws.specs.Done.{IsEmptied}
+use Rattle.mqtt_rules_spelling_laws.specs.Sending.{HaveSentPhases}
+use Rattle.mqtt_world_delivery_laws.specs.Untouched.{IsUntouched}
+use Rattle.mqtt_world_acceptance_laws.specs.Fair.{opened_world}
+use Rattle.mqtt_world_headline_laws.specs.Lives.{BeginsWell}
+use Rattle.mqtt_rules.specs.Laws.{AreWithin}
+use Rattle.mqtt_rules.specs.State.{MemberChoice, session_named}
+use Rattle.mqtt_rules.specs.Step.{is_opening_spent}
+use Rattle.mqtt_rules.specs.declared.Limits.{Limits}
 use Rattle.mqtt_world.specs.declared.over.Over.{Over}
 use Rattle.mqtt_world.specs.declared.over.Over.TheVariants as over
 use Rattle.mqtt_world.specs.Draining.{TellsDrain}
@@ -151,15 +151,16 @@ pub record Came {K : Type 0} (start : World) (es : List Event) (s : Staged K) : 
 abbrev pub HasCome : {K : Type 0} → World → Lasting K → Type 0
 HasCome {K} start w = (s : Staged K) → w.stage ≡ Ok s → Came start w.events s
 
--- exactly-once delivery, of all of them: where nobody was there at first, what was stored is as a broker leaves it, and their ends
--- begin clean (3.1.2.4, 3.3.4, 4.3, 4.4, 4.6, 4.8, 4.9)
+-- exactly-once delivery, of all of them, whatever turns they came to: where nobody was there at first, what was stored is as a
+-- broker leaves it, and their ends begin clean (3.1.2.4, 3.3.4, 4.3, 4.4, 4.6, 4.8, 4.9)
 abbrev pub HasDelivered : {K : Type 0} → World → Lasting K → Type 0
-HasDelivered {K} start w = (s : Staged K) → w.stage ≡ Ok s → IsUntouched s.limits start → TellsApart start.broker.records
-    → BeginClean s.limits w.events start → ScriptDelivers s.limits w.events start (world_at s)
+HasDelivered {K} start w = (s : Staged K) → w.stage ≡ Ok s → BeginsWell s.limits start → BeginClean s.limits w.events start
+    → ScriptDelivers s.limits w.events start (world_at s)
 
 -- a drain empties the queue, and the receiver's line stands still; it takes no more rounds than twice the copies that stand in
--- the queue at its start or enter in its first round, and one; if nobody was there at first and the ends so far began clean
--- (3.1.2.4, 4.3, 4.4, 4.6, 4.9)
+-- the queue at its start or enter in its first round, and one; and each copy that ends in it is the receiver's, and ends for a
+-- cause of a drain; if nobody was there at first and the ends so far began clean (3.1.2.4, 3.1.2.11, 3.3.2.3.3, 4.3, 4.4, 4.6,
+-- 4.9)
 abbrev pub DrainEmpties : {K : Type 0} → World → List ℕ → ℕ → Lasting K → Lasting K → Type 0
 DrainEmpties {K} start client rounds old new = (from to : Staged K) → old.stage ≡ Ok from → new.stage ≡ Ok to
     → IsUntouched from.limits start → BeginClean from.limits old.events start

@@ -1,16 +1,17 @@
 //! What a script asks of the broker at the lines of ends: the first packet of a line is read, a line breaks, what waits is
 //! sent, the broker looks at the moment (MQTT 5.0, 4.1, 4.2).
 ghost use Rattle.std.specs.Prelude.{◌≡◌, IfOk, Some, option_map, true};
-ghost use Rattle.mqtt_broker.specs.TheRules.Step.{Input};
-ghost use Rattle.mqtt_laws.specs.World.{Setting, World, ask, break, call_of, has_line, is_end, pump, tick};
-ghost use Rattle.mqtt_clients.specs.Ends.{in_world, reading};
-ghost use Rattle.mqtt_peers.specs.Lines.{link_of};
+ghost use Rattle.mqtt_rules.specs.Step.{Input};
+ghost use Rattle.mqtt_world_model.specs.World.{Setting, World, ask, break, call_of, has_line, is_end, pump, tick};
+ghost use Rattle.mqtt_world_clients.specs.Ends.{in_world, reading};
+ghost use Rattle.mqtt_world_peers.specs.Lines.{link_of};
 ghost use Rattle.mqtt_world.specs.Events.{Does};
 ghost use Rattle.mqtt_world.specs.Scenes.{IsPlayable};
 
 use crate::scene::Scene;
-use mqtt_broker::{Keep, Packet};
-use mqtt_peers::{Link, RunFault, Told, is_input};
+use mqtt_codec::Packet;
+use mqtt_records::Keep;
+use mqtt_world_peers::{Link, RunFault, Told, is_input};
 use std::alloc::Global;
 
 /// Whether an end that has come so far with its line has one. Takes no memory.

@@ -1,9 +1,9 @@
 //! A receiver is drained: rounds of sending, reading and answering, until nothing waits for it (MQTT 5.0, 4.3, 4.4, 4.6).
 
 ghost use Rattle.std.specs.Prelude.{◌≡◌, ℕ, List, Some, IfOk, OnOk};
-ghost use Rattle.mqtt_handed_laws.specs.Drains.{copies_left, is_bad_drain, is_none_left, is_over};
-ghost use Rattle.mqtt_laws.specs.Tellings.{Telling};
-ghost use Rattle.mqtt_laws.specs.World.{Stranger, ask, pump, to_broker, to_end};
+ghost use Rattle.mqtt_world_receiver_laws.specs.Drains.{copies_left, is_bad_drain, is_none_left, is_over};
+ghost use Rattle.mqtt_world_model.specs.Tellings.{Telling};
+ghost use Rattle.mqtt_world_model.specs.World.{Stranger, ask, pump, to_broker, to_end};
 ghost use Rattle.mqtt_script_laws.specs.Turns.{both_tell};
 ghost use Rattle.mqtt_world.specs.Draining.{Drains, GoesOn, PlaysDrain, TellsDrain, all_rounds, answers_all, once, one_round, reads_all};
 ghost use Rattle.mqtt_world.specs.Events.{world_of};
@@ -13,8 +13,8 @@ ghost use Rattle.mqtt_world.specs.Stages.{IsStanding};
 use crate::scene::Scene;
 use crate::stage::Stage;
 use crate::visits::join;
-use mqtt_broker::Keep;
-use mqtt_peers::{RunFault, Told};
+use mqtt_records::Keep;
+use mqtt_world_peers::{RunFault, Told};
 use std::alloc::Global;
 
 /// What an event of a drain told, behind what was told before.

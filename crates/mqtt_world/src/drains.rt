@@ -1,8 +1,8 @@
 //! A receiver of a world that runs is drained, and the world keeps that as an event of its script (MQTT 5.0, 4.3, 4.4, 4.6).
 
 ghost use Rattle.std.specs.Prelude.{◌≡◌, ℕ, List, Err, IfErr, IfOk, Some};
-ghost use Rattle.mqtt_laws.specs.World.{World as Start};
-ghost use Rattle.mqtt_peers.specs.declared.told.RunFault.TheVariants as fault;
+ghost use Rattle.mqtt_world_model.specs.World.{World as Start};
+ghost use Rattle.mqtt_world_peers.specs.declared.told.RunFault.TheVariants as fault;
 ghost use Rattle.mqtt_script.specs.declared.event.Event.TheVariants.{Drain};
 ghost use Rattle.mqtt_world.specs.Draining.{PlaysDrain};
 ghost use Rattle.mqtt_world.specs.Openings.{AlwaysSound};
@@ -15,9 +15,9 @@ use crate::over::{Over, over_for};
 use crate::stage::Stage;
 use crate::world::World;
 use mqtt_base::Text;
-use mqtt_broker::Keep;
-use mqtt_peers::{RunFault, Told};
+use mqtt_records::Keep;
 use mqtt_script::Event;
+use mqtt_world_peers::{RunFault, Told};
 use std::alloc::AllocError;
 use std::mem;
 
@@ -112,7 +112,8 @@ impl<K: Keep> World<K> {
         ensures over { (o : Why) → self.old.stage ≡ Err o
             → (result ≡ Err (fault_of o)) × (self.new ≡ self.old) }
 
-        // It ends within so many rounds, and then no copy waits for the receiver, or is in flight to it.
+        // It ends within so many rounds, and then no copy waits for the receiver, or is in flight to it. Those that end in
+        // it are the receiver's, and end for a cause of a drain.
         ensures empty { AlwaysSound K.Keep → (start : Start) → HasCome start self.old
             → IfOk result (λ n. DrainEmpties start client.now n self.old self.new) }
 

@@ -1,14 +1,14 @@
 //! An end joins: it sends CONNECT on a new line (MQTT 5.0, 3.1, 4.2).
 ghost use Rattle.std.specs.Prelude.{◌≡◌, IfOk, option_map};
-ghost use Rattle.mqtt_laws.specs.World.{connect_end, is_away};
-ghost use Rattle.mqtt_peers.specs.Lines.{link_of};
+ghost use Rattle.mqtt_world_model.specs.World.{connect_end, is_away};
+ghost use Rattle.mqtt_world_peers.specs.Lines.{link_of};
 ghost use Rattle.mqtt_world.specs.Events.{Does};
 ghost use Rattle.mqtt_world.specs.Scenes.{IsPlayable};
 
 use crate::lines::are_full;
 use crate::scene::Scene;
-use mqtt_broker::Keep;
-use mqtt_peers::{Link, RunFault, Told};
+use mqtt_records::Keep;
+use mqtt_world_peers::{Link, RunFault, Told};
 use std::alloc::Global;
 
 /// Whether an end that has come so far with its line has none. Takes no memory.

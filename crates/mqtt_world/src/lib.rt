@@ -19,8 +19,9 @@ mod stopping;
 mod visits;
 mod world;
 
-pub use mqtt_broker::{Full, Keep, Limits, MemKeep};
-pub use mqtt_peers::{RunFault, Told};
+pub use mqtt_records::Keep;
+pub use mqtt_rules::Limits;
 pub use mqtt_script::{Asking, Event};
+pub use mqtt_world_peers::{RunFault, Told};
 pub use spelled::each_packet_is_read_as_it_was_sent;
 pub use world::World;

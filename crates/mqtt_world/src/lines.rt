@@ -1,9 +1,10 @@
 //! The numbers of lines that a broker linked, and how many of them stand (MQTT 5.0, 4.2).
 ghost use Rattle.std.specs.Prelude.{◌≡◌, None, true};
-ghost use Rattle.mqtt_laws.specs.World.{next_line};
+ghost use Rattle.mqtt_world_model.specs.World.{next_line};
 
 use mqtt_base::LINE_LIMIT;
-use mqtt_broker::{Engine, Keep};
+use mqtt_broker::Engine;
+use mqtt_records::Keep;
 
 /// The number of a line that was linked, if one was, is kept in place of those of lines that are gone. The room that an
 /// opening makes is enough for all lines that may stand, and a number for which there is none would not be kept.

@@ -1,15 +1,17 @@
 //! A broker is opened over a store, and closed and opened again (MQTT 5.0, 4.1).
 
 ghost use Rattle.std.specs.Prelude.{◌≡◌, IfOk};
-ghost use Rattle.mqtt_broker.specs.TheRules.Laws.{AreWithin};
+ghost use Rattle.mqtt_rules.specs.Laws.{AreWithin};
 ghost use Rattle.mqtt_world.specs.Openings.{Begins, Reopens, no_ends};
 ghost use Rattle.mqtt_world.specs.Scenes.{IsPlayable};
 
 use crate::scene::{Scene, moment};
 use mqtt_base::LINE_LIMIT;
-use mqtt_broker::{Engine, Keep, KeepError, Limits};
-use mqtt_clients::Clients;
-use mqtt_peers::RunFault;
+use mqtt_broker::Engine;
+use mqtt_records::{Keep, KeepError};
+use mqtt_rules::Limits;
+use mqtt_world_clients::Clients;
+use mqtt_world_peers::RunFault;
 use std::alloc::Global;
 use std::hash::RandomState;
 

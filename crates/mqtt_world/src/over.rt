@@ -2,7 +2,7 @@
 
 ghost use Rattle.std.specs.Prelude.{◌≡◌};
 
-use mqtt_peers::RunFault;
+use mqtt_world_peers::RunFault;
 
 /// Why a world is over.
 #[derive(Clone, Copy, Debug, PartialEq, Eq)]

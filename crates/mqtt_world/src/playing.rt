@@ -9,9 +9,9 @@ ghost use Rattle.mqtt_world.specs.Worlds.{DoesIf, IsOfEnds, Performs, PlaysIf};
 
 use crate::scene::Scene;
 use crate::stage::Stage;
-use mqtt_broker::Keep;
-use mqtt_peers::{RunFault, Told};
+use mqtt_records::Keep;
 use mqtt_script::{Asking, Event};
+use mqtt_world_peers::{RunFault, Told};
 use std::alloc::Global;
 
 impl<K: Keep> Scene<K> {

@@ -1,18 +1,18 @@
 //! How ends come to be, and what they do while the broker is asked for nothing (MQTT 5.0, 3.1.3.1, 3.3, 3.8, 4.4).
 ghost use Rattle.std.specs.Prelude.{◌≡◌, ℕ, List, IfOk};
-ghost use Rattle.mqtt_laws.specs.World.{Stranger, give_up, is_bad, is_bad_name, is_window, publish};
-ghost use Rattle.mqtt_laws.specs.World.{publisher, receiver, subscribe, to_end};
-ghost use Rattle.mqtt_peers.specs.Publishers.{draft_of};
-ghost use Rattle.mqtt_peers.specs.Receivers.{wish_of};
+ghost use Rattle.mqtt_world_model.specs.World.{Stranger, give_up, is_bad, is_bad_name, is_window, publish};
+ghost use Rattle.mqtt_world_model.specs.World.{publisher, receiver, subscribe, to_end};
+ghost use Rattle.mqtt_world_peers.specs.Publishers.{draft_of};
+ghost use Rattle.mqtt_world_peers.specs.Receivers.{wish_of};
 ghost use Rattle.mqtt_world.specs.Events.{Does, world_of};
 ghost use Rattle.mqtt_world.specs.Scenes.{IsPlayable};
 
 use crate::asks::has_line;
 use crate::scene::Scene;
 use mqtt_base::{CLIENT_LIMIT, Text};
-use mqtt_broker::Keep;
-use mqtt_peers::{RunFault, Told, is_message, is_wish};
+use mqtt_records::Keep;
 use mqtt_script::{Draft, Wish};
+use mqtt_world_peers::{RunFault, Told, is_message, is_wish};
 use std::alloc::{AllocError, Global};
 
 /// A name that is not one's own, or that the broker would not take (3.1.3.1). Takes no memory.

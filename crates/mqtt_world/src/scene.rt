@@ -1,20 +1,24 @@
 //! A broker with the ends that it serves: each call reaches them (MQTT 5.0, 4.1, 4.2).
 ghost use Rattle.std.specs.Prelude.{◌≡◌, ◌≤◌, [], Some, min, length, IfOk, OnOk};
 ghost use Rattle.mqtt_base.specs.declared.limits.TheConstants.{LAST_NUMBER, PACKET_LIMIT};
-ghost use Rattle.mqtt_opening.specs.Calling.{Tells};
-ghost use Rattle.mqtt_broker.specs.TheRules.Contents.{IsTaken};
-ghost use Rattle.mqtt_broker.specs.TheRules.Piece.{first_call};
-ghost use Rattle.mqtt_broker.specs.TheRules.Step.{Call, Input, Lost, NewLine, Outcome as Answer, Pump, Tick};
-ghost use Rattle.mqtt_laws.specs.Tellings.{silent};
-ghost use Rattle.mqtt_laws.specs.World.{held_after, next_line};
-ghost use Rattle.mqtt_clients.specs.Telling.{AreSpelled, ends_told};
+ghost use Rattle.mqtt_broker_engine.specs.Calling.{Tells};
+ghost use Rattle.mqtt_rules.specs.Contents.{IsTaken};
+ghost use Rattle.mqtt_rules.specs.Piece.{first_call};
+ghost use Rattle.mqtt_rules.specs.Step.{Call, Input, Lost, NewLine, Outcome as Answer, Pump, Tick};
+ghost use Rattle.mqtt_world_model.specs.Tellings.{silent};
+ghost use Rattle.mqtt_world_model.specs.World.{held_after, next_line};
+ghost use Rattle.mqtt_world_clients.specs.Telling.{AreSpelled, ends_told};
 ghost use Rattle.mqtt_world.specs.Scenes.{Calls, IsPlayable};
 
 use crate::lines::keep_number;
 use mqtt_base::LAST_NUMBER;
-use mqtt_broker::{Engine, EngineError, Keep, Outcome, Packet};
-use mqtt_clients::Clients;
-use mqtt_peers::{RunFault, Told};
+use mqtt_broker::Engine;
+use mqtt_broker_engine::Outcome;
+use mqtt_broker_step::EngineError;
+use mqtt_codec::Packet;
+use mqtt_records::Keep;
+use mqtt_world_clients::Clients;
+use mqtt_world_peers::{RunFault, Told};
 use std::marker::Model;
 
 /// A broker, and its ends. After a call that is refused it is good for nothing more.

@@ -1,5 +1,5 @@
 //! What goes out of the world's broker is read as it was sent (MQTT 5.0, 2.1).
-ghost use Rattle.mqtt_broker.specs.TheRules.declared.Limits.{Limits as TheLimits};
+ghost use Rattle.mqtt_rules.specs.declared.Limits.{Limits as TheLimits};
 ghost use Rattle.mqtt_world.specs.Events.{SpellsAll};
 
 /// Each packet has a spelling that a broker sends, in a step on a lawful packet or with the code of a fault, which

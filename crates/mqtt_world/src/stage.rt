@@ -1,14 +1,15 @@
 //! A world that stands: a broker with its ends, strangers and the moment (MQTT 5.0, 4.1 to 4.4).
 
 ghost use Rattle.std.specs.Prelude.{IfOk, Some};
-ghost use Rattle.mqtt_laws.specs.World.{clock, restart};
+ghost use Rattle.mqtt_world_model.specs.World.{clock, restart};
 ghost use Rattle.mqtt_world.specs.Stages.{IsStanding, Plays, Restages};
 
 use crate::scene::Scene;
-use mqtt_broker::{Keep, Limits};
-use mqtt_peers::{RunFault, Told};
-use mqtt_strangers::Strangers;
-use mqtt_verdicts::later;
+use mqtt_broker_decisions::later;
+use mqtt_records::Keep;
+use mqtt_rules::Limits;
+use mqtt_world_peers::{RunFault, Told};
+use mqtt_world_strangers::Strangers;
 use std::alloc::Global;
 use std::hash::RandomState;
 use std::marker::Model;

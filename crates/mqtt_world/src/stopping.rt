@@ -2,8 +2,8 @@
 //! 4.1).
 
 ghost use Rattle.std.specs.Prelude.{◌≡◌, ℕ, IfOk, List, MatchBool};
-ghost use Rattle.mqtt_laws.specs.World.{Stranger, ask, stop_after, stop_before};
-ghost use Rattle.mqtt_clients.specs.Ends.{reading};
+ghost use Rattle.mqtt_world_model.specs.World.{Stranger, ask, stop_after, stop_before};
+ghost use Rattle.mqtt_world_clients.specs.Ends.{reading};
 ghost use Rattle.mqtt_script_laws.specs.Scripted.{IsRefused, asking_of, front_of};
 ghost use Rattle.mqtt_script_laws.specs.Turns.{IsPlain};
 ghost use Rattle.mqtt_world.specs.Events.{Does, world_of};
@@ -14,9 +14,9 @@ ghost use Rattle.mqtt_world.specs.Stopping.{TakesOff, stop_at};
 use crate::asks::has_line;
 use crate::scene::Scene;
 use crate::stage::Stage;
-use mqtt_broker::Keep;
-use mqtt_peers::{RunFault, Told, is_input};
+use mqtt_records::Keep;
 use mqtt_script::Asking;
+use mqtt_world_peers::{RunFault, Told, is_input};
 use std::alloc::{AllocError, Global};
 
 impl<K: Keep> Scene<K> {

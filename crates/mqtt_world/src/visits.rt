@@ -3,13 +3,13 @@
 ghost use Rattle.std.specs.Prelude.{◌≡◌, ◌≤◌, ℕ, [], false, is_some, length, List, None, Ok, Some, true, IfOk, OnOk};
 ghost use Rattle.mqtt_base.specs.declared.limits.TheConstants.{PACKET_LIMIT};
 ghost use Rattle.mqtt_packet.specs.Front.{first_of};
-ghost use Rattle.mqtt_laws.specs.Tellings.{silent};
-ghost use Rattle.mqtt_laws.specs.World.{World, ask, call_on, held_after, is_bad_asking, stop_after, stop_before, stranger};
-ghost use Rattle.mqtt_clients.specs.Ends.{in_world};
+ghost use Rattle.mqtt_world_model.specs.Tellings.{silent};
+ghost use Rattle.mqtt_world_model.specs.World.{World, ask, call_on, held_after, is_bad_asking, stop_after, stop_before, stranger};
+ghost use Rattle.mqtt_world_clients.specs.Ends.{in_world};
 ghost use Rattle.mqtt_script_laws.specs.Turns.{both_tell};
-ghost use Rattle.mqtt_strangers.specs.Fronts.{is_end_among};
-ghost use Rattle.mqtt_strangers.specs.Strangers.{held_of, named};
-ghost use Rattle.mqtt_unrolled_laws.specs.Unrolled.{AreAlike};
+ghost use Rattle.mqtt_world_strangers.specs.Fronts.{is_end_among};
+ghost use Rattle.mqtt_world_strangers.specs.Strangers.{held_of, named};
+ghost use Rattle.mqtt_world_single_step_laws.specs.Unrolled.{AreAlike};
 ghost use Rattle.mqtt_world.specs.Scenes.{IsPlayable};
 ghost use Rattle.mqtt_world.specs.Stages.{IsStanding, Plays, world_at};
 ghost use Rattle.mqtt_world.specs.Stopping.{stop_at};
@@ -18,10 +18,10 @@ ghost use Rattle.mqtt_world.specs.Visits.{Hears, MayStopAt, StopsAt, TellsPiece,
 use crate::scene::Scene;
 use crate::stage::Stage;
 use mqtt_base::Text;
-use mqtt_broker::Keep;
-use mqtt_clients::Clients;
-use mqtt_peers::{RunFault, Told};
-use mqtt_strangers::Piece;
+use mqtt_records::Keep;
+use mqtt_world_clients::Clients;
+use mqtt_world_peers::{RunFault, Told};
+use mqtt_world_strangers::Piece;
 use std::alloc::AllocError;
 
 /// Whether an end has one of these names. Takes no memory.

@@ -2,10 +2,10 @@
 //! 4.4).
 
 ghost use Rattle.std.specs.Prelude.{◌≡◌, [], ◌∷◌, ◌++◌, length, Err, IfErr, IfOk, Ok, OnOk};
-ghost use Rattle.mqtt_broker.specs.TheRules.Laws.{AreWithin};
-ghost use Rattle.mqtt_laws.specs.Tellings.{Telling};
-ghost use Rattle.mqtt_laws.specs.World.{World as Start};
-ghost use Rattle.mqtt_peers.specs.declared.told.RunFault.TheVariants as fault;
+ghost use Rattle.mqtt_rules.specs.Laws.{AreWithin};
+ghost use Rattle.mqtt_world_model.specs.Tellings.{Telling};
+ghost use Rattle.mqtt_world_model.specs.World.{World as Start};
+ghost use Rattle.mqtt_world_peers.specs.declared.told.RunFault.TheVariants as fault;
 ghost use Rattle.mqtt_world.specs.Openings.{AlwaysSound};
 ghost use Rattle.mqtt_world.specs.Stages.{IsStanding, Staged};
 ghost use Rattle.mqtt_world.specs.Worlds.{Happen, HasCome, HasDelivered, Performs, Refuses, Starts, Stops, fault_of, over_by, with_stage};
@@ -15,10 +15,11 @@ ghost use Rattle.mqtt_world.specs.declared.over.Over.TheVariants as over;
 use crate::over::{Over, over_for};
 use crate::scene::Scene;
 use crate::stage::Stage;
-use mqtt_broker::{Keep, Limits};
-use mqtt_peers::{RunFault, Told};
+use mqtt_records::Keep;
+use mqtt_rules::Limits;
 use mqtt_script::Event;
-use mqtt_strangers::Strangers;
+use mqtt_world_peers::{RunFault, Told};
+use mqtt_world_strangers::Strangers;
 use std::alloc::{AllocError, Global};
 use std::hash::RandomState;
 use std::marker::Model;

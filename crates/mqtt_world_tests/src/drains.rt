@@ -1,7 +1,7 @@
 //! A receiver is drained: rounds until nothing waits for it (MQTT 5.0, 4.3, 4.4, 4.6).
 
 use crate::stage::{Sight, drain, new_world, push_run, run, sight_of};
-use mqtt_peers::RunFault;
+use mqtt_world_peers::RunFault;
 use std::alloc::Global;
 use std::hash::RandomState;
 use std::test::Fail;

@@ -1,7 +1,7 @@
 //! Events that can't happen, each at its place.
 
 use crate::stage::{new_world, run};
-use mqtt_peers::RunFault;
+use mqtt_world_peers::RunFault;
 use std::alloc::Global;
 use std::hash::RandomState;
 use std::test::Fail;

@@ -1,8 +1,9 @@
 //! Scripts whose texts were worked out by hand.
 
 use crate::stage::{Sight, new_world, push_run, sight_of};
-use mqtt_peers::RunFault;
-use mqtt_world::{MemKeep, World};
+use mqtt_records::MemKeep;
+use mqtt_world::World;
+use mqtt_world_peers::RunFault;
 use std::alloc::Global;
 use std::hash::RandomState;
 use std::test::Fail;

@@ -1,9 +1,11 @@
 //! A world over a store in memory, and scripts for it.
 
-use mqtt_peers::{RunFault, Told};
+use mqtt_flow::Full;
+use mqtt_records::MemKeep;
+use mqtt_replay::push_told;
 use mqtt_script::{Event, event_of};
-use mqtt_told::push_told;
-use mqtt_world::{Full, Limits, MemKeep, World};
+use mqtt_world::{Limits, World};
+use mqtt_world_peers::{RunFault, Told};
 use std::alloc::{AllocError, Global};
 use std::hash::RandomState;
 

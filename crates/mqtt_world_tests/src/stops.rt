@@ -1,8 +1,9 @@
 //! Wherever the broker stops, a message is handed over once (MQTT 5.0, 4.1, 4.3.3, 4.4).
 
 use crate::stage::{Sight, new_world, run, sight_of};
-use mqtt_peers::RunFault;
-use mqtt_world::{MemKeep, World};
+use mqtt_records::MemKeep;
+use mqtt_world::World;
+use mqtt_world_peers::RunFault;
 use std::alloc::Global;
 use std::hash::RandomState;
 use std::test::Fail;

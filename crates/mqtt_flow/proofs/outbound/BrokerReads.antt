@@ -3,11 +3,11 @@ use Rattle.std.proofs.Common.{◌≡◌, ◌⊎◌, inl, inr, ℕ, ◌<◌, ◌�
 use Rattle.std.specs.List.{list_any}
 use Rattle.std.proofs.lemmas.Option.{slice_get-map}
 use Rattle.mqtt_base.specs.declared.Ending.TheVariants.{Taken}
-use Rattle.mqtt_inbound.specs.Line.{Link, asked, live, sent_on}
+use Rattle.mqtt_flow_inbound.specs.Line.{Link, asked, live, sent_on}
 use Rattle.mqtt_flow.specs.Receiver.{Body, Output, connack, no_connack, pubrel, disconnect, Answer, connect, puback, pubrec, pubcomp, handed, Rising, spared}
 use Rattle.mqtt_flow.proofs.outbound.Lives.{Mark, sent, released, Life, in_flight, find, anew, pubrels, cut, Turn, stay, over, turned, answered, on_puback, on_pubrec, on_pubcomp, says, puback_reply, pubrec_reply, pubcomp_reply}
 use Rattle.mqtt_flow.proofs.outbound.LivesWorld.{World, arranged, made_new, resumed, connects, connects_old, replied, replied_old, up_comes, old_comes}
-use Rattle.mqtt_inbound.proofs.Identifiers.{same_id}
+use Rattle.mqtt_flow_inbound.proofs.Identifiers.{same_id}
 use Rattle.mqtt_flow.proofs.outbound.Stages.{ups, is_connect, Copy, held, Stage, free, releasing, At, Told, Weak, Was_read, Settled, Ready, Late, Olds, Calm, is_away, is_sent, is_shut, is_read, is_live, effective, Done, Inv, Norm, Blank, no_line, is_asked, was_shut, Fresh, Good, late_olds, late_spared, late_ups, ready_more, ready_plain, Plain, ready_pubrels, first_of, find-held, only}
 use Rattle.mqtt_flow.proofs.outbound.Sends.{way_none, way_same, way_sent_on, downs-sent_on, same_stage, same_number, sent_on_head, effective_sent_on}
 use Rattle.mqtt_flow.proofs.outbound.Steps.{again, begins_again, ends_again, held-cut, told_anew, was_anew, settled_anew, told_weak, weak_cut, was_cut, settled_cut, held-answered_same, get_answered, told_pubrec, told_puback, told_pubcomp, was_pubrec, was_puback, was_pubcomp, settled_pubrec, settled_puback, settled_pubcomp, pubrec_came, puback_came, pubcomp_came, swap, answer_each}

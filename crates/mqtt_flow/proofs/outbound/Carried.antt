@@ -1,12 +1,12 @@
 -- The ledger has what the copies carry.
 use Rattle.std.proofs.Common.{◌≡◌, inl, inr, ⊎_elim, ℕ, Bool, true, false, List, [], ◌∷◌, ◌++◌, refl, sym, ap, ◌∙◌, subst, Option, Some, None, slice_get, option_map}
-use Rattle.mqtt_inbound.specs.Identifiers.{is_among}
-use Rattle.mqtt_inbound.specs.Line.{Link, away, asked, live}
+use Rattle.mqtt_flow_inbound.specs.Identifiers.{is_among}
+use Rattle.mqtt_flow_inbound.specs.Line.{Link, away, asked, live}
 use Rattle.mqtt_flow.specs.Receiver.{Body, Output, connack, no_connack, publish, pubrel, disconnect, Answer, connect, puback, pubrec, pubcomp, Handed, read_publish, read_connack, down_comes, gives_up, joins}
 use Rattle.mqtt_flow.proofs.outbound.Lives.{sent, Life, body_of, find, Reply, wrong, says, puback_reply, pubrec_reply, pubcomp_reply}
 use Rattle.mqtt_flow.proofs.outbound.LivesWorld.{World, Event, enter, finish, pump, to_broker, old_to_broker, to_end, give_up, break_line, make_line, close, close_old, restart, enters_in, pump_one, connects, connects_old, replied, replied_old, up_comes, old_comes, step, run, start}
 use Rattle.mqtt_flow.proofs.outbound.LivesCourse.{Goes_on, Carries}
-use Rattle.mqtt_inbound.proofs.Identifiers.{test_cases}
+use Rattle.mqtt_flow_inbound.proofs.Identifiers.{test_cases}
 use Rattle.mqtt_flow.proofs.outbound.Stages.{At, Stage, Good, Blank, no_line, is_asked, was_shut, effective}
 use Rattle.mqtt_flow.proofs.outbound.ReceiverReads.{publish_came, the_copy, keeps, begins}
 use Rattle.mqtt_flow.proofs.outbound.Course.{next_body, step_on}

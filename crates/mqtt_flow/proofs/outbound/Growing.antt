@@ -1,11 +1,11 @@
 -- The ledger only grows.
 use Rattle.std.proofs.Common.{◌≡◌, ⊎_elim, ℕ, ◌≤◌, Bool, true, false, List, [], ◌∷◌, ◌++◌, refl, ap, ◌∙◌, arith}
-use Rattle.mqtt_inbound.specs.Identifiers.{is_among}
-use Rattle.mqtt_inbound.specs.Line.{Link, away, asked, live}
+use Rattle.mqtt_flow_inbound.specs.Identifiers.{is_among}
+use Rattle.mqtt_flow_inbound.specs.Line.{Link, away, asked, live}
 use Rattle.mqtt_flow.specs.Receiver.{Body, Output, connack, no_connack, publish, pubrel, disconnect, Handed, handed, read_publish, read_connack, down_comes}
 use Rattle.mqtt_flow.specs.OutboundCourse.{Grows}
 use Rattle.mqtt_flow.proofs.outbound.LivesWorld.{World, Event, enter, finish, pump, to_broker, old_to_broker, to_end, give_up, break_line, make_line, close, close_old, restart, step, run}
-use Rattle.mqtt_inbound.proofs.Identifiers.{test_cases}
+use Rattle.mqtt_flow_inbound.proofs.Identifiers.{test_cases}
 use Rattle.mqtt_flow.proofs.outbound.Carried.{Quiet, silent, ups_quiet, olds_quiet, pump_quiet, enter_quiet, gives_quiet, joins_quiet}
 
 pub grows_same : (hs : List Handed) → Grows hs hs

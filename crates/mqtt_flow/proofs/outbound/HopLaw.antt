@@ -6,7 +6,7 @@ use Rattle.mqtt_base.specs.declared.Ending.TheVariants.{Taken, Refused, Expired,
 use Rattle.mqtt_base.specs.declared.Phase.{Phase}
 use Rattle.mqtt_base.specs.declared.Phase.TheVariants.{Waiting, Sent, Released, Oversize}
 use Rattle.std.specs.List.{list_any}
-use Rattle.mqtt_inbound.specs.Line.{Link}
+use Rattle.mqtt_flow_inbound.specs.Line.{Link}
 use Rattle.mqtt_flow.specs.Receiver.{Body, Output, Answer, connect, puback, pubrec, pubcomp, Handed, handed, HasNoConnect, IsConnectAlone, IsHeard}
 use Rattle.mqtt_flow.proofs.outbound.Lives.{Life, waiting, in_flight, ended, sent, released, body_of}
 use Rattle.mqtt_flow.proofs.outbound.LivesCourse as course

@@ -1,7 +1,7 @@
 -- A hop seen from its copies: what becomes of each, and of the lines and the receiver.
 use Rattle.std.specs.Prelude.{ℕ, zero, suc, Bool, true, false, List, [], ◌∷◌, ◌++◌, map, if◌then◌else◌}
-use Rattle.mqtt_inbound.specs.Identifiers.{is_among, free_identifier}
-use Rattle.mqtt_inbound.specs.Line.{away, sent_on}
+use Rattle.mqtt_flow_inbound.specs.Identifiers.{is_among, free_identifier}
+use Rattle.mqtt_flow_inbound.specs.Line.{away, sent_on}
 use Rattle.mqtt_flow.specs.Receiver.{Body, Output, connack, no_connack, disconnect, Answer, connect, puback, pubrec, pubcomp, Hop, spared, leaves, down_comes, gives_up, joins}
 use Rattle.mqtt_flow.proofs.outbound.Lives.{Life, waiting, pids, find, pumped, pump_sends, anew, pubrels, cut, Lapse, lapse_at, answered, on_puback, on_pubrec, on_pubcomp, Reply, wrong, says, puback_reply, pubrec_reply, pubcomp_reply}
 

@@ -10,12 +10,12 @@ use Rattle.mqtt_flow.specs.declared.entry.Turn.TheVariants.{Send, Resend, Releas
 use Rattle.mqtt_flow.specs.declared.entry.Way.{Way}
 use Rattle.mqtt_flow.specs.declared.pump.Step.{Step}
 use Rattle.mqtt_flow.specs.declared.pump.Step.TheVariants.{Stop, GoOn, Take}
-use Rattle.mqtt_inbound.specs.Identifiers.{is_among, lowest_from, free_identifier}
+use Rattle.mqtt_flow_inbound.specs.Identifiers.{is_among, lowest_from, free_identifier}
 use Rattle.mqtt_flow.specs.Pacing.{Pacing}
 use Rattle.mqtt_flow.specs.Queue.{Above, Ascends, in_window, marked, after, after_all}
 use Rattle.mqtt_flow.specs.Outbound.{Verdict, pass, end, outgrow, send, resend, in_room, step_on, step_by, verdict, pump_step, paced, then_on, pump_from, pace}
 use Rattle.mqtt_flow.specs.Pumping.{PublishesAbove, InQueueOrder, WithinWindow, IsLowestFree}
-use Rattle.mqtt_inbound.proofs.Identifiers.{test_cases, free_is_free}
+use Rattle.mqtt_flow_inbound.proofs.Identifiers.{test_cases, free_is_free}
 use Rattle.mqtt_flow.proofs.outbound.SessionLives.{ascends_by}
 
 -- what a step may be at an entry

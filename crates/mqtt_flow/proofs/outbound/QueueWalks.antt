@@ -7,7 +7,7 @@ use Rattle.mqtt_base.specs.declared.Phase.TheVariants.{Waiting, Sent, Released, 
 use Rattle.mqtt_flow.specs.declared.entry.Entry.{Entry}
 use Rattle.mqtt_flow.specs.declared.entry.Turn.TheVariants.{Send, Resend, Leave}
 use Rattle.mqtt_flow.specs.declared.entry.Way.{Way}
-use Rattle.mqtt_inbound.specs.Identifiers.{is_among, free_identifier}
+use Rattle.mqtt_flow_inbound.specs.Identifiers.{is_among, free_identifier}
 use Rattle.mqtt_flow.specs.Pacing.{Pacing}
 use Rattle.mqtt_flow.specs.Queue.{Ascends, identifiers, also}
 use Rattle.mqtt_flow.specs.Outbound.{is_late, is_waiting, gives_way, dropped, expired, paced, freed, then_on, pump_from, pump, pace}
@@ -16,7 +16,7 @@ use Rattle.mqtt_flow.proofs.outbound.Lives.{Life, in_flight, sent, Lapse, cause,
 use Rattle.mqtt_flow.proofs.outbound.Lives as copies
 use Rattle.mqtt_flow.proofs.outbound.LivesWorld.{unused_of}
 use Rattle.mqtt_flow.specs.OutboundWorld.{TopicAndPayload, Lot, standing, past, queue_of, World, body, take_turn, take_turns}
-use Rattle.mqtt_inbound.proofs.Identifiers.{test_cases, same_id, is_among-push, free_is_free}
+use Rattle.mqtt_flow_inbound.proofs.Identifiers.{test_cases, same_id, is_among-push, free_is_free}
 use Rattle.mqtt_flow.proofs.outbound.SessionLives.{life, life_by, life-append, AllPassed}
 use Rattle.mqtt_flow.proofs.outbound.SessionQueues.{AllFit, fit_here, Sound, Leads, leads_not, leads_on, lapse_copies, lapse_leads, send_leads, Steps, stops, passes, lapses, begins, repeats, steps_at, passed-push, passed-past, shift, pids-append, has-insert, Uses, same_pids}
 

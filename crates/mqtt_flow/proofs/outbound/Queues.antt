@@ -9,7 +9,7 @@ use Rattle.mqtt_flow.specs.declared.entry.Turn.TheVariants.{Send, Resend, Releas
 use Rattle.mqtt_base.specs.declared.limits.TheConstants.{LAST_NUMBER, QUEUE_LIMIT}
 use Rattle.mqtt_flow.specs.Queue.{also, identifiers, greatest_place, greatest_order, at_place, marked, after, order_given, Above, Ascends, IsQueue, entering, next_place}
 use Rattle.mqtt_flow.specs.Outbound.{unsent, anew, pushed}
-use Rattle.mqtt_inbound.proofs.Identifiers.{test_cases}
+use Rattle.mqtt_flow_inbound.proofs.Identifiers.{test_cases}
 
 length-also : (o : Option ℕ) (is : List ℕ) → length (also o is) ≤ length is + 1
 length-also None is = omega arith

@@ -5,14 +5,14 @@ use Rattle.std.proofs.lemmas.List.Elements.{filter-append, All-nil, All-push}
 use Rattle.std.proofs.lemmas.List.Folds.{list_any-append}
 use Rattle.std.proofs.lemmas.Option.{slice_get-map}
 use Rattle.std.proofs.lemmas.Bool.Decides.{nat_tests}
-use Rattle.mqtt_inbound.specs.Identifiers.{is_among, ids_without}
+use Rattle.mqtt_flow_inbound.specs.Identifiers.{is_among, ids_without}
 use Rattle.mqtt_base.specs.declared.Ending.{Ending}
 use Rattle.mqtt_base.specs.declared.Ending.TheVariants.{Taken, Refused, Expired, TooLarge, SessionEnded, Dropped}
-use Rattle.mqtt_inbound.specs.Line.{Link, away, asked, live, sent_on}
+use Rattle.mqtt_flow_inbound.specs.Line.{Link, away, asked, live, sent_on}
 use Rattle.mqtt_flow.specs.Receiver.{Body, Output, connack, no_connack, publish, pubrel, disconnect, Answer, connect, puback, pubrec, pubcomp, Handed, handed, Rising, kept_after, ledger_after, read_publish, read_connack, leaves, down_comes, gives_up, joins, release_code}
 use Rattle.mqtt_flow.proofs.outbound.Lives.{Mark, sent, released, Life, waiting, in_flight, ended, anew}
 use Rattle.mqtt_flow.proofs.outbound.LivesWorld.{World, Event, enter, finish, pump, to_broker, old_to_broker, to_end, give_up, break_line, make_line, close, close_old, restart, old_comes, step, start, run, connects_old}
-use Rattle.mqtt_inbound.proofs.Identifiers.{test_cases, same_id, is_among-push, is_among-ids_without_same, is_among-ids_without_other}
+use Rattle.mqtt_flow_inbound.proofs.Identifiers.{test_cases, same_id, is_among-push, is_among-ids_without_same, is_among-ids_without_other}
 use Rattle.mqtt_flow.proofs.outbound.Stages.{up_about, ups, downs, is_connect, Copy, held, Stage, free, idle, publishing, receiving, acking, releasing, completing, held_of, up_of, down_of, open_of, Fits, AtMost, At, Told, Weak, Was_read, Read_end, Settled, Ready, Late, Olds, Calm, is_away, is_sent, is_shut, is_read, is_live, effective, Done, Inv, Norm, Blank, no_line, is_asked, was_shut, Fresh, Good, at_most_none, at_most_more, at_head, ready_more, only, holder}
 use Rattle.mqtt_flow.proofs.outbound.Sends.{by_id, way_some, way_none, way_same, downs-sent_on, same_stage, same_number, effective_sent_on, enters, lapses, pumps}
 use Rattle.mqtt_flow.proofs.outbound.Steps.{again, ends_again, way_lost, told_anew, weak_anew, was_anew, settled_anew, told_weak}

@@ -18,9 +18,9 @@ use Rattle.mqtt_flow.specs.declared.pump.Step.{Step}
 use Rattle.mqtt_flow.specs.declared.pump.Step.TheVariants.{Stop, GoOn, Take}
 use Rattle.mqtt_flow.specs.Pacing.{Pacing}
 use Rattle.mqtt_flow.specs.Queue.{after, after_all, order_given, greatest_given, greatest_place, next_order, Above, Ascends, holder, next_place}
-use Rattle.mqtt_inbound.specs.Identifiers.{free_identifier}
+use Rattle.mqtt_flow_inbound.specs.Identifiers.{free_identifier}
 use Rattle.mqtt_flow.specs.Outbound.{gives_way, staying, has_room, pace, dropped, way_made, expired, is_waiting, is_late, Verdict, pass, end, outgrow, send, resend, in_room, step_on, step_by, verdict, pump_step, paced, then_on, pump_from, pump, order_asked, released_by, pubrec_by, pubrec_at, pubrec, is_refusal, way_open}
-use Rattle.mqtt_inbound.proofs.Identifiers.{test_cases, same_id}
+use Rattle.mqtt_flow_inbound.proofs.Identifiers.{test_cases, same_id}
 use Rattle.mqtt_flow.proofs.outbound.Queues.{places-filter, places-marked}
 
 -- only copies above a place leave

@@ -1,12 +1,12 @@
 -- New copies, ended ones, and what the broker sends.
 use Rattle.std.proofs.Common.{◌≡◌, ◌⊎◌, inl, inr, ⊎_elim, ℕ, zero, suc, ◌+◌, ◌<◌, Bool, true, false, ◌&&◌, List, [], ◌∷◌, ◌++◌, length, nat_eq, refl, sym, ap, ◌∙◌, subst, arith, Option, Some, None, slice_get, append-nil, add-zero, zero-add, eqb-true}
 use Rattle.std.proofs.lemmas.List.Elements.{filter-append}
-use Rattle.mqtt_inbound.specs.Identifiers.{is_among}
-use Rattle.mqtt_inbound.specs.Line.{Link, sent_on}
+use Rattle.mqtt_flow_inbound.specs.Identifiers.{is_among}
+use Rattle.mqtt_flow_inbound.specs.Line.{Link, sent_on}
 use Rattle.mqtt_flow.specs.Receiver.{Body, Output, connack, publish, Answer, Handed, handed}
 use Rattle.mqtt_flow.proofs.outbound.Lives.{Mark, sent, released, Life, waiting, in_flight, ended, pids, pumped, pump_sends, Lapse, is_late, is_large, is_dropped, cause, lapsed, lapse_at}
 use Rattle.mqtt_flow.proofs.outbound.LivesWorld.{World, enters_in, pump_one, unused_of, step, finish}
-use Rattle.mqtt_inbound.proofs.Identifiers.{test_cases, same_id, free_is_free}
+use Rattle.mqtt_flow_inbound.proofs.Identifiers.{test_cases, same_id, free_is_free}
 use Rattle.mqtt_flow.proofs.outbound.Stages.{down_about, ups, downs, Copy_of, Copy, holding, held, Stage, free, idle, publishing, receiving, acking, releasing, completing, stale, down_of, Fits, AtMost, Way, At, Final, Told, Weak, Was_read, Settled, Ready, Published, Calm, is_away, is_sent, is_shut, is_read, is_live, effective, Done, Inv, Fresh, Blank, no_line, is_asked, was_shut, Good, at_most_more, at_most_none, ready_more, ready_push, under_way, held-append, not_held, only, none_in}
 
 pub by_id : (P : ℕ → Type 0) (i j : ℕ) → P i → (nat_eq j i ≡ false → P j) → P j

@@ -11,16 +11,16 @@ use Rattle.mqtt_base.specs.declared.Phase.TheVariants.{Waiting, Sent, Released, 
 use Rattle.mqtt_flow.specs.declared.entry.Entry.{Entry}
 use Rattle.mqtt_flow.specs.declared.entry.Turn.{Turn}
 use Rattle.mqtt_flow.specs.declared.entry.Turn.TheVariants.{Send, Resend, Release, Outgrow, Repeat, Unknown, Leave}
-use Rattle.mqtt_inbound.specs.declared.fault.FlowFault.TheVariants.{WrongStep}
+use Rattle.mqtt_flow_inbound.specs.declared.fault.FlowFault.TheVariants.{WrongStep}
 use Rattle.mqtt_flow.specs.Queue.{Ascends, holder, is_holder, next_order}
 use Rattle.mqtt_flow.specs.Outbound as rules
 use Rattle.mqtt_flow.specs.Outbound.{is_refusal, ending_by}
-use Rattle.mqtt_inbound.specs.Line.{sent_on}
+use Rattle.mqtt_flow_inbound.specs.Line.{sent_on}
 use Rattle.mqtt_flow.specs.Receiver.{Body, Output, pubrel, Answer}
 use Rattle.mqtt_flow.proofs.outbound.Lives.{Life, waiting, Mark, in_flight, ended, find, answered, on_puback, on_pubrec, on_pubcomp, Turn as Course, Reply, wrong, says, puback_reply, pubrec_reply, pubcomp_reply}
 use Rattle.mqtt_flow.proofs.outbound.LivesWorld as lives
 use Rattle.mqtt_flow.specs.OutboundWorld.{TopicAndPayload, Lot, standing, past, queue_of, World, body, lot_after, lots_after, packets, told, replied, replied_old}
-use Rattle.mqtt_inbound.proofs.Identifiers.{test_cases, same_id}
+use Rattle.mqtt_flow_inbound.proofs.Identifiers.{test_cases, same_id}
 use Rattle.mqtt_flow.proofs.outbound.Stages.{holding, held}
 use Rattle.mqtt_flow.proofs.outbound.SessionLives.{life, life_by, seen, life-append, IsAt, split-after, placed-after}
 use Rattle.mqtt_flow.proofs.outbound.SessionQueues.{IsGranted, Fit, AllFit, fit_here, Sound, left}

@@ -13,7 +13,7 @@ use Rattle.mqtt_flow.specs.Receiver.{Body, publish}
 use Rattle.mqtt_flow.proofs.outbound.Lives.{Life, waiting, in_flight, ended, sent, released, Lapse, lapsed, lapse_at, pumped, pump_sends}
 use Rattle.mqtt_flow.proofs.outbound.LivesWorld as lives
 use Rattle.mqtt_flow.specs.OutboundWorld.{TopicAndPayload, Lot, standing, past, queue_of, World, body, lot_after, lots_after, sends}
-use Rattle.mqtt_inbound.proofs.Identifiers.{test_cases, same_id}
+use Rattle.mqtt_flow_inbound.proofs.Identifiers.{test_cases, same_id}
 use Rattle.mqtt_flow.proofs.outbound.Queues.{ascends-marked, ascends-filter}
 
 -- what becomes of a copy, seen from its entry

@@ -12,18 +12,18 @@ use Rattle.mqtt_flow.specs.declared.entry.Turn.{Turn}
 use Rattle.mqtt_flow.specs.declared.entry.Turn.TheVariants.{Send, Resend, Leave}
 use Rattle.mqtt_flow.specs.declared.entry.Way.{Way}
 use Rattle.mqtt_flow.specs.declared.pump.Step.TheVariants.{Stop, GoOn, Take}
-use Rattle.mqtt_inbound.specs.Identifiers.{is_among, free_identifier}
+use Rattle.mqtt_flow_inbound.specs.Identifiers.{is_among, free_identifier}
 use Rattle.mqtt_flow.specs.Pacing.{Pacing}
 use Rattle.mqtt_flow.specs.Queue.{Ascends}
 use Rattle.mqtt_flow.specs.Outbound.{is_late, is_large, pump_step}
-use Rattle.mqtt_inbound.specs.Line.{sent_on}
+use Rattle.mqtt_flow_inbound.specs.Line.{sent_on}
 use Rattle.mqtt_flow.specs.Receiver.{publish}
 use Rattle.mqtt_flow.proofs.outbound.Lives.{Life, waiting, in_flight, ended, sent, released, Lapse, is_dropped, cause, lapsed, lapse_at, pumped, pump_sends, pids}
 use Rattle.mqtt_flow.proofs.outbound.Lives as copies
 use Rattle.mqtt_flow.proofs.outbound.LivesWorld as lives
 use Rattle.mqtt_flow.proofs.outbound.LivesWorld.{unused_of}
 use Rattle.mqtt_flow.specs.OutboundWorld.{TopicAndPayload, Lot, standing, past, queue_of, World, body, lot_after, lots_after, sends, packets, told, take_turn}
-use Rattle.mqtt_inbound.proofs.Identifiers.{test_cases, same_id}
+use Rattle.mqtt_flow_inbound.proofs.Identifiers.{test_cases, same_id}
 use Rattle.mqtt_flow.proofs.outbound.SessionLives.{life, life_by, seen, placed-after, IsAt, split-after, sends-split, misses_before, life-append, Passed, AllPassed, pumped-split, pump_sends-split, lapse_at-split}
 
 -- a sent copy is within the receiver's Maximum Packet Size, since that is the same on each of its lines

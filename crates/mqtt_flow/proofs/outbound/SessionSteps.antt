@@ -14,7 +14,7 @@ use Rattle.mqtt_flow.specs.declared.entry.Turn.TheVariants.{Repeat}
 use Rattle.mqtt_flow.specs.Queue.{Ascends, entering}
 use Rattle.mqtt_flow.specs.Outbound as rules
 use Rattle.mqtt_flow.specs.Outbound.{has_room, way_made, unsent, anew, by_order, due_of, due_from, resumed_with}
-use Rattle.mqtt_inbound.specs.Line.{Link, away, asked, live}
+use Rattle.mqtt_flow_inbound.specs.Line.{Link, away, asked, live}
 use Rattle.mqtt_flow.specs.Receiver.{Body, Output, connack, no_connack, publish, pubrel, disconnect, Answer, connect, puback, pubrec, pubcomp, spared, read_publish, read_connack, leaves, down_comes, gives_up, joins}
 use Rattle.mqtt_flow.proofs.outbound.Lives.{Life, waiting, find, cut, pubrels, answered, on_puback, on_pubrec, on_pubcomp, puback_reply, pubrec_reply, pubcomp_reply}
 use Rattle.mqtt_flow.proofs.outbound.Lives as copies
@@ -22,7 +22,7 @@ use Rattle.mqtt_flow.proofs.outbound.LivesWorld as lives
 use Rattle.mqtt_flow.proofs.outbound.LivesWorld.{put_at, arranged}
 use Rattle.mqtt_flow.specs.OutboundWorld as world
 use Rattle.mqtt_flow.specs.OutboundWorld.{TopicAndPayload, Lot, standing, past, queue_of, World, is_granted, body, all_packets, told, take_turn, take_turns, pushes, enters, renewed, made_new, resumed, connects, connects_old, replied, replied_old, up_comes, old_comes, Event, enter, expire, pump, to_broker, old_to_broker, to_end, give_up, break_line, make_line, close, close_old, restart, step, start, run}
-use Rattle.mqtt_inbound.proofs.Identifiers.{test_cases}
+use Rattle.mqtt_flow_inbound.proofs.Identifiers.{test_cases}
 use Rattle.mqtt_flow.proofs.outbound.Stages.{Norm, Good, Stage, free, idle, publishing, receiving, acking, releasing, completing, held_of, Blank, no_line, is_asked, was_shut}
 use Rattle.mqtt_flow.proofs.outbound.ReceiverReads.{runs}
 use Rattle.mqtt_flow.proofs.outbound.Queues.{ascends-push, ascends-anew}

@@ -2,15 +2,15 @@
 use Rattle.std.proofs.Common.{◌≡◌, ◌⊎◌, inl, inr, ⊎_elim, ℕ, zero, suc, ◌+◌, ◌<◌, ◌≤◌, Bool, true, false, cond, ◌&&◌, List, [], ◌∷◌, ◌++◌, length, nat_eq, if◌then◌else◌, filter, refl, sym, ap, ◌∙◌, arith, Option, Some, None, slice_get, append_assoc, add-zero, eqb-true}
 use Rattle.std.specs.List.{list_any}
 use Rattle.std.proofs.lemmas.Bool.Decides.{nat_tests}
-use Rattle.mqtt_inbound.specs.Identifiers.{is_among}
+use Rattle.mqtt_flow_inbound.specs.Identifiers.{is_among}
 use Rattle.mqtt_base.specs.declared.Ending.{Ending}
 use Rattle.mqtt_base.specs.declared.Ending.TheVariants.{Taken, Refused, Expired, TooLarge, SessionEnded, Dropped}
-use Rattle.mqtt_inbound.specs.Line.{Link, away, asked, live}
+use Rattle.mqtt_flow_inbound.specs.Line.{Link, away, asked, live}
 use Rattle.mqtt_flow.specs.Receiver.{Body, Output, connack, no_connack, publish, pubrel, disconnect, Answer, connect, puback, pubrec, pubcomp, Handed, handed, Rising, spared}
 use Rattle.mqtt_flow.proofs.outbound.LivesWorld.{put_at, arranged}
 use Rattle.mqtt_flow.proofs.outbound.Lives.{Mark, sent, released, Life, waiting, in_flight, ended, pids, find, pubrels}
 use Rattle.mqtt_flow.proofs.outbound.LivesWorld.{World}
-use Rattle.mqtt_inbound.proofs.Identifiers.{test_cases, same_id}
+use Rattle.mqtt_flow_inbound.proofs.Identifiers.{test_cases, same_id}
 
 abbrev pub up_about : ℕ → Answer → Bool
 up_about i (connect c) = false

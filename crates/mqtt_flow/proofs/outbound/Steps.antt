@@ -1,10 +1,10 @@
 -- What connections and answers do to each identifier and each copy.
 use Rattle.std.proofs.Common.{◌≡◌, inl, inr, ⊎_elim, ℕ, suc, ◌≤◌, Bool, true, false, cond, ◌&&◌, List, [], ◌∷◌, ◌++◌, map, nat_eq, refl, sym, ap, ◌∙◌, arith, Option, Some, None, option_map, eqb-true}
-use Rattle.mqtt_inbound.specs.Identifiers.{is_among}
+use Rattle.mqtt_flow_inbound.specs.Identifiers.{is_among}
 use Rattle.mqtt_flow.specs.Receiver.{Body, Output, connack, pubrel, Answer, puback, pubrec, pubcomp, Handed, handed}
 use Rattle.mqtt_flow.proofs.outbound.LivesWorld.{arranged}
 use Rattle.mqtt_flow.proofs.outbound.Lives.{Mark, sent, released, Life, waiting, in_flight, ended, unsent, anew, pubrels, cut, Turn, stay, over, turned, answered, on_puback, on_pubrec, on_pubcomp}
-use Rattle.mqtt_inbound.proofs.Identifiers.{test_cases, same_id}
+use Rattle.mqtt_flow_inbound.proofs.Identifiers.{test_cases, same_id}
 use Rattle.mqtt_flow.proofs.outbound.Stages.{OneAtMost, downs-arranged, ups, downs, up_about, Copy_of, Copy, holding, held, Stage, free, idle, publishing, receiving, acking, releasing, completing, held_of, up_of, down_of, open_of, Fits, AtMost, Way, At, Told, Weak, Was_read, Settled, at_most_none, at_most_more, at_head}
 use Rattle.mqtt_flow.proofs.outbound.Sends.{by_id, way_some, way_same, same_stage}
 

@@ -9,7 +9,7 @@ use Rattle.mqtt_flow.specs.Pacing.{Pacing}
 use Rattle.mqtt_flow.specs.Queue.{in_window}
 use Rattle.mqtt_flow.specs.Outbound.{Verdict, pass, verdict, verdict_by, step_by, then_on, pump_from, pace, pace_known, pump}
 use Rattle.mqtt_flow.specs.Stillness.{stirs, stirs_by, AllStill, Foreknown, front_still}
-use Rattle.mqtt_inbound.proofs.Identifiers.{test_cases}
+use Rattle.mqtt_flow_inbound.proofs.Identifiers.{test_cases}
 
 pass_still : (way : Way) (copy : QueuedCopy) (here : Bool) (phase : Phase) → stirs_by here phase ≡ false → verdict_by way copy here phase ≡ pass
 pass_still way copy here Waiting h = absurd (cc)

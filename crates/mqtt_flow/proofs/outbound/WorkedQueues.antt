@@ -12,7 +12,7 @@ use Rattle.mqtt_flow.specs.declared.entry.QueueLimits.{QueueLimits}
 use Rattle.mqtt_flow.specs.declared.entry.QueuedCopy.{QueuedCopy}
 use Rattle.mqtt_flow.specs.declared.entry.Turn.TheVariants.{Send, Resend, Release, Outgrow, Repeat, Unknown, Leave}
 use Rattle.mqtt_flow.specs.declared.entry.Way.{Way}
-use Rattle.mqtt_inbound.specs.declared.fault.FlowFault.TheVariants.{WrongStep}
+use Rattle.mqtt_flow_inbound.specs.declared.fault.FlowFault.TheVariants.{WrongStep}
 use Rattle.mqtt_flow.specs.Outbound.{has_room, way_made, expired, pump, puback, pubrec, pubcomp, resumed_with}
 use Rattle.mqtt_flow.specs.OutboundWorld as world
 use Rattle.mqtt_flow.specs.OutboundWorld.{TopicAndPayload, Lot, standing, past, run, start}

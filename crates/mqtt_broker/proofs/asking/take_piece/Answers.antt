@@ -1,7 +1,7 @@
 use Rattle.std.proofs.Common.{◌≡◌, ℕ, ◌≤◌, Bool, List, length, sym, ap, subst, ◌∙◌}
-use Rattle.mqtt_opening.specs.TheRules.Piece.{without_first}
-use Rattle.mqtt_framing.specs.Framers.{HeldLine, changed_at, framing_at, given_back}
-use Rattle.mqtt_opening.specs.Outcome.{Outcome}
+use Rattle.mqtt_rules.specs.Piece.{without_first}
+use Rattle.mqtt_broker.specs.Framers.{HeldLine, changed_at, framing_at, given_back}
+use Rattle.mqtt_broker_engine.specs.declared.outcome.Outcome.{Outcome}
 use Rattle.mqtt_broker.specs.Serving.{without_closed}
 use Rattle.mqtt_broker.proofs.Pieced.{piece_done, piece_fits, piece_refused}
 use Rattle.mqtt_broker.proofs.asking.take_piece.Goals as goal

@@ -1,7 +1,7 @@
 -- The packet that was judged by its kind's laws.
 use Rattle.std.proofs.Common.{Result, subst}
-use Rattle.mqtt_fields.specs.declared.fault.Fault.{Fault}
-use Rattle.mqtt_fields.specs.Reading.{Gives}
+use Rattle.mqtt_codec_parts.specs.declared.fault.Fault.{Fault}
+use Rattle.mqtt_codec_parts.specs.Reading.{Gives}
 use Rattle.mqtt_codec.specs.declared.packet.Packet.{Packet}
 use Rattle.mqtt_codec.specs.Frames.{packet_of}
 use Rattle.mqtt_codec.proofs.JudgedLemmas.{lawful_is}

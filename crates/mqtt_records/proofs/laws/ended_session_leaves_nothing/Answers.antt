@@ -1,10 +1,10 @@
 use Rattle.std.proofs.Common.{Bool, cond, ap, ◌∙◌}
 use Rattle.std.specs.Prelude.{None}
 use Rattle.std.proofs.lemmas.Cmp.{nat_eq_equiv}
-use Rattle.mqtt_rows.specs.Order.{row_at}
+use Rattle.mqtt_records_rows.specs.Order.{row_at}
 use Rattle.mqtt_records.specs.Session.{birth_of}
-use Rattle.mqtt_rows.proofs.OrderLemmas.{apart}
-use Rattle.mqtt_rows.proofs.LookUps.{row_at-remove_row}
+use Rattle.mqtt_records_rows.proofs.OrderLemmas.{apart}
+use Rattle.mqtt_records_rows.proofs.LookUps.{row_at-remove_row}
 use Rattle.mqtt_records.proofs.laws.ended_session_leaves_nothing.Goals as goal
 
 pub returns-clause-gone : goal.returns-clause-gone

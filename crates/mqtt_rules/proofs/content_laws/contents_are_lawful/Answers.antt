@@ -1,5 +1,5 @@
-use Rattle.mqtt_rules.proofs.ContentLaw.{step_contents, opening_contents}
-use Rattle.mqtt_rules.proofs.SpelledContents.{packets_are, rows_are, retained_message, will_message}
+use Rattle.mqtt_rules.proofs.contents.ContentLaw.{step_contents, opening_contents}
+use Rattle.mqtt_rules.proofs.contents.SpelledContents.{packets_are, rows_are, retained_message, will_message}
 use Rattle.mqtt_rules.proofs.content_laws.contents_are_lawful.Goals as goal
 
 pub returns-clause-step : goal.returns-clause-step

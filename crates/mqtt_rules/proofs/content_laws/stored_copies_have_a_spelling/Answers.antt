@@ -1,4 +1,4 @@
-use Rattle.mqtt_rules.proofs.SpelledContents.{copy_spelled, copy_message}
+use Rattle.mqtt_rules.proofs.contents.SpelledContents.{copy_spelled, copy_message}
 use Rattle.mqtt_rules.proofs.content_laws.stored_copies_have_a_spelling.Goals as goal
 
 pub returns-clause-spelled : goal.returns-clause-spelled

@@ -1,4 +1,4 @@
-use Rattle.mqtt_rules.proofs.CopySizes.{sent_size, first_size}
+use Rattle.mqtt_rules.proofs.contents.CopySizes.{sent_size, first_size}
 use Rattle.mqtt_rules.proofs.copy_laws.copies_keep_their_size.Goals as goal
 
 pub returns-clause-size : goal.returns-clause-size

@@ -1,4 +1,4 @@
-use Rattle.mqtt_rules.proofs.RowsFit.{step_fits, step_coherent, step_last, opening_fits, opening_coherent, opened_last, nothing_coherent}
+use Rattle.mqtt_rules.proofs.fit.RowsFit.{step_fits, step_coherent, step_last, opening_fits, opening_coherent, opened_last, nothing_coherent}
 use Rattle.mqtt_rules.proofs.fit_laws.rows_always_fit.Goals as goal
 
 pub returns-clause-nothing : goal.returns-clause-nothing

@@ -1,4 +1,4 @@
-use Rattle.mqtt_rules.proofs.FlightStep.{step_keeps, opening_keeps}
+use Rattle.mqtt_rules.proofs.flight.FlightStep.{step_keeps, opening_keeps}
 use Rattle.mqtt_rules.proofs.flight_laws.identifiers_in_flight_are_unique.Goals as goal
 
 pub returns-clause-step : goal.returns-clause-step

@@ -1,5 +1,5 @@
-use Rattle.mqtt_rules.proofs.LawfulContents.{lawful_contents}
-use Rattle.mqtt_rules.proofs.LawfulRecords.{lawful_coherent, lawful_accepted}
+use Rattle.mqtt_rules.proofs.contents.LawfulContents.{lawful_contents}
+use Rattle.mqtt_rules.proofs.fit.LawfulRecords.{lawful_coherent, lawful_accepted}
 use Rattle.mqtt_rules.proofs.lawful_laws.lawful_records_may_be_opened.Goals as goal
 
 pub returns-clause-coherent : goal.returns-clause-coherent

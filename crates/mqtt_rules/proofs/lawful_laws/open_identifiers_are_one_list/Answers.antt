@@ -1,4 +1,4 @@
-use Rattle.mqtt_rules.proofs.OpenLists.{increasing_there, ascending_of}
+use Rattle.mqtt_rules.proofs.order.OpenLists.{increasing_there, ascending_of}
 use Rattle.mqtt_rules.proofs.lawful_laws.open_identifiers_are_one_list.Goals as goal
 
 pub returns : goal.returns

@@ -1,7 +1,7 @@
 use Rattle.mqtt_rules.specs.State.{stored}
 use Rattle.mqtt_rules.specs.Step.{stepped}
 use Rattle.mqtt_rules.specs.Laws.{after_events, blank}
-use Rattle.mqtt_rules.proofs.OrderedSteps.{step-ordered, run-ordered, few_open}
+use Rattle.mqtt_rules.proofs.order.OrderedSteps.{step-ordered, run-ordered, few_open}
 use Rattle.mqtt_rules.proofs.laws.at_most_twenty_open.Goals as goal
 
 pub returns-clause-run : goal.returns-clause-run

@@ -1,5 +1,5 @@
-use Rattle.mqtt_rules.proofs.OrderedLimits.{step_sessions, opening_sessions, step_retained, opening_retained}
-use Rattle.mqtt_rules.proofs.OrderedFull.{step_queues, opening_queues}
+use Rattle.mqtt_rules.proofs.order.OrderedLimits.{step_sessions, opening_sessions, step_retained, opening_retained}
+use Rattle.mqtt_rules.proofs.order.OrderedFull.{step_queues, opening_queues}
 use Rattle.mqtt_rules.proofs.laws.limits_are_kept.Goals as goal
 
 pub returns-clause-sessions : goal.returns-clause-sessions

@@ -1,5 +1,5 @@
 use Rattle.mqtt_rules.specs.Step.{deeds, at_moment, env_of, opening, unopened}
-use Rattle.mqtt_rules.proofs.StoredLaw.{rows_store, without_row}
+use Rattle.mqtt_rules.proofs.fit.StoredLaw.{rows_store, without_row}
 use Rattle.mqtt_rules.proofs.laws.stored_part_follows.Goals as goal
 
 pub returns-clause-step : goal.returns-clause-step

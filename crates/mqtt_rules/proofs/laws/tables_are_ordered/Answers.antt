@@ -1,5 +1,5 @@
-use Rattle.mqtt_rules.proofs.Ordered.{nothing-ordered, changed-ordered}
-use Rattle.mqtt_rules.proofs.OrderedSteps.{step-ordered, opening-ordered, run-ordered}
+use Rattle.mqtt_rules.proofs.order.Ordered.{nothing-ordered, changed-ordered}
+use Rattle.mqtt_rules.proofs.order.OrderedSteps.{step-ordered, opening-ordered, run-ordered}
 use Rattle.mqtt_rules.proofs.laws.tables_are_ordered.Goals as goal
 
 pub returns-clause-nothing : goal.returns-clause-nothing

@@ -1,5 +1,5 @@
-use Rattle.mqtt_rules.proofs.LineSteps.{step_unique, opening_unique, blank_unique}
-use Rattle.mqtt_rules.proofs.LineLaw.{line_found, line_none}
+use Rattle.mqtt_rules.proofs.lines.LineSteps.{step_unique, opening_unique, blank_unique}
+use Rattle.mqtt_rules.proofs.lines.LineLaw.{line_found, line_none}
 use Rattle.mqtt_rules.proofs.line_laws.lines_are_unique.Goals as goal
 
 pub returns-clause-nothing : goal.returns-clause-nothing

@@ -1,4 +1,4 @@
-use Rattle.mqtt_rules.proofs.NumberOrder.{step_order, opening_order, nothing_order}
+use Rattle.mqtt_rules.proofs.numbers.NumberOrder.{step_order, opening_order, nothing_order}
 use Rattle.mqtt_rules.proofs.number_laws.births_and_places_are_unique.Goals as goal
 
 pub returns-clause-step : goal.returns-clause-step

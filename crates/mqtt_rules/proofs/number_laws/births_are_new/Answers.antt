@@ -1,7 +1,7 @@
 use Rattle.std.specs.Prelude.{suc}
 use Rattle.mqtt_records.specs.Session.{birth_of}
-use Rattle.mqtt_rules.proofs.NumberBirths.{below_none}
-use Rattle.mqtt_rules.proofs.NumberSteps.{step_given, opening_given}
+use Rattle.mqtt_rules.proofs.numbers.NumberBirths.{below_none}
+use Rattle.mqtt_rules.proofs.numbers.NumberSteps.{step_given, opening_given}
 use Rattle.mqtt_rules.proofs.number_laws.births_are_new.Goals as goal
 
 pub returns-clause-step : goal.returns-clause-step

@@ -1,4 +1,4 @@
-use Rattle.mqtt_rules.proofs.NumberCopies.{step_accepted, opening_accepted}
+use Rattle.mqtt_rules.proofs.numbers.NumberCopies.{step_accepted, opening_accepted}
 use Rattle.mqtt_rules.proofs.number_laws.copies_are_of_accepted_publications.Goals as goal
 
 pub returns-clause-step : goal.returns-clause-step

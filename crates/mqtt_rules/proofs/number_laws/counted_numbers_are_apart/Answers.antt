@@ -1,4 +1,4 @@
-use Rattle.mqtt_rules.proofs.NumberSteps.{counts_above, counts_ascend, counts_many}
+use Rattle.mqtt_rules.proofs.numbers.NumberSteps.{counts_above, counts_ascend, counts_many}
 use Rattle.mqtt_rules.proofs.number_laws.counted_numbers_are_apart.Goals as goal
 
 pub returns-clause-above : goal.returns-clause-above

@@ -1,4 +1,4 @@
-use Rattle.mqtt_rules.proofs.NumberSteps.{step_fell, opening_fell, step_timed, opening_timed}
+use Rattle.mqtt_rules.proofs.numbers.NumberSteps.{step_fell, opening_fell, step_timed, opening_timed}
 use Rattle.mqtt_rules.proofs.number_laws.counters_never_fall.Goals as goal
 
 pub returns-clause-step : goal.returns-clause-step

@@ -1,7 +1,7 @@
 use Rattle.mqtt_records.specs.Session.{copy_place}
 use Rattle.mqtt_records.specs.Records.{kept_place}
-use Rattle.mqtt_rules.proofs.NumberBirths.{below_next}
-use Rattle.mqtt_rules.proofs.NumberPlaces.{grants_place}
+use Rattle.mqtt_rules.proofs.numbers.NumberBirths.{below_next}
+use Rattle.mqtt_rules.proofs.numbers.NumberPlaces.{grants_place}
 use Rattle.mqtt_rules.proofs.number_laws.new_places_are_last.Goals as goal
 
 pub returns-clause-copy : goal.returns-clause-copy

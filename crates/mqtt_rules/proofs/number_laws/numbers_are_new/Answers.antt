@@ -1,4 +1,4 @@
-use Rattle.mqtt_rules.proofs.NumberSteps.{step_counts, opening_counts}
+use Rattle.mqtt_rules.proofs.numbers.NumberSteps.{step_counts, opening_counts}
 use Rattle.mqtt_rules.proofs.number_laws.numbers_are_new.Goals as goal
 
 pub returns-clause-step : goal.returns-clause-step

@@ -1,5 +1,5 @@
-use Rattle.mqtt_rules.proofs.OrderedAccepted.{accepted_within}
-use Rattle.mqtt_rules.proofs.Entered.{has_entered}
+use Rattle.mqtt_rules.proofs.order.OrderedAccepted.{accepted_within}
+use Rattle.mqtt_rules.proofs.order.Entered.{has_entered}
 use Rattle.mqtt_rules.proofs.routing_laws.copies_find_room.Goals as goal
 
 pub returns-clause-accepted : goal.returns-clause-accepted

@@ -1,5 +1,5 @@
 use Rattle.std.proofs.Common.{refl}
-use Rattle.mqtt_rules.proofs.Reached.{serve_apart, member_reached}
+use Rattle.mqtt_rules.proofs.acts.Reached.{serve_apart, member_reached}
 use Rattle.mqtt_rules.proofs.routing_laws.members_are_reached.Goals as goal
 
 pub returns-clause-free : goal.returns-clause-free

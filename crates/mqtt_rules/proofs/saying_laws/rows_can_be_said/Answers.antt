@@ -1,4 +1,4 @@
-use Rattle.mqtt_rules.proofs.SayableRows.{step_said, opening_said}
+use Rattle.mqtt_rules.proofs.contents.SayableRows.{step_said, opening_said}
 use Rattle.mqtt_rules.proofs.saying_laws.rows_can_be_said.Goals as goal
 
 pub returns-clause-step : goal.returns-clause-step

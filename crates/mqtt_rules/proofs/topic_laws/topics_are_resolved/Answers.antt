@@ -1,9 +1,9 @@
 use Rattle.std.proofs.Common.{◌∙◌}
 use Rattle.mqtt_props.specs.declared.table.PropName.TheVariants.{SubscriptionIdentifier, TopicAlias}
 use Rattle.mqtt_props.specs.Laws.{has}
-use Rattle.mqtt_rules.specs.Packets.{number_at}
+use Rattle.mqtt_records_message.specs.PassedOn.{number_at}
 use Rattle.mqtt_rules.specs.Inbound.{resolved}
-use Rattle.mqtt_rules.proofs.Meanings.{resolved_means, resolved_only, resolved_refused, unless_identified, if_identified, identified_only}
+use Rattle.mqtt_rules.proofs.acts.Meanings.{resolved_means, resolved_only, resolved_refused, unless_identified, if_identified, identified_only}
 use Rattle.mqtt_rules.proofs.topic_laws.topics_are_resolved.Goals as goal
 
 pub returns-clause-name : goal.returns-clause-name

@@ -4,9 +4,9 @@ use Rattle.sqlite.specs.Held.{state}
 use Rattle.sqlite.specs.State.{HasCleanDisk}
 use Rattle.sqlite.proofs.StateLemmas.{survives_then}
 use Rattle.mqtt_records.specs.Records.{changed_all}
-use Rattle.mqtt_sql_kept.specs.Written.{KeepsRows}
-use Rattle.mqtt_sql_changes.specs.Making.{MayCommit}
-use Rattle.mqtt_sql_changes.specs.Shortened.{shortened}
+use Rattle.mqtt_store_laws.specs.Written.{KeepsRows}
+use Rattle.mqtt_store.specs.Making.{MayCommit}
+use Rattle.mqtt_store.specs.Shortened.{shortened}
 use Rattle.mqtt_store.proofs.Held.{has_now, step_leaves}
 use Rattle.mqtt_store.proofs.Applies.{settled_of, ready_of, ready_still, IsEither, keeps_old, needs_old, keeps_made, only_steps}
 use Rattle.mqtt_store.proofs.apply.apply_all.Goals as goal

@@ -1,8 +1,8 @@
 -- By the name that is looked at.
 use Rattle.std.proofs.Common.{◌≡◌, ◌||◌, ℕ, Bool, List, get_or, true, ap, arith, sym, ◌∙◌}
 use Rattle.std.proofs.lemmas.List.Folds.{list_any_at, list_any_more}
-use Rattle.mqtt_laws.specs.World.{is_end}
-use Rattle.mqtt_clients.specs.Ends.{in_world}
+use Rattle.mqtt_world_model.specs.World.{is_end}
+use Rattle.mqtt_world_clients.specs.Ends.{in_world}
 use Rattle.mqtt_world.proofs.visits.is_end_among.Goals as goal
 
 pub returns-then-is_end : goal.returns-then-is_end

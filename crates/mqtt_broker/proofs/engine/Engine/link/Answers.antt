@@ -1,7 +1,7 @@
 use Rattle.std.proofs.Common.{◌≡◌, rules, ℕ, List, Option, Some, None, [], ◌∷◌, ◌++◌, sym, ap, subst, ◌∙◌}
-use Rattle.mqtt_opening.specs.TheRules.Step.{nothing_told}
-use Rattle.mqtt_framing.specs.Framers.{HeldLine, begun}
-use Rattle.mqtt_opening.specs.TheTables.Doing.{next_line}
+use Rattle.mqtt_rules.specs.Step.{nothing_told}
+use Rattle.mqtt_broker.specs.Framers.{HeldLine, begun}
+use Rattle.mqtt_broker_step.specs.Doing.{next_line}
 use Rattle.mqtt_broker.specs.Serving.{IsOfLines, with_linked}
 use Rattle.mqtt_broker.proofs.Linking.{linked_row, of_lines_link}
 use Rattle.mqtt_broker.proofs.engine.Engine.link.Goals as goal

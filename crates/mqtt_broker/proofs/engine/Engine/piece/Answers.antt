@@ -1,8 +1,8 @@
 use Rattle.std.proofs.Common.{◌≡◌, rules, true, false, refl, sym, ap, subst, ◌∙◌}
 use Rattle.std.specs.Prelude.{Ok}
-use Rattle.mqtt_rows.specs.Order.{has_row}
-use Rattle.mqtt_opening.specs.TheRules.State.{line_at}
-use Rattle.mqtt_framing.specs.Framers.{line_of}
+use Rattle.mqtt_records_rows.specs.Order.{has_row}
+use Rattle.mqtt_rules.specs.State.{line_at}
+use Rattle.mqtt_broker.specs.Framers.{line_of}
 use Rattle.mqtt_broker.specs.Piece.{PieceCalled}
 use Rattle.mqtt_broker.specs.Serving.{Serving, serving}
 use Rattle.mqtt_broker.proofs.Pieced.{passed_piece}

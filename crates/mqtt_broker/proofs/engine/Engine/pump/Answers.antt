@@ -1,8 +1,8 @@
 use Rattle.std.proofs.Common.{◌≡◌, rules, true, false, refl, sym, ap, subst, ◌∙◌}
-use Rattle.mqtt_rows.specs.Order.{has_row}
-use Rattle.mqtt_opening.specs.TheRules.State.{Broker, line_at}
-use Rattle.mqtt_opening.specs.TheRules.Step.{Pump}
-use Rattle.mqtt_framing.specs.Framers.{line_of}
+use Rattle.mqtt_records_rows.specs.Order.{has_row}
+use Rattle.mqtt_rules.specs.State.{Broker, line_at}
+use Rattle.mqtt_rules.specs.Step.{Pump}
+use Rattle.mqtt_broker.specs.Framers.{line_of}
 use Rattle.mqtt_broker.specs.Serving.{Served, Serving, serving}
 use Rattle.mqtt_broker.proofs.Serving.{linked_line, of_lines_called, unlinked_line}
 use Rattle.mqtt_broker.proofs.engine.Engine.pump.Goals as goal

@@ -1,4 +1,4 @@
-use Rattle.mqtt_opening.specs.TheRules.Step.{Tick}
+use Rattle.mqtt_rules.specs.Step.{Tick}
 use Rattle.mqtt_broker.proofs.Serving.{of_lines_called}
 use Rattle.mqtt_broker.proofs.engine.Engine.tick.Goals as goal
 

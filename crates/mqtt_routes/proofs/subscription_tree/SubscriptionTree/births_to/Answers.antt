@@ -2,7 +2,7 @@ use Rattle.std.proofs.Common.{◌≡◌, ◌≤◌, ◌<◌, ℕ, true, get_or, 
 use Rattle.std.specs.List.{list_any}
 use Rattle.std.proofs.lemmas.List.{take_all}
 use Rattle.std.proofs.lemmas.List.Sorted.{list_any-IsPermutation}
-use Rattle.mqtt_tree.specs.Tree.{AreOrdered, AreMatching}
+use Rattle.mqtt_routes_tree.specs.Tree.{AreOrdered, AreMatching}
 use Rattle.mqtt_routes.specs.Spots.{AreBirths, IsIndex, births_once, texts_of}
 use Rattle.mqtt_routes.proofs.IndexLemmas.{nowhere, ordered_from}
 use Rattle.mqtt_routes.proofs.BirthLemmas.{once_rises, once_keeps}

@@ -3,7 +3,7 @@ use Rattle.std.specs.Prelude.{nat_le}
 use Rattle.std.specs.Vec.{vec_capacity, vec_len}
 use Rattle.std.proofs.lemmas.Result.{err_from_is_err_and, on_ok_weaker, on_err_weaker}
 use Rattle.mqtt_base.specs.declared.limits.TheConstants.{SUBSCRIPTION_LIMIT}
-use Rattle.mqtt_tree.specs.Tree.{AreOrdered, IsPlace}
+use Rattle.mqtt_routes_tree.specs.Tree.{AreOrdered, IsPlace}
 use Rattle.mqtt_topic.specs.Filters.{matching_part_of}
 use Rattle.mqtt_routes.specs.declared.spot.Spot.{Spot}
 use Rattle.mqtt_routes.specs.Subscriptions.{has_filter, subs_of, room_of, subscribed}

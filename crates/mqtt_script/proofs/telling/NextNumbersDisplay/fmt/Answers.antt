@@ -1,7 +1,7 @@
 use Rattle.std.proofs.Common.{rules}
 use Rattle.std.proofs.Output.{has_written_append, has_written_of_eq}
 use Rattle.mqtt_script.specs.Telling.{next_number}
-use Rattle.mqtt_escaped.proofs.Bytewise.{flat_map_take}
+use Rattle.mqtt_base.proofs.Bytewise.{flat_map_take}
 use Rattle.mqtt_script.proofs.telling.NextNumbersDisplay.fmt.Goals as goal
 
 pub loop-number-preserved : goal.loop-number-preserved

@@ -1,6 +1,6 @@
 -- By one packet more.
 use Rattle.std.proofs.Common.{◌+◌, arith}
-use Rattle.mqtt_laws.specs.World.{ask, to_broker}
+use Rattle.mqtt_world_model.specs.World.{ask, to_broker}
 use Rattle.mqtt_world.proofs.Drained.{all_answered, none_yet, one_more, packets_from}
 use Rattle.mqtt_world.proofs.scene.Scene.answer_all.Goals as goal
 

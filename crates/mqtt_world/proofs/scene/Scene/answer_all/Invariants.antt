@@ -1,5 +1,5 @@
 -- So many packets were read.
-use Rattle.mqtt_laws.specs.World.{ask, to_broker}
+use Rattle.mqtt_world_model.specs.World.{ask, to_broker}
 use Rattle.mqtt_world.specs.Draining.{GoesOn, so_often}
 use Rattle.mqtt_world.proofs.scene.Scene.answer_all.Given as goal
 

@@ -1,5 +1,5 @@
 -- By what it tells, added.
-use Rattle.mqtt_laws.specs.World.{ask, to_broker}
+use Rattle.mqtt_world_model.specs.World.{ask, to_broker}
 use Rattle.mqtt_script_laws.proofs.OneTurn.{answers_once}
 use Rattle.mqtt_world.proofs.Drained.{goes_added}
 use Rattle.mqtt_world.proofs.scene.Scene.answer_one.Goals as goal

@@ -1,7 +1,7 @@
 -- By what each asking does.
 use Rattle.std.proofs.Common.{subst}
 use Rattle.std.specs.Prelude.{IfOk}
-use Rattle.mqtt_laws.specs.World.{Asking, ask}
+use Rattle.mqtt_world_model.specs.World.{Asking, ask}
 use Rattle.mqtt_world.specs.Events.{Does}
 use Rattle.mqtt_world.proofs.TakenOff.{broken_as, not_plain, pumped_as, read_as, ticked_as}
 use Rattle.mqtt_world.proofs.scene.Scene.ask.Goals as goal

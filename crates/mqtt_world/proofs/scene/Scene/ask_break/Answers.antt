@@ -1,7 +1,7 @@
 -- By what its calls make of the broker and the ends.
 use Rattle.std.proofs.Common.{not, ap, sym, ◌∙◌, inl, refl}
-use Rattle.mqtt_broker.specs.TheRules.Step.{Lost}
-use Rattle.mqtt_laws.specs.World.{ask, break, has_line, lost_on}
+use Rattle.mqtt_rules.specs.Step.{Lost}
+use Rattle.mqtt_world_model.specs.World.{ask, break, has_line, lost_on}
 use Rattle.mqtt_world.specs.Events.{played, world_of}
 use Rattle.mqtt_world.proofs.Eventful.{bad_from, called_left, nothing_from}
 use Rattle.mqtt_world.proofs.scene.Scene.ask_break.Goals as goal

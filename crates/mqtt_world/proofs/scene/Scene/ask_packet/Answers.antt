@@ -1,7 +1,7 @@
 -- By what its calls make of the broker and the ends.
 use Rattle.std.proofs.Common.{◌≡◌, true, inl, sym, ap, subst, option_map, ◌∙◌}
-use Rattle.mqtt_laws.specs.World.{ask, before, is_end}
-use Rattle.mqtt_clients.specs.Ends.{Ends, in_world, input_of, reading}
+use Rattle.mqtt_world_model.specs.World.{ask, before, is_end}
+use Rattle.mqtt_world_clients.specs.Ends.{Ends, in_world, input_of, reading}
 use Rattle.mqtt_world.specs.Events.{played, world_of}
 use Rattle.mqtt_world.proofs.Eventful.{bad_from, ends_of, nothing_from, reading_bad, reading_good, reading_leaves, reading_plain}
 use Rattle.mqtt_world.proofs.scene.Scene.ask_packet.Goals as goal

@@ -1,7 +1,7 @@
 -- By what its calls make of the broker and the ends.
 use Rattle.std.proofs.Common.{not, ap, sym, ◌∙◌, inl, refl}
-use Rattle.mqtt_broker.specs.TheRules.Step.{Pump}
-use Rattle.mqtt_laws.specs.World.{ask, pump, pump_on}
+use Rattle.mqtt_rules.specs.Step.{Pump}
+use Rattle.mqtt_world_model.specs.World.{ask, pump, pump_on}
 use Rattle.mqtt_world.specs.Events.{played, world_of}
 use Rattle.mqtt_world.proofs.Eventful.{bad_from, called_whole, nothing_whole}
 use Rattle.mqtt_world.proofs.scene.Scene.ask_pump.Goals as goal

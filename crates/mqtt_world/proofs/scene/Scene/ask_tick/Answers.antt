@@ -1,7 +1,7 @@
 -- By what its calls make of the broker and the ends.
 use Rattle.std.proofs.Common.{refl}
-use Rattle.mqtt_broker.specs.TheRules.Step.{Tick}
-use Rattle.mqtt_laws.specs.World.{tick}
+use Rattle.mqtt_rules.specs.Step.{Tick}
+use Rattle.mqtt_world_model.specs.World.{tick}
 use Rattle.mqtt_world.proofs.Eventful.{called_whole}
 use Rattle.mqtt_world.proofs.scene.Scene.ask_tick.Goals as goal
 

@@ -1,6 +1,6 @@
 -- By what its calls make of the broker and the ends.
 use Rattle.std.proofs.Common.{not, ap, sym, ◌∙◌, inl}
-use Rattle.mqtt_laws.specs.World.{connect_end, is_away}
+use Rattle.mqtt_world_model.specs.World.{connect_end, is_away}
 use Rattle.mqtt_world.specs.Events.{played, world_of}
 use Rattle.mqtt_world.proofs.Eventful.{bad_from}
 use Rattle.mqtt_world.proofs.Joined.{joined, left_alone}

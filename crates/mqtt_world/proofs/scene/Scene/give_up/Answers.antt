@@ -1,6 +1,6 @@
 use Rattle.std.proofs.Common.{◌∙◌, ap, not, option_map, sym}
-use Rattle.mqtt_laws.specs.World.{World, give_up, has_line, link_of}
-use Rattle.mqtt_peers.specs.Lines as peers
+use Rattle.mqtt_world_model.specs.World.{World, give_up, has_line, link_of}
+use Rattle.mqtt_world_peers.specs.Lines as peers
 use Rattle.mqtt_world.proofs.Unasked.{done_at, refused, seen}
 use Rattle.mqtt_world.proofs.scene.Scene.give_up.Goals as goal
 

@@ -1,6 +1,6 @@
 -- By what bytes ask for.
 use Rattle.std.proofs.Common.{ℕ, Option, None, OnOk, arith, refl, subst, sym}
-use Rattle.mqtt_laws.specs.World.{call_on}
+use Rattle.mqtt_world_model.specs.World.{call_on}
 use Rattle.mqtt_world.specs.Visits.{Hears}
 use Rattle.mqtt_world.proofs.Calling.{heard_call, heard_no_bytes, heard_nothing, none_of, some_of}
 use Rattle.mqtt_world.proofs.scene.Scene.hear.Goals as goal

@@ -1,6 +1,6 @@
 -- By what a call of the engine is.
 use Rattle.std.proofs.Common.{sym}
-use Rattle.mqtt_broker.specs.TheRules.Step.{Input}
+use Rattle.mqtt_rules.specs.Step.{Input}
 use Rattle.mqtt_world.proofs.Answered.{answered_in}
 use Rattle.mqtt_world.proofs.scene.Scene.input.Goals as goal
 

@@ -1,7 +1,7 @@
 use Rattle.std.proofs.Common.{◌∙◌, ap, not, sym}
 use Rattle.std.specs.Prelude.{is_none, is_some}
-use Rattle.mqtt_laws.specs.World.{World, is_input, message_packet, publisher_named}
-use Rattle.mqtt_peers.specs.Publishers.{draft_of}
+use Rattle.mqtt_world_model.specs.World.{World, is_input, message_packet, publisher_named}
+use Rattle.mqtt_world_peers.specs.Publishers.{draft_of}
 use Rattle.mqtt_world.specs.Events.{world_of}
 use Rattle.mqtt_world.proofs.Unasked.{or_first, or_second, seen}
 use Rattle.mqtt_world.proofs.scene.Scene.is_bad_publish.Goals as goal

@@ -1,5 +1,5 @@
 use Rattle.std.proofs.Common.{◌∙◌, sym}
-use Rattle.mqtt_laws.specs.World.{is_bad_name, is_end}
+use Rattle.mqtt_world_model.specs.World.{is_bad_name, is_end}
 use Rattle.mqtt_world.specs.Events.{world_of}
 use Rattle.mqtt_world.proofs.Unasked.{or_second, seen}
 use Rattle.mqtt_world.proofs.scene.Scene.is_bad_publisher.Goals as goal

@@ -1,5 +1,5 @@
 use Rattle.std.proofs.Common.{◌∙◌, ap, not, sym}
-use Rattle.mqtt_laws.specs.World.{is_bad_name, is_end, is_window}
+use Rattle.mqtt_world_model.specs.World.{is_bad_name, is_end, is_window}
 use Rattle.mqtt_world.specs.Events.{world_of}
 use Rattle.mqtt_world.proofs.Unasked.{or_either, or_third}
 use Rattle.mqtt_world.proofs.scene.Scene.is_bad_receiver.Goals as goal

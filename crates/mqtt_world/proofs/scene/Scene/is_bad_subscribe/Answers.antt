@@ -1,6 +1,6 @@
 use Rattle.std.proofs.Common.{◌∙◌, ap, not, sym}
-use Rattle.mqtt_laws.specs.World.{World, is_wish, may_ask, receiver_named}
-use Rattle.mqtt_peers.specs.Receivers.{wish_of}
+use Rattle.mqtt_world_model.specs.World.{World, is_wish, may_ask, receiver_named}
+use Rattle.mqtt_world_peers.specs.Receivers.{wish_of}
 use Rattle.mqtt_world.specs.Events.{world_of}
 use Rattle.mqtt_world.proofs.Unasked.{or_first, or_second, seen}
 use Rattle.mqtt_world.proofs.scene.Scene.is_bad_subscribe.Goals as goal

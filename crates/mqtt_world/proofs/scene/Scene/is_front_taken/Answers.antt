@@ -1,6 +1,6 @@
 -- By the packet in front.
 use Rattle.std.proofs.Common.{sym, ap, option_map, ◌∙◌}
-use Rattle.mqtt_clients.specs.Ends.{input_of}
+use Rattle.mqtt_world_clients.specs.Ends.{input_of}
 use Rattle.mqtt_world.proofs.TakenOff.{none_in_front, some_in_front}
 use Rattle.mqtt_world.proofs.scene.Scene.is_front_taken.Goals as goal
 

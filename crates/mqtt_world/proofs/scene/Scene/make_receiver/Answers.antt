@@ -1,5 +1,5 @@
 use Rattle.std.proofs.Common.{◌≡◌, ◌∙◌, List, ap, rules, sym, ℕ}
-use Rattle.mqtt_laws.specs.World.{Stranger, is_bad, receiver}
+use Rattle.mqtt_world_model.specs.World.{Stranger, is_bad, receiver}
 use Rattle.mqtt_world.specs.Events.{world_of}
 use Rattle.mqtt_world.proofs.Unasked.{done_at, receiver_made, refused}
 use Rattle.mqtt_world.proofs.scene.Scene.make_receiver.Goals as goal

@@ -1,9 +1,9 @@
 -- By what the call does that the event comes to.
 use Rattle.std.proofs.Common.{ap, refl, Ok}
-use Rattle.mqtt_laws.specs.World as world
-use Rattle.mqtt_peers.specs.Publishers.{draft_of}
-use Rattle.mqtt_peers.specs.Receivers.{wish_of}
-use Rattle.mqtt_clients.specs.Ends.{reading}
+use Rattle.mqtt_world_model.specs.World as world
+use Rattle.mqtt_world_peers.specs.Publishers.{draft_of}
+use Rattle.mqtt_world_peers.specs.Receivers.{wish_of}
+use Rattle.mqtt_world_clients.specs.Ends.{reading}
 use Rattle.mqtt_script_laws.specs.Scripted.{event_of}
 use Rattle.mqtt_world.proofs.Pieces.{does_at, does_now, other_events, reads_event}
 use Rattle.mqtt_world.proofs.scene.Scene.play.Goals as goal

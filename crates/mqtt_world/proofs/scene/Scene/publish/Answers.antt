@@ -1,6 +1,6 @@
 use Rattle.std.proofs.Common.{sym}
-use Rattle.mqtt_laws.specs.World.{publish}
-use Rattle.mqtt_peers.specs.Publishers.{draft_of}
+use Rattle.mqtt_world_model.specs.World.{publish}
+use Rattle.mqtt_world_peers.specs.Publishers.{draft_of}
 use Rattle.mqtt_world.proofs.Unasked.{done_at, refused}
 use Rattle.mqtt_world.proofs.scene.Scene.publish.Goals as goal
 

@@ -1,6 +1,6 @@
 -- By what a call of the engine is.
 use Rattle.std.proofs.Common.{sym}
-use Rattle.mqtt_broker.specs.TheRules.Step.{Pump}
+use Rattle.mqtt_rules.specs.Step.{Pump}
 use Rattle.mqtt_world.proofs.Answered.{answered_in}
 use Rattle.mqtt_world.proofs.scene.Scene.pump.Goals as goal
 

@@ -1,6 +1,6 @@
 -- By one packet more.
 use Rattle.std.proofs.Common.{◌+◌, arith}
-use Rattle.mqtt_laws.specs.World.{to_end}
+use Rattle.mqtt_world_model.specs.World.{to_end}
 use Rattle.mqtt_world.proofs.Drained.{all_read, none_yet, one_more, packets_to}
 use Rattle.mqtt_world.proofs.scene.Scene.read_all.Goals as goal
 

@@ -1,6 +1,6 @@
 -- So many packets were read.
 use Rattle.std.proofs.Common.{ℕ}
-use Rattle.mqtt_laws.specs.World.{to_end}
+use Rattle.mqtt_world_model.specs.World.{to_end}
 use Rattle.mqtt_world.specs.Draining.{GoesOn, so_often}
 use Rattle.mqtt_world.proofs.scene.Scene.read_all.Given as goal
 

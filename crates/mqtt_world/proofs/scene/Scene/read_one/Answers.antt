@@ -1,5 +1,5 @@
 -- By what it tells, added.
-use Rattle.mqtt_laws.specs.World.{to_end}
+use Rattle.mqtt_world_model.specs.World.{to_end}
 use Rattle.mqtt_script_laws.proofs.OneTurn.{reads_once}
 use Rattle.mqtt_world.proofs.Drained.{goes_added_ever}
 use Rattle.mqtt_world.proofs.scene.Scene.read_one.Goals as goal

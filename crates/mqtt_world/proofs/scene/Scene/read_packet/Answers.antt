@@ -1,8 +1,8 @@
 -- By what its calls make of the broker and the ends.
 use Rattle.std.proofs.Common.{◌≡◌, Some, true, subst, sym}
-use Rattle.mqtt_broker.specs.TheRules.Step.{Input}
-use Rattle.mqtt_laws.specs.World.{ask, call_of, is_end}
-use Rattle.mqtt_clients.specs.Ends.{Ends, in_world, reading}
+use Rattle.mqtt_rules.specs.Step.{Input}
+use Rattle.mqtt_world_model.specs.World.{ask, call_of, is_end}
+use Rattle.mqtt_world_clients.specs.Ends.{Ends, in_world, reading}
 use Rattle.mqtt_world.specs.Events.{played, world_of}
 use Rattle.mqtt_world.proofs.Eventful.{any_setting, bad_done, called_taken, ends_of, not_refused, reading_good, reading_leaves, reading_plain, reading_refused}
 use Rattle.mqtt_world.proofs.scene.Scene.read_packet.Goals as goal

@@ -1,5 +1,5 @@
 -- By what it tells, added.
-use Rattle.mqtt_laws.specs.World.{ask, pump}
+use Rattle.mqtt_world_model.specs.World.{ask, pump}
 use Rattle.mqtt_script_laws.proofs.OneTurn.{sends_once}
 use Rattle.mqtt_world.proofs.Drained.{goes_added}
 use Rattle.mqtt_world.proofs.scene.Scene.send.Goals as goal

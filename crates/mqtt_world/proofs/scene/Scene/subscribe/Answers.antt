@@ -1,6 +1,6 @@
 use Rattle.std.proofs.Common.{sym}
-use Rattle.mqtt_laws.specs.World.{subscribe}
-use Rattle.mqtt_peers.specs.Receivers.{wish_of}
+use Rattle.mqtt_world_model.specs.World.{subscribe}
+use Rattle.mqtt_world_peers.specs.Receivers.{wish_of}
 use Rattle.mqtt_world.proofs.Unasked.{done_at, refused}
 use Rattle.mqtt_world.proofs.scene.Scene.subscribe.Goals as goal
 

@@ -1,7 +1,7 @@
 -- By what each asking does.
 use Rattle.std.proofs.Common.{ap, not, refl, subst, sym, true, ◌∙◌}
 use Rattle.std.specs.Prelude.{IfOk}
-use Rattle.mqtt_laws.specs.World.{Asking, break, has_line, pump}
+use Rattle.mqtt_world_model.specs.World.{Asking, break, has_line, pump}
 use Rattle.mqtt_world.specs.Events.{played, world_of}
 use Rattle.mqtt_world.specs.Stopping.{TakesOff}
 use Rattle.mqtt_world.proofs.TakenOff.{broken_as, not_plain, off_if, pumped_as, read_as, tick_off, ticked_as}

@@ -1,6 +1,6 @@
 -- By the packet in front.
 use Rattle.std.proofs.Common.{inl, inr, refl, sym, ◌∙◌}
-use Rattle.mqtt_clients.specs.Ends.{reading}
+use Rattle.mqtt_world_clients.specs.Ends.{reading}
 use Rattle.mqtt_world.specs.Events.{played, world_of}
 use Rattle.mqtt_world.proofs.Eventful.{reading_bad, reading_good}
 use Rattle.mqtt_world.proofs.TakenOff.{bad_off, readable, taken_off, unreadable}

@@ -1,6 +1,6 @@
 -- By what a call of the engine is.
 use Rattle.std.proofs.Common.{sym}
-use Rattle.mqtt_broker.specs.TheRules.Step.{Tick}
+use Rattle.mqtt_rules.specs.Step.{Tick}
 use Rattle.mqtt_world.proofs.Answered.{answered_in}
 use Rattle.mqtt_world.proofs.scene.Scene.tick.Goals as goal
 

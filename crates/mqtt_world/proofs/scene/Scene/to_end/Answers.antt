@@ -1,5 +1,5 @@
 use Rattle.std.proofs.Common.{ap, not, sym}
-use Rattle.mqtt_laws.specs.World.{World, is_end, to_end}
+use Rattle.mqtt_world_model.specs.World.{World, is_end, to_end}
 use Rattle.mqtt_world.proofs.Unasked.{done_at, refused, seen}
 use Rattle.mqtt_world.proofs.scene.Scene.to_end.Goals as goal
 

@@ -1,5 +1,5 @@
 -- By what its scene does.
-use Rattle.mqtt_laws.specs.World.{ask}
+use Rattle.mqtt_world_model.specs.World.{ask}
 use Rattle.mqtt_script_laws.specs.Scripted.{asking_of}
 use Rattle.mqtt_world.proofs.Staged.{all_play, playable_in}
 use Rattle.mqtt_world.proofs.stage.Stage.ask.Goals as goal

@@ -1,5 +1,5 @@
 use Rattle.std.proofs.Common.{◌≡◌, IfOk, ap, option_map, vec_items}
-use Rattle.mqtt_laws.specs.World.{World}
+use Rattle.mqtt_world_model.specs.World.{World}
 use Rattle.mqtt_world.specs.declared.stage.Stage.TheInside.{Inside}
 use Rattle.mqtt_world.specs.Events.{played, world_of}
 use Rattle.mqtt_world.specs.Worlds.{handed_in}

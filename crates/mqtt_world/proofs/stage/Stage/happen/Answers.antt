@@ -1,7 +1,7 @@
 -- By what the call does that the event comes to.
 use Rattle.std.proofs.Common.{ap, sym, List, ℕ, Some, ◌∙◌}
 use Rattle.std.specs.Prelude.{Ok}
-use Rattle.mqtt_laws.specs.World.{ask, clock, restart, stop_after, stop_before, stranger}
+use Rattle.mqtt_world_model.specs.World.{ask, clock, restart, stop_after, stop_before, stranger}
 use Rattle.mqtt_script.specs.declared.event.Event.TheVariants.{Drain}
 use Rattle.mqtt_script_laws.specs.Scripted.{asking_of, event_of}
 use Rattle.mqtt_world.proofs.Pieces.{events_of_ends, plays_of, told_of, told_of_drain, told_of_ends}

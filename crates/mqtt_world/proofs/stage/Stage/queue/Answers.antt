@@ -1,6 +1,6 @@
 use Rattle.std.proofs.Common.{◌≡◌, ◌∙◌, None, Some, ap, sym}
-use Rattle.mqtt_laws.specs.World.{World}
-use Rattle.mqtt_broker.specs.TheRules.State.{session_named}
+use Rattle.mqtt_world_model.specs.World.{World}
+use Rattle.mqtt_rules.specs.State.{session_named}
 use Rattle.mqtt_world.specs.declared.stage.Stage.TheInside.{Inside}
 use Rattle.mqtt_world.specs.Events.{played, world_of}
 use Rattle.mqtt_world.specs.Worlds.{queue_in}

@@ -1,6 +1,6 @@
 -- By what stops at a stranger's bytes are, and at what is asked by others.
 use Rattle.std.proofs.Common.{ap, sym, ◌∙◌}
-use Rattle.mqtt_laws.specs.World.{stranger}
+use Rattle.mqtt_world_model.specs.World.{stranger}
 use Rattle.mqtt_script_laws.specs.Scripted.{asking_of}
 use Rattle.mqtt_world.proofs.Pieces.{plain_askings, stops_of}
 use Rattle.mqtt_world.proofs.stage.Stage.stop.Goals as goal

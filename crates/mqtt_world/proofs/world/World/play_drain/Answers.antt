@@ -1,6 +1,6 @@
 -- By the rounds of the drain.
 use Rattle.std.proofs.Common.{ℕ, Option, subst}
-use Rattle.mqtt_laws.specs.Tellings.{Telling}
+use Rattle.mqtt_world_model.specs.Tellings.{Telling}
 use Rattle.mqtt_script.specs.declared.event.Event.TheVariants.{Drain}
 use Rattle.mqtt_world.specs.Draining.{PlaysDrain}
 use Rattle.mqtt_world.proofs.Course.{drain_refused, ended, kept_none}

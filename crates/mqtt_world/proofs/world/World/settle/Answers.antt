@@ -1,6 +1,6 @@
 use Rattle.std.proofs.Common.{Option, ap, subst}
 use Rattle.std.specs.Prelude.{Err}
-use Rattle.mqtt_laws.specs.Tellings.{Telling}
+use Rattle.mqtt_world_model.specs.Tellings.{Telling}
 use Rattle.mqtt_world.specs.Worlds.{Performs}
 use Rattle.mqtt_world.proofs.Course.{kept_happens, refused_here}
 use Rattle.mqtt_world.proofs.world.World.settle.Goals as goal

@@ -1,0 +1,19 @@
+-- What holds between calls is what a packet of a connected client finds.
+use Rattle.std.proofs.Common.{◌≡◌, ℕ}
+use Rattle.std.specs.Prelude.{Some}
+use Rattle.mqtt_rules.specs.declared.Limits.{Limits}
+use Rattle.mqtt_rules.specs.Lines.{session_on}
+use Rattle.mqtt_rules.specs.State.{Broker}
+use Rattle.mqtt_rules.specs.Step.{at_moment}
+use Rattle.mqtt_broker_calls.specs.Sound.{IsSound}
+use Rattle.mqtt_broker_calls.specs.Inputs.{HasClient}
+use Rattle.mqtt_broker_calls.proofs.Clients.{client_begun}
+
+pub client_sound : (limits : Limits) (line birth moment : ℕ) (b : Broker) → IsSound limits b → session_on line b ≡ Some (Some birth) → HasClient line birth (at_moment moment b)
+client_sound limits line birth moment b sound on = client_begun line birth moment b (record {
+  on = on;
+  stands = sound.lines.stands line birth on;
+  orders = sound.orders birth;
+  filters = sound.filters;
+  contents = sound.contents;
+})

@@ -1,0 +1,13 @@
+pub mod Flights
+pub mod Kept
+pub mod SoundLaw
+pub mod CallActs
+pub mod SomeCalls
+pub mod Begun
+pub mod Refused
+pub mod Greeted
+pub mod OnLine
+pub mod Clients
+pub mod Heard
+pub mod Answered
+pub mod Called

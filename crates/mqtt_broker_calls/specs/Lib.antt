@@ -1,0 +1,4 @@
+pub mod Sound
+pub mod Doing
+pub mod First
+pub mod Inputs

@@ -1,0 +1,7 @@
+pub mod Ended
+pub mod Willed
+pub mod Settled
+pub mod Closed
+pub mod LineClosed
+pub mod Ticked
+pub mod WilledBrokers

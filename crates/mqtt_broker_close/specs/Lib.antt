@@ -1,0 +1,4 @@
+pub mod Ending
+pub mod Wills
+pub mod Settling
+pub mod Ticking

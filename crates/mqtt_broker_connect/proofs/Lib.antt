@@ -1,0 +1,12 @@
+pub mod Parts
+pub mod Wholes
+pub mod GoingOn
+pub mod Connected
+pub mod AfterPreparing
+pub mod Fewer
+pub mod Steady
+pub mod Prepared
+pub mod Instead
+pub mod Standings
+pub mod Once
+pub mod Unassigned

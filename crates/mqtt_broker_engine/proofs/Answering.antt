@@ -1,0 +1,134 @@
+-- What is answered where a broker is opened, and where it isn't.
+use Rattle.std.proofs.Common.{◌≡◌, ◌≢◌, ◌⊎◌, ℕ, false, refl, ap, sym, subst, ◌∙◌, inl, inr}
+use Rattle.std.specs.Prelude.{Result, Ok, Err, OnOk, OnErr}
+use Rattle.mqtt_records_lawful.specs.Lawful.{IsLawful}
+use Rattle.mqtt_records.specs.declared.keep.Keep.{Ghosts}
+use Rattle.mqtt_records.specs.declared.keep.KeepError.{KeepError}
+use Rattle.mqtt_records.specs.declared.keep.KeepError.TheVariants.{Memory, Disk, Size, Corrupt, Schema}
+use Rattle.mqtt_records.specs.declared.records.Records.{Records}
+use Rattle.mqtt_rules.specs.declared.Limits.{Limits}
+use Rattle.mqtt_rules.specs.Laws.{AreWithin}
+use Rattle.mqtt_rules.specs.State.{Broker}
+use Rattle.mqtt_rules.specs.Step.{BrokerOpening, SpentOpening}
+use Rattle.mqtt_broker_step.specs.Stepping.{Stepping, at_rest}
+use Rattle.mqtt_broker_calls.specs.Sound.{IsSound}
+use Rattle.mqtt_broker_calls.proofs.SoundLaw.{opening_sound}
+use Rattle.mqtt_broker_engine.specs.Running.{Running}
+use Rattle.mqtt_broker_engine.specs.Closing.{IsStoredAfter, resting}
+use Rattle.mqtt_broker_engine.specs.Opening.{IsBegun, IsDue, IsRefused, Opened}
+
+-- ---- results
+
+pub both_ok : {A E : Type 0} (r : Result A E) {P Q R : Type 0} → (P → Q → R) → OnOk r P → OnOk r Q → OnOk r R
+both_ok (Ok a) f p q = f p q
+both_ok (Err e) f p q = tt
+
+pub err_of : {A E : Type 0} (r : Result A E) {P Q : Type 0} → (P → Q) → OnErr r P → OnErr r Q
+err_of (Ok a) f p = tt
+err_of (Err e) f p = f p
+
+-- ---- the step that is at rest again
+
+pub rest_of : (limits : Limits) (s new : Stepping) → s.limits ≡ limits → new ≡ at_rest s.limits s.broker → new ≡ at_rest limits new.broker
+rest_of limits s new same is =
+    is ∙ (ap (λ (l : Limits). at_rest l s.broker) same ∙ ap (λ (t : Stepping). at_rest limits t.broker) (sym is))
+
+pub rest_again : (limits : Limits) (new : Stepping) → new ≡ at_rest limits new.broker → new ≡ at_rest new.limits new.broker
+rest_again limits new is = is ∙ ap (λ (l : Limits). at_rest l new.broker) (sym (ap (λ (t : Stepping). t.limits) is))
+
+pub opened_sound : (limits : Limits) (now : ℕ) (r : Records) (new : Stepping) → AreWithin limits → IsLawful r → BrokerOpening limits r now new.broker → new ≡ at_rest limits new.broker → IsSound new.limits new.broker
+opened_sound limits now r new within lawful h is =
+    subst (λ (l : Limits). IsSound l new.broker) (sym (ap (λ (t : Stepping). t.limits) is))
+    (subst (λ (b : Broker). IsSound limits b) (sym h.new_is) (opening_sound limits h.choice now r within lawful h.unspent))
+
+-- ---- answers
+
+module _ {K : Type 0} (g : Ghosts K) (limits : Limits) (now : ℕ) (first : K) where
+  opened_ok : (r : Records) (loaded : K) (engine : Running K) → IsBegun g first r loaded → IsLawful r → BrokerOpening limits r now engine.broker
+      → g.holds engine.keep engine.broker.records → (g.is_sound engine.keep → g.is_sound loaded) → engine.limits ≡ limits → engine.stopped ≡ false
+      → Opened g limits now first (Ok engine)
+  opened_ok r loaded engine begun lawful opening holds sound same runs = record {
+    opened = record { loaded = loaded; records = r; load = begun.load; lawful = lawful; opening = opening; holds = holds; sound = sound; limits_are = same; runs = runs };
+    refused = tt;
+  }
+
+  -- the engine that is made
+  pub opened_as : (r : Records) (loaded kept : K) (s : Stepping) (engine : Running K) → engine ≡ record { keep = kept; limits = s.limits; broker = s.broker; stopped = false }
+      → IsBegun g first r loaded → IsLawful r → BrokerOpening limits r now s.broker → g.holds kept s.broker.records → (g.is_sound kept → g.is_sound loaded) → s ≡ at_rest limits s.broker
+      → Opened g limits now first (Ok engine)
+  opened_as r loaded kept s engine is begun lawful opening holds sound rest =
+      let made : Running K = record { keep = kept; limits = s.limits; broker = s.broker; stopped = false } in
+      subst (λ (e : Running K). Opened g limits now first (Ok e)) (sym is)
+      (opened_ok r loaded made begun lawful opening holds sound (ap (λ (t : Stepping). t.limits) rest) refl)
+
+  opened_err : (error : KeepError) (left : K) → IsRefused g limits now first error left → Opened g limits now first (Err (left, error))
+  opened_err error left h = record { opened = tt; refused = h }
+
+  -- the store's own load refused
+  load_due : (error : KeepError) (left : K) → (g.is_sound left → g.refuses first error) → ((error ≡ Disk) ⊎ (error ≡ Size) → g.counted left ≢ g.counted first) → IsDue g limits now first error left
+  load_due Memory left refused cause = tt
+  load_due Disk left refused cause = inl (cause (inl refl))
+  load_due Size left refused cause = inl (cause (inr refl))
+  load_due Corrupt left refused cause = inl refused
+  load_due Schema left refused cause = refused
+
+  pub refused_load : (error : KeepError) (left : K) → (g.is_sound left → g.refuses first error) → ((error ≡ Disk) ⊎ (error ≡ Size) → g.counted left ≢ g.counted first)
+      → ((h : Records) → g.holds first h → g.holds left h) → ((after : Records) → g.leaves left after → g.leaves first after)
+      → Opened g limits now first (Err (left, error))
+  refused_load error left refused cause same crash = opened_err error left (record {
+    due = load_due error left refused cause;
+    same = λ fine h held sound. same h held;
+    crash = λ after may sound. inl (crash after may);
+  })
+
+  -- what was loaded can't be opened, or there is no memory for it
+  unfit_due : (r : Records) (left : K) (error : KeepError) → IsBegun g first r left → (error ≡ Memory) ⊎ (error ≡ Corrupt) → (error ≡ Corrupt → IsLawful r → ⊥) → IsDue g limits now first error left
+  unfit_due r left Memory begun which unlawful = tt
+  unfit_due r left Disk begun (inl e) unlawful = absurd cc
+  unfit_due r left Disk begun (inr e) unlawful = absurd cc
+  unfit_due r left Size begun (inl e) unlawful = absurd cc
+  unfit_due r left Size begun (inr e) unlawful = absurd cc
+  unfit_due r left Corrupt begun which unlawful = inr (record { loaded = left; records = r; load = begun.load; why = inl (unlawful refl) })
+  unfit_due r left Schema begun (inl e) unlawful = absurd cc
+  unfit_due r left Schema begun (inr e) unlawful = absurd cc
+
+  pub refused_first : (r : Records) (left : K) (error : KeepError) → IsBegun g first r left → (error ≡ Memory) ⊎ (error ≡ Corrupt) → (error ≡ Corrupt → IsLawful r → ⊥) → Opened g limits now first (Err (left, error))
+  refused_first r left error begun which unlawful = opened_err error left (record {
+    due = unfit_due r left error begun which unlawful;
+    same = λ fine h held sound. begun.same h held;
+    crash = λ after may sound. inl (begun.crash after may);
+  })
+
+  -- the opening isn't done, or isn't stored
+  store_due : (r : Records) (loaded left : K) (error : KeepError) → IsBegun g first r loaded → (error ≡ Corrupt → SpentOpening limits r now) → (error ≡ Schema → ⊥)
+      → ((error ≡ Disk) ⊎ (error ≡ Size) → g.counted left ≢ g.counted loaded) → IsDue g limits now first error left
+  store_due r loaded left Memory begun spent schema cause = tt
+  store_due r loaded left Disk begun spent schema cause = inr (record { loaded = loaded; records = r; load = begun.load; counted = cause (inl refl) })
+  store_due r loaded left Size begun spent schema cause = inr (record { loaded = loaded; records = r; load = begun.load; counted = cause (inr refl) })
+  store_due r loaded left Corrupt begun spent schema cause = inr (record { loaded = loaded; records = r; load = begun.load; why = inr (spent refl) })
+  store_due r loaded left Schema begun spent schema cause = absurd (schema refl)
+
+  pub refused_store : (r : Records) (loaded left : K) (error : KeepError) → IsBegun g first r loaded → (error ≡ Corrupt → SpentOpening limits r now) → (error ≡ Schema → ⊥)
+      → ((error ≡ Disk) ⊎ (error ≡ Size) → g.counted left ≢ g.counted loaded) → ((error ≡ Disk → ⊥) → g.holds left r)
+      → ((after : Records) → g.leaves left after → (after ≡ r) ⊎ IsStoredAfter limits now r after) → (g.is_sound left → g.is_sound loaded)
+      → Opened g limits now first (Err (left, error))
+  refused_store r loaded left error begun spent schema cause same crash sound = opened_err error left (record {
+    due = store_due r loaded left error begun spent schema cause;
+    same = λ fine h held true_device. subst (λ (x : Records). g.holds left x) (begun.load.exact h held (sound true_device)) (same fine);
+    crash = λ after may true_device. elim (crash after may) [
+      | inl is ↦ inl (subst (λ (x : Records). g.leaves first x) (sym is) (begun.load.found (sound true_device)))
+      | inr stored ↦ inr (record { loaded = loaded; records = r; load = begun.load; is = stored })
+    ];
+  })
+
+-- ---- what was loaded
+
+pub begun_of : (limits : Limits) (now : ℕ) (r : Records) (s : Stepping) → s ≡ resting limits now r → s ≡ resting s.limits now s.broker.records
+begun_of limits now r s is =
+    is
+    ∙ (ap (λ (l : Limits). resting l now r) (sym (ap (λ (t : Stepping). t.limits) is))
+    ∙ ap (λ (x : Records). resting s.limits now x) (sym (ap (λ (t : Stepping). t.broker.records) is)))
+
+pub load_begun : {K : Type 0} (g : Ghosts K) (first loaded : K) (r : Records) → ((h : Records) → g.holds first h → g.is_sound loaded → r ≡ h) → (g.is_sound loaded → g.leaves first r)
+    → ((h : Records) → g.holds first h → g.holds loaded h) → ((after : Records) → g.leaves loaded after → g.leaves first after) → IsBegun g first r loaded
+load_begun g first loaded r exact found same crash = record { load = record { exact = exact; found = found }; same = same; crash = crash }

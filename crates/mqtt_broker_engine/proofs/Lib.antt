@@ -1,0 +1,13 @@
+pub mod Called
+pub mod Linked
+pub mod Holders
+pub mod Own
+pub mod Faces
+pub mod Chosen
+pub mod Opened
+pub mod Joined
+pub mod Followed
+pub mod Closed
+pub mod Going
+pub mod Stamped
+pub mod Answering

@@ -1,0 +1,15 @@
+-- What is stored is quiet before the moment that the end of the call leaves.
+use Rattle.std.proofs.Common.{rules, sym, subst}
+use Rattle.mqtt_broker_clock.specs.Quiet.{AreQuietBefore}
+use Rattle.mqtt_rules.specs.State.{Broker}
+use Rattle.mqtt_broker_engine.proofs.engine.Engine.bad_input_on.Goals as goal
+
+pub invariant_of-self-2 : goal.invariant_of-self-2
+invariant_of-self-2 g c =
+    let before = subst (λ (b : Broker). AreQuietBefore c.self.inside.quiet b.records) (sym c.fault_at-done.ensures.start) c.self.invariant.4 in (
+      search rules,
+      search rules,
+      search rules,
+      search rules,
+      c.finish-answer.ensures.quiet before,
+    )

@@ -1,0 +1,38 @@
+use Rattle.std.proofs.Common.{◌≡◌, rules, ap, sym, subst, ◌∙◌}
+use Rattle.mqtt_rules.specs.State.{Broker}
+use Rattle.mqtt_rules.specs.Step.{at_moment}
+use Rattle.mqtt_broker_clock.specs.Quiet.{AreQuietBefore}
+use Rattle.mqtt_broker_step.specs.Stepping.{Stepping, at_rest}
+use Rattle.mqtt_broker_engine.proofs.Linked.{passed_over}
+use Rattle.mqtt_broker_engine.proofs.engine.Engine.skip.Goals as goal
+
+pub returns : goal.returns
+returns g c = λ call on.
+    let same : c.args.self.now.broker ≡ c.self.inside.step.broker = search rules in
+    record {
+      step = passed_over c.args.self.now.limits c.args.moment c.args.line c.args.self.now.broker c.rest_at.new.self.broker c.nothing.result c.requires
+          (ap (λ (t : Stepping). t.broker) c.rest_at.ensures ∙ ap (λ (b : Broker). at_moment c.args.moment b) (sym same))
+          c.nothing.ensures call on;
+      stored = search rules;
+      limits = search rules;
+      same = search rules;
+      lines = search rules;
+      memory = search rules;
+      spent = search rules;
+      stopped = search rules;
+      cause = search rules;
+      still = search rules;
+      crash = search rules;
+      sound = search rules;
+    }
+
+pub invariant_of-self : goal.invariant_of-self
+invariant_of-self g c =
+    let s = c.self.inside.step in
+    let is : c.rest_at.new.self ≡ at_rest s.limits (at_moment c.args.moment s.broker) = c.rest_at.ensures in (
+      search rules,
+      search rules,
+      search rules,
+      search rules,
+      subst (λ (t : Stepping). AreQuietBefore c.self.inside.quiet t.broker.records) (sym is) c.self.invariant.4,
+    )

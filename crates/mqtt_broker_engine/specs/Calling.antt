@@ -1,0 +1,78 @@
+-- A call: the step that it is of the broker, and what is answered (MQTT 5.0, 4.1).
+use Rattle.std.specs.Prelude.{◌≡◌, ◌≢◌, ◌⊎◌, ℕ, true, false, Result, IfOk, OnOk, OnErr, IsErrOf}
+use Rattle.mqtt_records.specs.declared.keep.Keep.{Ghosts}
+use Rattle.mqtt_records.specs.declared.records.Records.{Records}
+use Rattle.mqtt_rules.specs.declared.Limits.{Limits}
+use Rattle.mqtt_rules.specs.State.{Broker, MemberChoice, stored}
+use Rattle.mqtt_rules.specs.Step.{Call, NewLine, Input, BadInput, Lost, Pump, Tick, BrokerStep, SpentStep, bytes_out, is_step_spent, stepped, Outcome as Told}
+use Rattle.mqtt_broker_step.specs.declared.call.EngineError.{EngineError}
+use Rattle.mqtt_broker_step.specs.declared.call.EngineError.TheVariants.{Memory, Stopped, Spent}
+use Rattle.mqtt_broker_engine.specs.declared.outcome.Outcome.{Outcome}
+use Rattle.mqtt_broker_engine.specs.Running.{Running}
+
+-- ---- what is answered
+
+-- the answer tells what the rules tell, each packet in its shortest spelling (2.1.4)
+pub record Tells (told : Told) (out : Outcome) : Type 0 where
+  pub outputs : out.outputs.items ≡ bytes_out told
+  pub closed : out.closed.items ≡ told.closed
+  pub reports : out.reports.items ≡ told.reports
+  pub taken : out.taken ≡ told.taken
+  pub again : out.again ≡ told.again
+
+-- a call, at a moment, was a step of the broker, and this is its answer
+pub record IsAnswered (limits : Limits) (old : Broker) (now : ℕ) (call : Call) (out : Outcome) (new : Broker) : Type 0 where
+  pub told : Told
+  pub tells : Tells told out
+  pub step : BrokerStep limits old now call told new
+
+-- ---- what a crash leaves
+
+-- what is stored after the call's step, for some choice of members
+pub record IsStoredNext (limits : Limits) (old : Broker) (now : ℕ) (call : Call) (r : Records) : Type 0 where
+  pub choice : MemberChoice
+  pub unspent : is_step_spent limits choice now call old ≡ false
+  pub is : r ≡ stored (stepped limits choice now call old)
+
+-- what was stored before the call, or is after it
+abbrev pub IsLeftBy : Limits → Broker → ℕ → Call → Records → Type 0
+IsLeftBy limits old now call r = (r ≡ stored old) ⊎ IsStoredNext limits old now call r
+
+-- ---- what each refusal leaves alone
+
+-- the same lines are linked, and as many were linked so far
+abbrev pub KeepsLines : Broker → Broker → Type 0
+KeepsLines old new = (new.lines ≡ old.lines) × (new.given ≡ old.given)
+
+-- ---- what a call makes of an engine over a store, and what it answers
+
+pub record Called {K : Type 0} (g : Ghosts K) (now : ℕ) (call : Call) (old : Running K) (result : Result Outcome EngineError) (new : Running K)
+    : Type 0 where
+  -- Ok: it was a step of the broker, and the store holds what is stored after it
+  pub step : IfOk result (λ out. IsAnswered old.limits old.broker now call out new.broker)
+  pub stored : OnOk result ((new.stopped ≡ false) × g.holds new.keep new.broker.records)
+  pub limits : new.limits ≡ old.limits
+  -- where memory is wanting or numbers are spent nothing changed here, nor in what the store holds; of the broker of an engine
+  -- that has stopped it is said only that the same lines are linked, since it may link more
+  pub same : (IsErrOf result Stopped → ⊥) → OnErr result (new.broker ≡ old.broker)
+  pub lines : OnErr result (KeepsLines old.broker new.broker)
+  pub memory : IsErrOf result Memory → (new.stopped ≡ false) × g.holds new.keep old.broker.records
+  pub spent : IsErrOf result Spent → (new ≡ old) × SpentStep old.limits old.broker now call
+  -- it stops where the store counted a failure, and stays stopped
+  pub stopped : IsErrOf result Stopped → new.stopped ≡ true
+  pub cause : IsErrOf result Stopped → old.stopped ≡ false → g.counted new.keep ≢ g.counted old.keep
+  pub still : old.stopped ≡ true → IsErrOf result Stopped × (new ≡ old)
+  -- a crash leaves what was stored before the call or after it
+  pub crash : old.stopped ≡ false → (left : Records) → g.leaves new.keep left → IsLeftBy old.limits old.broker now call left
+  -- a device that is sound after the call was sound before it
+  pub sound : g.is_sound new.keep → g.is_sound old.keep
+
+-- ---- what is asked on a line
+
+abbrev pub IsOn : ℕ → Call → Type 0
+IsOn n NewLine = ⊥
+IsOn n (Input line packet) = line ≡ n
+IsOn n (BadInput line is_connect code) = line ≡ n
+IsOn n (Lost line) = line ≡ n
+IsOn n (Pump line) = line ≡ n
+IsOn n Tick = ⊥

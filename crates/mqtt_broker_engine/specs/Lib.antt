@@ -1,0 +1,5 @@
+pub mod Calling
+pub mod Running
+pub mod Sessions
+pub mod Closing
+pub mod Opening

@@ -1,0 +1,87 @@
+-- A broker is opened over a store: with what it begins, and why it isn't (MQTT 5.0, 4.1).
+use Rattle.std.specs.Prelude.{◌≡◌, ◌≢◌, ◌⊎◌, ⊤, ℕ, false, Result, IfOk, IfErr}
+use Rattle.mqtt_records_lawful.specs.Lawful.{IsLawful}
+use Rattle.mqtt_records.specs.declared.keep.Keep.{Ghosts}
+use Rattle.mqtt_records.specs.declared.keep.KeepError.{KeepError}
+use Rattle.mqtt_records.specs.declared.keep.KeepError.TheVariants.{Memory, Disk, Size, Corrupt, Schema}
+use Rattle.mqtt_records.specs.declared.records.Records.{Records}
+use Rattle.mqtt_rules.specs.declared.Limits.{Limits}
+use Rattle.mqtt_rules.specs.Step.{BrokerOpening, SpentOpening}
+use Rattle.mqtt_broker_engine.specs.Running.{Running}
+use Rattle.mqtt_broker_engine.specs.Closing.{IsStoredAfter}
+
+-- what a load answered, and how it left the store: while the device is sound it answers what the store has
+pub record IsLoad {K : Type 0} (g : Ghosts K) (keep : K) (r : Records) (loaded : K) : Type 0 where
+  pub exact : (h : Records) → g.holds keep h → g.is_sound loaded → r ≡ h
+  pub found : g.is_sound loaded → g.leaves keep r
+
+-- and what it left alone
+pub record IsBegun {K : Type 0} (g : Ghosts K) (keep : K) (r : Records) (loaded : K) : Type 0 where
+  pub load : IsLoad g keep r loaded
+  pub same : (h : Records) → g.holds keep h → g.holds loaded h
+  pub crash : (after : Records) → g.leaves loaded after → g.leaves keep after
+
+-- ---- Ok: the engine begins with the opening of lawful records that a load answered, and its store holds what that leaves
+
+pub record IsOpened {K : Type 0} (g : Ghosts K) (limits : Limits) (now : ℕ) (keep : K) (engine : Running K) : Type 0 where
+  pub loaded : K
+  pub records : Records
+  pub load : IsLoad g keep records loaded
+  pub lawful : IsLawful records
+  pub opening : BrokerOpening limits records now engine.broker
+  pub holds : g.holds engine.keep engine.broker.records
+  pub sound : g.is_sound engine.keep → g.is_sound loaded
+  pub limits_are : engine.limits ≡ limits
+  pub runs : engine.stopped ≡ false
+
+-- ---- a refusal
+
+-- records that no opening can begin with: they break their rules, or a number of their opening is spent
+pub record IsUnfit {K : Type 0} (g : Ghosts K) (limits : Limits) (now : ℕ) (keep : K) : Type 0 where
+  pub loaded : K
+  pub records : Records
+  pub load : IsLoad g keep records loaded
+  pub why : (IsLawful records → ⊥) ⊎ SpentOpening limits records now
+
+-- the store counted a failure after it was loaded
+pub record HasFailedSince {K : Type 0} (g : Ghosts K) (keep left : K) : Type 0 where
+  pub loaded : K
+  pub records : Records
+  pub load : IsLoad g keep records loaded
+  pub counted : g.counted left ≢ g.counted loaded
+
+-- or as it was loaded
+abbrev pub HasFailed : {K : Type 0} (g : Ghosts K) (keep left : K) → Type 0
+HasFailed g keep left = (g.counted left ≢ g.counted keep) ⊎ HasFailedSince g keep left
+
+-- the store's own load refused so
+abbrev pub IsLoadRefused : {K : Type 0} (g : Ghosts K) (keep : K) (error : KeepError) (left : K) → Type 0
+IsLoadRefused g keep error left = g.is_sound left → g.refuses keep error
+
+-- why it is answered
+abbrev pub IsDue : {K : Type 0} (g : Ghosts K) (limits : Limits) (now : ℕ) (keep : K) (error : KeepError) (left : K) → Type 0
+IsDue g limits now keep Memory left = ⊤
+IsDue g limits now keep Disk left = HasFailed g keep left
+IsDue g limits now keep Size left = HasFailed g keep left
+IsDue g limits now keep Corrupt left = IsLoadRefused g keep Corrupt left ⊎ IsUnfit g limits now keep
+IsDue g limits now keep Schema left = IsLoadRefused g keep Schema left
+
+-- what is stored after an opening of what a load answered
+pub record IsStoredOpening {K : Type 0} (g : Ghosts K) (limits : Limits) (now : ℕ) (keep : K) (after : Records) : Type 0 where
+  pub loaded : K
+  pub records : Records
+  pub load : IsLoad g keep records loaded
+  pub is : IsStoredAfter limits now records after
+
+pub record IsRefused {K : Type 0} (g : Ghosts K) (limits : Limits) (now : ℕ) (keep : K) (error : KeepError) (left : K) : Type 0 where
+  pub due : IsDue g limits now keep error left
+  -- but for a failed device nothing changed
+  pub same : (error ≡ Disk → ⊥) → (h : Records) → g.holds keep h → g.is_sound left → g.holds left h
+  -- a crash leaves what was there before, or what is stored after the opening
+  pub crash : (after : Records) → g.leaves left after → g.is_sound left → g.leaves keep after ⊎ IsStoredOpening g limits now keep after
+
+-- ---- what is answered
+
+pub record Opened {K : Type 0} (g : Ghosts K) (limits : Limits) (now : ℕ) (keep : K) (result : Result (Running K) (K × KeepError)) : Type 0 where
+  pub opened : IfOk result (λ engine. IsOpened g limits now keep engine)
+  pub refused : IfErr result (λ e. IsRefused g limits now keep e.1 e.0)

@@ -1,0 +1,163 @@
+//! The engine: a broker over a store, one call after the other (MQTT 5.0, 4.1).
+ghost use Rattle.std.specs.Prelude.{◌≡◌, None, false, option_copied};
+ghost use Rattle.mqtt_broker_index.specs.Indexing.{Serves};
+ghost use Rattle.mqtt_rules.specs.Routing.{subscribers};
+ghost use Rattle.mqtt_rules.specs.State.{line_at};
+ghost use Rattle.mqtt_rules.specs.Step.{BrokerStep, Call, NewLine, at_moment, copy_of, nothing_told};
+ghost use Rattle.mqtt_broker_step.specs.Doing.{next_line};
+ghost use Rattle.mqtt_broker_step.specs.Stepping.{at_rest};
+ghost use Rattle.mqtt_broker_calls.specs.Sound.{IsSound};
+ghost use Rattle.mqtt_broker_engine.specs.Calling.{Called, IsOn, Tells};
+
+use crate::holding::copy_of;
+use crate::outcome::{Outcome, nothing};
+use mqtt_base::CopyId;
+use mqtt_broker_index::Index;
+use mqtt_broker_step::{EngineError, Step};
+use mqtt_records::Keep;
+use std::alloc::Global;
+use std::hash::RandomState;
+use std::marker::Model;
+
+/// A broker over a store.
+#[derive(Drop)]
+pub struct Engine<K: Keep> {
+    pub(crate) alloc: Global,
+    pub(crate) hasher: RandomState,
+    pub(crate) keep: K,
+    pub(crate) step: Step,
+    pub(crate) index: Index,
+    pub(crate) is_stale: bool,
+    pub(crate) stopped: bool,
+    pub(crate) quiet: u64,
+}
+
+impl<K: Keep> Model for Engine<K> {
+    ghost use Rattle.std.specs.Prelude.{◌≡◌, false};
+    ghost use Rattle.mqtt_broker_index.specs.Indexing.{Serves};
+    ghost use Rattle.mqtt_rules.specs.Routing.{subscribers};
+    ghost use Rattle.mqtt_broker_step.specs.Stepping.{at_rest};
+    ghost use Rattle.mqtt_broker_engine.specs.Running.{Running};
+    ghost use Rattle.mqtt_broker_clock.specs.Quiet.{AreQuietBefore};
+    ghost use Rattle.mqtt_broker_calls.specs.Sound.{IsSound};
+
+    ghost Value = { Running K };
+
+    ghost view = { λ e. record {
+      keep = e.keep;
+      limits = e.step.limits;
+      broker = e.step.broker;
+      stopped = e.stopped;
+    } };
+
+    // Between calls no step is under way; while the store hasn't failed it holds what is stored; and the index is that of
+    // the subscriptions that stand, unless it is to be made anew. Nothing that is stored is due before the moment
+    // `quiet`.
+    ghost invariant = { λ e. (e.step ≡ at_rest e.step.limits e.step.broker)
+        × IsSound e.step.limits e.step.broker
+        × (e.stopped ≡ false → K.is_loaded e.keep × K.holds e.keep e.step.broker.records)
+        × (e.is_stale ≡ false → Serves e.index.sessions (subscribers e.step.broker.records))
+        × AreQuietBefore e.quiet e.step.broker.records };
+}
+
+impl<K: Keep> Engine<K> {
+    /// An engine whose store holds what is stored, with no step under way, and with the index of the subscriptions
+    /// that stand. Takes no memory.
+    pub fn over(alloc: Global, hasher: RandomState, keep: K, step: Step, index: Index) -> Engine<K>
+        requires rest { step ≡ at_rest step.limits step.broker }
+        requires sound { IsSound step.limits step.broker }
+        requires loaded { K.is_loaded keep }
+        requires holds { K.holds keep step.broker.records }
+        requires serves { Serves index.sessions (subscribers step.broker.records) }
+        ensures { result ≡ record {
+          keep = keep;
+          limits = step.limits;
+          broker = step.broker;
+          stopped = false;
+        } }
+    {
+        let mut index = index;
+        index.settle();
+        Engine {
+            alloc,
+            hasher,
+            keep,
+            step,
+            index,
+            is_stale: false,
+            stopped: false,
+            quiet: 0,
+        }
+    }
+
+    /// A line is linked at a moment in milliseconds, and gets the next number, from 1. None where 64 lines
+    /// stand or 2^62 were linked. Works after the store has failed too. Takes no memory.
+    pub fn link(&mut self, moment: u64) -> Option<u64>
+        ensures line { result ≡ next_line self.old.broker }
+        ensures step { BrokerStep self.old.limits self.old.broker moment NewLine nothing_told
+            self.new.broker }
+        ensures same { self.new ≡ record self.old { broker = self.new.broker } }
+    {
+        self.step.link(moment)
+    }
+
+    /// Gives the store back. Takes no memory.
+    pub fn close(self) -> K
+        ensures { result ≡ self.keep }
+    {
+        let Engine {
+            keep,
+            step,
+            index,
+            ..
+        } = self;
+        drop(step);
+        drop(index);
+        keep
+    }
+
+    /// Whether its store has failed; while it hasn't, it holds what is stored. Takes no memory.
+    pub fn is_stopped(&self) -> bool
+        ensures exact { result ≡ self.now.stopped }
+        ensures stored { self.now.stopped ≡ false → K.holds self.now.keep self.now.broker.records }
+    {
+        self.stopped
+    }
+
+    /// How many failures its store has counted, modulo 2^64. Takes no memory.
+    pub fn failures(&self) -> u64
+        ensures { result ≡ K.counted self.now.keep }
+    {
+        self.keep.failures()
+    }
+
+    /// Nothing comes about but that the moment is the greatest handed in. Takes no memory.
+    pub fn rest_at(&mut self, moment: u64) -> Outcome
+        ensures told { Tells nothing_told result }
+        ensures ok { self.new ≡ record self.old { broker = at_moment moment self.old.broker } }
+    {
+        self.step.rest_at(moment);
+        nothing(self.alloc)
+    }
+
+    /// What comes, or is asked, on a line that isn't linked does nothing but that the moment is the greatest handed in.
+    /// Takes no memory.
+    pub(crate) fn skip(&mut self, line: u64, moment: u64) -> Result<Outcome, EngineError>
+        requires { line_at line self.old.broker ≡ None }
+        ensures { (call : Call) → IsOn line call
+            → Called K.Keep moment call self.old result self.new }
+    {
+        if self.stopped {
+            return Err(EngineError::Stopped);
+        }
+        self.step.rest_at(moment);
+        Ok(nothing(self.alloc))
+    }
+
+    /// The copy that has a packet identifier in the queue of a line's session. Takes no memory.
+    pub fn copy_of(&self, line: u64, identifier: u16) -> Option<&CopyId>
+        ensures { option_copied result ≡ copy_of line identifier self.now.broker }
+    {
+        copy_of(&self.step, line, identifier)
+    }
+}

@@ -1,0 +1,18 @@
+//! The engine of the broker: it is opened over what a store holds, each call is a step of the rules, and the store holds what
+//! the step leaves (MQTT 5.0, 4.1). Private: bytes are cut into packets by its caller.
+#![tactic(auto)]
+
+mod calling;
+mod closing;
+mod engine;
+mod finishing;
+mod holding;
+mod indexing;
+mod looks;
+mod opening;
+mod outcome;
+
+pub use engine::Engine;
+pub use finishing::finish;
+pub use opening::open;
+pub use outcome::Outcome;

@@ -1,0 +1,10 @@
+-- Who goes along with the rest has gone along with the whole.
+use Rattle.std.proofs.Common.{◌≡◌, length}
+use Rattle.mqtt_broker_index.specs.Following.{followed_all}
+use Rattle.mqtt_broker_index.proofs.index.Index.go_along_all.Given as goal
+
+abbrev pub invariant-loop-change : goal.invariant-loop-change
+invariant-loop-change l = followed_all l.rest l.self.sessions ≡ followed_all l.fn.changes l.fn.self.sessions
+
+abbrev pub decreases-loop-change : goal.decreases-loop-change
+decreases-loop-change l = length l.rest

@@ -1,0 +1,71 @@
+-- How an index of subscriptions goes along with the rows of a step (MQTT 5.0, 3.1.2.11.2, 3.8.4, 3.10.4).
+use Rattle.std.specs.Prelude.{◌≡◌, ⊤, ℕ, ◌<◌, false, List, [], ◌∷◌, length}
+use Rattle.std.specs.List.{AllByRecursion}
+use Rattle.mqtt_base.specs.declared.limits.TheConstants.{SUBSCRIPTION_LIMIT}
+use Rattle.mqtt_records_lawful.specs.Lawful.{IsIdentifier}
+use Rattle.mqtt_records.specs.Records.{HasSession, changed}
+use Rattle.mqtt_records.specs.Session.{place_of, without_filter}
+use Rattle.mqtt_records.specs.declared.change.Change.{Change}
+use Rattle.mqtt_records.specs.declared.change.Change.TheVariants.{PutSubscription, RemoveSubscription, RemoveSession}
+use Rattle.mqtt_records.specs.declared.records.Records.{Records}
+use Rattle.mqtt_records.specs.declared.session.Session.{Session}
+use Rattle.mqtt_records.specs.declared.subscription.Subscription.{Subscription}
+use Rattle.mqtt_routes.specs.Subscriptions.{Subscriber, subscribed, unsubscribed, without_session}
+use Rattle.mqtt_records_rows.specs.Order.{IsBelow}
+use Rattle.mqtt_rules.specs.Laws.{IsOrdered}
+use Rattle.mqtt_rules.specs.Routing.{routed_subscription}
+use Rattle.mqtt_rules.specs.Subscribe.{has_filter, place_among}
+use Rattle.mqtt_broker_step.specs.Subscribing.{HaveFiltersOnce}
+
+-- ---- what is asked of records
+
+-- a Subscription Identifier, where there is one, has a spelling (3.8.2.1.2)
+abbrev pub HasIdentifiers : Session → Type 0
+HasIdentifiers s = AllByRecursion (λ x. IsIdentifier x.identifier) s.subscriptions
+
+-- tables in order and within their limits, each filter once in a session, and identifiers that have a spelling
+pub record CanBeIndexed (r : Records) : Type 0 where
+  pub ordered : IsOrdered r
+  pub filters : HaveFiltersOnce r
+  pub identifiers : AllByRecursion HasIdentifiers r.sessions
+
+-- ---- what is asked of a row
+
+-- a subscription for which there is room: one to a filter that the session has keeps its place, another comes last (3.8.4)
+pub record IsGranted (x : Subscription) (s : Session) : Type 0 where
+  pub place : place_among x.place x.filter s.subscriptions ≡ x.place
+  pub last : has_filter x.filter s ≡ false → IsBelow place_of x.place s.subscriptions
+  pub room : length (without_filter x.filter s.subscriptions) < SUBSCRIPTION_LIMIT
+
+-- a row that an index can follow: only a subscription that is put has to be such as a grant makes it
+abbrev pub CanBeFollowed : Change → Records → Type 0
+CanBeFollowed (PutSubscription birth x) r = HasSession birth (IsGranted x) r × IsIdentifier x.identifier
+CanBeFollowed change r = ⊤
+
+-- each row on what the ones before it leave
+abbrev pub CanAllBeFollowed : List Change → Records → Type 0
+CanAllBeFollowed [] r = ⊤
+CanAllBeFollowed (change ∷ changes) r = CanBeFollowed change r × CanAllBeFollowed changes (changed change r)
+
+-- ---- what becomes of the index
+
+-- by a row: subscriptions come and go, and a session that ends loses its own
+abbrev pub followed : Change → List Subscriber → List Subscriber
+followed (PutSubscription birth x) table = subscribed birth (routed_subscription x) table
+followed (RemoveSubscription birth text) table = unsubscribed birth text table
+followed (RemoveSession birth) table = without_session birth table
+followed change table = table
+
+abbrev pub followed_all : List Change → List Subscriber → List Subscriber
+followed_all [] table = table
+followed_all (change ∷ changes) table = followed_all changes (followed change table)
+
+-- by subscriptions of a session, one after another
+abbrev pub given : ℕ → List Subscription → List Subscriber → List Subscriber
+given birth [] table = table
+given birth (x ∷ xs) table = given birth xs (subscribed birth (routed_subscription x) table)
+
+-- by those of sessions
+abbrev pub given_all : List Session → List Subscriber → List Subscriber
+given_all [] table = table
+given_all (s ∷ ss) table = given_all ss (given s.birth s.subscriptions table)

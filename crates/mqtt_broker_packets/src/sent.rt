@@ -1,0 +1,135 @@
+//! The properties that a copy is sent with, as bytes (3.3.2.3).
+ghost use Rattle.std.specs.Prelude.{◌≡◌, ◌++◌, ◌<◌, ◌^◌, length, map, MatchOption, OnOk, OnSome};
+ghost use Rattle.std.specs.List.{AllByRecursion};
+ghost use Rattle.mqtt_props.specs.declared.table.PropName.TheVariants.{UserProperty};
+ghost use Rattle.mqtt_props.specs.Edits.{only, without};
+ghost use Rattle.mqtt_props.specs.Properties.{FitsBlock, IsProp, prop, props};
+ghost use Rattle.mqtt_records_message.specs.PassedOn.{aged, identified, sent_after};
+
+use crate::property::aged_push;
+use mqtt_base::{VARINT_LIMIT, varint_len, varint_push};
+use mqtt_props::{PropName, PropsRef, prop_push};
+use std::alloc::AllocError;
+
+/// Writes what stands before Subscription Identifiers, as it is sent, at the end.
+fn aged_all_push(out: &mut Vec<u8>, list: &PropsRef<'_>, waited: u64) -> Result<(), AllocError>
+    ensures { OnOk result (out.new.items
+        ≡ out.old.items ++ props (map (aged waited) (without UserProperty list.now))) }
+{
+    let mut rest = list.reborrow();
+    while let Some((prop, after)) = rest.split_first() {
+        if prop.name.id() != PropName::UserProperty.id() {
+            aged_push(out, prop, waited)?;
+        }
+        rest = after;
+    }
+    Ok(())
+}
+
+/// Writes one Subscription Identifier at the end.
+fn identifier_push(out: &mut Vec<u8>, identifier: u32) -> Result<(), AllocError>
+    requires { identifier < 2 ^ 28 }
+    ensures { OnOk result (out.new.items ≡ out.old.items ++ prop (identified identifier)) }
+{
+    out.push(PropName::SubscriptionIdentifier.id())?;
+    varint_push(out, identifier)
+}
+
+/// Writes Subscription Identifiers at the end.
+fn identifiers_push(out: &mut Vec<u8>, identifiers: &[u32]) -> Result<(), AllocError>
+    requires { AllByRecursion IsProp (map identified identifiers.now) }
+    ensures { OnOk result (out.new.items ≡ out.old.items ++ props (map identified identifiers.now)) }
+{
+    let mut rest = identifiers;
+    while let Some((identifier, after)) = rest.split_first() {
+        identifier_push(out, *identifier)?;
+        rest = after;
+    }
+    Ok(())
+}
+
+/// Writes the User Properties at the end.
+fn user_push(out: &mut Vec<u8>, list: &PropsRef<'_>) -> Result<(), AllocError>
+    ensures { OnOk result (out.new.items ≡ out.old.items ++ props (only UserProperty list.now)) }
+{
+    let mut rest = list.reborrow();
+    while let Some((prop, after)) = rest.split_first() {
+        if prop.name.id() == PropName::UserProperty.id() {
+            prop_push(out, prop)?;
+        }
+        rest = after;
+    }
+    Ok(())
+}
+
+/// Writes the properties of a copy that has waited so many seconds at the end.
+pub(crate) fn sent_push(
+    out: &mut Vec<u8>,
+    list: &PropsRef<'_>,
+    waited: u64,
+    identifiers: &[u32],
+) -> Result<(), AllocError>
+    requires { AllByRecursion IsProp (map identified identifiers.now) }
+    ensures { OnOk result (out.new.items
+        ≡ out.old.items ++ props (sent_after waited identifiers.now list.now)) }
+{
+    aged_all_push(out, list, waited)?;
+    identifiers_push(out, identifiers)?;
+    user_push(out, list)
+}
+
+/// How many bytes the pairs of a list take.
+fn pairs_len(list: &PropsRef<'_>) -> usize
+    ensures value { result ≡ length (props list.now) }
+    ensures fits { FitsBlock list.now }
+{
+    let block = list.block_len();
+    if block <= 128 {
+        block - 1
+    } else if block <= 16_385 {
+        block - 2
+    } else if block <= 2_097_154 {
+        block - 3
+    } else {
+        block - 4
+    }
+}
+
+/// How many bytes Subscription Identifiers take, if they have a spelling as a block.
+fn identifiers_len(identifiers: &[u32]) -> Option<usize>
+    ensures value { MatchOption result (¬ FitsBlock (map identified identifiers.now))
+        (λ len. len ≡ length (props (map identified identifiers.now))) }
+    ensures fits { OnSome result (FitsBlock (map identified identifiers.now)) }
+{
+    let mut len = 0;
+    let mut rest = identifiers;
+    while let Some((identifier, after)) = rest.split_first() {
+        if *identifier >= VARINT_LIMIT {
+            return None;
+        }
+        len += 1 + varint_len(*identifier);
+        if len >= VARINT_LIMIT as usize {
+            return None;
+        }
+        rest = after;
+    }
+    Some(len)
+}
+
+/// How many bytes the properties of a copy take, if they have a spelling as a block.
+pub(crate) fn sent_len(list: &PropsRef<'_>, identifiers: &[u32]) -> Option<usize>
+    ensures value { MatchOption result (¬ FitsBlock (sent_after 0 identifiers.now list.now))
+        (λ len. len ≡ length (props (sent_after 0 identifiers.now list.now))) }
+    ensures fits { OnSome result (FitsBlock (sent_after 0 identifiers.now list.now)) }
+{
+    let pairs = pairs_len(list);
+    let Some(own) = identifiers_len(identifiers) else {
+        return None;
+    };
+    let len = pairs + own;
+    if len < VARINT_LIMIT as usize {
+        Some(len)
+    } else {
+        None
+    }
+}

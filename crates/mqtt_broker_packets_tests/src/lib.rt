@@ -1,0 +1,7 @@
+//! Tests of mqtt_broker_packets over its public calls.
+#![tactic(auto)]
+
+#[cfg(test)]
+mod answers;
+#[cfg(test)]
+mod copies;

@@ -1,0 +1,51 @@
+-- A PUBLISH by what its identifier is.
+use Rattle.std.proofs.Common.{◌≡◌, ℕ, List, [], refl, ap, sym, subst, ◌∙◌}
+use Rattle.std.specs.Prelude.{Option, Some, None, option_map}
+use Rattle.mqtt_codec.specs.declared.publish.Publish.{Publish}
+use Rattle.mqtt_flow_inbound.specs.declared.inflow.Published.{Published}
+use Rattle.mqtt_flow_inbound.specs.declared.inflow.Published.TheVariants.{Again}
+use Rattle.mqtt_records.specs.declared.session.Session.{Session}
+use Rattle.mqtt_rules.specs.State.{Line}
+use Rattle.mqtt_rules.specs.Deeds.{Message}
+use Rattle.mqtt_rules.specs.Inbound.{message_of, publish_by, standing}
+use Rattle.mqtt_broker_step.specs.declared.fault.StepFault.{StepFault}
+use Rattle.mqtt_broker_step.specs.Stepping.{Stepping, Does, Leaves}
+use Rattle.mqtt_broker_publish.specs.Choosing.{DoesSome, IsLawfulMessage, LeavesSome}
+
+-- one was found, and it is this one
+pub same_row : {A : Type 0} (x y : A) (o : Option A) → Some x ≡ o → o ≡ Some y → x ≡ y
+same_row x y o here there =
+    let e : Some x ≡ Some y = here ∙ there in
+    cc
+
+-- what a session publishes, where it stands
+pub message_is : (topic : List ℕ) (p : Publish) (m : Message) (o : Option Session) (x : Session) → Some m ≡ option_map (λ s. message_of s.client topic p) o → o ≡ Some x
+    → m ≡ message_of x.client topic p
+message_is topic p m o x is there =
+    let e : Some m ≡ Some (message_of x.client topic p) = is ∙ ap (option_map (λ (s : Session). message_of s.client topic p)) there in
+    cc
+
+not_none : (m : Message) → Some m ≡ None → ⊥
+not_none m e = cc
+
+pub message_lawful : (topic : List ℕ) (p : Publish) (m : Message) (o : Option Session) → Some m ≡ option_map (λ s. message_of s.client topic p) o
+    → ((x : Session) → o ≡ Some x → IsLawfulMessage (message_of x.client topic p)) → IsLawfulMessage m
+message_lawful topic p m None is h = absurd (not_none m is)
+message_lawful topic p m (Some x) is h = subst (λ (y : Message). IsLawfulMessage y) (sym (message_is topic p m (Some x) x is refl)) (h x refl)
+
+module _ (l : Line) (x : Session) (p : Publish) (m : Message) where
+  pub by_some : (k : Published) (s new : Stepping) → k ≡ standing p.delivery x.inbound → DoesSome (λ env. publish_by k env l x p m) s new
+      → DoesSome (λ env. publish_by (standing p.delivery x.inbound) env l x p m) s new
+  by_some k s new is done = subst (λ (k2 : Published). DoesSome (λ env. publish_by k2 env l x p m) s new) is done
+
+  pub by_left : (k : Published) (fault : StepFault) (s new : Stepping) → k ≡ standing p.delivery x.inbound → LeavesSome (λ env. publish_by k env l x p m) fault s new
+      → LeavesSome (λ env. publish_by (standing p.delivery x.inbound) env l x p m) fault s new
+  by_left k fault s new is left = subst (λ (k2 : Published). LeavesSome (λ env. publish_by k2 env l x p m) fault s new) is left
+
+  pub again_does : (s new : Stepping) → Again ≡ standing p.delivery x.inbound → Does (λ env. publish_by Again env l x p m) s new
+      → DoesSome (λ env. publish_by (standing p.delivery x.inbound) env l x p m) s new
+  again_does s new is done = by_some Again s new is (record { number = 0; sender = []; members = []; is = λ choice chosen. done choice })
+
+  pub again_leaves : (fault : StepFault) (s new : Stepping) → Again ≡ standing p.delivery x.inbound → Leaves (λ env. publish_by Again env l x p m) fault s new
+      → LeavesSome (λ env. publish_by (standing p.delivery x.inbound) env l x p m) fault s new
+  again_leaves fault s new is left = by_left Again fault s new is (record { number = 0; sender = []; members = []; is = λ choice chosen. left choice })

@@ -1,0 +1,11 @@
+pub mod Opens
+pub mod Leading
+pub mod Delivered
+pub mod Offered
+pub mod Accepted
+pub mod Taken
+pub mod Some
+pub mod Aliased
+pub mod ByIdentifier
+pub mod Dropped
+pub mod Routed

@@ -1,0 +1,13 @@
+-- Whether an identifier is open, as the table of identifiers has it and as the rules do.
+use Rattle.std.proofs.Common.{◌≡◌, ℕ, nat_eq, List, [], ◌∷◌, refl, inl, inr}
+use Rattle.std.proofs.lemmas.Bool.{cases_Bool}
+use Rattle.mqtt_flow_inbound.specs.Identifiers.{is_among}
+use Rattle.mqtt_records_rows.specs.Order.{has_row}
+use Rattle.mqtt_records.specs.Session.{number_of}
+
+pub has_is_among : (id : ℕ) (ids : List ℕ) → has_row number_of id ids ≡ is_among id ids
+has_is_among id [] = refl
+has_is_among id (n ∷ ns) = elim (cases_Bool (nat_eq n id)) [
+  | inl here ↦ rw here refl
+  | inr later ↦ rw later (has_is_among id ns)
+]

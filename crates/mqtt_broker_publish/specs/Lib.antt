@@ -1,0 +1,5 @@
+pub mod Delivering
+pub mod Retaining
+pub mod Choosing
+pub mod Sharing
+pub mod Publishing

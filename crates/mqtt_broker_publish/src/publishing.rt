@@ -1,0 +1,39 @@
+//! A publication is accepted: it gets its number, RETAIN is done, and its copies are handed over (MQTT 5.0,
+//! 3.3.1.3, 3.3.4).
+ghost use Rattle.std.specs.Prelude.{◌≡◌, OnOk, IfErr};
+ghost use Rattle.std.specs.List.{AllByRecursion};
+ghost use Rattle.mqtt_records_message.specs.Queue.{IsSpelled};
+ghost use Rattle.mqtt_rules.specs.Deeds.{Origin};
+ghost use Rattle.mqtt_rules.specs.Routing.{publish};
+ghost use Rattle.mqtt_broker_step.specs.Stepping.{Does, Leaves};
+ghost use Rattle.mqtt_broker_publish.specs.Delivering.{addressed_all, HasRoomIn, SameSessions};
+
+use crate::delivering::deliver_all;
+use crate::retaining::retain;
+use mqtt_broker_decisions::Message;
+use mqtt_broker_step::{Step, StepFault};
+use mqtt_records_message::MessageCopy;
+use std::alloc::Global;
+
+/// A publication is accepted, retained where it is to be, and handed over in these copies, whose PUBLISH
+/// have spellings (3.3.1.3, 3.3.4). Each queue has room for those that are to enter it.
+pub fn publish(
+    alloc: Global,
+    step: &mut Step,
+    message: &Message,
+    copies: Vec<MessageCopy>,
+) -> Result<(), StepFault>
+    requires spelled { AllByRecursion IsSpelled copies.items }
+    requires room { HasRoomIn step.old (addressed_all copies.items) }
+    ensures ok { (origin : Origin) → OnOk result (Does
+        (λ env. publish env origin message.now (addressed_all copies.items)) step.old step.new) }
+    ensures sessions { OnOk result (SameSessions step.old.broker.records
+        step.new.broker.records) }
+    ensures left { (origin : Origin) → IfErr result (λ fault. Leaves
+        (λ env. publish env origin message.now (addressed_all copies.items))
+        fault step.old step.new) }
+{
+    let number = step.accept()?;
+    retain(alloc, step, number, message)?;
+    deliver_all(alloc, step, copies)
+}

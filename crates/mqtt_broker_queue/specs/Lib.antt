@@ -1,0 +1,4 @@
+pub mod Queues
+pub mod Turning
+pub mod Answering
+pub mod Entering

@@ -1,0 +1,164 @@
+//! A receiver's answers: PUBACK, PUBREC, PUBCOMP (MQTT 5.0, 3.4, 3.5, 3.7, 4.3).
+ghost use Rattle.std.specs.Prelude.{◌≡◌, ◌≤◌, ℕ, List, [], is_some, true, IfOk, IfErr};
+ghost use Rattle.mqtt_flow.specs.Outbound.{puback, pubrec, pubcomp};
+ghost use Rattle.mqtt_flow.specs.Queue.{greatest_order};
+ghost use Rattle.mqtt_rules.specs.State.{Env, Line, queue_on, session_at};
+ghost use Rattle.mqtt_broker_step.specs.Stepping.{IsLeft};
+ghost use Rattle.mqtt_broker_queue.specs.Answering.{Came, asks, pubacks, pubrecs, pubcomps};
+ghost use Rattle.mqtt_broker_queue.specs.Queues.{HasKeptOrders};
+
+use crate::queue::rows_of;
+use crate::turning::turn;
+use mqtt_base::{LAST_NUMBER, Reason};
+use mqtt_broker_step::{Step, StepFault};
+use mqtt_flow::{Turn, look_puback, look_pubcomp, look_pubrec};
+use mqtt_flow_inbound::FlowFault;
+use mqtt_records::Session;
+use std::alloc::Global;
+
+/// What came of a receiver's answer.
+#[derive(Clone, Copy, Debug, PartialEq, Eq)]
+pub enum Answered {
+    /// The session took it, or passed it over where no copy has its identifier.
+    Taken,
+    /// It came in a wrong phase: nothing changed, and the line is to be dropped (4.3, ours).
+    Wrong,
+}
+
+/// A session that stands does what an answer asks for.
+fn take(
+    alloc: Global,
+    step: &mut Step,
+    line: u64,
+    birth: u64,
+    asked: Result<Option<Turn>, FlowFault>,
+) -> Result<Answered, StepFault>
+    requires { is_some (session_at birth step.old.broker.records) ≡ true }
+    ensures ok { IfOk result (λ answered. Came (asks birth asked) line answered
+        step.old step.new) }
+    ensures left { (env : Env) (l : Line) → l.number ≡ line → IfErr result (λ fault.
+        IsLeft (asks birth asked env l) fault step.old step.new) }
+{
+    match asked {
+        Ok(Some(asked)) => {
+            turn(alloc, step, line, birth, asked)?;
+            Ok(Answered::Taken)
+        }
+        Ok(None) => Ok(Answered::Taken),
+        Err(_) => Ok(Answered::Wrong),
+    }
+}
+
+/// What a PUBACK asks of a session.
+fn ask_puback(
+    alloc: Global,
+    session: &Session,
+    identifier: u16,
+    code: Reason,
+) -> Result<Result<Option<Turn>, FlowFault>, StepFault>
+    ensures asked { (went : List ℕ) → IfOk result (λ asked. asked
+        ≡ puback identifier code.0 (queue_on went session.now)) }
+    ensures fault { IfErr result (λ fault. fault ≡ StepFault.Memory) }
+{
+    let rows = rows_of(alloc, session, &[])?;
+    let asked = look_puback(&rows, identifier, code);
+    drop(rows);
+    Ok(asked)
+}
+
+/// What a PUBREC asks of a session.
+fn ask_pubrec(
+    alloc: Global,
+    session: &Session,
+    identifier: u16,
+    code: Reason,
+) -> Result<Result<Option<Turn>, FlowFault>, StepFault>
+    requires { greatest_order (queue_on [] session.now) ≤ LAST_NUMBER }
+    ensures asked { (went : List ℕ) → IfOk result (λ asked. asked
+        ≡ pubrec identifier code.0 (queue_on went session.now)) }
+    ensures fault { IfErr result (λ fault. fault ≡ StepFault.Memory) }
+{
+    let rows = rows_of(alloc, session, &[])?;
+    let asked = look_pubrec(&rows, identifier, code);
+    drop(rows);
+    Ok(asked)
+}
+
+/// What a PUBCOMP asks of a session.
+fn ask_pubcomp(
+    alloc: Global,
+    session: &Session,
+    identifier: u16,
+) -> Result<Result<Option<Turn>, FlowFault>, StepFault>
+    ensures asked { (went : List ℕ) → IfOk result (λ asked. asked
+        ≡ pubcomp identifier (queue_on went session.now)) }
+    ensures fault { IfErr result (λ fault. fault ≡ StepFault.Memory) }
+{
+    let rows = rows_of(alloc, session, &[])?;
+    let asked = look_pubcomp(&rows, identifier);
+    drop(rows);
+    Ok(asked)
+}
+
+/// A PUBACK that comes on the line of a session ends a sent copy of QoS 1 (4.3.2).
+pub fn puback(
+    alloc: Global,
+    step: &mut Step,
+    line: u64,
+    birth: u64,
+    identifier: u16,
+    code: Reason,
+) -> Result<Answered, StepFault>
+    ensures ok { IfOk result (λ answered. Came (pubacks birth identifier code.0) line answered
+        step.old step.new) }
+    ensures left { (env : Env) (l : Line) → l.number ≡ line → IfErr result (λ fault.
+        IsLeft (pubacks birth identifier code.0 env l) fault step.old step.new) }
+{
+    let Some(session) = step.session(birth) else {
+        return Ok(Answered::Taken);
+    };
+    let asked = ask_puback(alloc, session, identifier, code)?;
+    take(alloc, step, line, birth, asked)
+}
+
+/// A PUBREC that comes on the line of a session releases a sent copy of QoS 2, or ends it (4.3.3).
+pub fn pubrec(
+    alloc: Global,
+    step: &mut Step,
+    line: u64,
+    birth: u64,
+    identifier: u16,
+    code: Reason,
+) -> Result<Answered, StepFault>
+    requires { HasKeptOrders birth step.old.broker.records }
+    ensures ok { IfOk result (λ answered. Came (pubrecs birth identifier code.0) line answered
+        step.old step.new) }
+    ensures left { (env : Env) (l : Line) → l.number ≡ line → IfErr result (λ fault.
+        IsLeft (pubrecs birth identifier code.0 env l) fault step.old step.new) }
+{
+    let Some(session) = step.session(birth) else {
+        return Ok(Answered::Taken);
+    };
+    let asked = ask_pubrec(alloc, session, identifier, code)?;
+    take(alloc, step, line, birth, asked)
+}
+
+/// A PUBCOMP that comes on the line of a session ends a released copy (4.3.3).
+pub fn pubcomp(
+    alloc: Global,
+    step: &mut Step,
+    line: u64,
+    birth: u64,
+    identifier: u16,
+) -> Result<Answered, StepFault>
+    ensures ok { IfOk result (λ answered. Came (pubcomps birth identifier) line answered
+        step.old step.new) }
+    ensures left { (env : Env) (l : Line) → l.number ≡ line → IfErr result (λ fault.
+        IsLeft (pubcomps birth identifier env l) fault step.old step.new) }
+{
+    let Some(session) = step.session(birth) else {
+        return Ok(Answered::Taken);
+    };
+    let asked = ask_pubcomp(alloc, session, identifier)?;
+    take(alloc, step, line, birth, asked)
+}

@@ -1,0 +1,218 @@
+-- What deeds make of a step: one after the other, and one that is a row.
+use Rattle.std.proofs.Common.{◌≡◌, ℕ, Bool, ◌||◌, cond, List, [], ◌∷◌, ◌++◌, nat_eq, refl, ap, sym, ◌∙◌, append_assoc, append-nil, inl, inr}
+use Rattle.std.specs.Prelude.{filter_map, map, Option, Some, None, Result, Ok, Err, IfErr, IfOk, OnErr, OnOk}
+use Rattle.std.proofs.lemmas.List.Elements.{filter_map-append}
+use Rattle.std.proofs.lemmas.Bool.{cases_Bool, eqb-true}
+use Rattle.mqtt_records.specs.declared.change.Change.{Change}
+use Rattle.mqtt_records.specs.declared.records.Records.{Records}
+use Rattle.mqtt_records.specs.declared.session.Session.{Session}
+use Rattle.mqtt_records.specs.Records.{changed_all}
+use Rattle.mqtt_records.specs.Session.{birth_of}
+use Rattle.mqtt_records_rows.specs.Order.{row_at}
+use Rattle.mqtt_rules.specs.declared.Report.{Report}
+use Rattle.mqtt_rules.specs.State.{Line, Broker, session_at}
+use Rattle.mqtt_rules.specs.Deeds.{Deed, Part, At, Act, whose, after, after_all, rows_of, rows_of_all, stored_after, lines_after, given_after, part_rows, part_rows_of, lines_at, part_report, with_session, always, series, output, closing, report}
+use Rattle.mqtt_rules.specs.Step.{is_spent}
+use Rattle.mqtt_rules.proofs.acts.Goods.{after_append}
+use Rattle.mqtt_broker_step.specs.declared.fault.StepFault.{StepFault}
+use Rattle.mqtt_broker_step.specs.declared.fault.StepFault.TheVariants.{Memory, Spent}
+use Rattle.mqtt_broker_step.specs.Undoing.{with_change}
+use Rattle.mqtt_broker_step.specs.Stepping.{Stepping, did, spelled, Did, IsLeft, IsLeftRow, IsRefusedRow, to_session, written, told}
+use Rattle.mqtt_broker_step.proofs.Rows.{spent_append}
+
+-- ---- deeds after deeds
+
+pub rows_append : (ds es : List Deed) (b : Broker) → rows_of_all (ds ++ es) b.records ≡ rows_of_all ds b.records ++ rows_of_all es (after_all ds b).records
+rows_append [] es b = refl
+rows_append (d ∷ ds) es b =
+    ap (λ rest. rows_of d b.records ++ rest) (rows_append ds es (after d b))
+    ∙ sym (append_assoc (rows_of d b.records) (rows_of_all ds (stored_after d b.records)) (rows_of_all es (after_all ds (after d b)).records))
+
+-- a step with these tables and lists
+abbrev pub with_parts : Stepping → Broker → List Change → List (ℕ × List ℕ) → List ℕ → List Report → Stepping
+with_parts s b rows outputs closed reports = record s { broker = b; rows = rows; outputs = outputs; closed = closed; reports = reports }
+
+five : {A B C D E R : Type 0} (mk : A → B → C → D → E → R) {a1 a2 : A} {b1 b2 : B} {c1 c2 : C} {d1 d2 : D} {e1 e2 : E}
+    → a1 ≡ a2 → b1 ≡ b2 → c1 ≡ c2 → d1 ≡ d2 → e1 ≡ e2 → mk a1 b1 c1 d1 e1 ≡ mk a2 b2 c2 d2 e2
+five mk p q r s t = cc
+
+pub same_parts : (s : Stepping) {a1 a2 : Broker} {b1 b2 : List Change} {c1 c2 : List (ℕ × List ℕ)} {d1 d2 : List ℕ} {e1 e2 : List Report}
+    → a1 ≡ a2 → b1 ≡ b2 → c1 ≡ c2 → d1 ≡ d2 → e1 ≡ e2 → with_parts s a1 b1 c1 d1 e1 ≡ with_parts s a2 b2 c2 d2 e2
+same_parts s p q r t u = five (with_parts s) p q r t u
+
+more : {X Y : Type 0} (h : X → Option Y) (ys : List Y) (ds es : List X) → ys ++ filter_map h ds ++ filter_map h es ≡ ys ++ filter_map h (ds ++ es)
+more h ys ds es = append_assoc ys (filter_map h ds) (filter_map h es) ∙ ap (λ zs. ys ++ zs) (sym (filter_map-append h ds es))
+
+map_append : {X Y : Type 0} (f : X → Y) (xs ys : List X) → map f xs ++ map f ys ≡ map f (xs ++ ys)
+map_append f [] ys = refl
+map_append f (x ∷ xs) ys = ap (λ zs. f x ∷ zs) (map_append f xs ys)
+
+more_out : (ys : List (ℕ × List ℕ)) (ds es : List Deed)
+    → ys ++ map spelled (filter_map output ds) ++ map spelled (filter_map output es) ≡ ys ++ map spelled (filter_map output (ds ++ es))
+more_out ys ds es =
+    append_assoc ys (map spelled (filter_map output ds)) (map spelled (filter_map output es))
+    ∙ ap (λ zs. ys ++ zs) (map_append spelled (filter_map output ds) (filter_map output es) ∙ ap (map spelled) (sym (filter_map-append output ds es)))
+
+-- deeds, then deeds
+pub did_did : (ds es : List Deed) (s : Stepping) → did es (did ds s) ≡ did (ds ++ es) s
+did_did ds es s = same_parts s
+    (sym (after_append ds es s.broker))
+    (append_assoc s.rows (rows_of_all ds s.broker.records) (rows_of_all es (after_all ds s.broker).records) ∙ ap (λ rows. s.rows ++ rows) (sym (rows_append ds es s.broker)))
+    (more_out s.outputs ds es)
+    (more closing s.closed ds es)
+    (more report s.reports ds es)
+
+pub did_none : (s : Stepping) → did [] s ≡ s
+did_none s = same_parts s refl (append-nil s.rows) (append-nil s.outputs) (append-nil s.closed) (append-nil s.reports)
+
+-- one act after another
+pub did_series : (f : Act) (fs : List Act) (s : Stepping) → did (series (f ∷ fs) s.broker) s ≡ did (series fs (did (f s.broker) s).broker) (did (f s.broker) s)
+did_series f fs s = sym (did_did (f s.broker) (series fs (after_all (f s.broker) s.broker)) s)
+
+-- ---- a deed that is one row
+
+map_none : {X Y : Type 0} (h : X → Option Y) (x : X) → h x ≡ None → filter_map h (x ∷ []) ≡ []
+map_none h x e = rw e refl
+
+map_some : {X Y : Type 0} (h : X → Option Y) (x : X) (y : Y) → h x ≡ Some y → filter_map h (x ∷ []) ≡ y ∷ []
+map_some h x y e = rw e refl
+
+nothing_more : {X Y : Type 0} (h : X → Option Y) (ys : List Y) (x : X) → h x ≡ None → ys ≡ ys ++ filter_map h (x ∷ [])
+nothing_more h ys x e = sym (append-nil ys) ∙ ap (λ zs. ys ++ zs) (sym (map_none h x e))
+
+-- of what a deed tells, and of the lines, nothing
+pub record IsQuiet (d : Deed) (b : Broker) : Type 0 where
+  pub lines : lines_after b.now d b.lines ≡ b.lines
+  pub given : given_after d b.given ≡ b.given
+  pub output : output d ≡ None
+  pub closing : closing d ≡ None
+
+three : {A B C R : Type 0} (mk : A → B → C → R) {a1 a2 : A} {b1 b2 : B} {c1 c2 : C} → a1 ≡ a2 → b1 ≡ b2 → c1 ≡ c2 → mk a1 b1 c1 ≡ mk a2 b2 c2
+three mk p q r = cc
+
+abbrev broker_with : Broker → Records → List Line → ℕ → Broker
+broker_with b r ls given = record b { records = r; lines = ls; given = given }
+
+after_row : (d : Deed) (c : Change) (b : Broker) → IsQuiet d b → rows_of d b.records ≡ c ∷ [] → with_change c b ≡ after d b
+after_row d c b quiet rows =
+    three (broker_with b) (sym (ap (λ cs. changed_all cs b.records) rows)) (sym quiet.lines) (sym quiet.given)
+
+row_listed : (d : Deed) (c : Change) (r : Records) → rows_of d r ≡ c ∷ [] → c ∷ [] ≡ rows_of_all (d ∷ []) r
+row_listed d c r rows = ap (λ cs. cs ++ []) (sym rows)
+
+no_output : (d : Deed) (ys : List (ℕ × List ℕ)) → output d ≡ None → ys ≡ ys ++ map spelled (filter_map output (d ∷ []))
+no_output d ys e = sym (append-nil ys) ∙ ap (λ zs. ys ++ map spelled zs) (sym (map_none output d e))
+
+pub did_row : (d : Deed) (c : Change) (s : Stepping) → IsQuiet d s.broker → report d ≡ None → rows_of d s.broker.records ≡ c ∷ [] → written c s ≡ did (d ∷ []) s
+did_row d c s quiet none rows = same_parts s
+    (after_row d c s.broker quiet rows)
+    (ap (λ cs. s.rows ++ cs) (row_listed d c s.broker.records rows))
+    (no_output d s.outputs quiet.output)
+    (nothing_more closing s.closed d quiet.closing)
+    (nothing_more report s.reports d none)
+
+pub did_row_told : (d : Deed) (c : Change) (y : Report) (s : Stepping) → IsQuiet d s.broker → report d ≡ Some y → rows_of d s.broker.records ≡ c ∷ []
+    → told y (written c s) ≡ did (d ∷ []) s
+did_row_told d c y s quiet tells rows = same_parts s
+    (after_row d c s.broker quiet rows)
+    (ap (λ cs. s.rows ++ cs) (row_listed d c s.broker.records rows))
+    (no_output d s.outputs quiet.output)
+    (nothing_more closing s.closed d quiet.closing)
+    (ap (λ zs. s.reports ++ zs) (sym (map_some report d y tells)))
+
+-- ---- a deed of a session
+
+-- the session that was found has the birth that was asked for
+pub found_birth : (birth : ℕ) (ss : List Session) (x : Session) → row_at birth_of birth ss ≡ Some x → x.birth ≡ birth
+found_birth birth [] x found = absurd cc
+found_birth birth (y ∷ ys) x found = elim (cases_Bool (nat_eq y.birth birth)) [
+  | inl here ↦
+      let first : Some y ≡ Some x = ap (λ (b : Bool). cond b (Some y) (row_at birth_of birth ys)) (sym here) ∙ found in
+      let is : y ≡ x = cc in
+      ap birth_of (sym is) ∙ eqb-true y.birth birth here
+  | inr later ↦ found_birth birth ys x (ap (λ (b : Bool). cond b (Some y) (row_at birth_of birth ys)) (sym later) ∙ found)
+]
+
+pub stands : (birth : ℕ) (r : Records) (x : Session) → session_at birth r ≡ Some x → session_at x.birth r ≡ Some x
+stands birth r x found = ap (λ n. session_at n r) (found_birth birth r.sessions x found) ∙ found
+
+part_of : (birth : ℕ) (part : Part) (b : Broker) (x : Session) → session_at birth b.records ≡ Some x → to_session birth part b ≡ At (whose x) part ∷ []
+part_of birth part b x found = ap (λ o. with_session o (λ y. always (At (whose y) part ∷ [])) b) found
+
+rows_of_part : (birth : ℕ) (part : Part) (c : Change) (r : Records) (x : Session) → session_at birth r ≡ Some x → part_rows part x ≡ c ∷ []
+    → rows_of (At (whose x) part) r ≡ c ∷ []
+rows_of_part birth part c r x found rows = ap (part_rows_of part) (stands birth r x found) ∙ rows
+
+pub did_part : (birth : ℕ) (part : Part) (c : Change) (x : Session) (s : Stepping) → session_at birth s.broker.records ≡ Some x → part_rows part x ≡ c ∷ []
+    → lines_at x.birth part s.broker.lines ≡ s.broker.lines → part_report (whose x) part ≡ None → Did (to_session birth part) s (written c s)
+did_part birth part c x s found rows lines none = record {
+  is = did_row (At (whose x) part) c s (record { lines = lines; given = refl; output = refl; closing = refl }) none (rows_of_part birth part c s.broker.records x found rows)
+      ∙ ap (λ ds. did ds s) (sym (part_of birth part s.broker x found));
+}
+
+pub did_part_told : (birth : ℕ) (part : Part) (c : Change) (y : Report) (x : Session) (s : Stepping) → session_at birth s.broker.records ≡ Some x → part_rows part x ≡ c ∷ []
+    → lines_at x.birth part s.broker.lines ≡ s.broker.lines → part_report (whose x) part ≡ Some y → Did (to_session birth part) s (told y (written c s))
+did_part_told birth part c y x s found rows lines tells = record {
+  is = did_row_told (At (whose x) part) c y s (record { lines = lines; given = refl; output = refl; closing = refl }) tells (rows_of_part birth part c s.broker.records x found rows)
+      ∙ ap (λ ds. did ds s) (sym (part_of birth part s.broker x found));
+}
+
+pub did_nobody : (birth : ℕ) (part : Part) (s : Stepping) → session_at birth s.broker.records ≡ None → Did (to_session birth part) s s
+did_nobody birth part s none = record {
+  is = sym (did_none s) ∙ ap (λ ds. did ds s) (sym (ap (λ o. with_session o (λ y. always (At (whose y) part ∷ [])) s.broker) none));
+}
+
+-- ---- refusals
+
+pub row_left : (c : Change) (fault : StepFault) (old new : Stepping) → new ≡ old → IsRefusedRow c fault → IsLeftRow c fault old new
+row_left c Memory old new same is = record { start = ap (λ (s : Stepping). s.start) same; limits = ap (λ (s : Stepping). s.limits) same; spent = λ e. absurd cc }
+row_left c Spent old new same is = record { start = ap (λ (s : Stepping). s.start) same; limits = ap (λ (s : Stepping). s.limits) same; spent = λ e. is }
+
+-- where the act's rows begin with the row that was refused
+pub left_of_row : (act : Act) (c : Change) (rest : List Change) (fault : StepFault) (old new : Stepping) → rows_of_all (act old.broker) old.broker.records ≡ c ∷ rest
+    → IsLeftRow c fault old new → IsLeft act fault old new
+left_of_row act c rest fault old new rows is = record {
+  start = is.start;
+  limits = is.limits;
+  spent = λ e. ap is_spent rows ∙ (spent_append (c ∷ []) rest ∙ ap (λ b. b || is_spent rest) (is.spent e));
+}
+
+pub left_part : (birth : ℕ) (part : Part) (c : Change) (x : Session) (fault : StepFault) (old new : Stepping) → session_at birth old.broker.records ≡ Some x → part_rows part x ≡ c ∷ []
+    → IsLeftRow c fault old new → IsLeft (to_session birth part) fault old new
+left_part birth part c x fault old new found rows is =
+    left_of_row (to_session birth part) c [] fault old new
+    (ap (λ ds. rows_of_all ds old.broker.records) (part_of birth part old.broker x found)
+    ∙ sym (row_listed (At (whose x) part) c old.broker.records (rows_of_part birth part c old.broker.records x found rows)))
+    is
+
+-- ---- results
+
+pub on_ok : {A E : Type 0} (r : Result A E) {P Q : Type 0} → (P → Q) → OnOk r P → OnOk r Q
+on_ok (Ok a) f p = f p
+on_ok (Err e) f p = p
+
+pub if_ok : {A E : Type 0} (r : Result A E) {P Q : A → Type 0} → ((a : A) → P a → Q a) → IfOk r P → IfOk r Q
+if_ok (Ok a) f p = f a p
+if_ok (Err e) f p = p
+
+pub if_err : {A E : Type 0} (r : Result A E) {P Q : E → Type 0} → ((e : E) → P e → Q e) → IfErr r P → IfErr r Q
+if_err (Ok a) f p = p
+if_err (Err e) f p = f e p
+
+pub if_err_too : {A E : Type 0} (r : Result A E) {P Q : E → Type 0} {D : Type 0} → ((e : E) → P e → D → Q e) → IfErr r P → OnErr r D → IfErr r Q
+if_err_too (Ok a) f p d = p
+if_err_too (Err e) f p d = f e p d
+
+-- ---- a deed of a session, as a call has it
+
+pub part_ok : (birth : ℕ) (part : Part) (c : Change) (x : Session) (s new : Stepping) → session_at birth s.broker.records ≡ Some x → part_rows part x ≡ c ∷ []
+    → lines_at x.birth part s.broker.lines ≡ s.broker.lines → part_report (whose x) part ≡ None → new ≡ written c s → Did (to_session birth part) s new
+part_ok birth part c x s new found rows lines none is = record { is = is ∙ (did_part birth part c x s found rows lines none).is }
+
+pub part_told : (birth : ℕ) (part : Part) (c : Change) (y : Report) (x : Session) (s new : Stepping) → session_at birth s.broker.records ≡ Some x → part_rows part x ≡ c ∷ []
+    → lines_at x.birth part s.broker.lines ≡ s.broker.lines → part_report (whose x) part ≡ Some y → new ≡ told y (written c s) → Did (to_session birth part) s new
+part_told birth part c y x s new found rows lines tells is = record { is = is ∙ (did_part_told birth part c y x s found rows lines tells).is }
+
+pub part_left : (birth : ℕ) (part : Part) (c : Change) (x : Session) (fault : StepFault) (old new : Stepping) → session_at birth old.broker.records ≡ Some x → part_rows part x ≡ c ∷ []
+    → IsRefusedRow c fault → new ≡ old → IsLeft (to_session birth part) fault old new
+part_left birth part c x fault old new found rows is same = left_part birth part c x fault old new found rows (row_left c fault old new same is)

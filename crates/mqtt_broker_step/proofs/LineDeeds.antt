@@ -1,0 +1,68 @@
+-- What the deeds of a line make of a step.
+use Rattle.std.proofs.Common.{◌≡◌, ℕ, Bool, cond, List, [], ◌∷◌, nat_eq, refl, ap, sym, ◌∙◌, append-nil, inl, inr}
+use Rattle.std.specs.Prelude.{Some, None}
+use Rattle.std.proofs.lemmas.Bool.{cases_Bool}
+use Rattle.mqtt_records_rows.specs.Order.{row_at, change_row}
+use Rattle.mqtt_rules.specs.State.{Line}
+use Rattle.mqtt_rules.specs.Deeds.{LinePart, On, always, on_line, line_after}
+use Rattle.mqtt_broker_step.specs.declared.line.LineChange.{LineChange}
+use Rattle.mqtt_broker_step.specs.Lines.{line_changed, line_number}
+use Rattle.mqtt_broker_step.specs.Undoing.{with_lines, with_line_changed}
+use Rattle.mqtt_broker_step.specs.Stepping.{Stepping, did, Did, with_broker}
+use Rattle.mqtt_broker_step.proofs.Doing.{same_parts}
+
+-- the line that was found is changed as the rules have it
+on_line_found : (moment n : ℕ) (part : LinePart) (change : LineChange) (l : Line) (ls : List Line) → row_at line_number n ls ≡ Some l
+    → line_changed change l ≡ line_after moment part l → change_row line_number n (line_changed change) ls ≡ on_line moment n part ls
+on_line_found moment n part change l [] found is = absurd cc
+on_line_found moment n part change l (x ∷ xs) found is = elim (cases_Bool (nat_eq x.number n)) [
+  | inl here ↦
+      let first : Some x ≡ Some l = ap (λ (b : Bool). cond b (Some x) (row_at line_number n xs)) (sym here) ∙ found in
+      let same : x ≡ l = cc in
+      let as_found : line_changed change x ≡ line_after moment part x =
+      ap (line_changed change) same ∙ (is ∙ ap (line_after moment part) (sym same)) in
+      rw here (ap (λ (y : Line). y ∷ xs) as_found)
+  | inr later ↦
+      let there : row_at line_number n xs ≡ Some l = ap (λ (b : Bool). cond b (Some x) (row_at line_number n xs)) (sym later) ∙ found in
+      rw later (ap (λ (ys : List Line). x ∷ ys) (on_line_found moment n part change l xs there is))
+]
+
+on_line_none : (moment n : ℕ) (part : LinePart) (ls : List Line) → row_at line_number n ls ≡ None → on_line moment n part ls ≡ ls
+on_line_none moment n part [] none = refl
+on_line_none moment n part (x ∷ xs) none = elim (cases_Bool (nat_eq x.number n)) [
+  | inl here ↦
+      let first : Some x ≡ None = ap (λ (b : Bool). cond b (Some x) (row_at line_number n xs)) (sym here) ∙ none in
+      absurd cc
+  | inr later ↦
+      let there : row_at line_number n xs ≡ None = ap (λ (b : Bool). cond b (Some x) (row_at line_number n xs)) (sym later) ∙ none in
+      rw later (ap (λ (ys : List Line). x ∷ ys) (on_line_none moment n part xs there))
+]
+
+did_lines : (n : ℕ) (part : LinePart) (ls : List Line) (s : Stepping) → ls ≡ on_line s.broker.now n part s.broker.lines
+    → with_broker (with_lines ls s.broker) s ≡ did (On n part ∷ []) s
+did_lines n part ls s is = same_parts s
+    (ap (λ (xs : List Line). with_lines xs s.broker) is)
+    (sym (append-nil s.rows)) (sym (append-nil s.outputs)) (sym (append-nil s.closed)) (sym (append-nil s.reports))
+
+pub on_ok_line : (n : ℕ) (part : LinePart) (change : LineChange) (l : Line) (s new : Stepping) → row_at line_number n s.broker.lines ≡ Some l
+    → line_changed change l ≡ line_after s.broker.now part l → new ≡ with_broker (with_line_changed n change s.broker) s
+    → Did (always (On n part ∷ [])) s new
+on_ok_line n part change l s new found is changed = record {
+  is = changed ∙ did_lines n part (change_row line_number n (line_changed change) s.broker.lines) s
+      (on_line_found s.broker.now n part change l s.broker.lines found is);
+}
+
+pub on_no_line : (n : ℕ) (part : LinePart) (s : Stepping) → row_at line_number n s.broker.lines ≡ None → Did (always (On n part ∷ [])) s s
+on_no_line n part s none = record { is = did_lines n part s.broker.lines s (sym (on_line_none s.broker.now n part s.broker.lines none)) }
+
+-- a line changed as its deed has it
+on_line_is : (moment n : ℕ) (part : LinePart) (ls : List Line) → change_row line_number n (line_after moment part) ls ≡ on_line moment n part ls
+on_line_is moment n part [] = refl
+on_line_is moment n part (x ∷ xs) = ap (λ (ys : List Line). cond (nat_eq x.number n) (line_after moment part x ∷ xs) (x ∷ ys)) (on_line_is moment n part xs)
+
+pub on_line_ok : (n : ℕ) (part : LinePart) (s new : Stepping)
+    → new ≡ with_broker (with_lines (change_row line_number n (line_after s.broker.now part) s.broker.lines) s.broker) s
+    → Did (always (On n part ∷ [])) s new
+on_line_ok n part s new changed = record {
+  is = changed ∙ did_lines n part (change_row line_number n (line_after s.broker.now part) s.broker.lines) s (on_line_is s.broker.now n part s.broker.lines);
+}

@@ -1,0 +1,14 @@
+-- A session that is found by its client identifier is found by its birth.
+use Rattle.std.proofs.Common.{◌≡◌, ℕ, List}
+use Rattle.std.specs.Prelude.{bytes_eq, find, Some}
+use Rattle.mqtt_records.specs.declared.session.Session.{Session}
+use Rattle.mqtt_records.specs.Session.{birth_of}
+use Rattle.mqtt_records_rows.specs.Order.{IsAscending, row_at}
+use Rattle.mqtt_rules.proofs.fit.FitLaw.{all_among}
+use Rattle.mqtt_rules.proofs.flight.FlightRows.{all_found}
+use Rattle.mqtt_rules.proofs.acts.Leads.{found_among}
+
+pub stands_by_birth : (client : List ℕ) (ss : List Session) (s : Session) → IsAscending birth_of ss → find (λ x. bytes_eq x.client client) ss ≡ Some s
+    → row_at birth_of s.birth ss ≡ Some s
+stands_by_birth client ss s up found =
+    all_among (λ (x : Session). row_at birth_of x.birth ss ≡ Some x) s ss (all_found birth_of ss up) (found_among (λ (x : Session). bytes_eq x.client client) s ss found)

@@ -1,0 +1,27 @@
+-- One row more for the store.
+use Rattle.std.proofs.Common.{◌≡◌, false, ◌||◌, List, [], ◌∷◌, ◌++◌, nat_lt, refl, ap, sym, subst, ◌∙◌, inl, inr}
+use Rattle.std.proofs.lemmas.Bool.{cases_Bool}
+use Rattle.mqtt_base.specs.declared.limits.TheConstants.{LAST_NUMBER}
+use Rattle.mqtt_records.specs.declared.change.Change.{Change}
+use Rattle.mqtt_records.specs.Records.{changed}
+use Rattle.mqtt_rules.specs.Step.{is_spent, number_given}
+use Rattle.mqtt_rules.proofs.fit.StoredLaw.{changed_all_append}
+use Rattle.mqtt_broker_step.specs.Undoing.{Changing, become, with_change}
+use Rattle.mqtt_broker_step.specs.Stepping.{IsStep}
+
+pub spent_append : (xs ys : List Change) → is_spent (xs ++ ys) ≡ (is_spent xs || is_spent ys)
+spent_append [] ys = refl
+spent_append (x ∷ xs) ys = elim (cases_Bool (nat_lt LAST_NUMBER (number_given x))) [
+  | inl above ↦ rw above refl
+  | inr within ↦ rw within (spent_append xs ys)
+]
+
+pub row_more : (t t2 : Changing) (rows rows2 : List Change) (c : Change) → IsStep t.start t.broker rows
+    → rows2 ≡ rows ++ c ∷ [] → t2 ≡ become (with_change c t.broker) t → nat_lt LAST_NUMBER (number_given c) ≡ false → IsStep t2.start t2.broker rows2
+row_more t t2 rows rows2 c is rows_is made within =
+    let one : is_spent (c ∷ []) ≡ false = rw within refl in
+    let all : IsStep t.start (with_change c t.broker) (rows ++ c ∷ []) = record {
+      made = changed_all_append rows (c ∷ []) t.start.records ∙ ap (changed c) is.made;
+      unspent = spent_append rows (c ∷ []) ∙ (ap (λ b. b || is_spent (c ∷ [])) is.unspent ∙ one);
+    } in
+    subst (λ (x : Changing). IsStep x.start x.broker rows2) (sym made) (subst (λ xs. IsStep t.start (with_change c t.broker) xs) (sym rows_is) all)

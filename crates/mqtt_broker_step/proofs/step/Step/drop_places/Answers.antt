@@ -1,0 +1,30 @@
+use Rattle.std.proofs.Common.{◌≡◌, ℕ, ◌≤◌, ◌+◌, suc, List, length, arith, ap, sym, ◌∙◌}
+use Rattle.mqtt_rules.specs.State.{Line}
+use Rattle.mqtt_rules.specs.Deeds.{without_place}
+use Rattle.mqtt_broker_step.specs.Lines.{changed_from, nth_changed}
+use Rattle.mqtt_broker_step.specs.Undoing.{with_lines}
+use Rattle.mqtt_broker_step.specs.Stepping.{Stepping, with_broker}
+use Rattle.mqtt_broker_step.proofs.LineWalk.{changed_next, changed_all_lines, changed_behind}
+use Rattle.mqtt_broker_step.proofs.step.Step.drop_places.Goals as goal
+
+pub loop-at-init : goal.loop-at-init
+loop-at-init c =
+    let s : Stepping = c.args.self.now in
+    ap (λ (ls : List Line). with_broker (with_lines ls s.broker) s) (changed_all_lines (without_place c.args.birth c.args.place) s.broker.lines)
+
+pub loop-at-preserved : goal.loop-at-preserved
+loop-at-preserved c =
+    let s : Stepping = c.loop-at.self in
+    let g : Line → Line = without_place c.args.birth c.args.place in
+    let next : c.loop-at.at + 1 ≡ suc c.loop-at.at = omega arith in
+    ap (λ (v : Stepping). with_broker (with_lines (changed_from (c.loop-at.at + 1) g v.broker.lines) v.broker) v) c.in_ok-drop_at.ensures.ok
+    ∙ (ap (λ (ls : List Line). with_broker (with_lines ls s.broker) s)
+    (ap (λ (i : ℕ). changed_from i g (nth_changed c.loop-at.at g s.broker.lines)) next ∙ changed_next g c.loop-at.at s.broker.lines)
+    ∙ c.loop-at.invariant)
+
+pub returns-clause-ok : goal.returns-clause-ok
+returns-clause-ok c =
+    let s : Stepping = c.loop-at.self in
+    let behind : length s.broker.lines ≤ c.loop-at.at = omega (arith, c.loop-at-test.false, c.lines.ensures.few) in
+    ap (λ (ls : List Line). with_broker (with_lines ls s.broker) s) (sym (changed_behind (without_place c.args.birth c.args.place) c.loop-at.at s.broker.lines behind))
+    ∙ c.loop-at.invariant

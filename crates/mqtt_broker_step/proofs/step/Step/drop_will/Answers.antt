@@ -1,0 +1,17 @@
+use Rattle.std.proofs.Common.{refl, sym}
+use Rattle.std.specs.Prelude.{None}
+use Rattle.mqtt_records.specs.declared.change.Change.TheVariants.{RemoveWill}
+use Rattle.mqtt_rules.specs.Deeds.{DropWill}
+use Rattle.mqtt_broker_step.proofs.Doing.{on_ok, stands, part_ok}
+use Rattle.mqtt_broker_step.proofs.step.Step.drop_will.Goals as goal
+
+pub make-requires : goal.make-requires
+make-requires c =
+    c.in_ok-undo.ensures None c.args.self.now.broker.records (stands c.args.birth c.args.self.now.broker.records c.in-Some.session.now (sym c.in-Some.ensures))
+
+pub returns-clause-ok : goal.returns-clause-ok
+returns-clause-ok c =
+    let x = c.in-Some.session.now in
+    on_ok c.make.result
+    (part_ok c.args.birth DropWill (RemoveWill x.birth) x c.args.self.now c.make.new.self (sym c.in-Some.ensures) refl refl refl)
+    c.make.ensures.ok

@@ -1,0 +1,6 @@
+pub mod Lines
+pub mod Undoing
+pub mod Stepping
+pub mod Doing
+pub mod Backs
+pub mod Subscribing

@@ -1,0 +1,200 @@
+//! A step begins at a moment, and ends: the store is told, and it is done or taken back (MQTT 5.0, 4.1).
+ghost use Rattle.std.specs.Prelude.{◌≡◌, ◌≢◌, ◌⊎◌, false, IfOk, IfErr, OnOk, OnErr, IsErrOf};
+ghost use Rattle.mqtt_records.specs.declared.records.Records.{Records};
+ghost use Rattle.mqtt_records.specs.Records.{changed_all, FitAll};
+ghost use Rattle.mqtt_records.specs.Saying.{AllSayable};
+ghost use Rattle.mqtt_rules.specs.Step.{at_moment, is_spent};
+ghost use Rattle.mqtt_broker_step.specs.Undoing.{moment_of};
+ghost use Rattle.mqtt_broker_step.specs.Stepping.{at_rest, with_broker, with_stamp};
+
+use crate::fault::StepFault;
+use crate::step::Step;
+use bytes::Bytes;
+use mqtt_base::LAST_NUMBER;
+use mqtt_records::{Change, Counter, Keep, KeepError};
+use mqtt_rules::Report;
+use std::mem;
+use thiserror::Error;
+
+/// Why a call of the engine did nothing.
+#[derive(Clone, Copy, Debug, PartialEq, Eq, Error)]
+pub enum EngineError {
+    /// 1: want of memory. Nothing changed.
+    #[error("want of memory")]
+    Memory = 1,
+    /// 2: the store failed. Open the engine again.
+    #[error("the store failed")]
+    Stopped = 2,
+    /// 3: the next number would be above 2^62. Nothing changed.
+    #[error("numbers are spent")]
+    Spent = 3,
+}
+
+/// What a step tells, each in the order in which it came about.
+#[derive(Drop)]
+pub struct Outcome {
+    /// Packets as they go out, each with its line.
+    pub outputs: Vec<(u64, Bytes)>,
+    /// Lines that closed.
+    pub closed: Vec<u64>,
+    /// What came about.
+    pub reports: Vec<Report>,
+}
+
+impl Step {
+    /// The moment. Takes no memory.
+    pub fn moment(&self) -> u64
+        ensures { result ≡ moment_of self.now.broker }
+    {
+        self.tables.moment()
+    }
+
+    /// A step begins at a moment, or at the last one where that is later (ours).
+    pub fn begin(&mut self, moment: u64) -> Result<(), StepFault>
+        ensures ok { OnOk result (self.new
+            ≡ with_broker (at_moment moment self.old.broker) self.old) }
+        ensures err { OnErr result (self.new ≡ self.old) }
+        ensures fault { IfErr result (λ fault. fault ≡ StepFault.Memory) }
+    {
+        let moment = self.tables.moment().max(moment.min(LAST_NUMBER));
+        self.tables.set_moment(moment)?;
+        Ok(())
+    }
+
+    /// The moment is stored with what else is. Where nothing else is, it isn't.
+    pub fn stamp(&mut self) -> Result<(), StepFault>
+        ensures ok { OnOk result (self.new ≡ with_stamp self.old) }
+        ensures err { OnErr result (self.new ≡ self.old) }
+        ensures fault { IfErr result (λ fault. fault ≡ StepFault.Memory) }
+    {
+        if self.rows.is_empty() {
+            return Ok(());
+        }
+        let before = self.tables.records().moment;
+        let counter = Counter::Moment;
+        let value = self.tables.moment();
+        let row = Change::SetCounter { counter, value };
+        let undo = Change::SetCounter {
+            counter,
+            value: before,
+        };
+        self.make(row, undo)
+    }
+
+    /// The rows that the step has written, for the store and for what goes along with it. Takes no memory.
+    pub fn rows(&self) -> &[Change]
+        ensures rows { result.now ≡ self.now.rows }
+        ensures made { changed_all self.now.rows self.now.start.records
+            ≡ self.now.broker.records }
+        ensures unspent { is_spent self.now.rows ≡ false }
+    {
+        &self.rows
+    }
+
+    /// The step is done. Takes no memory.
+    fn settle(&mut self) -> Outcome
+        ensures step { self.new ≡ at_rest self.old.limits self.old.broker }
+        ensures outputs { result.outputs.items ≡ self.old.outputs }
+        ensures closed { result.closed.items ≡ self.old.closed }
+        ensures reports { result.reports.items ≡ self.old.reports }
+    {
+        self.tables.settle();
+        self.rows.clear();
+        Outcome {
+            outputs: mem::replace(&mut self.outputs, Vec::new(self.alloc)),
+            closed: mem::replace(&mut self.closed, Vec::new(self.alloc)),
+            reports: mem::replace(&mut self.reports, Vec::new(self.alloc)),
+        }
+    }
+}
+
+/// Tells the store of a step that was done in place. The step's rows have to fit, and to be such as can be
+/// said in a table. Where the store refuses, the step is taken back, and the store's own refusal is answered.
+/// `Memory` (1) and `Size` (3): nothing changed, here or there. `Disk` (2): the device failed.
+pub fn commit_kept<K: Keep>(keep: &mut K, step: &mut Step) -> Result<Outcome, KeepError>
+    requires loaded { K.is_loaded keep.old }
+    requires holds { K.holds keep.old step.old.start.records }
+    requires fit { is_spent step.old.rows ≡ false
+        → FitAll step.old.rows step.old.start.records }
+    requires sayable { AllSayable step.old.rows }
+
+    // None of the rows gives a number above the last.
+    ensures unspent { is_spent step.old.rows ≡ false }
+    ensures outputs { IfOk result (λ out. out.outputs.items ≡ step.old.outputs) }
+    ensures closed { IfOk result (λ out. out.closed.items ≡ step.old.closed) }
+    ensures reports { IfOk result (λ out. out.reports.items ≡ step.old.reports) }
+    ensures done { OnOk result (step.new ≡ at_rest step.old.limits step.old.broker) }
+
+    // The store holds what is stored after the step.
+    ensures stored { OnOk result (K.is_loaded keep.new
+        × K.holds keep.new step.old.broker.records) }
+
+    // Without the store's Ok nothing changed here, and after want of memory or of room nothing there.
+    ensures same { OnErr result (step.new ≡ at_rest step.old.limits step.old.start) }
+    ensures memory { IsErrOf result KeepError.Memory ⊎ IsErrOf result KeepError.Size
+        → K.is_loaded keep.new × K.holds keep.new step.old.start.records }
+    ensures refused { (IsErrOf result KeepError.Corrupt → ⊥)
+        × (IsErrOf result KeepError.Schema → ⊥) }
+
+    // The device is at fault only where the store counted a failure.
+    ensures cause { IsErrOf result KeepError.Disk ⊎ IsErrOf result KeepError.Size
+        → K.counted keep.new ≢ K.counted keep.old }
+
+    // A crash leaves what was stored before the step or after it.
+    ensures crash { (left : Records) → K.leaves keep.new left
+        → (left ≡ step.old.start.records) ⊎ (left ≡ step.old.broker.records) }
+    ensures sound { K.is_sound keep.new → K.is_sound keep.old }
+{
+    match keep.apply(step.rows()) {
+        Ok(()) => Ok(step.settle()),
+        Err(error) => {
+            step.take_back();
+            Err(error)
+        }
+    }
+}
+
+/// Tells the store of a step that was done in place. The step's rows have to fit, and to be such as can be
+/// said in a table. Where the store refuses, the step is taken back.
+/// `Memory` (1): nothing changed, here or there. `Stopped` (2): the store failed.
+pub fn commit<K: Keep>(keep: &mut K, step: &mut Step) -> Result<Outcome, EngineError>
+    requires loaded { K.is_loaded keep.old }
+    requires holds { K.holds keep.old step.old.start.records }
+    requires fit { is_spent step.old.rows ≡ false
+        → FitAll step.old.rows step.old.start.records }
+    requires sayable { AllSayable step.old.rows }
+
+    // None of the rows gives a number above the last.
+    ensures unspent { is_spent step.old.rows ≡ false }
+    ensures outputs { IfOk result (λ out. out.outputs.items ≡ step.old.outputs) }
+    ensures closed { IfOk result (λ out. out.closed.items ≡ step.old.closed) }
+    ensures reports { IfOk result (λ out. out.reports.items ≡ step.old.reports) }
+    ensures done { OnOk result (step.new ≡ at_rest step.old.limits step.old.broker) }
+
+    // The store holds what is stored after the step.
+    ensures stored { OnOk result (K.is_loaded keep.new
+        × K.holds keep.new step.old.broker.records) }
+
+    // Without the store's Ok nothing changed here, and after want of memory nothing there.
+    ensures same { OnErr result (step.new ≡ at_rest step.old.limits step.old.start) }
+    ensures memory { IsErrOf result EngineError.Memory
+        → K.is_loaded keep.new × K.holds keep.new step.old.start.records }
+    ensures spent { IsErrOf result EngineError.Spent → ⊥ }
+
+    // It stops only where the store counted a failure.
+    ensures cause { IsErrOf result EngineError.Stopped
+        → K.counted keep.new ≢ K.counted keep.old }
+
+    // A crash leaves what was stored before the step or after it.
+    ensures crash { (left : Records) → K.leaves keep.new left
+        → (left ≡ step.old.start.records) ⊎ (left ≡ step.old.broker.records) }
+
+    // A device that is sound after the call was sound before it.
+    ensures sound { K.is_sound keep.new → K.is_sound keep.old }
+{
+    match commit_kept(keep, step) {
+        Ok(told) => Ok(told),
+        Err(KeepError::Memory) => Err(EngineError::Memory),
+        Err(_) => Err(EngineError::Stopped),
+    }
+}

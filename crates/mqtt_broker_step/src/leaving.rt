@@ -1,0 +1,138 @@
+//! A copy leaves a session's queue, and the places that went out on the session's line (MQTT 5.0, 4.3, 4.4).
+ghost use Rattle.std.specs.Prelude.{◌≡◌, Some, map, IfOk, IfErr, OnOk};
+ghost use Rattle.mqtt_flow_inbound.specs.Identifiers.{ids_without};
+ghost use Rattle.mqtt_records_rows.specs.Order.{change_row};
+ghost use Rattle.mqtt_records.specs.declared.session.Session.{Session as TheSession};
+ghost use Rattle.mqtt_records.specs.declared.change.Change.TheVariants.{RemoveCopy};
+ghost use Rattle.mqtt_rules.specs.declared.Report.TheVariants as reports;
+ghost use Rattle.mqtt_rules.specs.State.{session_at};
+ghost use Rattle.mqtt_rules.specs.Deeds.{without_place};
+ghost use Rattle.mqtt_rules.specs.Laws.{HasTables};
+ghost use Rattle.mqtt_broker_step.specs.Lines.{line_number, without_went, nth_changed};
+ghost use Rattle.mqtt_broker_step.specs.Undoing.{with_lines};
+ghost use Rattle.mqtt_broker_step.specs.Doing.{leaves};
+ghost use Rattle.mqtt_broker_step.specs.Stepping.{Did, IsLeft, IsKept, written, with_broker};
+
+use crate::fault::StepFault;
+use crate::handshakes::has_tables;
+use crate::line::LineChange;
+use crate::step::Step;
+use mqtt_base::{Ending, LINE_LIMIT};
+use mqtt_records::{Change, Session};
+use mqtt_records_message::CopyRow;
+use mqtt_rules::Report;
+use std::alloc::{AllocError, Global};
+
+/// Places without one.
+fn without(alloc: Global, places: &[u64], place: u64) -> Result<Vec<u64>, AllocError>
+    ensures { IfOk result (λ others. others.items ≡ ids_without place places.now) }
+{
+    let mut others = Vec::from_slice(alloc, places)?;
+    others.retain(|other| *other != place);
+    Ok(others)
+}
+
+/// That a copy left the queue of a session.
+fn ended(session: &Session, row: &CopyRow, ending: Ending) -> Result<Report, AllocError>
+    ensures { IfOk result (λ report. report
+        ≡ reports.Ended row.now.copy.id session.now.client ending) }
+{
+    let client = session.client.clone()?;
+    match row.copy().id.clone() {
+        Ok(copy) => Ok(Report::Ended {
+            copy,
+            client,
+            ending,
+        }),
+        Err(fault) => {
+            drop(client);
+            Err(fault)
+        }
+    }
+}
+
+impl Step {
+    /// A place leaves those that went out on a line.
+    fn drop_went(&mut self, line: u64, place: u64) -> Result<(), StepFault>
+        ensures ok { OnOk result (self.new ≡ with_broker (with_lines (change_row line_number line
+            (without_went place) self.old.broker.lines) self.old.broker) self.old) }
+        ensures left { IfErr result (λ fault. IsKept fault self.old self.new) }
+    {
+        let Some(state) = self.line(line) else {
+            return Ok(());
+        };
+        let before = Vec::from_slice(self.alloc, state.went())?;
+        let went = match without(self.alloc, state.went(), place) {
+            Ok(went) => went,
+            Err(_) => {
+                drop(before);
+                return Err(StepFault::Memory);
+            }
+        };
+        self.edit_line(
+            line,
+            LineChange::SetWent { went },
+            LineChange::SetWent { went: before },
+        )
+    }
+
+    /// A session's place leaves those that went out on the line at an index, if the session is connected on it.
+    fn drop_at(&mut self, at: usize, birth: u64, place: u64) -> Result<(), StepFault>
+        ensures ok { OnOk result (self.new ≡ with_broker (with_lines (nth_changed at
+            (without_place birth place) self.old.broker.lines) self.old.broker) self.old) }
+        ensures left { IfErr result (λ fault. IsKept fault self.old self.new) }
+    {
+        let Some(line) = self.lines().get(at) else {
+            return Ok(());
+        };
+        if !line.is_of(birth) {
+            return Ok(());
+        }
+        let number = line.number();
+        self.drop_went(number, place)
+    }
+
+    /// A session's place leaves those that went out on its line.
+    fn drop_places(&mut self, birth: u64, place: u64) -> Result<(), StepFault>
+        ensures ok { OnOk result (self.new ≡ with_broker (with_lines (map
+            (without_place birth place) self.old.broker.lines) self.old.broker) self.old) }
+        ensures left { IfErr result (λ fault. IsKept fault self.old self.new) }
+    {
+        for at in 0..LINE_LIMIT {
+            self.drop_at(at, birth, place)?;
+        }
+        self.lines();
+        Ok(())
+    }
+
+    /// A copy's row leaves a queue.
+    fn drop_row(&mut self, birth: u64, place: u64) -> Result<(), StepFault>
+        requires { (s : TheSession) → session_at birth self.old.broker.records ≡ Some s → HasTables s }
+        ensures ok { OnOk result (self.new ≡ written (RemoveCopy birth place) self.old) }
+        ensures left { IfErr result (λ fault. IsKept fault self.old self.new) }
+    {
+        self.rows.reserve(1)?;
+        self.tables.take_copy(birth, place)?;
+        self.rows.push(Change::RemoveCopy { birth, place }).unwrap();
+        Ok(())
+    }
+
+    /// The copy at a place of a session's queue leaves it, if it stands there (4.3, 4.4).
+    pub fn leave(&mut self, birth: u64, place: u64, ending: Ending) -> Result<(), StepFault>
+        ensures ok { OnOk result (Did (leaves birth place ending) self.old self.new) }
+        ensures left { IfErr result (λ fault.
+            IsLeft (leaves birth place ending) fault self.old self.new) }
+    {
+        let Some(session) = self.session(birth) else {
+            return Ok(());
+        };
+        let Some(row) = session.queue.get(place) else {
+            return Ok(());
+        };
+        has_tables(session);
+        let report = ended(session, row.get(), ending)?;
+        self.tell(report)?;
+        self.drop_row(birth, place)?;
+        self.drop_places(birth, place)
+    }
+}

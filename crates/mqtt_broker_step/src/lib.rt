@@ -1,0 +1,34 @@
+//! The broker's tables, and a step under way on them: deeds of the rules done in place, noted for the
+//! store, and taken back whole where the step isn't made (MQTT 5.0, 4.1).
+#![tactic(auto)]
+
+mod aliasing;
+mod beginning;
+mod call;
+mod entering;
+mod fault;
+mod handshakes;
+mod leaving;
+mod line;
+mod lines;
+mod linking;
+mod listing;
+mod naming;
+mod numbers;
+mod outputs;
+mod resuming;
+mod retained;
+mod retained_looks;
+mod sessions;
+mod started;
+mod step;
+mod subscribing;
+mod tables;
+mod undo;
+
+pub use call::{EngineError, Outcome, commit, commit_kept};
+pub use fault::StepFault;
+pub use line::{LineChange, LineState};
+pub use step::Step;
+pub use subscribing::{filters_stay_apart, subscription_to};
+pub use undo::Undo;

@@ -1,0 +1,145 @@
+//! Deeds of lines (MQTT 5.0, 3.1, 3.1.2.10).
+ghost use Rattle.std.specs.Prelude.{◌≡◌, ◌∷◌, [], Some, option_copied, ◌++◌, ◌≤◌, length, IfOk, OnOk, OnErr, IfErr};
+ghost use Rattle.mqtt_base.specs.declared.limits.TheConstants.{LINE_LIMIT as line_limit};
+ghost use Rattle.mqtt_records_rows.specs.Order.{IsAscending, row_at};
+ghost use Rattle.mqtt_rules.specs.State.{Line};
+ghost use Rattle.mqtt_rules.specs.Deeds.{Gone, Hear, Greet, Went, On, always};
+ghost use Rattle.mqtt_broker_step.specs.Lines.{line_changed, line_number};
+ghost use Rattle.mqtt_broker_step.specs.Undoing.{with_line_changed};
+ghost use Rattle.mqtt_broker_step.specs.Stepping.{Did, IsLeft, with_broker};
+
+use crate::fault::StepFault;
+use crate::line::{LineChange, LineState};
+use crate::step::Step;
+use std::alloc::{AllocError, Global};
+
+/// Places with one more at the end.
+fn with_place(alloc: Global, places: &[u64], place: u64) -> Result<Vec<u64>, AllocError>
+    ensures { IfOk result (λ more. more.items ≡ places.now ++ place ∷ []) }
+{
+    let mut more = Vec::from_slice(alloc, places)?;
+    more.push(place)?;
+    Ok(more)
+}
+
+impl Step {
+    /// A line that stands. Takes no memory.
+    pub fn line(&self, number: u64) -> Option<&LineState>
+        ensures { option_copied result ≡ row_at line_number number self.now.broker.lines }
+    {
+        self.tables.line(number)
+    }
+
+    /// The lines, in the order in which they were linked. Takes no memory.
+    pub fn lines(&self) -> &[LineState]
+        ensures lines { result.now ≡ self.now.broker.lines }
+        ensures order { IsAscending line_number self.now.broker.lines }
+        ensures few { length self.now.broker.lines ≤ line_limit }
+    {
+        self.tables.lines()
+    }
+
+    /// Changes a part of a line. A refusal changes nothing.
+    pub(crate) fn edit_line(
+        &mut self,
+        number: u64,
+        change: LineChange,
+        undo: LineChange,
+    ) -> Result<(), StepFault>
+        requires { (l : Line) → row_at line_number number self.old.broker.lines ≡ Some l
+            → line_changed undo (line_changed change l) ≡ l }
+        ensures ok { OnOk result (self.new
+            ≡ with_broker (with_line_changed number change self.old.broker) self.old) }
+        ensures err { OnErr result (self.new ≡ self.old) }
+        ensures fault { IfErr result (λ fault. fault ≡ StepFault.Memory) }
+    {
+        self.tables.edit_line(number, change, undo)?;
+        Ok(())
+    }
+
+    /// A packet came on a line (3.1.2.10).
+    pub fn hear(&mut self, line: u64) -> Result<(), StepFault>
+        ensures ok { OnOk result (Did (always (On line Hear ∷ [])) self.old self.new) }
+        ensures left { IfErr result (λ fault.
+            IsLeft (always (On line Hear ∷ [])) fault self.old self.new) }
+    {
+        let Some(state) = self.line(line) else {
+            return Ok(());
+        };
+        let before = state.heard();
+        let heard = self.moment();
+        self.edit_line(
+            line,
+            LineChange::Hear { heard },
+            LineChange::Hear { heard: before },
+        )
+    }
+
+    /// A session is connected on a line, with the client's Keep Alive in seconds, Receive Maximum and
+    /// Maximum Packet Size in bytes (3.1.2.10, 3.1.2.11).
+    pub fn greet(
+        &mut self,
+        line: u64,
+        birth: u64,
+        keep_alive: u16,
+        window: u16,
+        largest: u32,
+    ) -> Result<(), StepFault>
+        ensures ok { OnOk result (Did (always (On line (Greet birth keep_alive window largest) ∷ []))
+            self.old self.new) }
+        ensures left { IfErr result (λ fault. IsLeft
+            (always (On line (Greet birth keep_alive window largest) ∷ [])) fault
+            self.old self.new) }
+    {
+        let Some(state) = self.line(line) else {
+            return Ok(());
+        };
+        let undo = LineChange::Greet {
+            session: state.session(),
+            keep_alive: state.keep_alive(),
+            window: state.window(),
+            largest: state.largest(),
+        };
+        let change = LineChange::Greet {
+            session: Some(birth),
+            keep_alive,
+            window,
+            largest,
+        };
+        self.edit_line(line, change, undo)
+    }
+
+    /// A copy's PUBLISH goes out on a line (4.3).
+    pub fn went(&mut self, line: u64, place: u64) -> Result<(), StepFault>
+        ensures ok { OnOk result (Did (always (On line (Went place) ∷ [])) self.old self.new) }
+        ensures left { IfErr result (λ fault.
+            IsLeft (always (On line (Went place) ∷ [])) fault self.old self.new) }
+    {
+        let Some(state) = self.line(line) else {
+            return Ok(());
+        };
+        let before = Vec::from_slice(self.alloc, state.went())?;
+        let went = match with_place(self.alloc, state.went(), place) {
+            Ok(went) => went,
+            Err(_) => {
+                drop(before);
+                return Err(StepFault::Memory);
+            }
+        };
+        self.edit_line(
+            line,
+            LineChange::SetWent { went },
+            LineChange::SetWent { went: before },
+        )
+    }
+
+    /// A line leaves the table.
+    pub fn gone(&mut self, line: u64) -> Result<(), StepFault>
+        ensures ok { OnOk result (Did (always (Gone line ∷ [])) self.old self.new) }
+        ensures left { IfErr result (λ fault.
+            IsLeft (always (Gone line ∷ [])) fault self.old self.new) }
+    {
+        self.tables.take_line(line)?;
+        self.shut(line)
+    }
+}

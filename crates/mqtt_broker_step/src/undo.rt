@@ -1,0 +1,21 @@
+//! What takes a change of the tables back.
+use crate::line::{LineChange, LineState};
+use mqtt_records::{Change, Session};
+use mqtt_records_rows::Boxed;
+
+/// What takes a change back.
+#[derive(Drop)]
+pub enum Undo {
+    /// By a change of the records.
+    Make { change: Change },
+    /// A session that left the table is put back whole.
+    PutSession { session: Boxed<Session> },
+    /// A line that left the table is put back.
+    PutLine { line: LineState },
+    /// A line that was linked leaves the table, and its number is free again.
+    RemoveLine { number: u64, given: u64 },
+    /// A line's part is what it was.
+    EditLine { number: u64, change: LineChange },
+    /// The moment is what it was.
+    SetMoment { moment: u64 },
+}

@@ -1,0 +1,194 @@
+-- SUBSCRIBE: what the packet holds, its deeds, and where it is refused.
+use Rattle.std.proofs.Common.{◌≡◌, ℕ, ◌+◌, ◌<◌, ◌≤◌, ◌^◌, Bool, true, false, List, [], ◌∷◌, ◌++◌, length, Option, Some, refl, ap, sym, subst, ◌∙◌, append_assoc, arith}
+use Rattle.std.specs.Prelude.{map}
+use Rattle.std.specs.List.{flat_map, AllByRecursion}
+use Rattle.std.proofs.lemmas.List.{length-append}
+use Rattle.mqtt_base.specs.Codes.{identifier_in_use}
+use Rattle.mqtt_base.specs.Values.{two_bytes, varint, blob}
+use Rattle.mqtt_props.specs.Properties.{block}
+use Rattle.mqtt_props.specs.declared.table.PropName.TheVariants.{SubscriptionIdentifier}
+use Rattle.mqtt_codec.specs.declared.packet.Packet.TheVariants as packets
+use Rattle.mqtt_codec_subscribe.specs.Subscriptions.{Subscription as Asked, subscription, IsSubscription}
+use Rattle.mqtt_codec_subscribe.specs.Subscribe.{subscribe_body}
+use Rattle.mqtt_codec_subscribe.specs.declared.subscribe.Subscribe.{Subscribe}
+use Rattle.mqtt_flow_inbound.specs.Identifiers.{is_among}
+use Rattle.mqtt_records_message.specs.declared.message.MessageCopy.{MessageCopy}
+use Rattle.mqtt_records.specs.declared.session.Session.{Session}
+use Rattle.mqtt_rules.specs.Contents.{IsTaken}
+use Rattle.mqtt_rules.specs.State.{Broker, Env, MemberChoice, session_at, line_at}
+use Rattle.mqtt_rules.specs.Deeds.{Act, Deed, always, of_session, offer}
+use Rattle.mqtt_records_message.specs.PassedOn.{number_at}
+use Rattle.mqtt_rules.specs.Packets.{publish_of, suback}
+use Rattle.mqtt_rules.specs.Routing.{CopyTo}
+use Rattle.mqtt_rules.specs.Subscribe.{FilterAnswers, late_sends, subscribe_by, on_subscribe}
+use Rattle.mqtt_broker_step.specs.declared.fault.StepFault.{StepFault}
+use Rattle.mqtt_broker_step.specs.Stepping.{Stepping, Did, Does, IsLeft, Leaves, env_in}
+use Rattle.mqtt_broker_step.specs.Undoing.{moment_of}
+use Rattle.mqtt_broker_step.proofs.Doing.{found_birth}
+use Rattle.mqtt_broker_step.proofs.Then.{same_act, same_left, did_then, left_first, left_then}
+use Rattle.mqtt_broker_publish.specs.Delivering.{addressed, addressed_all}
+use Rattle.mqtt_broker_subscribe.specs.Offering.{largest_on, offer_within}
+use Rattle.mqtt_broker_subscribe.specs.Bringing.{late_within}
+use Rattle.mqtt_broker_subscribe.specs.Answering.{all_answers, answers_all, tells}
+use Rattle.mqtt_broker_subscribe.proofs.Lines.{offer_is}
+use Rattle.mqtt_broker_subscribe.proofs.Unsubscribed.{with_found}
+
+-- ---- what the packet holds
+
+-- each filter takes more than two bytes
+many_bytes : (filters : List Asked) → length filters ≤ length (flat_map subscription filters)
+many_bytes [] = omega arith
+many_bytes (a ∷ rest) =
+    let more = many_bytes rest in
+    let both = length-append (subscription a) (flat_map subscription rest) in
+    let one = length-append (blob a.filter) (a.options ∷ []) in
+    omega (arith, more, both, one)
+
+pub few_filters : (p : Subscribe) → IsTaken (packets.Subscribe p) → length p.subscriptions + 3 < 2 ^ 28
+few_filters p taken =
+    let short = taken.short in
+    let body = subscribe_body p in
+    let framing = length-append (varint (length body)) body in
+    let first = length-append (two_bytes p.identifier) (block p.properties ++ flat_map subscription p.subscriptions) in
+    let second = length-append (block p.properties) (flat_map subscription p.subscriptions) in
+    let many = many_bytes p.subscriptions in
+    omega (arith, short, framing, first, second, many)
+
+pub texts_fit : (p : Subscribe) → IsTaken (packets.Subscribe p) → AllByRecursion IsSubscription p.subscriptions
+texts_fit p taken = taken.spelled.0.2
+
+-- ---- refused whole
+
+refused_is : (line : ℕ) (x : Session) (p : Subscribe) (largest : Option ℕ) (codes : List ℕ) (env : Env) (b : Broker) → largest ≡ largest_on line b
+    → codes ≡ map (λ (a : Asked). identifier_in_use) p.subscriptions → offer_within line largest (suback p.identifier codes) ≡ subscribe_by true env line x p b
+refused_is line x p largest codes env b is told =
+    ap (λ l. offer_within line l (suback p.identifier codes)) is
+    ∙ (ap (λ cs. offer_within line (largest_on line b) (suback p.identifier cs)) told
+    ∙ offer_is line (suback p.identifier (map (λ (a : Asked). identifier_in_use) p.subscriptions)) b)
+
+pub refused_ok : (line : ℕ) (x : Session) (p : Subscribe) (largest : Option ℕ) (codes : List ℕ) (s new : Stepping) → largest ≡ largest_on line s.broker
+    → codes ≡ map (λ (a : Asked). identifier_in_use) p.subscriptions → Did (always (offer_within line largest (suback p.identifier codes))) s new → Does (λ env. subscribe_by true env line x p) s new
+refused_ok line x p largest codes s new is told done = λ choice.
+    same_act (always (offer_within line largest (suback p.identifier codes))) (subscribe_by true (env_in choice s) line x p) s new (refused_is line x p largest codes (env_in choice s) s.broker is told) done
+
+pub refused_left : (line : ℕ) (x : Session) (p : Subscribe) (largest : Option ℕ) (codes : List ℕ) (fault : StepFault) (s new : Stepping) → largest ≡ largest_on line s.broker
+    → codes ≡ map (λ (a : Asked). identifier_in_use) p.subscriptions → IsLeft (always (offer_within line largest (suback p.identifier codes))) fault s new → Leaves (λ env. subscribe_by true env line x p) fault s new
+refused_left line x p largest codes fault s new is told left = λ choice.
+    same_left (always (offer_within line largest (suback p.identifier codes))) (subscribe_by true (env_in choice s) line x p) fault s new (refused_is line x p largest codes (env_in choice s) s.broker is told) left
+
+-- ---- what is told
+
+pub told_ok : (line : ℕ) (largest : Option ℕ) (now identifier : ℕ) (codes : List ℕ) (late : List MessageCopy) (s s1 s2 : Stepping) → Did (always (offer_within line largest (suback identifier codes))) s s1
+    → Did (always (late_within line largest now late)) s1 s2 → Did (always (tells line largest now identifier codes late)) s s2
+told_ok line largest now identifier codes late s s1 s2 first second =
+    did_then (always (offer_within line largest (suback identifier codes))) (always (late_within line largest now late)) s s1 s2 first second
+
+pub told_first : (line : ℕ) (largest : Option ℕ) (now identifier : ℕ) (codes : List ℕ) (late : List MessageCopy) (fault : StepFault) (s new : Stepping)
+    → IsLeft (always (offer_within line largest (suback identifier codes))) fault s new → IsLeft (always (tells line largest now identifier codes late)) fault s new
+told_first line largest now identifier codes late fault s new left =
+    left_first (always (offer_within line largest (suback identifier codes))) (always (late_within line largest now late)) fault s new left
+
+pub told_then : (line : ℕ) (largest : Option ℕ) (now identifier : ℕ) (codes : List ℕ) (late : List MessageCopy) (fault : StepFault) (s s1 new : Stepping) → Did (always (offer_within line largest (suback identifier codes))) s s1
+    → IsLeft (always (late_within line largest now late)) fault s1 new → IsLeft (always (tells line largest now identifier codes late)) fault s new
+told_then line largest now identifier codes late fault s s1 new first left =
+    left_then (always (offer_within line largest (suback identifier codes))) (always (late_within line largest now late)) fault s s1 new first left
+
+late_is : (line now : ℕ) (late : List MessageCopy) (b : Broker) → late_within line (largest_on line b) now late ≡ flat_map (λ d. late_sends line now d b) (addressed_all late)
+late_is line now [] b = refl
+late_is line now (copy ∷ rest) b =
+    ap (λ ds. ds ++ late_within line (largest_on line b) now rest) (offer_is line (publish_of now false 0 copy) b)
+    ∙ ap (λ ds. late_sends line now (addressed copy) b ++ ds) (late_is line now rest b)
+
+-- ---- answered
+
+-- what was found, and what the filters came to
+pub record Answered (line birth : ℕ) (identifier : Option ℕ) (x : Session) (p : Subscribe) (largest : Option ℕ) (now : ℕ) (codes : List ℕ) (late : List MessageCopy) (s : Stepping) : Type 0 where
+  pub found : session_at birth s.broker.records ≡ Some x
+  pub number : identifier ≡ number_at SubscriptionIdentifier p.properties
+  pub on : largest ≡ largest_on line s.broker
+  pub at : now ≡ moment_of s.broker
+  pub coded : (choice : MemberChoice) → codes ≡ (all_answers birth identifier p.subscriptions (env_in choice s) s.broker).codes
+  pub sent : (choice : MemberChoice) → addressed_all late ≡ (all_answers birth identifier p.subscriptions (env_in choice s) s.broker).late
+
+-- SUBACK and the late copies, by the rules
+abbrev told_by : ℕ → Subscribe → FilterAnswers → Broker → List Deed
+told_by line p a b = offer (line_at line b) (suback p.identifier a.codes) ++ flat_map (λ d. late_sends line b.now d b) a.late
+
+told_is : (line birth : ℕ) (identifier : Option ℕ) (x : Session) (p : Subscribe) (largest : Option ℕ) (now : ℕ) (codes : List ℕ) (late : List MessageCopy) (s : Stepping) (choice : MemberChoice)
+    → Answered line birth identifier x p largest now codes late s
+    → tells line largest now p.identifier codes late ≡ told_by line p (all_answers birth identifier p.subscriptions (env_in choice s) s.broker) s.broker
+told_is line birth identifier x p largest now codes late s choice w =
+    let b : Broker = s.broker in
+    let a : FilterAnswers = all_answers birth identifier p.subscriptions (env_in choice s) b in
+    let most : Option ℕ = largest_on line b in
+    ap (λ l. tells line l now p.identifier codes late) w.on
+    ∙ (ap (λ n. tells line most n p.identifier codes late) w.at
+    ∙ (ap (λ cs. tells line most b.now p.identifier cs late) (w.coded choice)
+    ∙ (ap (λ ds. ds ++ late_within line most b.now late) (offer_is line (suback p.identifier a.codes) b)
+    ∙ ap (λ ds. offer (line_at line b) (suback p.identifier a.codes) ++ ds)
+    (late_is line b.now late b ∙ ap (λ (cs : List CopyTo). flat_map (λ d. late_sends line b.now d b) cs) (w.sent choice)))))
+
+by_rules : (line : ℕ) (x : Session) (p : Subscribe) (env : Env) (b : Broker)
+    → answers_all x.birth (number_at SubscriptionIdentifier p.properties) p.subscriptions env b ++ told_by line p (all_answers x.birth (number_at SubscriptionIdentifier p.properties) p.subscriptions env b) b
+    ≡ subscribe_by false env line x p b
+by_rules line x p env b =
+    let a : FilterAnswers = all_answers x.birth (number_at SubscriptionIdentifier p.properties) p.subscriptions env b in
+    sym (append_assoc a.deeds (offer (line_at line b) (suback p.identifier a.codes)) (flat_map (λ d. late_sends line b.now d b) a.late))
+
+packet_is : (line birth : ℕ) (identifier : Option ℕ) (x : Session) (p : Subscribe) (largest : Option ℕ) (now : ℕ) (codes : List ℕ) (late : List MessageCopy) (s : Stepping) (choice : MemberChoice)
+    → Answered line birth identifier x p largest now codes late s
+    → answers_all birth identifier p.subscriptions (env_in choice s) s.broker ++ tells line largest now p.identifier codes late ≡ subscribe_by false (env_in choice s) line x p s.broker
+packet_is line birth identifier x p largest now codes late s choice w =
+    let own : x.birth ≡ birth = found_birth birth s.broker.records.sessions x w.found in
+    let by : ℕ → Option ℕ → FilterAnswers = λ n i. all_answers n i p.subscriptions (env_in choice s) s.broker in
+    ap (λ ds. (by birth identifier).deeds ++ ds) (told_is line birth identifier x p largest now codes late s choice w)
+    ∙ (ap (λ n. (by n identifier).deeds ++ told_by line p (by n identifier) s.broker) (sym own)
+    ∙ (ap (λ i. (by x.birth i).deeds ++ told_by line p (by x.birth i) s.broker) w.number
+    ∙ by_rules line x p (env_in choice s) s.broker))
+
+pub packet_ok : (line birth : ℕ) (identifier : Option ℕ) (x : Session) (p : Subscribe) (largest : Option ℕ) (now : ℕ) (codes : List ℕ) (late : List MessageCopy) (s s1 s2 : Stepping)
+    → Answered line birth identifier x p largest now codes late s → Does (answers_all birth identifier p.subscriptions) s s1
+    → Did (always (tells line largest now p.identifier codes late)) s1 s2 → Does (λ env. subscribe_by false env line x p) s s2
+packet_ok line birth identifier x p largest now codes late s s1 s2 w first second = λ choice.
+    let act : Act = answers_all birth identifier p.subscriptions (env_in choice s) in
+    same_act (λ b. act b ++ tells line largest now p.identifier codes late) (subscribe_by false (env_in choice s) line x p) s s2
+    (packet_is line birth identifier x p largest now codes late s choice w)
+    (did_then act (always (tells line largest now p.identifier codes late)) s s1 s2 (first choice) second)
+
+pub told_left : (line birth : ℕ) (identifier : Option ℕ) (x : Session) (p : Subscribe) (largest : Option ℕ) (now : ℕ) (codes : List ℕ) (late : List MessageCopy) (fault : StepFault) (s s1 new : Stepping)
+    → Answered line birth identifier x p largest now codes late s → Does (answers_all birth identifier p.subscriptions) s s1
+    → IsLeft (always (tells line largest now p.identifier codes late)) fault s1 new → Leaves (λ env. subscribe_by false env line x p) fault s new
+told_left line birth identifier x p largest now codes late fault s s1 new w first left = λ choice.
+    let act : Act = answers_all birth identifier p.subscriptions (env_in choice s) in
+    same_left (λ b. act b ++ tells line largest now p.identifier codes late) (subscribe_by false (env_in choice s) line x p) fault s new
+    (packet_is line birth identifier x p largest now codes late s choice w)
+    (left_then act (always (tells line largest now p.identifier codes late)) fault s s1 new (first choice) left)
+
+-- a filter is refused, whatever would be told
+pub filters_left : (line birth : ℕ) (identifier : Option ℕ) (x : Session) (p : Subscribe) (fault : StepFault) (s new : Stepping) → session_at birth s.broker.records ≡ Some x
+    → identifier ≡ number_at SubscriptionIdentifier p.properties → Leaves (answers_all birth identifier p.subscriptions) fault s new → Leaves (λ env. subscribe_by false env line x p) fault s new
+filters_left line birth identifier x p fault s new found number left = λ choice.
+    let own : x.birth ≡ birth = found_birth birth s.broker.records.sessions x found in
+    let by : ℕ → Option ℕ → Act = λ n i. answers_all n i p.subscriptions (env_in choice s) in
+    let asked : Option ℕ = number_at SubscriptionIdentifier p.properties in
+    let more : List Deed = told_by line p (all_answers x.birth asked p.subscriptions (env_in choice s) s.broker) s.broker in
+    same_left (λ b. by x.birth asked b ++ more) (subscribe_by false (env_in choice s) line x p) fault s new (by_rules line x p (env_in choice s) s.broker)
+    (left_first (by x.birth asked) (always more) fault s new
+    (subst (λ i. IsLeft (by x.birth i) fault s new) number (subst (λ n. IsLeft (by n identifier) fault s new) (sym own) (left choice))))
+
+-- ---- the packet
+
+whole_is : (line birth : ℕ) (x : Session) (p : Subscribe) (t : Bool) (env : Env) (b : Broker) → session_at birth b.records ≡ Some x → is_among p.identifier x.inbound ≡ t
+    → subscribe_by t env line x p b ≡ of_session birth (λ y. on_subscribe env line y p) b
+whole_is line birth x p t env b found is =
+    ap (λ u. subscribe_by u env line x p b) (sym is) ∙ with_found birth (λ y. on_subscribe env line y p) x b found
+
+pub whole_ok : (line birth : ℕ) (x : Session) (p : Subscribe) (t : Bool) (s new : Stepping) → session_at birth s.broker.records ≡ Some x → is_among p.identifier x.inbound ≡ t
+    → Does (λ env. subscribe_by t env line x p) s new → Does (λ env. of_session birth (λ y. on_subscribe env line y p)) s new
+whole_ok line birth x p t s new found is done = λ choice.
+    same_act (subscribe_by t (env_in choice s) line x p) (of_session birth (λ y. on_subscribe (env_in choice s) line y p)) s new (whole_is line birth x p t (env_in choice s) s.broker found is) (done choice)
+
+pub whole_left : (line birth : ℕ) (x : Session) (p : Subscribe) (t : Bool) (fault : StepFault) (s new : Stepping) → session_at birth s.broker.records ≡ Some x → is_among p.identifier x.inbound ≡ t
+    → Leaves (λ env. subscribe_by t env line x p) fault s new → Leaves (λ env. of_session birth (λ y. on_subscribe env line y p)) fault s new
+whole_left line birth x p t fault s new found is left = λ choice.
+    same_left (subscribe_by t (env_in choice s) line x p) (of_session birth (λ y. on_subscribe (env_in choice s) line y p)) fault s new (whole_is line birth x p t (env_in choice s) s.broker found is) (left choice)

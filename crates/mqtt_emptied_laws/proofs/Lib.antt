@@ -1,2 +1,0 @@
--- A drain of a script by one choice.
-pub mod Done

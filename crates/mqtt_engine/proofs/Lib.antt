@@ -1,9 +1,0 @@
-pub mod Called
-pub mod Linked
-pub mod Holders
-pub use Rattle.mqtt_lines.proofs.SoundLaw
-pub use Rattle.mqtt_router.proofs.Along
-pub use Rattle.mqtt_router.proofs.Followed
-pub use Rattle.mqtt_lines.proofs.TheRules
-pub use Rattle.mqtt_lines.proofs.TheTables
-pub use Rattle.mqtt_lines.proofs.TheClosing

@@ -1,9 +1,0 @@
-pub mod Calling
-pub mod Running
-pub use Rattle.mqtt_lines.specs.Sound
-pub use Rattle.mqtt_router.specs.Following
-pub use Rattle.mqtt_router.specs.Indexing
-pub use Rattle.mqtt_lines.specs.TheRules
-pub use Rattle.mqtt_lines.specs.TheTables
-pub use Rattle.mqtt_lines.specs.TheActs
-pub use Rattle.mqtt_lines.specs.TheClosing

@@ -1,3 +1,0 @@
--- Lemmas on texts in one word.
-pub mod Bytewise
-pub mod Escapes

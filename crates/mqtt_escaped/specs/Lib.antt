@@ -1,2 +1,0 @@
--- A text in one word of printable ASCII.
-pub mod Escaped

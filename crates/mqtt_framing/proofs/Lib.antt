@@ -1,2 +1,0 @@
-pub mod Framings
-pub mod Held

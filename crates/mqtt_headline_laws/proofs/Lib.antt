@@ -1,6 +1,0 @@
--- The parts of the one law, and what a run leaves.
-pub mod Lives
-pub mod Drained
-pub mod Delivered
-pub mod Examples
-pub mod SaidExamples

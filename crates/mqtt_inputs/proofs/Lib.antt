@@ -1,5 +1,0 @@
-pub mod OnLine
-pub mod Clients
-pub mod Heard
-pub mod Answered
-pub mod Called

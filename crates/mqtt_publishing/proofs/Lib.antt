@@ -1,4 +1,0 @@
-pub mod Aliased
-pub mod ByIdentifier
-pub mod Dropped
-pub mod Routed

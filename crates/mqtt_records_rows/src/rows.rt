@@ -1,0 +1,207 @@
+//! Lists of rows in the order of their keys.
+ghost use Rattle.std.specs.Prelude.{◌≡◌, ◌<◌, ◌≤◌, List, [], Option, IfOk, option_copied, not};
+ghost use Rattle.std.specs.Prelude.{length, filter, slice_get, insert, option_and_then, bytes_eq, vec_len, vec_capacity};
+ghost use Rattle.mqtt_records_rows.specs.Order.{IsAscending, IsFound, front_len, last_row};
+ghost use Rattle.mqtt_records_rows.specs.Order.{row_at, has_row, put_row, remove_row, change_row};
+
+use crate::row::{CloneRow, Editable, Named, Parted, Row};
+use std::alloc::{AllocError, Global};
+use std::marker::Model;
+
+/// How many rows have a lower key.
+fn place_of<R: Row>(rows: &[R], key: u64) -> usize
+    requires { IsAscending R.key_of rows.now }
+    ensures { result ≡ front_len R.key_of key rows.now }
+{
+    rows.partition_point(|row| row.key() < key)
+}
+
+/// Where the row with the key stands, or where it would.
+fn search<R: Row>(rows: &[R], key: u64) -> Result<usize, usize>
+    requires { IsAscending R.key_of rows.now }
+    ensures { IsFound R.key_of key rows.now result }
+{
+    let place = place_of(rows, key);
+    if place < rows.len() && rows[place].key() == key {
+        Ok(place)
+    } else {
+        Err(place)
+    }
+}
+
+/// Inserts a row for which there is room.
+fn insert_in<R: Drop>(rows: &mut Vec<R>, place: usize, row: R)
+    requires place { place ≤ vec_len rows.old }
+    requires room { vec_len rows.old < vec_capacity rows.old }
+    ensures items { rows.new.items ≡ insert rows.old.items place row }
+    ensures room { vec_capacity rows.old ≤ vec_capacity rows.new }
+{
+    let _done = rows.insert(place, row);
+}
+
+/// Puts a row by its key; a list with `limit` rows takes no further key.
+fn put_in<R: Row>(rows: &mut Vec<R>, limit: usize, row: R)
+    requires order { IsAscending R.key_of rows.old.items }
+    requires room { limit ≤ vec_capacity rows.old }
+    ensures items { rows.new.items ≡ put_row R.key_of limit row rows.old.items }
+    ensures room { limit ≤ vec_capacity rows.new }
+{
+    match search(rows, row.key()) {
+        Ok(place) => rows[place] = row,
+        Err(place) => {
+            if rows.len() < limit {
+                insert_in(rows, place, row);
+            }
+        }
+    }
+}
+
+/// At most `LIMIT` rows in the order of their keys. All the memory of the list is taken when it is
+/// made.
+#[derive(Drop)]
+pub struct Rows<R: Row, const LIMIT: usize> {
+    rows: Vec<R>,
+}
+
+impl<R: Row, const LIMIT: usize> Model for Rows<R, LIMIT> {
+    ghost use Rattle.std.specs.Prelude.{List, ◌≤◌, length, vec_capacity};
+    ghost use Rattle.mqtt_records_rows.specs.Order.{IsAscending};
+
+    ghost Value = { List R };
+
+    ghost view = { λ a. a.rows.items };
+
+    ghost invariant = { λ a. IsAscending R.key_of a.rows.items × (LIMIT ≤ vec_capacity a.rows)
+        × (length a.rows.items ≤ LIMIT) };
+}
+
+impl<R: Row, const LIMIT: usize> Rows<R, LIMIT> {
+    /// No rows, with room for as many as there may be.
+    pub fn new(alloc: Global) -> Result<Self, AllocError>
+        ensures { IfOk result (λ rows. rows ≡ []) }
+    {
+        Ok(Rows {
+            rows: Vec::with_capacity(alloc, LIMIT)?,
+        })
+    }
+
+    /// How many rows there are. Takes no memory.
+    pub fn len(&self) -> usize
+        ensures { result ≡ length self.now }
+    {
+        self.rows.len()
+    }
+
+    /// The rows in order. Takes no memory.
+    pub fn as_slice(&self) -> &[R]
+        ensures order { IsAscending R.key_of self.now }
+        ensures few { length self.now ≤ LIMIT }
+        ensures rows { result.now ≡ self.now }
+    {
+        self.rows.as_slice()
+    }
+
+    /// The row with the key. Takes no memory.
+    pub fn get(&self, key: u64) -> Option<&R>
+        ensures { option_copied result ≡ row_at R.key_of key self.now }
+    {
+        match search(&self.rows, key) {
+            Ok(place) => Some(&self.rows[place]),
+            Err(_) => None,
+        }
+    }
+
+    /// Whether there is a row with the key. Takes no memory.
+    pub fn has(&self, key: u64) -> bool
+        ensures { result ≡ has_row R.key_of key self.now }
+    {
+        search(&self.rows, key).is_ok()
+    }
+
+    /// The row at a place from 0. Takes no memory.
+    pub fn at(&self, place: usize) -> Option<&R>
+        ensures { option_copied result ≡ slice_get self.now place }
+    {
+        self.rows.get(place)
+    }
+
+    /// The row with the greatest key. Takes no memory.
+    pub fn last(&self) -> Option<&R>
+        ensures { option_copied result ≡ last_row R.key_of self.now }
+    {
+        self.rows.last()
+    }
+
+    /// Puts a row by its key; a list with `LIMIT` rows takes no further key. Takes no memory.
+    pub fn put(&mut self, row: R)
+        ensures { self.new ≡ put_row R.key_of LIMIT row self.old }
+    {
+        put_in(&mut self.rows, LIMIT, row);
+    }
+
+    /// Removes the row with the key, if there is one. Takes no memory.
+    pub fn remove(&mut self, key: u64)
+        ensures { self.new ≡ remove_row R.key_of key self.old }
+    {
+        if let Ok(place) = search(&self.rows, key) {
+            let _row = self.rows.remove(place);
+        }
+    }
+
+    /// Takes the row with the key out, if there is one. Takes no memory.
+    pub fn take(&mut self, key: u64) -> Option<R>
+        ensures row { result ≡ row_at R.key_of key self.old }
+        ensures rest { self.new ≡ remove_row R.key_of key self.old }
+    {
+        match search(&self.rows, key) {
+            Ok(place) => Some(self.rows.remove(place)),
+            Err(_) => None,
+        }
+    }
+}
+
+impl<R: CloneRow, const LIMIT: usize> Clone for Rows<R, LIMIT> {
+    ghost is_clone = { λ rows copy. copy ≡ rows };
+
+    fn clone(&self) -> Result<Self, AllocError> {
+        let mut rows = Vec::with_capacity(*self.rows.allocator(), LIMIT)?;
+        for row in &self.rows {
+            rows.push(row.clone()?)?;
+        }
+        Ok(Rows { rows })
+    }
+}
+
+impl<R: Editable, const LIMIT: usize> Rows<R, LIMIT> {
+    /// Changes a part of the row with the key, if there is one. Takes no memory.
+    pub fn edit(&mut self, key: u64, part: R::Part)
+        ensures { self.new ≡ change_row R.key_of key (R.edited part) self.old }
+    {
+        if let Ok(place) = search(&self.rows, key) {
+            self.rows[place].edit(part);
+        }
+    }
+}
+
+impl<R: Parted, const LIMIT: usize> Rows<R, LIMIT> {
+    /// Takes out what stands at a place of the row with the key, if both are there. Takes no
+    /// memory.
+    pub fn take_part(&mut self, key: u64, place: R::Place) -> Option<R::Taken>
+        ensures taken { result ≡ option_and_then (R.taken place) (row_at R.key_of key self.old) }
+        ensures rest { self.new ≡ change_row R.key_of key (R.left place) self.old }
+    {
+        match search(&self.rows, key) {
+            Ok(at) => self.rows[at].take_part(place),
+            Err(_) => None,
+        }
+    }
+}
+
+impl<R: Named, const LIMIT: usize> Rows<R, LIMIT> {
+    /// Removes the rows of a name. Takes no memory.
+    pub fn remove_named(&mut self, name: &str)
+        ensures { self.new ≡ filter (λ row. not (bytes_eq (R.name_of row) name.now)) self.old }
+    {
+        self.rows.retain(|row| row.name() != name);
+    }
+}

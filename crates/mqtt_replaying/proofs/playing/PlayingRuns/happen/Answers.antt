@@ -1,8 +1,0 @@
-use Rattle.std.proofs.Common.{◌≡◌, rules}
-use Rattle.mqtt_replaying.proofs.Refused.{cant_of}
-use Rattle.mqtt_replaying.proofs.playing.PlayingRuns.happen.Goals as goal
-
-pub returns-clause-bad : goal.returns-clause-bad
-returns-clause-bad g c = λ place is.
-    let same : c.args.self.now ≡ c.self.inside.world = search rules in
-    rw same (cant_of g.K.Keep _ _ place _ _ c.happen.ensures.refused is)

@@ -1,0 +1,121 @@
+-- What deeds make of the counters, and that each number given is the next one.
+use Rattle.std.proofs.Common.{◌≡◌, ℕ, List, [], ◌∷◌, Option, Some, None, refl, ap, subst}
+use Rattle.std.specs.Prelude.{⊤, suc, filter_map}
+use Rattle.mqtt_records.specs.declared.session.Session.{Session}
+use Rattle.mqtt_records.specs.declared.records.Records.{Records}
+use Rattle.mqtt_records.specs.Records.{changed_all}
+use Rattle.mqtt_rules.specs.State.{Broker, Env, session_at}
+use Rattle.mqtt_rules.specs.Deeds.{Part, Resume, Deed, Accept, Begin, Name, Count, At, part_rows, part_rows_of, stored_after, after, after_all}
+use Rattle.mqtt_rules.specs.Numbers.{CountsOn, birth_given, publication_given, grant_given, name_given}
+use Rattle.mqtt_rules.proofs.acts.Goods.{AreGood}
+use Rattle.mqtt_rules.proofs.acts.Acts.{anyone, finds_anyone}
+use Rattle.mqtt_rules.proofs.acts.ByDeeds.{DeedLaw, MarkLaw}
+
+-- the counters alone
+pub record Counts : Type 0 where
+  pub births : ℕ
+  pub publications : ℕ
+  pub subscribes : ℕ
+  pub autos : ℕ
+  pub moment : ℕ
+
+abbrev pub counts : Records → Counts
+counts r = record { births = r.births; publications = r.publications; subscribes = r.subscribes; autos = r.autos; moment = r.moment }
+
+abbrev pub counts_after : Deed → Counts → Counts
+counts_after (Accept number origin m) c = record c { publications = number }
+counts_after (Begin row will) c = record c { births = row.birth }
+counts_after (Name n) c = record c { autos = n }
+counts_after (Count n) c = record c { subscribes = n }
+counts_after d c = c
+
+-- nothing that happens to a session changes a counter
+counts_part : (part : Part) (s : Session) (r : Records) → counts (changed_all (part_rows part s) r) ≡ counts r
+counts_part (Resume expiry None) s r = refl
+counts_part (Resume expiry (Some will)) s r = refl
+counts_part part s r = refl
+
+counts_part_of : (part : Part) (o : Option Session) (r : Records) → counts (changed_all (part_rows_of part o) r) ≡ counts r
+counts_part_of part None r = refl
+counts_part_of part (Some s) r = counts_part part s r
+
+pub counts_deed : (d : Deed) (r : Records) → counts (stored_after d r) ≡ counts_after d (counts r)
+counts_deed (Begin row None) r = refl
+counts_deed (Begin row (Some will)) r = refl
+counts_deed (At who part) r = counts_part_of part (session_at who.birth r) r
+counts_deed d r = refl
+
+-- deeds that give the next number
+abbrev pub GivesNext : Deed → Broker → Type 0
+GivesNext (Accept number origin m) b = number ≡ suc b.records.publications
+GivesNext (Begin row will) b = row.birth ≡ suc b.records.births
+GivesNext (Name n) b = n ≡ suc b.records.autos
+GivesNext (Count n) b = n ≡ suc b.records.subscribes
+GivesNext d b = ⊤
+
+pub next_law : (env : Env) → DeedLaw env anyone (λ b. ⊤) GivesNext
+next_law env = record {
+  finds = finds_anyone (λ b. ⊤);
+  client_stays = λ client d b k g its. tt;
+  kept = λ d b k g. tt;
+  accept = λ origin m b k said. refl;
+  keep = λ m b k said is full found. tt;
+  forget = λ place b k. tt;
+  enter = λ who copy b k made. tt;
+  leave = λ who e ending b k. tt;
+  refuse_will = λ who b k its. tt;
+  open_id = λ s id m ds b k h its there new is. tt;
+  alone = λ who part b k its is. tt;
+  close = λ who b k its. tt;
+  finish = λ who b k its. tt;
+  resume = λ who expiry will b k its. tt;
+  name = λ b k. refl;
+  begin_given = λ c b k came taken name is room. refl;
+  begin_assigned = λ c b k h came taken room. refl;
+  count = λ b k. refl;
+  subscribe = λ w s b k h its granted. tt;
+  link = λ b k. tt;
+  on_line = λ line part b k. tt;
+  send = λ line packet b k. tt;
+  gone = λ line b k. tt;
+}
+
+pub next_mark : MarkLaw (λ b. ⊤) GivesNext
+next_mark who place phase b k = tt
+
+-- ---- counting on
+
+from : (n k m : ℕ) (xs : List ℕ) → k ≡ n → CountsOn k xs m → CountsOn n xs m
+from n k m xs e h = subst (λ (i : ℕ). CountsOn i xs m) e h
+
+pub births_count : (ds : List Deed) (b : Broker) → AreGood GivesNext ds b → CountsOn b.records.births (filter_map birth_given ds) (after_all ds b).records.births
+births_count [] b q = refl
+births_count (Begin row None ∷ ds) b q = (q.0, births_count ds (after (Begin row None) b) q.1)
+births_count (Begin row (Some will) ∷ ds) b q = (q.0, births_count ds (after (Begin row (Some will)) b) q.1)
+births_count (d ∷ ds) b q = from b.records.births (after d b).records.births _ (filter_map birth_given ds) (ap (λ (c : Counts). c.births) (counts_deed d b.records)) (births_count ds (after d b) q.1)
+
+pub publications_count : (ds : List Deed) (b : Broker) → AreGood GivesNext ds b → CountsOn b.records.publications (filter_map publication_given ds) (after_all ds b).records.publications
+publications_count [] b q = refl
+publications_count (Accept number origin m ∷ ds) b q = (q.0, publications_count ds (after (Accept number origin m) b) q.1)
+publications_count (d ∷ ds) b q = from b.records.publications (after d b).records.publications _ (filter_map publication_given ds) (ap (λ (c : Counts). c.publications) (counts_deed d b.records)) (publications_count ds (after d b) q.1)
+
+pub grants_count : (ds : List Deed) (b : Broker) → AreGood GivesNext ds b → CountsOn b.records.subscribes (filter_map grant_given ds) (after_all ds b).records.subscribes
+grants_count [] b q = refl
+grants_count (Count n ∷ ds) b q = (q.0, grants_count ds (after (Count n) b) q.1)
+grants_count (d ∷ ds) b q = from b.records.subscribes (after d b).records.subscribes _ (filter_map grant_given ds) (ap (λ (c : Counts). c.subscribes) (counts_deed d b.records)) (grants_count ds (after d b) q.1)
+
+pub names_count : (ds : List Deed) (b : Broker) → AreGood GivesNext ds b → CountsOn b.records.autos (filter_map name_given ds) (after_all ds b).records.autos
+names_count [] b q = refl
+names_count (Name n ∷ ds) b q = (q.0, names_count ds (after (Name n) b) q.1)
+names_count (d ∷ ds) b q = from b.records.autos (after d b).records.autos _ (filter_map name_given ds) (ap (λ (c : Counts). c.autos) (counts_deed d b.records)) (names_count ds (after d b) q.1)
+
+-- the stored moment and the moment stay, deed by deed
+pub moment_stays : (ds : List Deed) (b : Broker) → (after_all ds b).records.moment ≡ b.records.moment
+moment_stays [] b = refl
+moment_stays (Begin row None ∷ ds) b = moment_stays ds (after (Begin row None) b)
+moment_stays (Begin row (Some will) ∷ ds) b = moment_stays ds (after (Begin row (Some will)) b)
+moment_stays (d ∷ ds) b = subst (λ (i : ℕ). (after_all ds (after d b)).records.moment ≡ i) (ap (λ (c : Counts). c.moment) (counts_deed d b.records)) (moment_stays ds (after d b))
+
+pub now_stays : (ds : List Deed) (b : Broker) → (after_all ds b).now ≡ b.now
+now_stays [] b = refl
+now_stays (d ∷ ds) b = now_stays ds (after d b)

@@ -1,0 +1,161 @@
+-- Queues that are alike: what is read of them, and what turns make of them.
+use Rattle.std.proofs.Common.{◌≡◌, ℕ, suc, ◌-◌, Bool, true, false, ◌||◌, List, [], ◌∷◌, ◌++◌, map, Option, Some, None, nat_lt, refl, ap, ap₂, subst}
+use Rattle.std.specs.Prelude.{⊤, find, flat_map}
+use Rattle.mqtt_base.specs.declared.session.Phase.TheVariants.{Sent}
+use Rattle.mqtt_base.specs.declared.session.Ending.TheVariants.{SessionEnded}
+use Rattle.mqtt_flow.specs.declared.entry.QueuedCopy.{QueuedCopy}
+use Rattle.mqtt_flow.specs.declared.entry.Turn.{Turn}
+use Rattle.mqtt_flow.specs.declared.entry.Turn.TheVariants as turns
+use Rattle.mqtt_flow.specs.Outbound.{staying, way_made}
+use Rattle.mqtt_flow_inbound.specs.Identifiers.{is_among}
+use Rattle.mqtt_records_message.specs.Queue.{CopyRow}
+use Rattle.mqtt_records_message.specs.declared.message.MessageCopy.{MessageCopy}
+use Rattle.mqtt_records.specs.Session.{copy_place}
+use Rattle.mqtt_records.specs.declared.session.Session.{Session}
+use Rattle.mqtt_records.specs.declared.records.Records.{Records}
+use Rattle.mqtt_records_rows.specs.Order.{row_at}
+use Rattle.mqtt_routes.specs.Intended.{greatest}
+use Rattle.mqtt_rules.specs.Closing.{end_session}
+use Rattle.mqtt_rules.specs.Deeds.{whose, Leave, Enter, Deed, At, Finish}
+use Rattle.mqtt_rules.specs.Deeds as deeds
+use Rattle.mqtt_rules.specs.Outbound.{of_entry, leave_deeds, turn_deeds, all_turn_deeds, is_new, is_new_cause, first_given, since, queue_limits, room, enter_deeds}
+use Rattle.mqtt_rules.specs.Packets.{publish_of}
+use Rattle.mqtt_rules.specs.State.{Env, entry_on, queue_on}
+use Rattle.mqtt_rules_alike_laws.specs.Alike.{Each, AlikeRows, AlikeDeeds, leaves, sends, with_queue, with_sessions}
+use Rattle.mqtt_rules_alike_laws.proofs.Pairs.{Both, each_append, each_map, map_same, both_at, both_found}
+use Rattle.mqtt_rules_alike_laws.proofs.States.{deed_alike, place_same, places_same}
+use Rattle.mqtt_rules_alike_laws.proofs.Acts.{same_deeds, flat_alike}
+
+-- ---- what the rules read of a queue is the same
+
+entry_same : (went : List ℕ) (x y : CopyRow) → AlikeRows x y → entry_on went x ≡ entry_on went y
+entry_same went x y h = λ i. record { place = h.place i; copy = h.copy.seen i; phase = h.phase i; here = is_among (h.place i) went }
+
+pub queue_same : (went : List ℕ) (s : Session) (q : List CopyRow) → Each AlikeRows s.queue q → queue_on went s ≡ queue_on went (with_queue q s)
+queue_same went s q h = map_same AlikeRows (entry_on went) (entry_on went) (entry_same went) s.queue q h
+
+new_same : (start : Records) (x y : CopyRow) → AlikeRows x y → is_new start x.copy ≡ is_new start y.copy
+new_same start x y h = ap (λ (c : QueuedCopy). nat_lt start.publications c.id.publication || is_new_cause start c.id.cause) h.copy.seen
+
+given_same : (o p : Option CopyRow) → Both AlikeRows o p → (q r : List CopyRow) → Each AlikeRows q r → first_given o q ≡ first_given p r
+given_same None None k q r h = ap (λ (ns : List ℕ). suc (greatest ns)) (places_same q r h)
+given_same None (Some y) k q r h = absurd k
+given_same (Some x) None k q r h = absurd k
+given_same (Some x) (Some y) k q r h = k.place
+
+-- ---- in a step that began on alike records
+
+module _ (env : Env) (old : List Session) where
+  abbrev pub beside : Env
+  beside = record env { start = with_sessions old env.start }
+
+  since_same : (s : Session) (q : List CopyRow) → Each AlikeRows s.queue q → since env s ≡ since beside (with_queue q s)
+  since_same s q h = given_same (find (λ e. is_new env.start e.copy) s.queue) (find (λ e. is_new env.start e.copy) q)
+      (both_found AlikeRows (λ e. is_new env.start e.copy) (λ e. is_new env.start e.copy) (new_same env.start) s.queue q h) s.queue q h
+
+  pub room_same : (s : Session) (q : List CopyRow) → Each AlikeRows s.queue q → room env s ≡ room beside (with_queue q s)
+  room_same s q h = ap₂ (λ n es. env.limits.queue - staying env.limits.full n es) (since_same s q h) (queue_same [] s q h)
+
+  pub ways_same : (s : Session) (q : List CopyRow) → Each AlikeRows s.queue q
+      → way_made (queue_limits env) (since env s) (queue_on [] s) ≡ way_made (queue_limits env) (since beside (with_queue q s)) (queue_on [] (with_queue q s))
+  ways_same s q h = ap₂ (way_made (queue_limits env)) (since_same s q h) (queue_same [] s q h)
+
+module _ (P : Type 0) where
+  -- ---- deeds with a queue
+
+  ended_alike : (s : Session) (x y : CopyRow) → AlikeRows x y → AlikeDeeds P (At (whose s) (Leave x SessionEnded)) (At (whose s) (Leave y SessionEnded))
+  ended_alike s x y h = leaves (record { who = whose s; ending = SessionEnded; row = x; other_row = y; rows = h; first = refl; second = refl })
+
+  pub end_alike : (s : Session) (q : List CopyRow) → Each AlikeRows s.queue q → Each (AlikeDeeds P) (end_session s) (end_session (with_queue q s))
+  end_alike s q h =
+      each_append (AlikeDeeds P) (map (λ e. At (whose s) (Leave e SessionEnded)) s.queue) (map (λ e. At (whose s) (Leave e SessionEnded)) q) (Finish (whose s) ∷ []) (Finish (whose s) ∷ [])
+      (each_map AlikeRows (AlikeDeeds P) (λ e. At (whose s) (Leave e SessionEnded)) (λ e. At (whose s) (Leave e SessionEnded)) (ended_alike s) s.queue q h)
+      (same_deeds P (Finish (whose s) ∷ []))
+
+  entry_alike : (f g : CopyRow → List Deed) → ((x y : CopyRow) → AlikeRows x y → Each (AlikeDeeds P) (f x) (g y)) → (o p : Option CopyRow) → Both AlikeRows o p → Each (AlikeDeeds P) (of_entry o f) (of_entry p g)
+  entry_alike f g k None None h = tt
+  entry_alike f g k None (Some y) h = absurd h
+  entry_alike f g k (Some x) None h = absurd h
+  entry_alike f g k (Some x) (Some y) h = k x y h
+
+  place_alike : (place : ℕ) (s : Session) (q : List CopyRow) → Each AlikeRows s.queue q → (f g : CopyRow → List Deed) → ((x y : CopyRow) → AlikeRows x y → Each (AlikeDeeds P) (f x) (g y))
+      → Each (AlikeDeeds P) (of_entry (row_at copy_place place s.queue) f) (of_entry (row_at copy_place place q) g)
+  place_alike place s q h f g k = entry_alike f g k (row_at copy_place place s.queue) (row_at copy_place place q) (both_at AlikeRows copy_place place_same place s.queue q h)
+
+  pub leave_alike : (s : Session) (q : List CopyRow) → Each AlikeRows s.queue q → (t : Turn) → Each (AlikeDeeds P) (leave_deeds s t) (leave_deeds (with_queue q s) t)
+  leave_alike s q h (turns.Send place id) = tt
+  leave_alike s q h (turns.Resend place id) = tt
+  leave_alike s q h (turns.Release place id order) = tt
+  leave_alike s q h (turns.Outgrow place id order) = tt
+  leave_alike s q h (turns.Repeat id) = tt
+  leave_alike s q h (turns.Unknown id) = tt
+  leave_alike s q h (turns.Leave place ending) = place_alike place s q h (λ e. At (whose s) (Leave e ending) ∷ []) (λ e. At (whose s) (Leave e ending) ∷ [])
+      (λ x y k. (leaves (record { who = whose s; ending = ending; row = x; other_row = y; rows = k; first = refl; second = refl }), tt))
+
+  sent_alike : P → (now line : ℕ) (dup : Bool) (id : ℕ) (x y : CopyRow) → AlikeRows x y → AlikeDeeds P (deeds.Send line (publish_of now dup id x.copy)) (deeds.Send line (publish_of now dup id y.copy))
+  sent_alike p now line dup id x y h = sends p (record {
+    line = line;
+    packet = publish_of now dup id x.copy;
+    other_packet = publish_of now dup id y.copy;
+    publishes = record { now = now; dup = dup; id = id; copy = x.copy; other_copy = y.copy; copies = h.copy; first = refl; second = refl };
+    first = refl;
+    second = refl;
+  })
+
+  -- a turn that sends what a copy says is a pump's
+  abbrev pub MaySay : Turn → Type 0
+  MaySay (turns.Send place id) = P
+  MaySay (turns.Resend place id) = P
+  MaySay (turns.Release place id order) = ⊤
+  MaySay (turns.Outgrow place id order) = ⊤
+  MaySay (turns.Repeat id) = ⊤
+  MaySay (turns.Unknown id) = ⊤
+  MaySay (turns.Leave place ending) = ⊤
+
+  abbrev pub AllMaySay : List Turn → Type 0
+  AllMaySay [] = ⊤
+  AllMaySay (t ∷ ts) = MaySay t × AllMaySay ts
+
+  may_say : P → (t : Turn) → MaySay t
+  may_say p (turns.Send place id) = p
+  may_say p (turns.Resend place id) = p
+  may_say p (turns.Release place id order) = tt
+  may_say p (turns.Outgrow place id order) = tt
+  may_say p (turns.Repeat id) = tt
+  may_say p (turns.Unknown id) = tt
+  may_say p (turns.Leave place ending) = tt
+
+  pub all_may_say : P → (ts : List Turn) → AllMaySay ts
+  all_may_say p [] = tt
+  all_may_say p (t ∷ ts) = (may_say p t, all_may_say p ts)
+
+  pub turn_alike : (now line : ℕ) (s : Session) (q : List CopyRow) → Each AlikeRows s.queue q → (t : Turn) → MaySay t → Each (AlikeDeeds P) (turn_deeds now line s t) (turn_deeds now line (with_queue q s) t)
+  turn_alike now line s q h (turns.Send place id) p = place_alike place s q h
+      (λ e. At (whose s) (deeds.Mark place (Sent id)) ∷ deeds.On line (deeds.Went place) ∷ deeds.Send line (publish_of now false id e.copy) ∷ [])
+      (λ e. At (whose s) (deeds.Mark place (Sent id)) ∷ deeds.On line (deeds.Went place) ∷ deeds.Send line (publish_of now false id e.copy) ∷ [])
+      (λ x y k. (deed_alike P _, (deed_alike P _, (sent_alike p now line false id x y k, tt))))
+  turn_alike now line s q h (turns.Resend place id) p = place_alike place s q h
+      (λ e. deeds.On line (deeds.Went place) ∷ deeds.Send line (publish_of now true id e.copy) ∷ [])
+      (λ e. deeds.On line (deeds.Went place) ∷ deeds.Send line (publish_of now true id e.copy) ∷ [])
+      (λ x y k. (deed_alike P _, (sent_alike p now line true id x y k, tt)))
+  turn_alike now line s q h (turns.Release place id order) p = same_deeds P (turn_deeds now line s (turns.Release place id order))
+  turn_alike now line s q h (turns.Outgrow place id order) p = same_deeds P (turn_deeds now line s (turns.Outgrow place id order))
+  turn_alike now line s q h (turns.Repeat id) p = same_deeds P (turn_deeds now line s (turns.Repeat id))
+  turn_alike now line s q h (turns.Unknown id) p = same_deeds P (turn_deeds now line s (turns.Unknown id))
+  turn_alike now line s q h (turns.Leave place ending) p = leave_alike s q h (turns.Leave place ending)
+
+  pub turns_alike : (now line : ℕ) (s : Session) (q : List CopyRow) → Each AlikeRows s.queue q → (ts : List Turn) → AllMaySay ts
+      → Each (AlikeDeeds P) (all_turn_deeds now line s ts) (all_turn_deeds now line (with_queue q s) ts)
+  turns_alike now line s q h [] m = tt
+  turns_alike now line s q h (t ∷ ts) m =
+      each_append (AlikeDeeds P) (turn_deeds now line s t) (turn_deeds now line (with_queue q s) t) (all_turn_deeds now line s ts) (all_turn_deeds now line (with_queue q s) ts)
+      (turn_alike now line s q h t m.0) (turns_alike now line s q h ts m.1)
+
+  module _ (env : Env) (old : List Session) where
+    pub enter_alike : (copy : MessageCopy) (s : Session) (q : List CopyRow) → Each AlikeRows s.queue q → Each (AlikeDeeds P) (enter_deeds env copy s) (enter_deeds (beside env old) copy (with_queue q s))
+    enter_alike copy s q h =
+        let ts = way_made (queue_limits env) (since env s) (queue_on [] s) in
+        let last = At (whose s) (Enter copy) ∷ [] in
+        subst (λ (us : List Turn). Each (AlikeDeeds P) (enter_deeds env copy s) (flat_map (leave_deeds (with_queue q s)) us ++ At (whose s) (Enter copy) ∷ [])) (ways_same env old s q h)
+        (each_append (AlikeDeeds P) (flat_map (leave_deeds s) ts) (flat_map (leave_deeds (with_queue q s)) ts) last last
+        (flat_alike P (leave_deeds s) (leave_deeds (with_queue q s)) (leave_alike s q h) ts) (same_deeds P last))

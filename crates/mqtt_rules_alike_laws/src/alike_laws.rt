@@ -1,0 +1,51 @@
+//! Laws of brokers that are alike but for what their waiting copies say (3.3, 4.6).
+ghost use Rattle.std.specs.Prelude.{◌≡◌, ℕ, List};
+ghost use Rattle.mqtt_records_message.specs.Queue.{CopyRow};
+ghost use Rattle.mqtt_records.specs.declared.records.Records.{Records};
+ghost use Rattle.mqtt_records.specs.declared.session.Session.{Session};
+ghost use Rattle.mqtt_rules.specs.declared.Limits.{Limits};
+ghost use Rattle.mqtt_rules.specs.State.{Line, Broker, MemberChoice};
+ghost use Rattle.mqtt_rules.specs.Inbound.{pump_turns, pump_deeds};
+ghost use Rattle.mqtt_rules.specs.Laws.{Event, after_events};
+ghost use Rattle.mqtt_rules.specs.Outbound.{all_turn_deeds};
+ghost use Rattle.mqtt_rules.specs.Step.{Call, at_moment, deeds, stepped, told, rows_written, is_step_spent, opened};
+ghost use Rattle.mqtt_rules_alike_laws.specs.Alike.{Each, AlikeRows, AlikeSessions, AlikeRecords, AlikeBrokers, AlikeDeeds, IsPump, AlikeOutcomes};
+ghost use Rattle.mqtt_rules_alike_laws.specs.Slim.{slim, slim_broker};
+
+/// Brokers that are alike but for what their waiting copies say do alike: by each call they come to brokers that are alike
+/// again, with alike deeds, the same reports and closed lines, and the same packets, but that each one's pump says what its
+/// own copies say; they write the same rows, and refuse the same calls for a spent number. So they do where what they
+/// stored is opened again, and in every run of calls and openings (3.3, 4.6).
+pub fn alike_steps()
+    ensures states { (limits : Limits) (choice : MemberChoice) (now : ℕ) (call : Call) (b c : Broker) → AlikeBrokers b c
+        → AlikeBrokers (stepped limits choice now call b) (stepped limits choice now call c) }
+    ensures deeds { (limits : Limits) (choice : MemberChoice) (now : ℕ) (call : Call) (b c : Broker) → AlikeBrokers b c
+        → Each (AlikeDeeds (IsPump call)) (deeds limits choice now call b) (deeds limits choice now call c) }
+    ensures told { (limits : Limits) (choice : MemberChoice) (now : ℕ) (call : Call) (b c : Broker) → AlikeBrokers b c
+        → AlikeOutcomes (IsPump call) (told limits choice now call b) (told limits choice now call c) }
+    ensures written { (limits : Limits) (choice : MemberChoice) (now : ℕ) (call : Call) (b c : Broker) → AlikeBrokers b c
+        → rows_written (deeds limits choice now call b) (at_moment now b)
+        ≡ rows_written (deeds limits choice now call c) (at_moment now c) }
+    ensures spent { (limits : Limits) (choice : MemberChoice) (now : ℕ) (call : Call) (b c : Broker) → AlikeBrokers b c
+        → is_step_spent limits choice now call b ≡ is_step_spent limits choice now call c }
+    ensures opened { (limits : Limits) (choice : MemberChoice) (now : ℕ) (r o : Records) → AlikeRecords r o
+        → AlikeBrokers (opened limits choice now r) (opened limits choice now o) }
+    ensures run { (events : List Event) (b c : Broker) → AlikeBrokers b c
+        → AlikeBrokers (after_events events b) (after_events events c) }
+{}
+
+/// A pump of alike sessions has the same turns, so it sends the same copies, each with the content that its own queue has
+/// for it (4.3, 4.6).
+pub fn alike_pumps()
+    ensures turns { (l : Line) (now : ℕ) (s t : Session) → AlikeSessions s t → pump_turns l now s ≡ pump_turns l now t }
+    ensures sends { (l : Line) (now : ℕ) (s t : Session) → AlikeSessions s t
+        → pump_deeds l now t ≡ all_turn_deeds now l.number t (pump_turns l now s) }
+{}
+
+/// Each row has a slim one that is alike to it: no topic, no Subscription Identifiers, of its properties Message Expiry
+/// Interval alone, and a payload of zeros of the length that keeps its size. So each broker has one that is alike to it and
+/// whose copies say nothing (3.3).
+pub fn slim_rows_are_alike()
+    ensures row { (e : CopyRow) → AlikeRows e (slim e) }
+    ensures broker { (b : Broker) → AlikeBrokers b (slim_broker b) }
+{}

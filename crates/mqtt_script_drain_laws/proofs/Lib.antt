@@ -1,0 +1,3 @@
+-- A drain of a script, by one choice and turn by turn.
+pub mod Done
+pub mod Own

@@ -1,0 +1,4 @@
+pub mod Breaks
+pub mod Related
+pub mod Turns
+pub mod Wires

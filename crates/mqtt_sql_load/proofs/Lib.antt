@@ -1,4 +1,0 @@
-pub mod ListLemmas
-pub mod PartLemmas
-pub mod OneLemmas
-pub mod LawfulLemmas

@@ -1,4 +1,0 @@
-pub mod Lists
-pub mod Gives
-pub mod Ends
-pub mod Tables

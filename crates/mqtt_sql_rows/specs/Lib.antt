@@ -1,4 +1,0 @@
-pub mod Values
-pub mod Blocks
-pub mod Rows
-pub mod Ones

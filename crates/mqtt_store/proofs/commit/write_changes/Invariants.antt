@@ -1,0 +1,23 @@
+use Rattle.std.proofs.Common.{◌≡◌, length}
+use Rattle.sqlite.specs.State.{HasCleanDisk}
+use Rattle.sqlite.specs.Held.{state}
+use Rattle.mqtt_store_write.specs.Content.{IsWhole}
+use Rattle.mqtt_store.specs.Making.{NeedAll, StaysInside}
+use Rattle.mqtt_store.specs.Shortened.{KnowsEnd, shortened}
+use Rattle.mqtt_store.proofs.Inside.{Leads}
+use Rattle.mqtt_store.proofs.commit.write_changes.Given as goal
+
+abbrev pub invariant-loop-change : goal.invariant-loop-change
+invariant-loop-change g l =
+    let old = state g.S.Store l.fn.tx.conn.now in
+    let now = state g.S.Store l.tx.conn.now in
+    record {
+      same : l.tx.conn.ghost_name ≡ l.fn.tx.conn.ghost_name;
+      inside : StaysInside old now;
+      whole : HasCleanDisk now → IsWhole old → IsWhole now;
+      left : HasCleanDisk now → IsWhole old → NeedAll (shortened l.changes) old.now.trees → Leads l.changes l.rest old.now.trees now.now.trees;
+      knows : KnowsEnd l.known l.rest;
+    }
+
+abbrev pub decreases-loop-change : goal.decreases-loop-change
+decreases-loop-change g l = length l.rest

@@ -1,0 +1,35 @@
+-- What changes make of the tables, one after the other.
+use Rattle.std.specs.Prelude.{◌≡◌, List, [], ◌∷◌}
+use Rattle.sqlite_trees.specs.Tree.{Trees}
+use Rattle.sqlite.specs.State.{State, HasCleanDisk, Survives, KeepsCommit}
+use Rattle.mqtt_records.specs.declared.change.Change.{Change}
+use Rattle.mqtt_store_write.specs.declared.statement.Statement.{Statement}
+use Rattle.mqtt_store_write.specs.Step.{Asks, Does, IsSettled}
+use Rattle.mqtt_store_laws.specs.Steps.{IsStatementFor}
+
+-- what its statement makes of the tables
+abbrev pub Makes : Change → Trees → Trees → Type 0
+Makes change old new = (s : Statement) × IsStatementFor change s × Does s old new
+
+-- what its statement sets stands
+abbrev pub Needs : Change → Trees → Type 0
+Needs change db = (s : Statement) → IsStatementFor change s → Asks s db
+
+-- one after the other
+abbrev pub MakeAll : List Change → Trees → Trees → Type 0
+MakeAll [] old new = new ≡ old
+MakeAll (change ∷ changes) old new = (mid : Trees) × Makes change old mid × MakeAll changes mid new
+
+-- what each sets stands in what those before it leave
+abbrev pub NeedAll : List Change → Trees → Type 0
+NeedAll [] db = Unit {0}
+NeedAll (change ∷ changes) db = Needs change db × ((mid : Trees) → Makes change db mid → NeedAll changes mid)
+
+-- nothing is committed, and a crash leaves what it left before
+pub record StaysInside (old new : State) : Type 0 where
+  pub kept : HasCleanDisk new → KeepsCommit old new
+  pub survives : Survives old new (λ _. ⊥)
+
+-- what a step may commit
+abbrev pub MayCommit : State → List Change → Trees → Type 0
+MayCommit s changes db = IsSettled s → NeedAll changes s.now.trees → MakeAll changes s.now.trees db

@@ -1,0 +1,25 @@
+-- What a change's row needs beside the change itself.
+use Rattle.std.specs.Prelude.{◌≡◌, ℕ, List, [], Option, Some, None}
+use Rattle.mqtt_props.specs.Properties.{block}
+use Rattle.mqtt_records_message.specs.Queue.{first_sent}
+use Rattle.mqtt_records.specs.declared.session.Columns.{Columns}
+use Rattle.mqtt_records.specs.declared.change.Change.{Change}
+use Rattle.mqtt_records.specs.declared.change.Change.TheVariants.{PutSession, SetSession, PutWill, PutCopy, PutRetained}
+use Rattle.mqtt_store.specs.declared.parts.Parts.{Parts}
+
+-- the own row of a session, if that is put
+abbrev pub columns_in : Change → Option Columns
+columns_in (PutSession row) = Some row
+columns_in (SetSession row) = Some row
+columns_in _ = None
+
+-- the block of properties of the row that is put: of a Will, of a copy as it is sent first, of what is retained
+abbrev pub block_in : Change → List ℕ
+block_in (PutWill birth will) = block will.properties
+block_in (PutCopy birth row) = block (first_sent row.copy)
+block_in (PutRetained kept) = block kept.content.properties
+block_in _ = []
+
+pub record ArePartsOf (change : Change) (parts : Parts) : Type 0 where
+  pub columns : parts.columns ≡ columns_in change
+  pub block : parts.block.items ≡ block_in change

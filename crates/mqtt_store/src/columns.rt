@@ -1,0 +1,199 @@
+//! What stands in the columns of a row that is put.
+ghost use Rattle.std.specs.Prelude.{◌≡◌};
+ghost use Rattle.mqtt_base.specs.Service.{qos_number};
+ghost use Rattle.mqtt_props.specs.Properties.{block};
+ghost use Rattle.mqtt_records_message.specs.Queue.{first_sent};
+ghost use Rattle.mqtt_store_rows.specs.Values.{handling_number};
+ghost use Rattle.mqtt_store_laws.specs.Steps.{counter_name};
+ghost use Rattle.mqtt_store_laws.specs.Items.{cause_number, cause_text, cause_n, phase_number, packet_identifier, release_order};
+ghost use Rattle.mqtt_store_laws.specs.Items.{session_columns, will_columns, subscription_columns, copy_columns, retained_columns};
+
+use mqtt_base::{Cause, Phase, Qos, RetainHandling};
+use mqtt_records::{Columns, Counter, Subscription};
+use mqtt_records_message::{CopyRow, RetainedMessage, Will};
+use mqtt_store_write::{
+    CopyColumns, RetainedColumns, SessionColumns, SubscriptionColumns, WillColumns,
+};
+
+/// The name of a number.
+pub(crate) fn counter_name(counter: Counter) -> &'static str
+    ensures { result.now ≡ counter_name counter }
+{
+    match counter {
+        Counter::Births => "births",
+        Counter::Publications => "publications",
+        Counter::Subscribes => "subscribes",
+        Counter::Autos => "autos",
+        Counter::Moment => "moment",
+    }
+}
+
+/// The quality of service by its number.
+fn qos_number(qos: Qos) -> u8
+    ensures { result ≡ qos_number qos }
+{
+    match qos {
+        Qos::AtMostOnce => 0,
+        Qos::AtLeastOnce => 1,
+        Qos::ExactlyOnce => 2,
+    }
+}
+
+/// Retain Handling by its number (3.8.3.1).
+fn handling_number(handling: RetainHandling) -> u8
+    ensures { result ≡ handling_number handling }
+{
+    match handling {
+        RetainHandling::SendAlways => 0,
+        RetainHandling::SendIfNew => 1,
+        RetainHandling::DoNotSend => 2,
+    }
+}
+
+/// The cause of a copy by its number.
+fn cause_number(cause: &Cause) -> u8
+    ensures { result ≡ cause_number cause.now }
+{
+    match cause {
+        Cause::Direct => 0,
+        Cause::Share { .. } => 1,
+        Cause::Retained { .. } => 2,
+    }
+}
+
+/// The group of a copy's cause; no text where it has none.
+fn cause_text(cause: &Cause) -> &str
+    ensures { result.now ≡ cause_text cause.now }
+{
+    match cause {
+        Cause::Share { group } => group.as_str(),
+        _ => "",
+    }
+}
+
+/// The number of the subscribe for which a copy is sent; 0 where there is none.
+fn cause_n(cause: &Cause) -> u64
+    ensures { result ≡ cause_n cause.now }
+{
+    match cause {
+        Cause::Retained { subscribe } => *subscribe,
+        _ => 0,
+    }
+}
+
+/// The phase by its number: 0 waiting, 1 sent, 2 released, 3 released after it was too large.
+pub(crate) fn phase_number(phase: Phase) -> u8
+    ensures { result ≡ phase_number phase }
+{
+    match phase {
+        Phase::Waiting => 0,
+        Phase::Sent { .. } => 1,
+        Phase::Released { .. } => 2,
+        Phase::Oversize { .. } => 3,
+    }
+}
+
+/// The packet identifier, unless it waits.
+pub(crate) fn packet_identifier(phase: Phase) -> Option<u64>
+    ensures { result ≡ packet_identifier phase }
+{
+    match phase {
+        Phase::Waiting => None,
+        Phase::Sent { identifier }
+        | Phase::Released { identifier, .. }
+        | Phase::Oversize { identifier, .. } => Some(u64::from(identifier)),
+    }
+}
+
+/// The order of release, once it is released.
+pub(crate) fn release_order(phase: Phase) -> Option<u64>
+    ensures { result ≡ release_order phase }
+{
+    match phase {
+        Phase::Waiting | Phase::Sent { .. } => None,
+        Phase::Released { order, .. } | Phase::Oversize { order, .. } => Some(order),
+    }
+}
+
+/// The columns of a session.
+pub(crate) fn session_columns(row: &Columns) -> SessionColumns<'_>
+    ensures { result ≡ session_columns row.now }
+{
+    SessionColumns {
+        client: row.client.as_str(),
+        expiry: row.expiry,
+        closed: row.closed,
+    }
+}
+
+/// The columns of a Will, whose properties have that block.
+pub(crate) fn will_columns<'a>(will: &'a Will, bytes: &'a [u8]) -> WillColumns<'a>
+    requires { bytes.now ≡ block will.now.properties }
+    ensures { result ≡ will_columns will.now }
+{
+    WillColumns {
+        delay: will.delay,
+        topic: will.topic.as_str(),
+        qos: qos_number(will.qos),
+        retain: will.retain,
+        properties: bytes,
+        payload: will.payload.as_slice(),
+    }
+}
+
+/// The columns of a subscription.
+pub(crate) fn subscription_columns(subscription: &Subscription) -> SubscriptionColumns
+    ensures { result ≡ subscription_columns subscription.now }
+{
+    SubscriptionColumns {
+        place: subscription.place,
+        qos: qos_number(subscription.options.qos),
+        no_local: subscription.options.no_local,
+        retain_as_published: subscription.options.retain_as_published,
+        handling: handling_number(subscription.options.retain_handling),
+        identifier: subscription.identifier.unwrap_or(0),
+    }
+}
+
+/// The columns of a copy, whose properties have that block as they are sent first.
+pub(crate) fn copy_columns<'a>(row: &'a CopyRow, bytes: &'a [u8]) -> CopyColumns<'a>
+    requires { bytes.now ≡ block (first_sent row.now.copy) }
+    ensures { result ≡ copy_columns row.now }
+{
+    let copy = row.copy();
+    let phase = row.phase();
+    CopyColumns {
+        publication: copy.id.publication,
+        cause: cause_number(&copy.id.cause),
+        cause_text: cause_text(&copy.id.cause),
+        cause_n: cause_n(&copy.id.cause),
+        identifier: packet_identifier(phase),
+        phase: phase_number(phase),
+        order: release_order(phase),
+        topic: copy.content.topic.as_str(),
+        qos: qos_number(copy.qos),
+        retain: copy.retain,
+        properties: bytes,
+        payload: copy.content.payload.as_slice(),
+        arrived: copy.content.arrived,
+    }
+}
+
+/// The columns of a retained message, whose properties have that block.
+pub(crate) fn retained_columns<'a>(
+    kept: &'a RetainedMessage,
+    bytes: &'a [u8],
+) -> RetainedColumns<'a>
+    requires { bytes.now ≡ block kept.now.content.properties }
+    ensures { result ≡ retained_columns kept.now }
+{
+    RetainedColumns {
+        topic: kept.content.topic.as_str(),
+        sender: kept.sender.as_str(),
+        publication: kept.publication,
+        qos: qos_number(kept.qos),
+        properties: bytes,
+        payload: kept.content.payload.as_slice(),
+        arrived: kept.content.arrived,
+    }
+}

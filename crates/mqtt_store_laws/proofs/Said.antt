@@ -1,0 +1,18 @@
+-- What a store is asked to keep, with what the types of the code give, is what rows can say.
+use Rattle.std.specs.Prelude.{List, [], ◌∷◌}
+use Rattle.mqtt_records.specs.declared.change.Change.{Change}
+use Rattle.mqtt_records.specs.declared.change.Change.TheVariants.{PutWill, PutSubscription, PutCopy, PutRetained}
+use Rattle.mqtt_records.specs.Saying.{PassesOn, AllPassOn}
+use Rattle.mqtt_records.specs.Saying as asked
+use Rattle.mqtt_store_laws.specs.Written.{IsSayable, AllSayable}
+
+said : (change : Change) → asked.IsSayable change → PassesOn change → IsSayable change
+said (PutWill birth will) say on = say
+said (PutSubscription birth subscription) say on = say
+said (PutCopy birth row) say on = record { passed = on; spelled = say.spelled; sent = say.sent }
+said (PutRetained kept) say on = say
+said change say on = tt
+
+pub all_said : (changes : List Change) → asked.AllSayable changes → AllPassOn changes → AllSayable changes
+all_said [] say on = tt
+all_said (change ∷ changes) say on = (said change say.0 on.0, all_said changes say.1 on.1)

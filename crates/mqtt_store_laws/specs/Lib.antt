@@ -1,0 +1,4 @@
+pub mod Members
+pub mod Items
+pub mod Written
+pub mod Steps

@@ -1,0 +1,23 @@
+//! What a database keeps of records, what each change makes of their items, and what each statement makes of what is kept
+//! (MQTT 5.0, 4.1). Private.
+#![tactic(auto)]
+
+mod laws;
+mod member_laws;
+mod rows;
+mod wishes;
+
+pub use laws::{
+    change_keeps_order, statement_finds_its_row, statement_keeps_rows, statements_find_their_rows,
+    statements_keep_rows,
+};
+pub use member_laws::{
+    copy_is_put, copy_is_removed, copy_is_set, rows_determine_sessions, session_is_removed,
+};
+pub use rows::{
+    columns_are_removed, retained_is_put, retained_is_removed, session_is_put, session_is_set,
+};
+pub use wishes::{
+    identifier_is_put, identifier_is_removed, subscription_is_put, subscription_is_removed,
+    will_is_put, will_is_removed,
+};

@@ -1,0 +1,75 @@
+-- A row of a table is its columns, each in its place.
+use Rattle.std.proofs.Common.{◌≡◌, ℕ, zero, suc, ◌+◌, ◌<◌, Bool, true, false, ◌&&◌, List, [], ◌∷◌, length, drop, nat_lt, refl, sym, ap, ◌∙◌, arith, inl, inr, true≢false}
+use Rattle.std.specs.Prelude.{Option, Some}
+use Rattle.std.proofs.lemmas.Bool.{cases_Bool, ltb-true, ltb-false}
+use Rattle.std.proofs.lemmas.List.{get_or_past}
+use Rattle.sqlite_value.specs.declared.value.Value.{Value}
+use Rattle.sqlite_value.specs.declared.value.Value.TheVariants.{Null, Int, Real, Text, Blob}
+use Rattle.sqlite_value.specs.Order.{Row, column}
+use Rattle.sqlite_sql.specs.Ops.{is_null}
+use Rattle.sqlite_trees.specs.Tree.{Trees}
+use Rattle.sqlite_schema.specs.declared.schema.Column.{Column}
+use Rattle.sqlite_schema.specs.declared.schema.Table.{Table}
+use Rattle.sqlite_schema.specs.declared.schema.Constraint.TheVariants.{Datatype}
+use Rattle.sqlite_schema.specs.Rules.{are_typed, has_computed, Obeys}
+use Rattle.sqlite_rules.specs.Lists.{Has}
+use Rattle.sqlite_rules.proofs.RowLemmas.{untyped}
+use Rattle.sqlite_rules.proofs.RuleLemmas.{keeps_at}
+use Rattle.mqtt_store_schema.specs.Tables.{keep_schema}
+
+-- ---- a row by its columns
+
+-- so many columns from a place on
+abbrev pub columns_from : ℕ → ℕ → Row → Row
+columns_from zero at row = []
+columns_from (suc n) at row = column row at ∷ columns_from n (at + 1) row
+
+next_column : (v : Value) (row : Row) (at : ℕ) → column (v ∷ row) (at + 1) ≡ column row at
+next_column v row at = rw Rattle.std.proofs.Common.add-one refl
+
+shifted : (n at : ℕ) (v : Value) (row : Row) → columns_from n (at + 1) (v ∷ row) ≡ columns_from n at row
+shifted zero at v row = refl
+shifted (suc n) at v row = rw (next_column v row at, shifted n (at + 1) v row) refl
+
+all_columns : (row : Row) → columns_from (length row) 0 row ≡ row
+all_columns [] = refl
+all_columns (v ∷ row) = ap (λ (vs : Row). v ∷ vs) (shifted (length row) 0 v row ∙ all_columns row)
+
+pub by_columns : (n : ℕ) (row : Row) → length row ≡ n → row ≡ columns_from n 0 row
+by_columns n row long = sym (sym (ap (λ (m : ℕ). columns_from m 0 row) long) ∙ all_columns row)
+
+-- ---- how many columns a row has
+
+both : (a b : Bool) → (a && b) ≡ true → (a ≡ true) × (b ≡ true)
+both true b h = (refl, h)
+both false b h = absurd cc
+
+-- a row that passes the types of its columns
+pub typed_row : (db : Trees) (t : Table) (row : Row) → Obeys keep_schema db → Has keep_schema.tables t → Has (db t.tree) row → are_typed t.key 0 t.columns (drop 1 row) ≡ true
+typed_row db t row obeys listed there =
+    (both (are_typed t.key 0 t.columns (drop 1 row)) (has_computed t row) (keeps_at Datatype keep_schema db t row (obeys.rules Datatype) listed there)).0
+
+-- one that has something in the last of them has all of them, and no more
+pub as_long : (key : Option ℕ) (cs : List Column) (row : Row) → are_typed key 0 cs (drop 1 row) ≡ true → (column row (length cs) ≡ Null → ⊥) → length row ≡ length cs + 1
+as_long key cs [] typed last = absurd (last refl)
+as_long key cs (v ∷ vs) typed last = elim (cases_Bool (nat_lt (length cs) (length vs))) [
+  | inl more ↦ absurd (true≢false (sym typed ∙ untyped key 0 cs vs (ltb-true (length cs) (length vs) more)))
+  | inr few ↦ elim (cases_Bool (nat_lt (length vs) (length cs))) [
+    | inl less ↦ let short = ltb-true (length vs) (length cs) less in absurd (last (get_or_past (v ∷ vs) (length cs) Null (omega (arith, short))))
+    | inr not_less ↦ let low = ltb-false (length cs) (length vs) few in let high = ltb-false (length vs) (length cs) not_less in omega (arith, low, high)
+  ]
+]
+
+pub null_is : (v : Value) → is_null v ≡ true → v ≡ Null
+null_is Null h = refl
+null_is (Int n) h = absurd cc
+null_is (Real x) h = absurd cc
+null_is (Text t) h = absurd cc
+null_is (Blob b) h = absurd cc
+
+-- the column for which the number of the row stands
+pub key_null : (cs : List Column) (row : Row) → are_typed (Some 0) 0 cs (drop 1 row) ≡ true → column row 1 ≡ Null
+key_null cs [] typed = refl
+key_null cs (v ∷ []) typed = refl
+key_null [] (v ∷ w ∷ vs) typed = absurd cc
+key_null (c ∷ cs) (v ∷ w ∷ vs) typed = null_is w (both (is_null w) (are_typed (Some 0) 1 cs vs) typed).0

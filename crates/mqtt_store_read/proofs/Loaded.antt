@@ -1,0 +1,118 @@
+-- What the rows of all tables give, and those of a new store.
+use Rattle.std.proofs.Common.{◌≡◌, ◌≢◌, ◌⊎◌, inl, inr, IfErr, IsErrOf, ℕ, zero, suc, ◌+◌, List, [], ◌∷◌, codes, ◌≤◌, IsTrue, Result, Ok, Err, IfOk, refl, sym, ap, subst, ◌∙◌, arith, IsSorted}
+use Rattle.std.proofs.lemmas.List.Sorted.{IsPermutation-refl}
+use Rattle.sqlite_value.specs.declared.value.Value.TheVariants.{Text}
+use Rattle.sqlite_value.specs.Order.{Row}
+use Rattle.sqlite_trees.specs.Tree.{Trees}
+use Rattle.sqlite_trees.specs.declared.store.Store.{Ghosts}
+use Rattle.sqlite.specs.Held.{Held, state}
+use Rattle.sqlite.specs.Effect.{Database}
+use Rattle.mqtt_records_lawful.specs.Lawful.{IsLawful}
+use Rattle.mqtt_records.specs.declared.records.Records.{Records}
+use Rattle.mqtt_records.specs.declared.keep.KeepError.{KeepError}
+use Rattle.mqtt_records.specs.declared.keep.KeepError.TheVariants.{Memory, Disk, Size, Corrupt, Schema}
+use Rattle.mqtt_records.specs.Records.{nothing}
+use Rattle.mqtt_store_rows.specs.Values.{number}
+use Rattle.mqtt_store_rows.specs.Rows.{SaysNumbers}
+use Rattle.mqtt_store_rows.specs.Gives.{Rows, Gives, no_parts, counters_of}
+use Rattle.mqtt_store_rows.proofs.LawfulLemmas.{lawful_within}
+use Rattle.mqtt_store_schema.specs.Asking.{SaysOne, SaysOther}
+use Rattle.mqtt_store_schema.specs.Creation.{IsNewStore, first_numbers}
+use Rattle.mqtt_store_schema.specs.declared.schema.StoreTable.{StoreTable}
+use Rattle.mqtt_store_schema.specs.declared.schema.StoreTable.TheVariants.{Meta, Session, Will, Subscription, Inbound, Copy, Retained}
+use Rattle.mqtt_store_read.specs.Listing.{by_columns, tree_of, IsListing}
+use Rattle.mqtt_store_read.specs.Kept.{AreListed, HasRecords, HasNone, Refuses}
+use Rattle.mqtt_store_read.proofs.Rising.{Rise}
+use Rattle.mqtt_store_read.proofs.Unique.{by_total, numbers_rise, listed_one}
+
+-- ---- all tables
+
+-- the records that a reading gives are those that the database has
+pub gives_all : (db : Trees) (rows : Rows) (res : Result Records KeepError) → AreListed db rows → IfOk res (λ r. Gives rows r) → IfOk res (λ r. IsLawful r) → IfOk res (HasRecords db)
+gives_all db rows (Ok r) listed gives lawful = record { rows = rows; listed = listed; gives = gives; lawful = lawful }
+gives_all db rows (Err e) listed gives lawful = tt
+
+-- where it gives none, the database has none
+pub gives_none : (db : Trees) (rows : Rows) → AreListed db rows → ((r : Records) → Gives rows r → IsLawful r → ⊥) → (r : Records) → HasRecords db r → ⊥
+gives_none db rows listed none r h =
+    let same = listed_one db rows h.rows r listed h.listed h.gives (lawful_within r h.lawful) in
+    none r (subst (λ rows. Gives rows r) (sym same) h.gives) h.lawful
+
+-- ---- a new store
+
+rise_sorted : (ats : List ℕ) (rows : List Row) → Rise ats rows → IsSorted (by_columns ats) rows
+rise_sorted ats [] up k d low high = absurd (omega (arith, high))
+rise_sorted ats (r ∷ []) up k d low high = absurd (omega (arith, high))
+rise_sorted ats (r ∷ s ∷ rows) up zero d low high = rw ((by_total ats).antisymm s r, up.0.0) refl
+rise_sorted ats (r ∷ s ∷ rows) up (suc k) d low high = rw Rattle.std.proofs.Common.add-one (rw Rattle.std.proofs.Common.add-one at (rise_sorted ats (s ∷ rows) up.1 k d (omega arith) (omega (arith, high))))
+
+abbrev number_row : List ℕ → ℕ → Row
+number_row name n = Text name ∷ number n ∷ []
+
+abbrev new_meta : List Row
+new_meta =
+    number_row (codes "autos") 0 ∷ number_row (codes "births") 0 ∷ number_row (codes "moment") 0 ∷ number_row (codes "publications") 0 ∷ number_row (codes "schema") 1
+    ∷ number_row (codes "subscribes") 0 ∷ []
+
+abbrev new_rows : Rows
+new_rows = record { meta = new_meta; sessions = []; parts = no_parts; retained = [] }
+
+new_numbers : SaysNumbers (counters_of nothing) new_meta
+new_numbers = (
+  record { name = refl; value = refl; range = omega arith },
+  record { name = refl; value = refl; range = omega arith },
+  record { name = refl; value = refl; range = omega arith },
+  record { name = refl; value = refl; range = omega arith },
+  record { name = refl; value = refl; range = omega arith },
+  record { name = refl; value = refl; range = omega arith },
+)
+
+meta_listed : (db : Trees) → db 0 ≡ first_numbers → IsListing Meta db new_meta
+meta_listed db is = record {
+  each = rw is (record { moves = (3, 5) ∷ (2, 5) ∷ (0, 4) ∷ []; below = (omega arith, omega arith, (omega arith, omega arith, (omega arith, omega arith, tt))); is = refl });
+  sorted = rise_sorted (0 ∷ []) new_meta (numbers_rise (counters_of nothing) new_meta new_numbers);
+}
+
+empty_listed : (table : StoreTable) (db : Trees) → db (tree_of table) ≡ [] → IsListing table db []
+empty_listed table db is = record { each = rw is (IsPermutation-refl []); sorted = λ k d low high. absurd (omega (arith, high)) }
+
+nothing_lawful : IsLawful nothing
+nothing_lawful = record {
+  numbers = record { births = omega arith; publications = omega arith; subscribes = omega arith; autos = omega arith; moment = omega arith };
+  sessions = record { table = record { ascending = tt; within = omega arith }; clients = tt; places = tt; each = tt };
+  retained = record { table = record { ascending = tt; within = omega arith }; topics = tt; each = tt };
+}
+
+pub new_store_has : (db : Database) → IsNewStore db → HasRecords db.trees nothing
+new_store_has db h = record {
+  rows = new_rows;
+  listed = record {
+    meta = meta_listed db.trees h.meta_rows;
+    sessions = empty_listed Session db.trees h.empty.0;
+    parts = record {
+      wills = empty_listed Will db.trees h.empty.1.0;
+      subscriptions = empty_listed Subscription db.trees h.empty.1.1.0;
+      inbound = empty_listed Inbound db.trees h.empty.1.1.1.0;
+      copies = empty_listed Copy db.trees h.empty.1.1.1.1.0;
+    };
+    retained = empty_listed Retained db.trees h.empty.1.1.1.1.1.0;
+  };
+  gives = record { numbers = new_numbers; sessions = refl; retained = tt };
+  lawful = nothing_lawful;
+}
+
+-- ---- refusals
+
+-- the device and want of memory say nothing; else it has no records, and was asked for its schema
+pub refusal_is : {S : Type 0} (g : Ghosts S) (old mid new : Held S) (fault : KeepError) → HasNone (state g old) → (state g mid).now ≡ (state g old).now → fault ≢ Size
+    → (fault ≡ Corrupt → SaysOne (state g mid) (state g new)) → (fault ≡ Schema → SaysOther (state g mid) (state g new)) → Refuses g old fault
+refusal_is g old mid new Memory none same only one other = tt
+refusal_is g old mid new Disk none same only one other = tt
+refusal_is g old mid new Size none same only one other = absurd (only refl)
+refusal_is g old mid new Corrupt none same only one other = (none, (mid, new, same, one refl))
+refusal_is g old mid new Schema none same only one other = (none, (mid, new, same, other refl))
+
+-- a failure of the database is not `Corrupt`
+pub fault_other : (e : KeepError) → (e ≡ Memory) ⊎ (e ≡ Disk) → ◌≡◌ {A = Result Records KeepError} (Err e) (Err Corrupt) → ⊥
+fault_other e (inl h) is = let k : e ≡ Corrupt = cc in absurd (let m : Memory ≡ Corrupt = sym h ∙ k in cc)
+fault_other e (inr h) is = let k : e ≡ Corrupt = cc in absurd (let m : Disk ≡ Corrupt = sym h ∙ k in cc)

@@ -1,0 +1,63 @@
+-- The rows of a table, as a load reads them: some columns of each, in the order of a key.
+use Rattle.std.specs.Prelude.{ℕ, List, [], ◌∷◌, map, codes, IsPermutation, IsSorted}
+use Rattle.std.specs.declared.cmp.Ordering.{Ordering}
+use Rattle.std.specs.declared.cmp.Ordering.TheVariants.{Equal}
+use Rattle.std.specs.Ordering.{on, then_cmp}
+use Rattle.sqlite_value.specs.Order.{Row, column, value_cmp}
+use Rattle.sqlite_trees.specs.Tree.{Trees}
+use Rattle.mqtt_store_schema.specs.declared.schema.StoreTable.{StoreTable}
+use Rattle.mqtt_store_schema.specs.declared.schema.StoreTable.TheVariants.{Meta, Session, Will, Subscription, Inbound, Copy, Retained}
+
+abbrev pub select_text : StoreTable → List ℕ
+select_text Meta = codes "SELECT name, n FROM meta ORDER BY name"
+select_text Session = codes "SELECT birth, client, expiry, closed FROM session ORDER BY birth"
+select_text Will = codes "SELECT birth, delay, topic, qos, retain, props, payload FROM will ORDER BY birth"
+select_text Subscription = codes "SELECT birth, filter, place, qos, nolocal, rap, handling, ident FROM sub ORDER BY birth, place"
+select_text Inbound = codes "SELECT birth, ident FROM inbound ORDER BY birth, ident"
+select_text Copy = codes "SELECT birth, place, pub, cause, cause_text, cause_n, pid, phase, rel, topic, qos, retain, props, payload, arrived FROM copy ORDER BY birth, place"
+select_text Retained = codes "SELECT place, topic, sender, pub, qos, props, payload, arrived FROM retained ORDER BY place"
+
+-- the tree of the table's rows
+abbrev pub tree_of : StoreTable → ℕ
+tree_of Meta = 0
+tree_of Session = 2
+tree_of Will = 4
+tree_of Subscription = 5
+tree_of Inbound = 7
+tree_of Copy = 9
+tree_of Retained = 11
+
+-- where its columns stand in the tree's rows, which begin with their own number; a column that is that number stands there
+abbrev pub columns_of : StoreTable → List ℕ
+columns_of Meta = 1 ∷ 2 ∷ []
+columns_of Session = 0 ∷ 2 ∷ 3 ∷ 4 ∷ []
+columns_of Will = 0 ∷ 2 ∷ 3 ∷ 4 ∷ 5 ∷ 6 ∷ 7 ∷ []
+columns_of Subscription = 1 ∷ 2 ∷ 3 ∷ 4 ∷ 5 ∷ 6 ∷ 7 ∷ 8 ∷ []
+columns_of Inbound = 1 ∷ 2 ∷ []
+columns_of Copy = 1 ∷ 2 ∷ 3 ∷ 4 ∷ 5 ∷ 6 ∷ 7 ∷ 8 ∷ 9 ∷ 10 ∷ 11 ∷ 12 ∷ 13 ∷ 14 ∷ 15 ∷ []
+columns_of Retained = 0 ∷ 2 ∷ 3 ∷ 4 ∷ 5 ∷ 6 ∷ 7 ∷ 8 ∷ []
+
+-- which of the columns are the key: meta by name, session and will by birth, sub and copy by birth and place, inbound by
+-- birth and identifier, retained by place
+abbrev pub key_of : StoreTable → List ℕ
+key_of Meta = 0 ∷ []
+key_of Session = 0 ∷ []
+key_of Will = 0 ∷ []
+key_of Subscription = 0 ∷ 2 ∷ []
+key_of Inbound = 0 ∷ 1 ∷ []
+key_of Copy = 0 ∷ 1 ∷ []
+key_of Retained = 0 ∷ []
+
+-- the columns of a row in the tree
+abbrev pub shown : StoreTable → Row → Row
+shown table row = map (column row) (columns_of table)
+
+-- by the first of the columns, and then by the next
+abbrev pub by_columns : List ℕ → Row → Row → Ordering
+by_columns [] a b = Equal
+by_columns (at ∷ more) a b = then_cmp (on (λ row. column row at) value_cmp) (by_columns more) a b
+
+-- all rows of the table, each once, in the order of the key
+pub record IsListing (table : StoreTable) (db : Trees) (rows : List Row) : Type 0 where
+  pub each : IsPermutation (map (shown table) (db (tree_of table))) rows
+  pub sorted : IsSorted (by_columns (key_of table)) rows

@@ -1,0 +1,20 @@
+-- Lawful records are in order, and within their limits.
+use Rattle.std.proofs.Common.{List, [], ◌∷◌}
+use Rattle.std.specs.List.{AllByRecursion}
+use Rattle.mqtt_records_lawful.specs.Lawful.{IsLawfulSession, IsLawful, last_of}
+use Rattle.mqtt_records_lawful.specs.declared.rows.Last.{Last}
+use Rattle.mqtt_records.specs.declared.records.Records.{Records}
+use Rattle.mqtt_records.specs.declared.session.Session.{Session}
+use Rattle.mqtt_store_rows.specs.Gives.{IsWithin, AreWithin}
+
+within_each : (last : Last) (ss : List Session) → AllByRecursion (IsLawfulSession last) ss → AllByRecursion IsWithin ss
+within_each last [] all = tt
+within_each last (s ∷ ss) all =
+    (record { subscriptions = all.0.subscriptions.table; inbound = all.0.inbound.table; queue = all.0.queue.table }, within_each last ss all.1)
+
+pub lawful_within : (r : Records) → IsLawful r → AreWithin r
+lawful_within r lawful = record {
+  sessions = lawful.sessions.table;
+  each = within_each (last_of r) r.sessions lawful.sessions.each;
+  retained = lawful.retained.table;
+}

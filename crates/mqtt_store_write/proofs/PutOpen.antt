@@ -1,0 +1,75 @@
+-- INSERT OR REPLACE INTO inbound, from its text on.
+use Rattle.std.proofs.Common.{◌≡◌, ℕ, ℤ, pos, false, List, [], ◌∷◌, codes, None, Result, OnOk, refl, ap}
+use Rattle.sqlite_value.specs.declared.value.Value.{Value}
+use Rattle.sqlite_value.specs.declared.value.Value.TheVariants.{Null, Int}
+use Rattle.sqlite_value.specs.declared.keys.Collation.TheVariants.{Binary}
+use Rattle.sqlite_value.specs.Keys.{first_key, joined}
+use Rattle.sqlite_value.specs.Order.{Row, column}
+use Rattle.sqlite_trees.specs.Tree.{rowid}
+use Rattle.sqlite_schema.specs.Names.{same_name}
+use Rattle.sqlite_schema.specs.Rules.{equal}
+use Rattle.sqlite_schema.specs.declared.schema.Keys.TheVariants.{Enforced}
+use Rattle.sqlite_schema.specs.declared.schema.Kind.TheVariants.{Integer}
+use Rattle.sqlite_schema.specs.declared.command.Conflict.TheVariants.{Replace}
+use Rattle.sqlite.specs.Source.TheVariants.{Values}
+use Rattle.sqlite_rules.specs.Keys.{conflicts}
+use Rattle.sqlite_rules.specs.Cast.{cast, cast_row}
+use Rattle.sqlite_rules.specs.Edit.{with_rowid, next_rowid}
+use Rattle.sqlite_rules.specs.Action.{works}
+use Rattle.sqlite_rules.specs.declared.error.Rowids.TheVariants.{Chosen}
+use Rattle.sqlite.specs.Command.TheVariants.{InsertOr}
+use Rattle.sqlite.specs.Term.{Term, lit, col}
+use Rattle.sqlite.specs.declared.error.Error.{Error}
+use Rattle.sqlite.specs.Listing.{understood}
+use Rattle.sqlite.specs.State.{State, ExecutesInside}
+use Rattle.sqlite_tied.specs.Compute.{everything}
+use Rattle.sqlite.proofs.Callers.{IsPlain, command_of}
+use Rattle.mqtt_store_schema.specs.Tables.{keep_schema, inbound}
+use Rattle.mqtt_store_write.specs.Content.{IsWhole}
+use Rattle.mqtt_store_write.specs.Removal.{is_keyed}
+use Rattle.mqtt_store_write.specs.Put.{PutsInto, numbered, open_row}
+use Rattle.mqtt_store_write.proofs.SetCopy.{cast_int, cast_null}
+use Rattle.mqtt_store_write.proofs.Fresh.{apart, and_true, or_false}
+use Rattle.mqtt_store_write.proofs.Replace.{replaces}
+
+abbrev pub put_open_text : List ℕ
+put_open_text = codes "INSERT OR REPLACE INTO inbound VALUES (?1, ?2)"
+
+abbrev terms : List Term
+terms = lit Null ∷ col 0 0 ∷ col 0 1 ∷ []
+
+put_is : command_of (understood keep_schema put_open_text) ≡ InsertOr 4 Replace (Values terms 3) []
+unfolding understood everything
+put_is = refl
+
+put_plain : IsPlain (understood keep_schema put_open_text)
+unfolding understood everything
+put_plain = (refl, refl)
+
+no_works : (olds : List Row) (new : Row) → works keep_schema Enforced 0 7 olds (new ∷ []) ≡ []
+unfolding same_name joined
+no_works olds new = refl
+
+no_works_out : (olds : List Row) → works keep_schema Enforced 0 7 olds [] ≡ []
+unfolding same_name joined
+no_works_out olds = refl
+
+cast_put : (birth identifier : ℕ) (v : Value) → cast Integer v ≡ v → cast_row inbound (v ∷ open_row birth identifier) ≡ v ∷ open_row birth identifier
+cast_put birth identifier v is = rw (is, cast_int (pos birth), cast_int (pos identifier))
+
+conflict_is : (next birth n : ℤ) (r : Row) → equal Binary (rowid r) (Int next) ≡ false → conflicts None keep_schema.indexes inbound (Int next ∷ Int birth ∷ Int n ∷ []) r ≡ is_keyed birth n r
+unfolding first_key joined
+conflict_is next birth n r other = rw (other, and_true (equal Binary (column r 2) (Int n))) (or_false (is_keyed birth n r))
+
+pub puts_open : (birth identifier : ℕ) (old new : State) (r : Result ℕ Error) → IsWhole old → ExecutesInside 0 put_open_text (open_row birth identifier) old new r
+    → OnOk r (PutsInto 7 (numbered 7 (open_row birth identifier) old.now.trees) (is_keyed (pos birth) (pos identifier)) old.now.trees new.now.trees) × OnOk r (IsWhole new)
+puts_open birth identifier old new r whole h =
+    let db = old.now.trees in
+    let next = next_rowid (db 7) in
+    let put = numbered 7 (open_row birth identifier) db in
+    replaces put_open_text 4 inbound terms 3 (open_row birth identifier) (Null ∷ open_row birth identifier) (is_keyed (pos birth) (pos identifier)) put_is put_plain refl refl put old new r whole whole.ready.shaped.inbound
+    (record { uncounted = refl; kept = cast_put birth identifier (Int next) (cast_int next); int = refl; childless = λ olds. no_works olds put })
+    no_works_out
+    (λ r h. conflict_is next (pos birth) (pos identifier) r (apart db 7 r whole.ready.shaped.inbound h))
+    (λ top. ap (with_rowid Chosen (db 7)) (cast_put birth identifier Null cast_null))
+    h

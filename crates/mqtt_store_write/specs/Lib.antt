@@ -1,0 +1,7 @@
+pub mod Content
+pub mod Copy
+pub mod Removal
+pub mod Columns
+pub mod Numbers
+pub mod Put
+pub mod Step

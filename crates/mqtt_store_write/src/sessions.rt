@@ -1,0 +1,76 @@
+//! The statements on sessions.
+ghost use Rattle.std.specs.Prelude.{◌≡◌, ◌<◌, ◌^◌, pos, IfSome, OnOk};
+ghost use Rattle.sqlite.specs.Held.{state};
+ghost use Rattle.sqlite.specs.State.{HasCleanDisk, Survives, KeepsCommit};
+ghost use Rattle.mqtt_store_write.specs.Content.{is_of, RemovesSession, IsReady, IsWhole};
+ghost use Rattle.mqtt_store_write.specs.Columns.{session_row};
+ghost use Rattle.mqtt_store_write.specs.Put.{PutsInto};
+
+use crate::copies::whole_or_none;
+use sqlite::{Alter, Error, Transaction, params};
+use std::marker::Model;
+
+/// What a session's row has behind its birth.
+#[derive(Drop)]
+pub struct SessionColumns<'a> {
+    /// The client identifier.
+    pub client: &'a str,
+    /// Session Expiry Interval, in seconds.
+    pub expiry: u32,
+    /// When its connection was closed: a moment in milliseconds. None while it is connected.
+    pub closed: Option<u64>,
+}
+
+impl<'a> Model for SessionColumns<'a> {
+    ghost use Rattle.mqtt_store_write.specs.Columns.{SessionColumns};
+
+    ghost Value = { SessionColumns };
+
+    ghost view = { λ s. record { client = s.client.now; expiry = s.expiry; closed = s.closed } };
+}
+
+/// A number as SQL has it.
+pub(crate) fn whole(n: u64) -> i64
+    requires { n < 2 ^ 63 }
+    ensures { result ≡ pos n }
+{
+    n as i64
+}
+
+/// Removes a session, with its rows in the other tables. One that does not stand has none.
+pub fn remove_session<S: Alter>(tx: &mut Transaction<'_, S>, birth: u64) -> Result<usize, Error>
+    requires { birth < 2 ^ 63 }
+    ensures same_reference { tx.new.conn.ghost_name ≡ tx.old.conn.ghost_name }
+    ensures removed { HasCleanDisk (state S.Store tx.new.conn.now) → IsReady (state S.Store tx.old.conn.now)
+        → OnOk result (RemovesSession (pos birth) (state S.Store tx.old.conn.now).now.trees (state S.Store tx.new.conn.now).now.trees)
+        × OnOk result (IsReady (state S.Store tx.new.conn.now)) }
+    ensures kept { HasCleanDisk (state S.Store tx.new.conn.now) → KeepsCommit (state S.Store tx.old.conn.now) (state S.Store tx.new.conn.now) }
+    ensures survives { Survives (state S.Store tx.old.conn.now) (state S.Store tx.new.conn.now) (λ _. ⊥) }
+{
+    let birth = whole(birth);
+    tx.execute("DELETE FROM session WHERE birth = ?1", params![birth])
+}
+
+/// Puts a session's own row, in place of the one that it has: its rows in the other tables stay.
+/// No other session may have its client identifier.
+pub fn put_session<S: Alter>(
+    tx: &mut Transaction<'_, S>,
+    birth: u64,
+    session: &SessionColumns<'_>,
+) -> Result<usize, Error>
+    requires birth { birth < 2 ^ 63 }
+    requires closed { IfSome session.now.closed (λ n. n < 2 ^ 63) }
+    ensures same_reference { tx.new.conn.ghost_name ≡ tx.old.conn.ghost_name }
+    ensures put { HasCleanDisk (state S.Store tx.new.conn.now) → IsWhole (state S.Store tx.old.conn.now)
+        → OnOk result (PutsInto 2 (session_row birth session.now) (is_of 0 (pos birth)) (state S.Store tx.old.conn.now).now.trees (state S.Store tx.new.conn.now).now.trees)
+        × OnOk result (IsWhole (state S.Store tx.new.conn.now)) }
+    ensures kept { HasCleanDisk (state S.Store tx.new.conn.now) → KeepsCommit (state S.Store tx.old.conn.now) (state S.Store tx.new.conn.now) }
+    ensures survives { Survives (state S.Store tx.old.conn.now) (state S.Store tx.new.conn.now) (λ _. ⊥) }
+{
+    let birth = whole(birth);
+    let closed = whole_or_none(session.closed);
+    tx.execute(
+        "INSERT INTO session VALUES (?1, ?2, ?3, ?4) ON CONFLICT (birth) DO UPDATE SET client = excluded.client, expiry = excluded.expiry, closed = excluded.closed",
+        params![birth, session.client, session.expiry, closed],
+    )
+}

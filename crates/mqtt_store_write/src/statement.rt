@@ -1,0 +1,120 @@
+//! One of the statements of the store, with its parameters.
+ghost use Rattle.std.specs.Prelude.{◌≡◌, OnOk};
+ghost use Rattle.sqlite.specs.Held.{state};
+ghost use Rattle.sqlite.specs.State.{HasCleanDisk, Survives, KeepsCommit};
+ghost use Rattle.mqtt_store_write.specs.Content.{IsWhole};
+ghost use Rattle.mqtt_store_write.specs.Step.{IsSized, Asks, Does};
+
+use crate::copies::{CopyColumns, put_copy, put_open, remove_copy, remove_open, set_copy};
+use crate::numbers::set_number;
+use crate::retained::{RetainedColumns, put_retained, remove_retained};
+use crate::sessions::{SessionColumns, put_session, remove_session};
+use crate::subscriptions::{SubscriptionColumns, put_subscription, remove_subscription};
+use crate::wills::{WillColumns, put_will, remove_will};
+use sqlite::{Alter, Error, Transaction};
+
+/// What is put, set or removed.
+#[derive(Drop)]
+pub enum Statement<'a> {
+    SetNumber {
+        name: &'a str,
+        value: u64,
+    },
+    PutSession {
+        birth: u64,
+        session: SessionColumns<'a>,
+    },
+    RemoveSession {
+        birth: u64,
+    },
+    PutWill {
+        birth: u64,
+        will: WillColumns<'a>,
+    },
+    RemoveWill {
+        birth: u64,
+    },
+    PutSubscription {
+        birth: u64,
+        filter: &'a str,
+        subscription: SubscriptionColumns,
+    },
+    RemoveSubscription {
+        birth: u64,
+        filter: &'a str,
+    },
+    PutOpen {
+        birth: u64,
+        identifier: u64,
+    },
+    RemoveOpen {
+        birth: u64,
+        identifier: u64,
+    },
+    PutCopy {
+        birth: u64,
+        place: u64,
+        copy: CopyColumns<'a>,
+    },
+    SetCopy {
+        birth: u64,
+        place: u64,
+        identifier: Option<u64>,
+        phase: u8,
+        order: Option<u64>,
+    },
+    RemoveCopy {
+        birth: u64,
+        place: u64,
+    },
+    PutRetained {
+        place: u64,
+        message: RetainedColumns<'a>,
+    },
+    RemoveRetained {
+        place: u64,
+    },
+}
+
+/// Writes what a statement says.
+pub fn write<S: Alter>(
+    tx: &mut Transaction<'_, S>,
+    statement: &Statement<'_>,
+) -> Result<usize, Error>
+    requires { IsSized statement.now }
+    ensures same_reference { tx.new.conn.ghost_name ≡ tx.old.conn.ghost_name }
+    ensures made { HasCleanDisk (state S.Store tx.new.conn.now) → IsWhole (state S.Store tx.old.conn.now)
+        → Asks statement.now (state S.Store tx.old.conn.now).now.trees
+        → OnOk result (Does statement.now (state S.Store tx.old.conn.now).now.trees (state S.Store tx.new.conn.now).now.trees) }
+    ensures whole { HasCleanDisk (state S.Store tx.new.conn.now) → IsWhole (state S.Store tx.old.conn.now)
+        → OnOk result (IsWhole (state S.Store tx.new.conn.now)) }
+    ensures kept { HasCleanDisk (state S.Store tx.new.conn.now) → KeepsCommit (state S.Store tx.old.conn.now) (state S.Store tx.new.conn.now) }
+    ensures survives { Survives (state S.Store tx.old.conn.now) (state S.Store tx.new.conn.now) (λ _. ⊥) }
+{
+    match statement {
+        Statement::SetNumber { name, value } => set_number(tx, name, *value),
+        Statement::PutSession { birth, session } => put_session(tx, *birth, session),
+        Statement::RemoveSession { birth } => remove_session(tx, *birth),
+        Statement::PutWill { birth, will } => put_will(tx, *birth, will),
+        Statement::RemoveWill { birth } => remove_will(tx, *birth),
+        Statement::PutSubscription {
+            birth,
+            filter,
+            subscription,
+        } => put_subscription(tx, *birth, filter, subscription),
+        Statement::RemoveSubscription { birth, filter } => remove_subscription(tx, *birth, filter),
+        Statement::PutOpen { birth, identifier } => put_open(tx, *birth, *identifier),
+        Statement::RemoveOpen { birth, identifier } => remove_open(tx, *birth, *identifier),
+        Statement::PutCopy { birth, place, copy } => put_copy(tx, *birth, *place, copy),
+        Statement::SetCopy {
+            birth,
+            place,
+            identifier,
+            phase,
+            order,
+        } => set_copy(tx, *birth, *place, *identifier, *phase, *order),
+        Statement::RemoveCopy { birth, place } => remove_copy(tx, *birth, *place),
+        Statement::PutRetained { place, message } => put_retained(tx, *place, message),
+        Statement::RemoveRetained { place } => remove_retained(tx, *place),
+    }
+}

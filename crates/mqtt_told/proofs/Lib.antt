@@ -1,2 +1,0 @@
--- Lines of events, by computing.
-pub mod Examples

@@ -1,2 +1,0 @@
--- The line of an event in the text of a run.
-pub mod Told

@@ -1,0 +1,19 @@
+-- Which copies enter, stand and end, over every run.
+pub mod CopiesApart
+pub mod CopyRuns
+pub mod Counting
+pub mod Differ
+pub mod EachAct
+pub mod Entering
+pub mod Entries
+pub mod Here
+pub mod Lights
+pub mod OnceRuns
+pub mod OpeningNumbers
+pub mod Routed
+pub mod RoutedApart
+pub mod Shares
+pub mod Steady
+pub mod StepRuns
+pub mod Told
+pub mod Walks

@@ -1,0 +1,286 @@
+-- Copies of QoS 0 go out in the step in which their publication is accepted.
+use Rattle.std.proofs.Common.{◌≡◌, ℕ, Bool, true, false, cond, List, [], ◌∷◌, ◌++◌, map, filter, Option, Some, None, nat_le, refl, sym, ap, subst, ◌∙◌, inl, inr, append_assoc, append-nil}
+use Rattle.std.specs.Prelude.{⊤, find, flat_map, filter_map}
+use Rattle.std.specs.List.{AllByRecursion}
+use Rattle.std.proofs.lemmas.Bool.{cases_Bool}
+use Rattle.std.proofs.lemmas.List.Elements.{filter_map-append}
+use Rattle.mqtt_codec.specs.declared.packet.Packet.{Packet}
+use Rattle.mqtt_flow.specs.Outbound.{way_made}
+use Rattle.mqtt_flow.specs.declared.entry.Turn.{Turn}
+use Rattle.mqtt_flow.specs.declared.entry.Turn.TheVariants as turns
+use Rattle.mqtt_flow_inbound.specs.Identifiers.{ids_without}
+use Rattle.mqtt_records_message.specs.Queue.{CopyRow}
+use Rattle.mqtt_records_message.specs.declared.message.RetainedMessage.{RetainedMessage}
+use Rattle.mqtt_records.specs.Session.{copy_place}
+use Rattle.mqtt_records.specs.declared.session.Session.{Session}
+use Rattle.mqtt_records_rows.specs.Order.{row_at}
+use Rattle.mqtt_topic.specs.Names.{is_empty}
+use Rattle.mqtt_rules.specs.Deeds.{whose, Message, Origin, Enter, Leave, Subscribe, Deed, Accept, Count, At, Keep, Forget, Send, after, after_all, always, offer, output, series, with_session, without_place}
+use Rattle.mqtt_rules.specs.Outbound.{enter_deeds, leave_deeds, of_entry, queue_limits, since}
+use Rattle.mqtt_rules.specs.Packets.{publish_of, size_of}
+use Rattle.mqtt_rules.specs.Routing.{CopyTo, accepted_copies, deliver, deliver_by, forgets, is_queued, next_publication, publish, retain_by, retained_of}
+use Rattle.mqtt_rules.specs.State.{Broker, Env, Line, is_of, line_of, queue_on, session_at}
+use Rattle.mqtt_rules.specs.Subscribe as sub
+use Rattle.mqtt_rules.proofs.acts.Acts.{brought_to}
+use Rattle.mqtt_rules.proofs.fit.StandLaw.{Orders}
+use Rattle.mqtt_world_acceptance_laws.specs.AtOnce.{IsPart, due, due_at, due_by, due_for, due_if, put_on}
+use Rattle.mqtt_world_acceptance_laws.specs.Entries.{moments_of}
+use Rattle.mqtt_world_acceptance_laws.proofs.copies.EachAct.{Says, says_still, whatever}
+use Rattle.mqtt_world_acceptance_laws.proofs.copies.Entering.{IsStill, AreStill}
+
+-- ---- parts of lists
+
+pub part_behind : {X : Type 0} (xs zs ys : List X) → IsPart xs ys → IsPart xs (zs ++ ys)
+part_behind [] zs ys h = tt
+part_behind (x ∷ xs) [] ys h = h
+part_behind (x ∷ xs) (z ∷ zs) ys h = inr (part_behind (x ∷ xs) zs ys h)
+
+pub part_append : {X : Type 0} (xs zs ys bs : List X) → IsPart xs zs → IsPart ys bs → IsPart (xs ++ ys) (zs ++ bs)
+part_append [] zs ys bs p q = part_behind ys zs bs q
+part_append (x ∷ xs) [] ys bs p q = absurd p
+part_append (x ∷ xs) (z ∷ zs) ys bs p q = elim p [
+  | inl here ↦ inl (here.0, part_append xs zs ys bs here.1 q)
+  | inr later ↦ inr (part_append (x ∷ xs) zs ys bs later q)
+]
+
+pub part_all : {X : Type 0} (xs : List X) → IsPart xs xs
+part_all [] = tt
+part_all (x ∷ xs) = inl (refl, part_all xs)
+
+-- ---- what is due by deeds, and what they put out
+
+abbrev Packets : Type 0
+Packets = List (ℕ × Packet)
+
+abbrev dues : Env → List Deed → Broker → Packets
+dues env ds b = flat_map due_at (moments_of env ds b)
+
+abbrev outputs : List Deed → Packets
+outputs ds = filter_map output ds
+
+abbrev pub Gives : Env → List Deed → Broker → Type 0
+Gives env ds b = IsPart (dues env ds b) (outputs ds)
+
+outputs_append : (xs ys : List Deed) → outputs (xs ++ ys) ≡ outputs xs ++ outputs ys
+outputs_append xs ys = filter_map-append output xs ys
+
+dues_append : (env : Env) (xs ys : List Deed) (b : Broker) → dues env (xs ++ ys) b ≡ dues env xs b ++ dues env ys (after_all xs b)
+dues_append env [] ys b = refl
+dues_append env (x ∷ xs) ys b =
+    ap (λ (ps : Packets). due env x b ++ ps) (dues_append env xs ys (after x b)) ∙ sym (append_assoc (due env x b) (dues env xs (after x b)) (dues env ys (after_all xs (after x b))))
+
+gives_append : (env : Env) (xs ys : List Deed) (b : Broker) → Gives env xs b → Gives env ys (after_all xs b) → Gives env (xs ++ ys) b
+gives_append env xs ys b p q =
+    let all = part_append (dues env xs b) (outputs xs) (dues env ys (after_all xs b)) (outputs ys) p q in
+    let put : IsPart (dues env xs b ++ dues env ys (after_all xs b)) (outputs (xs ++ ys)) = subst (IsPart (dues env xs b ++ dues env ys (after_all xs b))) (sym (outputs_append xs ys)) all in
+    subst (λ (ps : Packets). IsPart ps (outputs (xs ++ ys))) (sym (dues_append env xs ys b)) put
+
+-- ---- deeds by which nothing is due: those that accept no publication
+
+abbrev pub IsOther : Deed → Type 0
+IsOther (Accept number origin m) = ⊥
+IsOther d = ⊤
+
+abbrev AreOther : List Deed → Type 0
+AreOther ds = AllByRecursion IsOther ds
+
+none_due : (d : Deed) (env : Env) (b : Broker) → IsOther d → due env d b ≡ []
+none_due (Accept number origin m) env b h = absurd h
+none_due d env b h = refl
+
+no_dues : (env : Env) (ds : List Deed) (b : Broker) → AreOther ds → dues env ds b ≡ []
+no_dues env [] b h = refl
+no_dues env (d ∷ ds) b h = ap (λ (ps : Packets). ps ++ dues env ds (after d b)) (none_due d env b h.0) ∙ no_dues env ds (after d b) h.1
+
+others_give : (env : Env) (ds : List Deed) (b : Broker) → AreOther ds → Gives env ds b
+others_give env ds b h = subst (λ (ps : Packets). IsPart ps (outputs ds)) (sym (no_dues env ds b h)) tt
+
+other_append : (xs ys : List Deed) → AreOther xs → AreOther ys → AreOther (xs ++ ys)
+other_append [] ys p q = q
+other_append (x ∷ xs) ys p q = (p.0, other_append xs ys p.1 q)
+
+still_other : (d : Deed) → IsStill d → IsOther d
+still_other (Accept number origin m) h = absurd h
+still_other d h = tt
+
+stills_other : (ds : List Deed) → AreStill ds → AreOther ds
+stills_other [] h = tt
+stills_other (d ∷ ds) h = (still_other d h.0, stills_other ds h.1)
+
+-- ---- lines: a delivery leaves their numbers, their sessions and what they take as they were
+
+-- the same is put on each session's line, at the same moment
+record IsSame (b c : Broker) : Type 0 where
+  pub now : c.now ≡ b.now
+  pub lines : (birth : ℕ) (packet : Packet) → put_on (line_of birth c) packet ≡ put_on (line_of birth b) packet
+
+abbrev its_line : ℕ → List Line → Option Line
+its_line birth ls = find (λ l. is_of l.session birth) ls
+
+without_same : (birth k place : ℕ) (packet : Packet) (ls : List Line) → put_on (its_line birth (map (without_place k place) ls)) packet ≡ put_on (its_line birth ls) packet
+without_same birth k place packet [] = refl
+without_same birth k place packet (l ∷ ls) = by (is_of l.session k) (without_same birth k place packet ls)
+  where
+    first : (m : Line) → m.session ≡ l.session → put_on (Some m) packet ≡ put_on (Some l) packet → put_on (its_line birth (map (without_place k place) ls)) packet ≡ put_on (its_line birth ls) packet
+        → put_on (its_line birth (m ∷ map (without_place k place) ls)) packet ≡ put_on (its_line birth (l ∷ ls)) packet
+    first m same put more = elim (cases_Bool (is_of l.session birth)) [
+      | inl is ↦ let its : is_of m.session birth ≡ true = ap (λ (o : Option ℕ). is_of o birth) same ∙ is in rw (its, is) put
+      | inr other ↦ let its : is_of m.session birth ≡ false = ap (λ (o : Option ℕ). is_of o birth) same ∙ other in rw (its, other) more
+    ]
+
+    by : (t : Bool) → put_on (its_line birth (map (without_place k place) ls)) packet ≡ put_on (its_line birth ls) packet
+        → put_on (its_line birth (cond t (record l { went = ids_without place l.went }) l ∷ map (without_place k place) ls)) packet ≡ put_on (its_line birth (l ∷ ls)) packet
+    by true more = first (record l { went = ids_without place l.went }) refl refl more
+    by false more = first l refl refl more
+
+-- deeds of a delivery: copies leave, one enters, a packet goes out; and what RETAIN does
+abbrev IsLight : Deed → Type 0
+IsLight (At who (Leave e ending)) = ⊤
+IsLight (At who (Enter copy)) = ⊤
+IsLight (Send line packet) = ⊤
+IsLight (Keep kept) = ⊤
+IsLight (Forget place) = ⊤
+IsLight d = ⊥
+
+abbrev AreLight : List Deed → Type 0
+AreLight ds = AllByRecursion IsLight ds
+
+light_same : (d : Deed) (b : Broker) → IsLight d → IsSame b (after d b)
+light_same (At who (Leave e ending)) b h = record { now = refl; lines = λ birth packet. without_same birth who.birth e.place packet b.lines }
+light_same (At who (Enter copy)) b h = record { now = refl; lines = λ birth packet. refl }
+light_same (Send line packet) b h = record { now = refl; lines = λ birth packet. refl }
+light_same (Keep kept) b h = record { now = refl; lines = λ birth packet. refl }
+light_same (Forget place) b h = record { now = refl; lines = λ birth packet. refl }
+light_same d b h = absurd h
+
+lights_same : (ds : List Deed) (b : Broker) → AreLight ds → IsSame b (after_all ds b)
+lights_same [] b h = record { now = refl; lines = λ birth packet. refl }
+lights_same (d ∷ ds) b h =
+    let first = light_same d b h.0 in
+    let rest = lights_same ds (after d b) h.1 in
+    record { now = rest.now ∙ first.now; lines = λ birth packet. rest.lines birth packet ∙ first.lines birth packet }
+
+light_other : (d : Deed) → IsLight d → IsOther d
+light_other (Accept number origin m) h = absurd h
+light_other d h = tt
+
+lights_other : (ds : List Deed) → AreLight ds → AreOther ds
+lights_other [] h = tt
+lights_other (d ∷ ds) h = (light_other d h.0, lights_other ds h.1)
+
+light_append : (xs ys : List Deed) → AreLight xs → AreLight ys → AreLight (xs ++ ys)
+light_append [] ys p q = q
+light_append (x ∷ xs) ys p q = (p.0, light_append xs ys p.1 q)
+
+light_leave : (s : Session) (t : Turn) → AreLight (leave_deeds s t)
+light_leave s (turns.Leave place ending) = by (row_at copy_place place s.queue)
+  where
+    by : (o : Option CopyRow) → AreLight (of_entry o (λ e. At (whose s) (Leave e ending) ∷ []))
+    by None = tt
+    by (Some e) = (tt, tt)
+light_leave s t = tt
+
+light_leaves : (s : Session) (ts : List Turn) → AreLight (flat_map (leave_deeds s) ts)
+light_leaves s [] = tt
+light_leaves s (t ∷ ts) = light_append (leave_deeds s t) (flat_map (leave_deeds s) ts) (light_leave s t) (light_leaves s ts)
+
+light_offer : (o : Option Line) (packet : Packet) → AreLight (offer o packet)
+light_offer None packet = tt
+light_offer (Some l) packet = by (nat_le (size_of packet) l.largest)
+  where
+    by : (t : Bool) → AreLight (cond t (Send l.number packet ∷ []) [])
+    by true = (tt, tt)
+    by false = tt
+
+light_deliver : (t : Bool) (env : Env) (d : CopyTo) (b : Broker) → AreLight (deliver_by t env d b)
+light_deliver true env d b = by (session_at d.birth b.records)
+  where
+    by : (o : Option Session) → AreLight (with_session o (λ s. always (enter_deeds env d.copy s)) b)
+    by None = tt
+    by (Some s) =
+        let ts = way_made (queue_limits env) (since env s) (queue_on [] s) in
+        light_append (flat_map (leave_deeds s) ts) (At (whose s) (Enter d.copy) ∷ []) (light_leaves s ts) (tt, tt)
+light_deliver false env d b = light_offer (line_of d.birth b) (publish_of b.now false 0 d.copy)
+
+light_deliveries : (env : Env) (ds : List CopyTo) (b : Broker) → AreLight (series (map (deliver env) ds) b)
+light_deliveries env [] b = tt
+light_deliveries env (d ∷ ds) b =
+    let first = deliver env d b in
+    let c = after_all first b in
+    light_append first (series (map (deliver env) ds) c) (light_deliver (is_queued d) env d b) (light_deliveries env ds c)
+
+light_forgets : (o : Option RetainedMessage) → AreLight (forgets o)
+light_forgets None = tt
+light_forgets (Some k) = (tt, tt)
+
+light_retain : (retain empty : Bool) (number : ℕ) (m : Message) (b : Broker) → AreLight (retain_by retain empty number m b)
+light_retain false empty number m b = tt
+light_retain true true number m b = light_forgets (retained_of m.topic b.records)
+light_retain true false number m b = (tt, tt)
+
+-- ---- what goes out for a copy is what is due for it
+
+offered : (o : Option Line) (packet : Packet) → outputs (offer o packet) ≡ put_on o packet
+offered None packet = refl
+offered (Some l) packet = by (nat_le (size_of packet) l.largest)
+  where
+    by : (t : Bool) → outputs (cond t (Send l.number packet ∷ []) []) ≡ cond t ((l.number, packet) ∷ []) []
+    by true = refl
+    by false = refl
+
+delivered : (t : Bool) (env : Env) (d : CopyTo) (b : Broker) → IsPart (due_by t d b) (outputs (deliver_by t env d b))
+delivered true env d b = tt
+delivered false env d b =
+    let o = line_of d.birth b in
+    let packet = publish_of b.now false 0 d.copy in
+    subst (IsPart (put_on o packet)) (sym (offered o packet)) (part_all (put_on o packet))
+
+due_same : (t : Bool) (d : CopyTo) (b c : Broker) → IsSame b c → due_by t d c ≡ due_by t d b
+due_same true d b c same = refl
+due_same false d b c same = ap (λ (n : ℕ). put_on (line_of d.birth c) (publish_of n false 0 d.copy)) same.now ∙ same.lines d.birth (publish_of b.now false 0 d.copy)
+
+dues_same : (ds : List CopyTo) (b c : Broker) → IsSame b c → flat_map (due_for c) ds ≡ flat_map (due_for b) ds
+dues_same [] b c same = refl
+dues_same (d ∷ ds) b c same = ap (λ (ps : Packets). ps ++ flat_map (due_for c) ds) (due_same (is_queued d) d b c same) ∙ ap (λ (ps : Packets). due_for b d ++ ps) (dues_same ds b c same)
+
+all_delivered : (env : Env) (ds : List CopyTo) (b : Broker) → IsPart (flat_map (due_for b) ds) (outputs (series (map (deliver env) ds) b))
+all_delivered env [] b = tt
+all_delivered env (d ∷ ds) b =
+    let first = deliver env d b in
+    let c = after_all first b in
+    let rest = series (map (deliver env) ds) c in
+    let same = lights_same first b (light_deliver (is_queued d) env d b) in
+    let later : IsPart (flat_map (due_for b) ds) (outputs rest) = subst (λ (ps : Packets). IsPart ps (outputs rest)) (dues_same ds b c same) (all_delivered env ds c) in
+    subst (IsPart (due_for b d ++ flat_map (due_for b) ds)) (sym (outputs_append first rest))
+    (part_append (due_for b d) (outputs first) (flat_map (due_for b) ds) (outputs rest) (delivered (is_queued d) env d b) later)
+
+-- ---- a publication, and all else
+
+publish_gives : (env : Env) (origin : Origin) (m : Message) (ds : List CopyTo) (b : Broker) → Orders b → accepted_copies env m b ≡ Some ds → Gives env (publish env origin m ds b) b
+publish_gives env origin m ds b h e =
+    let number = next_publication b.records in
+    let c = after (Accept number origin m) b in
+    let next = retain_by m.retain (is_empty m.payload) number m c in
+    let d = after_all next c in
+    let all = series (map (deliver env) ds) d in
+    let light = light_retain m.retain (is_empty m.payload) number m c in
+    let rest = lights_same next c light in
+    let same : IsSame b d = record { now = rest.now; lines = rest.lines } in
+    let put : IsPart (flat_map (due_for b) ds) (outputs all) = subst (λ (ps : Packets). IsPart ps (outputs all)) (dues_same ds b d same) (all_delivered env ds d) in
+    let out : IsPart (flat_map (due_for b) ds) (outputs (next ++ all)) =
+    subst (IsPart (flat_map (due_for b) ds)) (sym (outputs_append next all)) (part_behind (flat_map (due_for b) ds) (outputs next) (outputs all) put) in
+    let none : dues env (next ++ all) c ≡ [] = no_dues env (next ++ all) c (lights_other (next ++ all) (light_append next all light (light_deliveries env ds d))) in
+    let its : due_if (accepted_copies env m b) b ++ dues env (next ++ all) c ≡ flat_map (due_for b) ds =
+    ap (λ (ps : Packets). due_if (accepted_copies env m b) b ++ ps) none ∙ append-nil (due_if (accepted_copies env m b) b) ∙ ap (λ (o : Option (List CopyTo)). due_if o b) e in
+    subst (λ (ps : Packets). IsPart ps (outputs (next ++ all))) (sym its) out
+
+grants_give : (env : Env) (w : sub.Wish) (s : Session) (b : Broker) → Gives env (sub.granted_filter env (sub.next_number b.records) s w (brought_to w s b) b).deeds b
+grants_give env w s b =
+    let number = sub.next_number b.records in
+    let first : List Deed = Count number ∷ At (whose s) (Subscribe (sub.subscription number s w)) ∷ [] in
+    let c = after_all first b in
+    let all = series (map (deliver env) (filter is_queued (brought_to w s b))) c in
+    others_give env (first ++ all) b (tt, (tt, lights_other all (light_deliveries env (filter is_queued (brought_to w s b)) c)))
+
+pub giving : (env : Env) → Says env whatever Orders (Gives env)
+giving env = says_still env (Gives env) (λ ds b h. others_give env ds b (stills_other ds h)) (gives_append env) (publish_gives env) (λ w s b e. grants_give env w s b)

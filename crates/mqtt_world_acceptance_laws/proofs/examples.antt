@@ -1,0 +1,4 @@
+-- Worked runs.
+pub mod AtOnceExamples
+pub mod Examples
+pub mod FullQueues

@@ -1,0 +1,56 @@
+-- Worked runs: a subscriber of granted QoS 0 gets its copy at once, and a stop keeps it back (MQTT 5.0, 3.3.4, 4.3.1).
+use Rattle.std.proofs.Common.{◌≡◌, ℕ, false, List, [], ◌∷◌, ◌++◌, None, refl}
+use Rattle.std.specs.Prelude.{flat_map, length}
+use Rattle.mqtt_base.specs.Values.{varint}
+use Rattle.mqtt_base.specs.declared.session.Qos.TheVariants.{AtMostOnce}
+use Rattle.mqtt_rules.proofs.examples.Play.{usual, topic, options}
+use Rattle.mqtt_world_model.specs.Ends.{Wish}
+use Rattle.mqtt_world_model.specs.World.{Event, publisher, receiver, publish, subscribe, ask, to_broker, stop_after, receiver_named, start}
+use Rattle.mqtt_world_model.specs.Run.{run}
+use Rattle.mqtt_world_model.proofs.examples.Scripts.{turns, p1, r1, draft, joins, exchange}
+use Rattle.mqtt_world_acceptance_laws.specs.AtOnce.{due_in, under_way}
+use Rattle.mqtt_world_acceptance_laws.specs.Copies.{entered_from}
+use Rattle.mqtt_world_acceptance_laws.specs.Steps.{steps_over}
+
+abbrev wish : Wish
+wish = record { filter = topic; options = options AtMostOnce; identifier = None }
+
+abbrev subscribed : List Event
+subscribed =
+    receiver r1 10 ∷ joins r1 false ++ (subscribe r1 wish ∷ exchange r1 ++ (publisher p1 ∷ joins p1 false ++ (publish p1 draft ∷ [])))
+
+abbrev given : List Event
+given = subscribed ++ ask (to_broker p1) ∷ []
+
+abbrev stopped : List Event
+stopped = subscribed ++ stop_after (to_broker p1) ∷ []
+
+abbrev waiting_after : List Event → ℕ
+waiting_after es = length (under_way (receiver_named r1 (run usual (turns es) start)))
+
+abbrev due_after : List Event → ℕ
+due_after es = length (flat_map due_in (steps_over usual (turns es) start))
+
+pub nothing_is_under_way : waiting_after subscribed ≡ 0
+unfolding varint
+nothing_is_under_way = refl
+
+pub a_copy_is_due_at_once : due_after given ≡ 1
+unfolding varint
+a_copy_is_due_at_once = refl
+
+pub it_is_under_way : waiting_after given ≡ 1
+unfolding varint
+it_is_under_way = refl
+
+pub it_enters_no_queue : entered_from usual (turns given) start ≡ []
+unfolding varint
+it_enters_no_queue = refl
+
+pub it_is_due_in_a_stopped_step : due_after stopped ≡ 1
+unfolding varint
+it_is_due_in_a_stopped_step = refl
+
+pub a_stop_keeps_it_back : waiting_after stopped ≡ 0
+unfolding varint
+a_stop_keeps_it_back = refl

@@ -1,0 +1,170 @@
+//! All ends of a world by their names (MQTT 5.0, 4.2 to 4.4).
+
+ghost use Rattle.std.specs.Prelude.{◌≡◌, [], ◌∷◌, ◌++◌, map, OnOk};
+ghost use Rattle.mqtt_world_model.specs.Ends.{new_publisher, new_receiver};
+ghost use Rattle.mqtt_world_model.specs.Lines.{left};
+ghost use Rattle.mqtt_world_model.specs.World.{Setting, before, give_up, happens, publish, publisher_restarted};
+ghost use Rattle.mqtt_world_model.specs.World.{receiver_restarted, subscribe, to_end, with_line};
+ghost use Rattle.mqtt_world_peers.specs.Publishers.{draft_of};
+ghost use Rattle.mqtt_world_peers.specs.Receivers.{wish_of};
+ghost use Rattle.mqtt_rules.specs.Step.{Outcome as Told};
+ghost use Rattle.mqtt_broker_engine.specs.Calling.{Tells};
+ghost use Rattle.mqtt_world_clients.specs.Ends.{Become, BecomeAt, joins, reading};
+ghost use Rattle.mqtt_world_clients.specs.Lines.{changed};
+ghost use Rattle.mqtt_world_clients.specs.Telling.{AreSpelled, ends_told};
+
+use crate::lines::Change;
+use crate::{publishers, receivers};
+use mqtt_base::Text;
+use mqtt_broker::Engine;
+use mqtt_broker_engine::Outcome;
+use mqtt_records::Keep;
+use mqtt_script::{Draft, Wish};
+use mqtt_world_peers::{PublisherEnd, ReceiverEnd};
+use std::alloc::{AllocError, Global};
+use std::marker::Model;
+
+/// The ends of a world. After a call that finds no memory they are good for nothing more.
+#[derive(Drop)]
+pub struct Clients {
+    pub(crate) alloc: Global,
+    pub(crate) publishers: Vec<PublisherEnd>,
+    pub(crate) receivers: Vec<ReceiverEnd>,
+}
+
+impl Model for Clients {
+    ghost use Rattle.mqtt_world_clients.specs.Ends.{Ends};
+
+    ghost Value = { Ends };
+
+    ghost view = { λ c. record { publishers = c.publishers.items; receivers = c.receivers.items } };
+}
+
+impl Clients {
+    /// There are none. Takes no memory.
+    pub fn new(alloc: Global) -> Clients
+        ensures { result ≡ record { publishers = []; receivers = [] } }
+    {
+        Clients {
+            alloc,
+            publishers: Vec::new(alloc),
+            receivers: Vec::new(alloc),
+        }
+    }
+
+    /// A publisher that has sent nothing.
+    pub fn add_publisher(&mut self, client: Text) -> Result<(), AllocError>
+        ensures { OnOk result (self.new
+            ≡ record self.old { publishers = self.old.publishers ++ new_publisher client ∷ [] }) }
+    {
+        self.publishers.push(PublisherEnd::new(self.alloc, client))?;
+        Ok(())
+    }
+
+    /// A receiver that has read nothing. `window` is its Receive Maximum (3.1.2.11.3), `since` the last birth of a
+    /// session before it is made.
+    pub fn add_receiver(&mut self, client: Text, window: u16, since: u64) -> Result<(), AllocError>
+        ensures { OnOk result (self.new
+            ≡ record self.old { receivers = self.old.receivers ++ new_receiver client window since ∷ [] }) }
+    {
+        self.receivers
+            .push(ReceiverEnd::new(self.alloc, client, window, since))?;
+        Ok(())
+    }
+
+    fn change(&mut self, client: &str, change: Change)
+        ensures { Become (with_line client.now (changed change) (changed change)) self.old self.new }
+    {
+        publishers::change_named(&mut self.publishers, client, change);
+        receivers::change_named(&mut self.receivers, client, change);
+    }
+
+    /// An end leaves its line, and the broker may still read what is under way there. Takes no memory.
+    pub fn give_up(&mut self, client: &str)
+        ensures { (set : Setting) → Become (happens set (give_up client.now)) self.old self.new }
+    {
+        self.change(client, Change::GiveUp);
+    }
+
+    /// The line of an end is lost on its side. Takes no memory.
+    pub fn leave(&mut self, client: &str)
+        ensures { Become (with_line client.now left left) self.old self.new }
+    {
+        self.change(client, Change::Leave);
+    }
+
+    /// The first packet under way from an end is taken off its line, or off the line that it gave up last. Takes no
+    /// memory.
+    pub fn take(&mut self, client: &str, old: bool)
+        ensures { (set : Setting) → Become (before set (reading old client.now)) self.old self.new }
+    {
+        if old {
+            self.change(client, Change::TakeOld);
+        } else {
+            self.change(client, Change::TakeUp);
+        }
+    }
+
+    /// The broker was restarted: no line is left. Takes no memory.
+    pub fn restart(&mut self)
+        ensures publishers { self.new.publishers ≡ map publisher_restarted self.old.publishers }
+        ensures receivers { self.new.receivers ≡ map receiver_restarted self.old.receivers }
+    {
+        publishers::restart(&mut self.publishers);
+        receivers::restart(&mut self.receivers);
+    }
+
+    /// An end sends CONNECT on a new line (3.1).
+    pub fn join(&mut self, client: &str, number: u64, clean: bool) -> Result<(), AllocError>
+        ensures { OnOk result (Become (joins number client.now clean) self.old self.new) }
+    {
+        publishers::join_named(&mut self.publishers, client, number, clean)?;
+        receivers::join_named(&mut self.receivers, client, number, clean)
+    }
+
+    /// A publisher has a new message (3.3). What may go out goes out, and is lost where the broker no longer has its
+    /// line.
+    pub fn publish<K: Keep>(
+        &mut self,
+        client: &str,
+        draft: &Draft,
+        engine: &Engine<K>,
+    ) -> Result<(), AllocError>
+        ensures { OnOk result ((set : Setting) → BecomeAt engine.now.running.broker
+            (happens set (publish client.now (draft_of draft.now))) self.old self.new) }
+    {
+        publishers::publish_named(&mut self.publishers, client, draft, engine)
+    }
+
+    /// A receiver sends SUBSCRIBE (3.8), which is lost where the broker no longer has its line.
+    pub fn subscribe<K: Keep>(
+        &mut self,
+        client: &str,
+        wish: &Wish,
+        engine: &Engine<K>,
+    ) -> Result<(), AllocError>
+        ensures { OnOk result ((set : Setting) → BecomeAt engine.now.running.broker
+            (happens set (subscribe client.now (wish_of wish.now))) self.old self.new) }
+    {
+        receivers::ask_named(&mut self.receivers, client, wish, engine)
+    }
+
+    /// An end reads the first packet under way to it. What goes out for it is lost where the broker no longer has its
+    /// line.
+    pub fn read<K: Keep>(&mut self, client: &str, engine: &Engine<K>) -> Result<(), AllocError>
+        ensures { OnOk result ((set : Setting) → BecomeAt engine.now.running.broker
+            (happens set (to_end client.now)) self.old self.new) }
+    {
+        publishers::read_named(&mut self.publishers, client, engine)?;
+        receivers::read_named(&mut self.receivers, client, engine)
+    }
+
+    /// What the broker answered reaches all ends. The engine is as the call left it.
+    pub fn tell<K: Keep>(&mut self, engine: &Engine<K>, outcome: &Outcome) -> Result<(), AllocError>
+        ensures told { (told : Told) → Tells told outcome.now → AreSpelled told
+            → OnOk result (self.new ≡ ends_told engine.now.running.broker told self.old) }
+    {
+        publishers::tell(self.alloc, &mut self.publishers, engine, outcome)?;
+        receivers::tell(self.alloc, &mut self.receivers, engine, outcome)
+    }
+}

@@ -1,0 +1,46 @@
+-- How a world may begin: with nothing stored, or opened on what a broker left (MQTT 5.0, 4.1).
+use Rattle.std.proofs.Common.{ℕ, ◌≤◌}
+use Rattle.mqtt_base.specs.declared.session.Cause.TheVariants.{Direct}
+use Rattle.mqtt_base.specs.declared.session.CopyId.{CopyId}
+use Rattle.mqtt_records.specs.declared.records.Records.{Records}
+use Rattle.mqtt_world_model.specs.World.{start}
+use Rattle.mqtt_rules.proofs.numbers.Copies.{each_more}
+use Rattle.mqtt_rules.proofs.flight.FlightStep.{opening_keeps}
+use Rattle.mqtt_rules.specs.Flight.{HasDistinctIdentifiers}
+use Rattle.mqtt_rules.specs.Laws.{AreWithin, IsCoherentMessage}
+use Rattle.mqtt_rules.specs.State.{MemberChoice}
+use Rattle.mqtt_rules.specs.Step.{unopened}
+use Rattle.mqtt_rules.specs.declared.Limits.{Limits}
+use Rattle.mqtt_world_acceptance_laws.specs.Fair.{MayOpen, opened_world}
+use Rattle.mqtt_world_acceptance_laws.proofs.copies.Entries.{opening_counted}
+use Rattle.mqtt_world_acceptance_laws.proofs.publishers.Runs.{opened_new, start_new}
+use Rattle.mqtt_world_receiver_laws.proofs.connects.Stopping.{opening_tidy}
+use Rattle.mqtt_world_delivery_laws.specs.Untouched.{IsUntouched}
+use Rattle.mqtt_world_delivery_laws.specs.Retaining.{AreRetainedOnce}
+use Rattle.mqtt_world_delivery_laws.proofs.broker.Unused.{opening_unused}
+
+pub start_untouched : (limits : Limits) → AreWithin limits → IsUntouched limits start
+start_untouched limits within =
+    record {
+      new = start_new;
+      tidy = record { ordered = start_new.steady.coherent.ordered; within = within.queue };
+      distinct = tt;
+      retained = tt;
+      unused = tt;
+    }
+
+pub opened_untouched : (limits : Limits) (choice : MemberChoice) (now : ℕ) (r : Records) → AreWithin limits → MayOpen limits choice now r → HasDistinctIdentifiers r → AreRetainedOnce r
+    → IsUntouched limits (opened_world limits choice now r)
+opened_untouched limits choice now r within may distinct once = record {
+  new = opened_new limits choice now r within may;
+  tidy = opening_tidy limits choice now (unopened now r) (record { ordered = may.coherent.ordered; within = within.queue });
+  distinct = opening_keeps limits choice now r distinct;
+  retained = (opening_counted any_copy limits choice now (unopened now r) may.coherent.ordered (record {
+    given = each_more (IsCoherentMessage r.publications) (λ k. k.publication ≤ r.publications) (λ k q. q.0) r.retained may.coherent.retained;
+    differ = once;
+  })).kept.differ;
+  unused = opening_unused limits choice now r;
+}
+  where
+    any_copy : CopyId
+    any_copy = record { publication = 0; birth = 0; cause = Direct }

@@ -1,0 +1,150 @@
+-- What other ends and strangers ask of the broker, in the eyes of one receiver: no packet of theirs is a CONNECT of its client,
+-- and none is on a line of its.
+use Rattle.std.proofs.Common.{◌≡◌, ℕ, false, List, [], ◌∷◌, map, Option, Some, None, bytes_eq, refl, sym, ap, subst, ◌∙◌, inl, inr}
+use Rattle.std.specs.Prelude.{is_some}
+use Rattle.std.specs.List.{AllByRecursion}
+use Rattle.mqtt_base.specs.declared.session.CopyId.{CopyId}
+use Rattle.mqtt_codec.specs.declared.packet.Packet.{Packet}
+use Rattle.mqtt_flow.specs.Receiver.{connect, puback, pubcomp, pubrec}
+use Rattle.mqtt_flow_inbound.specs.Publisher.{CONNECT, PUBLISH_1, PUBLISH_2, PUBREL}
+use Rattle.mqtt_world_model.specs.Ends.{Back, Content, Publisher, Receiver, Sent, answers, asks_for, plain, shake, wire, wire_back}
+use Rattle.mqtt_world_model.specs.Hops.{IsOthers}
+use Rattle.mqtt_world_model.specs.Lines.{Line, left}
+use Rattle.mqtt_world_model.specs.Run.{read_first}
+use Rattle.mqtt_world_model.specs.World.{Setting, View, World, asks, break, call_of, first_step, input_on, lost_on, old_to_broker, publisher_named, pump, pump_on, receiver_named, taken_old, taken_up, to_broker, view_by, view_of, with_line}
+use Rattle.mqtt_world_model.proofs.others.Lists.{all_find}
+use Rattle.mqtt_rules.specs.Step.{Call, Input, Lost, Pump}
+use Rattle.mqtt_rules.specs.declared.Limits.{Limits}
+use Rattle.mqtt_world_acceptance_laws.specs.Spending.{spending}
+use Rattle.mqtt_world_acceptance_laws.proofs.publishers.Ends.{named_publisher, named_receiver}
+use Rattle.mqtt_world_acceptance_laws.proofs.publishers.FirstPackets.{Takes, takes_old, takes_up}
+use Rattle.mqtt_world_delivery_laws.specs.Standing.{BeginWith, HasOthers, IsAnothers, IsAround, IsOtherPublisher, IsOtherReceiver, Stands, StandsWith}
+use Rattle.mqtt_world_delivery_laws.proofs.others.Around.{IsNotIts, changed_not, end_others, on_back, on_line}
+use Rattle.mqtt_world_delivery_laws.proofs.others.Outside.{IsOutside, if_stands, if_there}
+
+-- ---- their packets
+
+wire_others : (c client : List ℕ) (contents : List Content) (x : Sent) → (client ≡ c → ⊥) → IsOthers c (wire client contents x)
+wire_others c client contents (shake (CONNECT clean)) h = h
+wire_others c client contents (shake (PUBLISH_1 id n dup)) h = tt
+wire_others c client contents (shake (PUBLISH_2 id n dup)) h = tt
+wire_others c client contents (shake (PUBREL id)) h = tt
+wire_others c client contents (plain content) h = tt
+
+back_others : (c client : List ℕ) (window : ℕ) (x : Back) → (client ≡ c → ⊥) → IsOthers c (wire_back client window x)
+back_others c client window (answers (connect clean)) h = h
+back_others c client window (answers (puback i code)) h = tt
+back_others c client window (answers (pubrec i code)) h = tt
+back_others c client window (answers (pubcomp i code)) h = tt
+back_others c client window (asks_for x) h = tt
+
+all_wired : {U : Type 0} (c : List ℕ) (f : U → Packet) (xs : List U) → ((x : U) → IsOthers c (f x)) → AllByRecursion (IsOthers c) (map f xs)
+all_wired c f [] h = tt
+all_wired c f (x ∷ xs) h = (h x, all_wired c f xs h)
+
+-- what another end has under way
+pub record IsForeign (c ns : List ℕ) (given : ℕ) (v : View) : Type 0 where
+  pub number : IsAnothers ns given v.number
+  pub up : AllByRecursion (IsOthers c) v.up
+  pub old_number : IsAnothers ns given v.old_number
+  pub old : AllByRecursion (IsOthers c) v.old
+
+pub foreign : (c d : List ℕ) (limits : Limits) (ns : List ℕ) (w : World) → IsAround c limits ns w → (d ≡ c → ⊥) → IsForeign c ns w.broker.given (view_of d w)
+foreign c d limits ns w a differ = by (publisher_named d w) (receiver_named d w) refl refl
+  where
+    by : (x : Option Publisher) (y : Option Receiver) → publisher_named d w ≡ x → receiver_named d w ≡ y → IsForeign c ns w.broker.given (view_by x y)
+    by (Some q) y e f =
+        let found = all_find (IsOtherPublisher ns w.broker.given) (λ (z : Publisher). bytes_eq z.client d) q w.publishers a.publishers e in
+        let is = named_publisher d q w e in
+        let free = found.0 in
+        record {
+          number = free.number;
+          up = all_wired c (wire q.client q.contents) q.line.up (λ x. wire_others c q.client q.contents x (λ same. differ (sym is ∙ same)));
+          old_number = free.old_number;
+          old = all_wired c (wire q.client q.contents) q.line.old (λ x. wire_others c q.client q.contents x (λ same. differ (sym is ∙ same)));
+        }
+    by None (Some r) e f =
+        let found = all_find (IsOtherReceiver c ns w.broker.given) (λ (z : Receiver). bytes_eq z.client d) r w.receivers a.receivers f in
+        let is = named_receiver d r w f in
+        elim found.0 [
+          | inl same ↦ absurd (differ (sym is ∙ same))
+          | inr free ↦ record {
+            number = free.number;
+            up = all_wired c (wire_back r.client r.window) r.line.up (λ x. back_others c r.client r.window x (λ same. differ (sym is ∙ same)));
+            old_number = free.old_number;
+            old = all_wired c (wire_back r.client r.window) r.line.old (λ x. back_others c r.client r.window x (λ same. differ (sym is ∙ same)));
+          }
+        ]
+    by None None e f = record { number = λ n is. absurd cc; up = tt; old_number = λ n is. absurd cc; old = tt }
+
+pub input_outside : (c ns : List ℕ) (given : ℕ) (x : Option ℕ) (packets : List Packet) (call : Call) → IsAnothers ns given x → AllByRecursion (IsOthers c) packets → input_on x packets ≡ Some call → IsOutside c ns call
+input_outside c ns given None packets call free all e = absurd cc
+input_outside c ns given (Some n) [] call free all e = absurd cc
+input_outside c ns given (Some n) (packet ∷ rest) call free all e =
+    let is : Input n packet ≡ call = cc in
+    subst (IsOutside c ns) is ((free n refl).0, all.0)
+
+lost_outside : (c ns : List ℕ) (given : ℕ) (x : Option ℕ) (call : Call) → IsAnothers ns given x → lost_on x ≡ Some call → IsOutside c ns call
+lost_outside c ns given None call free e = absurd cc
+lost_outside c ns given (Some n) call free e = let is : Lost n ≡ call = cc in subst (IsOutside c ns) is (free n refl).0
+
+pump_outside : (c ns : List ℕ) (given : ℕ) (x : Option ℕ) (call : Call) → IsAnothers ns given x → pump_on x ≡ Some call → IsOutside c ns call
+pump_outside c ns given None call free e = absurd cc
+pump_outside c ns given (Some n) call free e = let is : Pump n ≡ call = cc in subst (IsOutside c ns) is (free n refl).0
+
+-- ---- another end's packet is read
+
+pub takes_others : {U : Type 0} (ns : List ℕ) (given : ℕ) (f : Line U → Line U) → Takes f → (l : Line U) → HasOthers ns given l → HasOthers ns given (f l)
+takes_others ns given f t l h = record {
+  number = λ n is. h.number n (sym (t.number l) ∙ is);
+  old_number = λ n is. h.old_number n (sym (t.old_number l) ∙ is);
+}
+
+-- without its copies and lines
+abbrev pub hidden : (first : List CopyId) (c : List ℕ) (largest : ℕ) (limits : Limits) (ids : List CopyId) (ns : List ℕ) (w : World) → BeginWith first ids → StandsWith c largest limits ids ns w → Stands first c largest limits w
+hidden first c largest limits ids ns w g h = record { ids = ids; grown = g; ns = ns; standing = h }
+
+pub other_reads : (first : List CopyId) (c d : List ℕ) (largest : ℕ) (set : Setting) (w : World) → Stands first c largest set.limits w → IsNotIts c d w → read_first spending set (to_broker d) w ≡ false → Stands first c largest set.limits (first_step set (to_broker d) w)
+other_reads first c d largest set w s not_its unspent =
+    let v = view_of d w in
+    let w1 = with_line d taken_up taken_up w in
+    let h = end_others c d largest set.limits s.ids s.ns w (on_line taken_up) (on_back taken_up) (λ p. refl) (λ r. refl) (λ p. takes_others s.ns w.broker.given taken_up takes_up p.line) (λ r. takes_others s.ns w.broker.given taken_up takes_up r.line) not_its s.standing in
+    if_stands first c largest set (call_of set (to_broker d) w) w1 (hidden first c largest set.limits s.ids s.ns w1 s.grown h) unspent
+    (λ there call is.
+    let f = foreign c d set.limits s.ns w s.standing.around (not_its (sym (ap is_some (changed_not c d (on_back taken_up) w (λ r. refl) not_its)) ∙ there)) in
+    input_outside c s.ns w.broker.given v.number v.up call f.number f.up is)
+
+pub other_reads_old : (first : List CopyId) (c d : List ℕ) (largest : ℕ) (set : Setting) (w : World) → Stands first c largest set.limits w → IsNotIts c d w → read_first spending set (old_to_broker d) w ≡ false → Stands first c largest set.limits (first_step set (old_to_broker d) w)
+other_reads_old first c d largest set w s not_its unspent =
+    let v = view_of d w in
+    let w1 = with_line d taken_old taken_old w in
+    let h = end_others c d largest set.limits s.ids s.ns w (on_line taken_old) (on_back taken_old) (λ p. refl) (λ r. refl) (λ p. takes_others s.ns w.broker.given taken_old takes_old p.line) (λ r. takes_others s.ns w.broker.given taken_old takes_old r.line) not_its s.standing in
+    if_stands first c largest set (call_of set (old_to_broker d) w) w1 (hidden first c largest set.limits s.ids s.ns w1 s.grown h) unspent
+    (λ there call is.
+    let f = foreign c d set.limits s.ns w s.standing.around (not_its (sym (ap is_some (changed_not c d (on_back taken_old) w (λ r. refl) not_its)) ∙ there)) in
+    input_outside c s.ns w.broker.given v.old_number v.old call f.old_number f.old is)
+
+-- ---- it is sent what waits for it, or its line is lost
+
+pub other_pumped : (first : List CopyId) (c d : List ℕ) (largest : ℕ) (set : Setting) (w : World) → Stands first c largest set.limits w → IsNotIts c d w → read_first spending set (pump d) w ≡ false → Stands first c largest set.limits (first_step set (pump d) w)
+other_pumped first c d largest set w s not_its unspent =
+    let v = view_of d w in
+    if_stands first c largest set (pump_on v.number) w s unspent
+    (λ there call is. let f = foreign c d set.limits s.ns w s.standing.around (not_its there) in pump_outside c s.ns w.broker.given v.number call f.number is)
+
+pub other_lost : (first : List CopyId) (c d : List ℕ) (largest : ℕ) (set : Setting) (w : World) → Stands first c largest set.limits w → IsNotIts c d w → read_first spending set (break d) w ≡ false → Stands first c largest set.limits (first_step set (break d) w)
+other_lost first c d largest set w s not_its unspent =
+    let v = view_of d w in
+    if_stands first c largest set (lost_on v.number) w s unspent
+    (λ there call is. let f = foreign c d set.limits s.ns w s.standing.around (not_its there) in lost_outside c s.ns w.broker.given v.number call f.number is)
+
+left_others : {U : Type 0} (ns : List ℕ) (given : ℕ) (l : Line U) → HasOthers ns given l → HasOthers ns given (left l)
+left_others ns given l h = record { number = λ n is. absurd cc; old_number = h.old_number }
+
+pub other_breaks : (first : List CopyId) (c d : List ℕ) (largest : ℕ) (set : Setting) (w : World) → Stands first c largest set.limits w → IsNotIts c d w → read_first spending set (break d) w ≡ false → Stands first c largest set.limits (asks set (break d) w)
+other_breaks first c d largest set w s not_its unspent =
+    let w1 = first_step set (break d) w in
+    let x = other_lost first c d largest set w s not_its unspent in
+    hidden first c largest set.limits x.ids x.ns (asks set (break d) w) x.grown
+    (end_others c d largest set.limits x.ids x.ns w1 (on_line left) (on_back left) (λ p. refl) (λ r. refl) (λ p. left_others x.ns w1.broker.given p.line) (λ r. left_others x.ns w1.broker.given r.line)
+    (λ there. not_its (sym (if_there c set (lost_on (view_of d w).number) w) ∙ there)) x.standing)

@@ -1,0 +1,162 @@
+-- Worked lives and runs: one begins on what another left, with a session and a copy in its queue; a message of QoS 1 is accepted
+-- twice, and a copy of QoS 1 read twice, where an answer is lost (MQTT 5.0, 4.1, 4.3.2, 4.4).
+use Rattle.std.proofs.Common.{◌≡◌, ℕ, false, List, [], ◌∷◌, ◌++◌, map, Some, refl, arith}
+use Rattle.std.specs.Prelude.{codes, option_map}
+use Rattle.mqtt_base.specs.Values.{varint}
+use Rattle.mqtt_base.specs.declared.session.Qos.TheVariants.{AtLeastOnce}
+use Rattle.mqtt_flow_inbound.specs.Publisher.{completed, ended_1}
+use Rattle.mqtt_rules.specs.declared.Limits.{Limits}
+use Rattle.mqtt_rules.specs.Laws.{AreWithin}
+use Rattle.mqtt_rules.proofs.examples.Play.{first, usual}
+use Rattle.mqtt_world_model.specs.Ends.{Draft, Receiver}
+use Rattle.mqtt_world_model.specs.Laws.{fate_of, read_count}
+use Rattle.mqtt_world_model.specs.Run.{after, run}
+use Rattle.mqtt_world_model.specs.Tellings.{handed_by}
+use Rattle.mqtt_world_model.specs.World.{Event, World, ask, break, publish, publisher, pump, receiver, receiver_named, start, to_broker, to_end}
+use Rattle.mqtt_world_model.proofs.examples.Scripts.{draft, exchange, first_copy, joins, p1, r1, round, subscribes, turns}
+use Rattle.mqtt_world_acceptance_laws.specs.Copies.{ended_from}
+use Rattle.mqtt_world_acceptance_laws.specs.Fair.{IsFair}
+use Rattle.mqtt_world_acceptance_laws.specs.Once.{times_accepted}
+use Rattle.mqtt_world_receiver_laws.specs.Drains.{Doing, drains, happens}
+use Rattle.mqtt_world_drain_laws.specs.Emptied.{waiting_for}
+use Rattle.mqtt_world_drain_laws.proofs.Examples.{dropping}
+use Rattle.mqtt_world_headline_laws.specs.Delivery.{DeliversExactlyOnce, DoingsDeliver}
+use Rattle.mqtt_world_headline_laws.specs.Lives.{BrokerLife, IsFairLife, IsFairScript, after_lives}
+use Rattle.mqtt_world_headline_laws.proofs.Delivered.{lives_deliver, run_delivers_all}
+use Rattle.mqtt_world_headline_laws.proofs.Lives.{start_begins}
+
+pub usual_within : AreWithin usual
+usual_within = record { queue = omega arith; sessions = omega arith; retained = omega arith }
+
+-- ---- a first life: a copy of QoS 2 waits for r1, and the broker is opened again
+
+abbrev pub first_life : BrokerLife
+first_life = record {
+  limits = usual;
+  doings = map happens (turns (receiver r1 10 ∷ publisher p1 ∷ joins r1 false ++ (subscribes r1 ++ (joins p1 false ++ (publish p1 draft ∷ ask (to_broker p1) ∷ [])))));
+  choice = first;
+  now = 0;
+}
+
+-- a second one, of others: what p2 publishes enters the queue of r1's session too, and r2 is drained
+abbrev p2 : List ℕ
+p2 = codes "p2"
+
+abbrev r2 : List ℕ
+r2 = codes "r2"
+
+abbrev others : List Event
+others = receiver r2 10 ∷ publisher p2 ∷ joins r2 false ++ (subscribes r2 ++ (joins p2 false ++ (publish p2 draft ∷ ask (to_broker p2) ∷ [])))
+
+abbrev pub second_life : List Doing
+second_life = map happens (turns others) ++ drains first r2 5 ∷ []
+
+abbrev pub opened_then : World
+opened_then = after_lives usual (first_life ∷ [])
+
+pub one_is_stored : waiting_for r1 opened_then ≡ 1
+unfolding varint
+one_is_stored = refl
+
+pub one_more_enters : waiting_for r1 (run usual (turns others) opened_then) ≡ 2
+unfolding varint
+one_more_enters = refl
+
+pub the_other_is_handed_its_own : handed_by (receiver_named r2 (run usual (turns (others ++ round r2)) opened_then)) ≡ 2 ∷ []
+unfolding varint
+the_other_is_handed_its_own = refl
+
+pub the_first_is_fair : IsFairLife usual first_life start
+unfolding varint
+the_first_is_fair = record { fair = record { within = usual_within; unspent = refl; clean = refl }; unspent = refl }
+
+pub the_second_is_fair : IsFairScript usual second_life opened_then
+unfolding varint
+the_second_is_fair = record { within = usual_within; unspent = refl; clean = refl }
+
+-- so the law holds of it
+pub the_second_delivers : DoingsDeliver usual second_life opened_then
+the_second_delivers = lives_deliver usual (first_life ∷ []) second_life usual_within (tt, the_first_is_fair) the_second_is_fair
+
+-- ---- three copies wait, and the broker is opened again where two may, and where a full queue drops: of the three two make way
+-- for the next one, and all of the law holds
+
+abbrev lower : Limits
+lower = record dropping { sessions = 4 }
+
+abbrev life_of_three : BrokerLife
+life_of_three = record {
+  limits = usual;
+  doings = map happens (turns (receiver r1 10 ∷ publisher p1 ∷ joins r1 false ++ (subscribes r1 ++ (joins p1 false
+      ++ (publish p1 draft ∷ publish p1 draft ∷ publish p1 draft ∷ ask (to_broker p1) ∷ ask (to_broker p1) ∷ ask (to_broker p1) ∷ [])))));
+  choice = first;
+  now = 0;
+}
+
+abbrev opened_lower : World
+opened_lower = after_lives lower (life_of_three ∷ [])
+
+pub more_are_stored_than_may_wait : waiting_for r1 opened_lower ≡ 3
+unfolding varint
+more_are_stored_than_may_wait = refl
+
+pub two_make_way : waiting_for r1 (run lower (turns others) opened_lower) ≡ 2
+unfolding varint
+two_make_way = refl
+
+pub lower_within : AreWithin lower
+lower_within = record { queue = omega arith; sessions = omega arith; retained = omega arith }
+
+pub the_three_are_fair : IsFairLife lower life_of_three start
+unfolding varint
+the_three_are_fair = record { fair = record { within = usual_within; unspent = refl; clean = refl }; unspent = refl }
+
+pub the_lower_is_fair : IsFairScript lower second_life opened_lower
+unfolding varint
+the_lower_is_fair = record { within = lower_within; unspent = refl; clean = refl }
+
+pub the_lower_delivers : DoingsDeliver lower second_life opened_lower
+the_lower_delivers = lives_deliver lower (life_of_three ∷ []) second_life lower_within (tt, the_three_are_fair) the_lower_is_fair
+
+-- ---- a PUBACK to a publisher is lost: its message of QoS 1 is accepted twice, and completed
+
+abbrev draft_1 : Draft
+draft_1 = record draft { qos = AtLeastOnce }
+
+abbrev puback_lost : List Event
+puback_lost = publisher p1 ∷ joins p1 false ++ (publish p1 draft_1 ∷ ask (to_broker p1) ∷ ask (break p1) ∷ joins p1 false ++ exchange p1)
+
+pub it_is_accepted_twice : times_accepted p1 0 usual (turns puback_lost) start ≡ 2
+unfolding varint
+it_is_accepted_twice = refl
+
+pub it_is_completed : fate_of p1 0 (after usual (turns puback_lost)) ≡ Some (ended_1 completed)
+unfolding varint
+it_is_completed = refl
+
+pub its_loss_is_fair : IsFair usual (turns puback_lost) start
+unfolding varint
+its_loss_is_fair = record { within = usual_within; unspent = refl; clean = refl }
+
+pub its_run_delivers : DeliversExactlyOnce usual (turns puback_lost) start
+its_run_delivers = run_delivers_all usual (turns puback_lost) start (start_begins usual usual_within) its_loss_is_fair
+
+-- ---- a PUBACK of a receiver is lost: it reads its copy of QoS 1 twice, and the copy ends as taken
+
+abbrev answer_lost : List Event
+answer_lost =
+    receiver r1 10 ∷ publisher p1 ∷ joins r1 false ++ (subscribes r1 ++ (joins p1 false
+    ++ (publish p1 draft_1 ∷ ask (to_broker p1) ∷ ask (pump r1) ∷ to_end r1 ∷ ask (break r1)
+    ∷ joins r1 false ++ (ask (pump r1) ∷ to_end r1 ∷ ask (to_broker r1) ∷ []))))
+
+pub it_is_read_twice : option_map (λ (r : Receiver). read_count first_copy r) (receiver_named r1 (after usual (turns answer_lost))) ≡ Some 2
+unfolding varint
+it_is_read_twice = refl
+
+pub it_is_taken_once : ended_from usual (turns answer_lost) start ≡ first_copy ∷ []
+unfolding varint
+it_is_taken_once = refl
+
+pub its_answer_is_fair : IsFair usual (turns answer_lost) start
+unfolding varint
+its_answer_is_fair = record { within = usual_within; unspent = refl; clean = refl }

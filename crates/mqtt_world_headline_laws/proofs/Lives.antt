@@ -1,0 +1,109 @@
+-- What a fair run leaves may begin another: its copies are told apart, and their publications were accepted (MQTT 5.0, 4.1, 4.6).
+use Rattle.std.proofs.Common.{◌≡◌, ℕ, false, List, [], ◌∷◌, refl, sym, subst, arith}
+use Rattle.mqtt_records.specs.declared.records.Records.{Records}
+use Rattle.mqtt_rules.proofs.numbers.Copies.{kinds}
+use Rattle.mqtt_rules.proofs.numbers.NumberCopies.{opening_accepted, step_accepted}
+use Rattle.mqtt_rules.specs.Laws.{AreWithin}
+use Rattle.mqtt_rules.specs.Numbers.{HasAcceptedNumbers}
+use Rattle.mqtt_rules.specs.State.{Broker, MemberChoice}
+use Rattle.mqtt_rules.specs.Step.{is_opening_spent}
+use Rattle.mqtt_rules.specs.declared.Limits.{Limits}
+use Rattle.mqtt_world_model.specs.Run.{Turn, run}
+use Rattle.mqtt_world_model.specs.World.{World, start}
+use Rattle.mqtt_world_acceptance_laws.specs.Fair.{IsFair, opened_world}
+use Rattle.mqtt_world_acceptance_laws.specs.Identities.{TellsApart}
+use Rattle.mqtt_world_acceptance_laws.proofs.copies.Entries.{U}
+use Rattle.mqtt_world_acceptance_laws.proofs.copies.OnceRuns.{opened_apart, start_apart}
+use Rattle.mqtt_world_receiver_laws.specs.Drains.{all_turns}
+use Rattle.mqtt_world_receiver_laws.proofs.drains.DrainRuns.{drains_are_runs}
+use Rattle.mqtt_world_delivery_laws.specs.Alone.{IsKept}
+use Rattle.mqtt_world_delivery_laws.specs.Untouched.{IsUntouched}
+use Rattle.mqtt_world_delivery_laws.proofs.broker.Alone.{run_keeps}
+use Rattle.mqtt_world_delivery_laws.proofs.whole.EveryRun.{fair_run_kept, run_opens_under}
+use Rattle.mqtt_world_delivery_laws.proofs.broker.Untouched.{start_untouched}
+use Rattle.mqtt_rules_spelling_laws.specs.Sending.{SendsWell}
+use Rattle.mqtt_rules_spelling_laws.proofs.Steps.{well_reopened}
+use Rattle.mqtt_world_unsent_laws.proofs.Once.{run_once}
+use Rattle.mqtt_world_reading_laws.specs.Sayable.{AreSayable}
+use Rattle.mqtt_world_reading_laws.proofs.Scripts.{all_said, sends_on, start_sends}
+use Rattle.mqtt_world_headline_laws.specs.Lives.{AreFairLives, AreSayableLives, BeginsWell, BrokerLife, after_lives}
+
+-- ---- copies that may come yet, over a run
+
+module _ (limits : Limits) (ts : List Turn) (w : World) (u : IsUntouched limits w) (fair : IsFair limits ts w) (apart : TellsApart w.broker.records) where
+  abbrev last : Records
+  last = (run limits ts w).broker.records
+
+  -- a copy that may come yet doesn't stand
+  pub run_apart : TellsApart last
+  run_apart = record {
+    once = λ c. let few = (run_once c limits ts w u.new fair apart).once in omega (arith, few);
+    numbered = λ c may.
+        let few = (run_once c limits ts w u.new fair apart).once in
+        let one : U c (kinds last) ≡ 1 = rw may refl in
+        omega (arith, few, one);
+    retained = (fair_run_kept limits ts w u fair []).fit.once;
+  }
+
+-- ---- numbers of publications
+
+abbrev Accepted : Broker → Type 0
+Accepted b = HasAcceptedNumbers b.records
+
+numbers_kept : (limits : Limits) → IsKept limits Accepted
+numbers_kept limits = record {
+  called = λ choice now call b s unspent h. step_accepted limits choice now call b h;
+  reopened = λ choice now b s unspent h. opening_accepted limits choice now b.records h;
+}
+
+-- ---- so it may begin
+
+pub start_begins : (limits : Limits) → AreWithin limits → BeginsWell limits start
+start_begins limits within = record { untouched = start_untouched limits within; apart = start_apart; numbers = (tt, tt) }
+
+-- under whatever limits
+pub run_begins_under : (limits others : Limits) (ts : List Turn) (choice : MemberChoice) (now : ℕ) (w : World) → BeginsWell limits w → IsFair limits ts w → AreWithin others → is_opening_spent others choice now (run limits ts w).broker.records ≡ false
+    → BeginsWell others (opened_world others choice now (run limits ts w).broker.records)
+run_begins_under limits others ts choice now w m fair within unspent =
+    let r = (run limits ts w).broker.records in
+    let s = (fair_run_kept limits ts w m.untouched fair []).stands.standing.around.steady in
+    record {
+      untouched = run_opens_under limits others ts choice now w m.untouched fair within unspent;
+      apart = opened_apart others choice now r within (record { coherent = s.coherent; unspent = unspent }) (run_apart limits ts w m.untouched fair m.apart);
+      numbers = opening_accepted others choice now r (run_keeps Accepted limits ts w (numbers_kept limits) m.untouched.new fair m.numbers);
+    }
+
+pub run_begins : (limits : Limits) (ts : List Turn) (choice : MemberChoice) (now : ℕ) (w : World) → BeginsWell limits w → IsFair limits ts w → is_opening_spent limits choice now (run limits ts w).broker.records ≡ false
+    → BeginsWell limits (opened_world limits choice now (run limits ts w).broker.records)
+run_begins limits ts choice now w m fair unspent = run_begins_under limits limits ts choice now w m fair fair.within unspent
+
+-- and after any lives
+pub lives_begin : (limits : Limits) (ls : List BrokerLife) → AreWithin limits → AreFairLives limits ls → BeginsWell limits (after_lives limits ls)
+lives_begin limits [] within h = start_begins limits within
+lives_begin limits (l ∷ ls) within h =
+    let w = after_lives l.limits ls in
+    let is = drains_are_runs l.limits l.doings w in
+    subst (λ (v : World). BeginsWell limits (opened_world limits l.choice l.now v.broker.records)) (sym is)
+    (run_begins_under l.limits limits (all_turns l.limits l.doings w) l.choice l.now w (lives_begin l.limits ls h.1.fair.within h.0) h.1.fair within
+    (subst (λ (v : World). is_opening_spent limits l.choice l.now v.broker.records ≡ false) is h.1.unspent))
+
+-- ---- and the broker sends well still
+
+-- it sends well under whatever limits it is opened
+pub run_sends_under : (limits others : Limits) (ts : List Turn) (choice : MemberChoice) (now : ℕ) (w : World) → BeginsWell limits w → SendsWell w.broker → IsFair limits ts w → AreSayable ts → is_opening_spent others choice now (run limits ts w).broker.records ≡ false
+    → SendsWell (opened_world others choice now (run limits ts w).broker.records).broker
+run_sends_under limits others ts choice now w m sends fair say unspent = well_reopened others choice now (run limits ts w).broker unspent (sends_on limits ts w m.untouched.new sends fair say)
+
+pub run_sends : (limits : Limits) (ts : List Turn) (choice : MemberChoice) (now : ℕ) (w : World) → BeginsWell limits w → SendsWell w.broker → IsFair limits ts w → AreSayable ts → is_opening_spent limits choice now (run limits ts w).broker.records ≡ false
+    → SendsWell (opened_world limits choice now (run limits ts w).broker.records).broker
+run_sends limits ts choice now w m sends fair say unspent = run_sends_under limits limits ts choice now w m sends fair say unspent
+
+pub lives_send : (limits : Limits) (ls : List BrokerLife) → AreWithin limits → AreFairLives limits ls → AreSayableLives ls → SendsWell (after_lives limits ls).broker
+lives_send limits [] within h said = start_sends limits within
+lives_send limits (l ∷ ls) within h said =
+    let w = after_lives l.limits ls in
+    let is = drains_are_runs l.limits l.doings w in
+    let own = h.1.fair.within in
+    subst (λ (v : World). SendsWell (opened_world limits l.choice l.now v.broker.records).broker) (sym is)
+    (run_sends_under l.limits limits (all_turns l.limits l.doings w) l.choice l.now w (lives_begin l.limits ls own h.0) (lives_send l.limits ls own h.0 said.0) h.1.fair (all_said l.limits l.doings w said.1)
+    (subst (λ (v : World). is_opening_spent limits l.choice l.now v.broker.records ≡ false) is h.1.unspent))

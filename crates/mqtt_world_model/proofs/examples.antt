@@ -1,0 +1,8 @@
+-- Worked runs of the world.
+pub mod Examples
+pub mod ExamplesBad
+pub mod ExamplesMembers
+pub mod ExamplesSessions
+pub mod ExamplesStops
+pub mod Scripts
+pub mod Texts

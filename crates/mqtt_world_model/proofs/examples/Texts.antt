@@ -1,0 +1,14 @@
+-- The laws that are stated and not yet proved, so that their text is checked.
+use Rattle.std.proofs.Common.{List}
+use Rattle.mqtt_rules.specs.declared.Limits.{Limits}
+use Rattle.mqtt_world_model.specs.Run.{Turn}
+use Rattle.mqtt_world_model.specs.Laws.{AcceptedOnce, CopiesOnce, AllHandedOnce}
+
+pub messages_text : (limits : Limits) (ts : List Turn) → AcceptedOnce limits ts → AcceptedOnce limits ts
+messages_text limits ts h = h
+
+pub copies_text : (limits : Limits) (ts : List Turn) → CopiesOnce limits ts → CopiesOnce limits ts
+copies_text limits ts h = h
+
+pub handed_text : (limits : Limits) (ts : List Turn) → AllHandedOnce limits ts → AllHandedOnce limits ts
+handed_text limits ts h = h

@@ -1,0 +1,125 @@
+-- What the broker is asked is lawful, or tells of a fault (MQTT 5.0, 2.1, 4.13).
+use Rattle.std.proofs.Common.{◌≡◌, ◌-◌, ℕ, Bool, List, [], ◌∷◌, ◌++◌, length, map, take, Option, Some, None, refl, arith, inl, inr}
+use Rattle.std.specs.Prelude.{⊤, find, Ok, Err}
+use Rattle.std.specs.List.{AllByRecursion}
+use Rattle.std.proofs.lemmas.Bool.{cases_Bool, cases_lt}
+use Rattle.std.proofs.lemmas.List.{length-take-le, get_or_append_left, get_or-append_right}
+use Rattle.mqtt_base.proofs.Steps.{IsBytes-drop}
+use Rattle.mqtt_codec.proofs.ShortestLemmas.{spelled_has}
+use Rattle.mqtt_codec.specs.declared.packet.Packet.{Packet}
+use Rattle.mqtt_packet.specs.Front.{first_of}
+use Rattle.mqtt_packet.proofs.Fronts.{first_within}
+use Rattle.mqtt_packet.proofs.Wholes.{first_spells}
+use Rattle.mqtt_rules.specs.Contents.{IsTaken, TakesLawful}
+use Rattle.mqtt_rules.specs.Piece.{Front, call_by}
+use Rattle.mqtt_rules.specs.Step.{Call}
+use Rattle.mqtt_world_model.specs.Ends.{Back, Publisher, Receiver, wire, wire_back}
+use Rattle.mqtt_world_model.specs.World.{Stranger, View, call_of_stranger, call_on, held_after, held_by, input_on, lost_on, pump_on, view_by}
+use Rattle.mqtt_rules_spelling_laws.specs.Sending.{TellsFault}
+use Rattle.mqtt_world_single_step_laws.specs.Taken.{HasIdentifier, IsTakenBack, IsTakenFrom, IsTakenFromReceiver}
+use Rattle.mqtt_world_reading_laws.specs.Sayable.{AreBytes}
+use Rattle.mqtt_world_reading_laws.proofs.Backs.{IsFine}
+
+-- ---- what may be asked
+
+pub record IsWell (call : Call) : Type 0 where
+  pub taken : TakesLawful call
+  pub tells : TellsFault call
+
+abbrev pub IsWellIf : Option Call → Type 0
+IsWellIf None = ⊤
+IsWellIf (Some call) = IsWell call
+
+-- ---- of an end
+
+pub record IsViewTaken (v : View) : Type 0 where
+  pub up : AllByRecursion IsTaken v.up
+  pub old : AllByRecursion IsTaken v.old
+
+-- the broker takes what a receiver has under way
+pub record IsBackTaken (r : Receiver) : Type 0 where
+  pub taken : IsTakenFromReceiver r
+  pub fine : IsFine r
+
+abbrev pub OnEnd : {X : Type 0} → (X → Type 0) → Option X → Type 0
+OnEnd P None = ⊤
+OnEnd P (Some x) = P x
+
+pub found : {X : Type 0} (P : X → Type 0) (f : X → Bool) (xs : List X) → AllByRecursion P xs → OnEnd P (find f xs)
+found P f [] h = tt
+found P f (x ∷ xs) h = elim (cases_Bool (f x)) [
+  | inl here ↦ rw here h.0
+  | inr other ↦ rw other (found P f xs h.1)
+]
+
+on_wire : {U : Type 0} (f : U → Packet) (us : List U) → AllByRecursion (λ (u : U). IsTaken (f u)) us → AllByRecursion IsTaken (map f us)
+on_wire f [] h = tt
+on_wire f (u ∷ us) h = (h.0, on_wire f us h.1)
+
+backs : (r : Receiver) (xs : List Back) → AllByRecursion (IsTakenBack r) xs → AllByRecursion HasIdentifier xs → AllByRecursion (λ (x : Back). IsTaken (wire_back r.client r.window x)) xs
+backs r [] h k = tt
+backs r (x ∷ xs) h k = (h.0 k.0, backs r xs h.1 k.1)
+
+pub view_taken : (p : Option Publisher) (r : Option Receiver) → OnEnd IsTakenFrom p → OnEnd IsBackTaken r → IsViewTaken (view_by p r)
+view_taken (Some p) r h k = record { up = on_wire (wire p.client p.contents) p.line.up h.up; old = on_wire (wire p.client p.contents) p.line.old h.old }
+view_taken None (Some r) h k = record {
+  up = on_wire (wire_back r.client r.window) r.line.up (backs r r.line.up k.taken.up k.fine.line.up);
+  old = on_wire (wire_back r.client r.window) r.line.old (backs r r.line.old k.taken.old k.fine.line.old);
+}
+view_taken None None h k = record { up = tt; old = tt }
+
+pub input_well : (o : Option ℕ) (ps : List Packet) → AllByRecursion IsTaken ps → IsWellIf (input_on o ps)
+input_well None ps h = tt
+input_well (Some n) [] h = tt
+input_well (Some n) (p ∷ ps) h = record { taken = h.0; tells = tt }
+
+pub lost_well : (o : Option ℕ) → IsWellIf (lost_on o)
+lost_well None = tt
+lost_well (Some n) = record { taken = tt; tells = tt }
+
+pub pump_well : (o : Option ℕ) → IsWellIf (pump_on o)
+pump_well None = tt
+pump_well (Some n) = record { taken = tt; tells = tt }
+
+-- ---- of a stranger
+
+pub bytes_append : (xs ys : List ℕ) → AreBytes xs → AreBytes ys → AreBytes (xs ++ ys)
+bytes_append xs ys h k i = elim (cases_lt i (length xs)) [
+  | inl lt ↦ rw (get_or_append_left xs ys 0 i lt) (h i)
+  | inr ge ↦ rw (get_or-append_right xs ys (length xs) i 0 refl ge) (k (i - length xs))
+]
+
+pub no_bytes : AreBytes []
+no_bytes i = omega arith
+
+held_bytes : (f : Front) (bytes : List ℕ) → AreBytes bytes → AreBytes (held_by f bytes)
+held_bytes (Ok None) bytes h = h
+held_bytes (Ok (Some x)) bytes h = IsBytes-drop x.1 bytes h
+held_bytes (Err fault) bytes h = no_bytes
+
+pub after_bytes : (bytes : List ℕ) → AreBytes bytes → AreBytes (held_after bytes)
+after_bytes bytes h = held_bytes (first_of bytes) bytes h
+
+-- a packet that is whole is lawful, and no longer than a packet may be
+whole_taken : (bytes : List ℕ) (packet : Packet) (n : ℕ) → AreBytes bytes → first_of bytes ≡ Ok (Some (packet, n)) → IsTaken packet
+whole_taken bytes packet n each e =
+    let spells = first_spells bytes packet n each e in
+    let within = first_within bytes packet n e in
+    let has = spelled_has packet (take n bytes) spells.0 in
+    record { spelled = has.0; short = omega (arith, has.1, spells.1, length-take-le n bytes within.0) }
+
+first_well : (line : ℕ) (bytes : List ℕ) (f : Front) → AreBytes bytes → first_of bytes ≡ f → IsWellIf (call_by line bytes f)
+first_well line bytes (Ok None) each e = tt
+first_well line bytes (Ok (Some x)) each e = record { taken = whole_taken bytes x.0 x.1 each e; tells = tt }
+first_well line bytes (Err fault) each e = record { taken = tt; tells = (fault, refl) }
+
+on_line_well : (o : Option ℕ) (held : List ℕ) → AreBytes held → IsWellIf (call_on o held)
+on_line_well None held each = tt
+on_line_well (Some n) held each = first_well n held (first_of held) each refl
+
+abbrev pub HoldsBytes : Stranger → Type 0
+HoldsBytes s = AreBytes s.held
+
+pub stranger_well : (o : Option Stranger) → OnEnd HoldsBytes o → IsWellIf (call_of_stranger o)
+stranger_well None h = tt
+stranger_well (Some s) h = on_line_well s.number s.held h

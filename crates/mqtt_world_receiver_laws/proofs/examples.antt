@@ -1,0 +1,3 @@
+-- Worked runs of a receiver.
+pub mod DrainExamples
+pub mod Examples

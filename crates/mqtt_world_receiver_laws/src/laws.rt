@@ -1,0 +1,111 @@
+//! Laws of a receiver's hop: what it does and reads, and what follows of a run (4.3, 4.4, 4.6).
+ghost use Rattle.std.specs.Prelude.{◌≡◌, ℕ, ◌≤◌, All, Bool, true, List, [], ◌∷◌, map, Some, None, slice_get, is_some};
+ghost use Rattle.std.specs.List.{AllByRecursion};
+ghost use Rattle.mqtt_base.specs.declared.session.CopyId.{CopyId};
+ghost use Rattle.mqtt_base.specs.declared.session.Ending.TheVariants.{Taken, Expired, Dropped};
+ghost use Rattle.mqtt_base.specs.declared.session.Qos.TheVariants.{AtLeastOnce, ExactlyOnce};
+ghost use Rattle.mqtt_flow.specs.OutboundWorld.{Lot, TopicAndPayload, past};
+ghost use Rattle.mqtt_flow.specs.Receiver.{puback, pubcomp, pubrec};
+ghost use Rattle.mqtt_flow.specs.declared.entry.Entry.{Entry as FlowEntry};
+ghost use Rattle.mqtt_world_receiver_laws.specs.Handing.{IsListening, IsOf, IsRun, MayComeBack, RunsOn};
+ghost use Rattle.mqtt_world_receiver_laws.specs.Handing.{after_answer, reads_answer, receiver_joined, receiver_lost};
+ghost use Rattle.mqtt_world_receiver_laws.specs.Seen.{Numbering};
+ghost use Rattle.mqtt_world_receiver_laws.specs.Tags.{id_of};
+ghost use Rattle.mqtt_world_model.specs.Ends.{Back, Entry, Receiver, Wish, answers, new_receiver, receiver_reads};
+ghost use Rattle.mqtt_world_model.specs.Hops.{MayGiveUp};
+ghost use Rattle.mqtt_world_model.specs.Laws.{copies_in, handed_count, read_count, released_in, stand_among};
+ghost use Rattle.mqtt_world_model.specs.Lines.{gives_up};
+ghost use Rattle.mqtt_world_model.specs.Seen.{is_linked};
+ghost use Rattle.mqtt_world_model.specs.World.{asks_wish};
+ghost use Rattle.mqtt_records.specs.declared.session.Session.{Session};
+ghost use Rattle.mqtt_rules.specs.State.{Broker, Line, MemberChoice, session_named};
+ghost use Rattle.mqtt_rules.specs.Step.{Lost, NewLine, stepped};
+ghost use Rattle.mqtt_rules.specs.declared.Limits.{Limits};
+
+/// What a receiver and its session see of the world is a run of their hop when the receiver comes, where no
+/// session of its name stands, and stays one whatever it does or reads: it reads the first packet under way to
+/// it, where its line stands exactly if its session is connected there, gives its line up, asks for a
+/// subscription, or joins by a new line (4.3.2, 4.3.3, 4.4).
+pub fn own_doings_of_a_receiver_are_steps_of_the_hop()
+    ensures comes { (number : Numbering) (largest : ℕ) (client : List ℕ) (window since : ℕ) (b : Broker)
+        → session_named client b.records ≡ None
+        → IsRun number largest [] (new_receiver client window since) b }
+    ensures reads { (number : Numbering) (largest : ℕ) (copies : List Lot) (t : Bool) (r : Receiver) (b : Broker)
+        → IsRun number largest copies r b → is_linked r.line.number b ≡ t
+        → IsRun number largest copies (receiver_reads t r.line.down r) b }
+    ensures gives_up { (number : Numbering) (largest : ℕ) (copies : List Lot) (r : Receiver) (b : Broker)
+        → IsRun number largest copies r b → MayGiveUp r.line.link r.line.clean
+        → IsRun number largest copies (record r { line = gives_up r.line.link r.line }) b }
+    ensures asks { (number : Numbering) (largest : ℕ) (copies : List Lot) (t : Bool) (w : Wish) (r : Receiver)
+        → (b : Broker) → IsRun number largest copies r b → IsRun number largest copies (asks_wish t w r) b }
+    ensures joins { (number : Numbering) (largest : ℕ) (copies : List Lot) (limits : Limits)
+        → (choice : MemberChoice) (now : ℕ) (clean : Bool) (r : Receiver) (b : Broker)
+        → IsRun number largest copies r b → MayComeBack clean r b
+        → IsRun number largest copies (receiver_joined limits choice now clean r b)
+        (stepped limits choice now NewLine b) }
+{}
+
+/// Where what a receiver and its session see of the world is a run of their hop, the law of the hop holds of
+/// what it has read, whatever was lost: each copy of QoS 2 was handed over at most once, in the order in which
+/// the copies entered, and once if its PUBREC was taken, also when it has ended; what was read is what its
+/// copy carries; a copy of QoS 1 that was taken was read (4.3.2, 4.3.3, 4.6).
+pub fn a_run_of_the_hop_hands_over_once()
+    ensures once { (number : Numbering) (largest : ℕ) (copies : List Lot) (r : Receiver) (b : Broker)
+        → IsRun number largest copies r b → (copy : CopyId) → handed_count copy r ≤ 1 }
+    ensures tagged { (number : Numbering) (largest : ℕ) (copies : List Lot) (r : Receiver) (b : Broker)
+        → IsRun number largest copies r b → All (λ (e : Entry). is_some e.copy ≡ true) r.ledger }
+    ensures in_order { (number : Numbering) (largest : ℕ) (copies : List Lot) (r : Receiver) (b : Broker)
+        → IsRun number largest copies r b → stand_among (copies_in r.ledger) (map id_of copies) ≡ true }
+    ensures released { (number : Numbering) (largest : ℕ) (copies : List Lot) (r : Receiver) (b : Broker)
+        → IsRun number largest copies r b
+        → All (λ (copy : CopyId). handed_count copy r ≡ 1)
+        (released_in (session_named r.client b.records)) }
+    ensures taken { (number : Numbering) (largest : ℕ) (copies : List Lot) (r : Receiver) (b : Broker)
+        → IsRun number largest copies r b → (n : ℕ) (e : FlowEntry) (m : TopicAndPayload)
+        → slice_get copies n ≡ Some (past Taken e m) → e.copy.qos ≡ ExactlyOnce
+        → handed_count e.copy.id r ≡ 1 }
+    ensures read { (number : Numbering) (largest : ℕ) (copies : List Lot) (r : Receiver) (b : Broker)
+        → IsRun number largest copies r b → (n : ℕ) (e : FlowEntry) (m : TopicAndPayload)
+        → slice_get copies n ≡ Some (past Taken e m) → e.copy.qos ≡ AtLeastOnce
+        → 1 ≤ read_count e.copy.id r }
+    ensures expired { (number : Numbering) (largest : ℕ) (copies : List Lot) (r : Receiver) (b : Broker)
+        → IsRun number largest copies r b → (n : ℕ) (e : FlowEntry) (m : TopicAndPayload)
+        → slice_get copies n ≡ Some (past Expired e m) → handed_count e.copy.id r ≡ 0 }
+    ensures dropped { (number : Numbering) (largest : ℕ) (copies : List Lot) (r : Receiver) (b : Broker)
+        → IsRun number largest copies r b → (n : ℕ) (e : FlowEntry) (m : TopicAndPayload)
+        → slice_get copies n ≡ Some (past Dropped e m) → handed_count e.copy.id r ≡ 0 }
+    ensures carried { (number : Numbering) (largest : ℕ) (copies : List Lot) (r : Receiver) (b : Broker)
+        → IsRun number largest copies r b
+        → AllByRecursion (IsOf number copies) r.ledger × AllByRecursion (IsOf number copies) r.once }
+{}
+
+/// The broker reads an answer of a receiver whose session is connected on its line, PUBACK, PUBREC or PUBCOMP:
+/// what the receiver and its session see of the world stays a run of their hop, with the same copies, whether
+/// the answer ends a copy, releases it, is passed over, or breaks the protocol (4.3.2, 4.3.3, 4.13).
+pub fn answers_of_a_receiver_are_steps_of_the_hop()
+    ensures puback { (number : Numbering) (largest : ℕ) (copies : List Lot) (limits : Limits) (choice : MemberChoice)
+        → (now i code : ℕ) (rest : List Back) (r : Receiver) (l : Line) (s : Session) (b : Broker)
+        → IsRun number largest copies r b → IsListening r l s b → r.line.up ≡ answers (puback i code) ∷ rest
+        → RunsOn number largest copies (reads_answer limits choice now l.number (puback i code) r b)
+        (after_answer limits choice now l.number (puback i code) r b) }
+    ensures pubrec { (number : Numbering) (largest : ℕ) (copies : List Lot) (limits : Limits) (choice : MemberChoice)
+        → (now i code : ℕ) (rest : List Back) (r : Receiver) (l : Line) (s : Session) (b : Broker)
+        → IsRun number largest copies r b → IsListening r l s b → r.line.up ≡ answers (pubrec i code) ∷ rest
+        → RunsOn number largest copies (reads_answer limits choice now l.number (pubrec i code) r b)
+        (after_answer limits choice now l.number (pubrec i code) r b) }
+    ensures pubcomp { (number : Numbering) (largest : ℕ) (copies : List Lot) (limits : Limits) (choice : MemberChoice)
+        → (now i code : ℕ) (rest : List Back) (r : Receiver) (l : Line) (s : Session) (b : Broker)
+        → IsRun number largest copies r b → IsListening r l s b → r.line.up ≡ answers (pubcomp i code) ∷ rest
+        → RunsOn number largest copies (reads_answer limits choice now l.number (pubcomp i code) r b)
+        (after_answer limits choice now l.number (pubcomp i code) r b) }
+{}
+
+/// The line that a receiver's session is connected on is lost, and the receiver leaves it: what the two see
+/// of the world stays a run of their hop (4.4).
+pub fn a_lost_line_is_a_step_of_the_hop()
+    ensures loses { (number : Numbering) (largest : ℕ) (copies : List Lot) (limits : Limits)
+        → (choice : MemberChoice) (now : ℕ) (r : Receiver) (l : Line) (s : Session) (b : Broker)
+        → IsRun number largest copies r b → IsListening r l s b
+        → IsRun number largest copies (receiver_lost limits choice now l.number r b)
+        (stepped limits choice now (Lost l.number) b) }
+{}

@@ -1,0 +1,86 @@
+//! Laws of a receiver's hop: after which steps its session may receive more (4.4, 4.6, 4.9).
+ghost use Rattle.std.specs.Prelude.{◌≡◌, ◌∷◌, ℕ, Bool, List, false, length, nat_lt, true};
+ghost use Rattle.mqtt_flow.specs.OutboundWorld.{Lot};
+ghost use Rattle.mqtt_flow.specs.Receiver.{connect, puback, pubcomp, pubrec};
+ghost use Rattle.mqtt_world_receiver_laws.specs.Calls.{IsBeginning, IsLingering, IsRenewing, IsResuming, reads_old_answer, receiver_called};
+ghost use Rattle.mqtt_world_receiver_laws.specs.Entering.{IsReceiving, Receives};
+ghost use Rattle.mqtt_world_receiver_laws.specs.Handing.{IsListening, IsRun, after_answer, reads_answer, receiver_lost};
+ghost use Rattle.mqtt_world_receiver_laws.specs.Seen.{Numbering};
+ghost use Rattle.mqtt_world_model.specs.Ends.{Back, Receiver, answers};
+ghost use Rattle.mqtt_records.specs.declared.session.Session.{Session};
+ghost use Rattle.mqtt_rules.specs.Flight.{HasDistinctIdentifiers};
+ghost use Rattle.mqtt_rules.specs.State.{Broker, Line, MemberChoice};
+ghost use Rattle.mqtt_rules.specs.Step.{Lost, Pump, stepped};
+ghost use Rattle.mqtt_rules.specs.declared.Limits.{Limits};
+
+/// Where what went out on the line of a receiver's session are copies that stand in its queue, so that it may
+/// receive more, it is so again after the broker has sent what waits for it, has read its answer on that line or on
+/// the one that it gave up, or has lost its line (4.4, 4.6, 4.9).
+pub fn a_receivers_session_may_receive_more()
+    ensures sends { (number : Numbering) (largest : ℕ) (copies : List Lot) (limits : Limits)
+        → (choice : MemberChoice) (now : ℕ) (r : Receiver) (l : Line) (s : Session) (b : Broker)
+        → IsRun number largest copies r b → IsListening r l s b → IsReceiving r s b
+        → l.largest ≡ largest → HasDistinctIdentifiers b.records
+        → Receives (receiver_called limits choice now (Pump l.number) r b)
+        (stepped limits choice now (Pump l.number) b) }
+    ensures puback { (number : Numbering) (largest : ℕ) (copies : List Lot) (limits : Limits) (choice : MemberChoice)
+        → (now i code : ℕ) (rest : List Back) (r : Receiver) (l : Line) (s : Session) (b : Broker)
+        → IsRun number largest copies r b → IsListening r l s b → IsReceiving r s b
+        → r.line.up ≡ answers (puback i code) ∷ rest
+        → Receives (reads_answer limits choice now l.number (puback i code) r b)
+        (after_answer limits choice now l.number (puback i code) r b) }
+    ensures pubrec { (number : Numbering) (largest : ℕ) (copies : List Lot) (limits : Limits) (choice : MemberChoice)
+        → (now i code : ℕ) (rest : List Back) (r : Receiver) (l : Line) (s : Session) (b : Broker)
+        → IsRun number largest copies r b → IsListening r l s b → IsReceiving r s b
+        → r.line.up ≡ answers (pubrec i code) ∷ rest
+        → Receives (reads_answer limits choice now l.number (pubrec i code) r b)
+        (after_answer limits choice now l.number (pubrec i code) r b) }
+    ensures pubcomp { (number : Numbering) (largest : ℕ) (copies : List Lot) (limits : Limits) (choice : MemberChoice)
+        → (now i code : ℕ) (rest : List Back) (r : Receiver) (l : Line) (s : Session) (b : Broker)
+        → IsRun number largest copies r b → IsListening r l s b → IsReceiving r s b
+        → r.line.up ≡ answers (pubcomp i code) ∷ rest
+        → Receives (reads_answer limits choice now l.number (pubcomp i code) r b)
+        (after_answer limits choice now l.number (pubcomp i code) r b) }
+    ensures old_puback { (number : Numbering) (largest : ℕ) (copies : List Lot) (limits : Limits) (choice : MemberChoice)
+        → (now i code : ℕ) (rest : List Back) (r : Receiver) (l : Line) (s : Session) (b : Broker)
+        → IsRun number largest copies r b → IsLingering r l s b → IsReceiving r s b
+        → r.line.old ≡ answers (puback i code) ∷ rest
+        → Receives (reads_old_answer limits choice now l.number (puback i code) r b)
+        (after_answer limits choice now l.number (puback i code) r b) }
+    ensures old_pubrec { (number : Numbering) (largest : ℕ) (copies : List Lot) (limits : Limits) (choice : MemberChoice)
+        → (now i code : ℕ) (rest : List Back) (r : Receiver) (l : Line) (s : Session) (b : Broker)
+        → IsRun number largest copies r b → IsLingering r l s b → IsReceiving r s b
+        → r.line.old ≡ answers (pubrec i code) ∷ rest
+        → Receives (reads_old_answer limits choice now l.number (pubrec i code) r b)
+        (after_answer limits choice now l.number (pubrec i code) r b) }
+    ensures old_pubcomp { (number : Numbering) (largest : ℕ) (copies : List Lot) (limits : Limits) (choice : MemberChoice)
+        → (now i code : ℕ) (rest : List Back) (r : Receiver) (l : Line) (s : Session) (b : Broker)
+        → IsRun number largest copies r b → IsLingering r l s b → IsReceiving r s b
+        → r.line.old ≡ answers (pubcomp i code) ∷ rest
+        → Receives (reads_old_answer limits choice now l.number (pubcomp i code) r b)
+        (after_answer limits choice now l.number (pubcomp i code) r b) }
+    ensures loses { (limits : Limits) (choice : MemberChoice) (now : ℕ) (r : Receiver) (l : Line) (s : Session)
+        → (b : Broker) → IsListening r l s b
+        → Receives (receiver_lost limits choice now l.number r b) (stepped limits choice now (Lost l.number) b) }
+{}
+
+/// After the broker has read a receiver's CONNECT, by which its session is resumed, begins or is renewed, the session
+/// may receive more: nothing has gone out on its new line yet (3.1.2.4, 3.1.4, 4.4).
+pub fn a_connected_session_may_receive_more()
+    ensures resumes { (number : Numbering) (largest : ℕ) (copies : List Lot) (limits : Limits) (choice : MemberChoice)
+        → (now : ℕ) (rest : List Back) (r : Receiver) (l : Line) (s : Session) (b : Broker)
+        → IsRun number largest copies r b → IsResuming r l s b → r.line.up ≡ answers (connect false) ∷ rest
+        → Receives (reads_answer limits choice now l.number (connect false) r b)
+        (after_answer limits choice now l.number (connect false) r b) }
+    ensures begins { (number : Numbering) (largest : ℕ) (copies : List Lot) (limits : Limits) (choice : MemberChoice)
+        → (now : ℕ) (clean : Bool) (rest : List Back) (r : Receiver) (l : Line) (b : Broker)
+        → IsRun number largest copies r b → IsBeginning limits r l b
+        → nat_lt (length b.records.sessions) limits.sessions ≡ true → r.line.up ≡ answers (connect clean) ∷ rest
+        → Receives (reads_answer limits choice now l.number (connect clean) r b)
+        (after_answer limits choice now l.number (connect clean) r b) }
+    ensures renews { (number : Numbering) (largest : ℕ) (copies : List Lot) (limits : Limits) (choice : MemberChoice)
+        → (now : ℕ) (rest : List Back) (r : Receiver) (l : Line) (s : Session) (b : Broker)
+        → IsRun number largest copies r b → IsRenewing limits r l s b → r.line.up ≡ answers (connect true) ∷ rest
+        → Receives (reads_answer limits choice now l.number (connect true) r b)
+        (after_answer limits choice now l.number (connect true) r b) }
+{}

@@ -1,0 +1,112 @@
+-- A broker that began with nothing stored goes on sending well, with whatever code a fault was told: its code is in what goes out
+-- alone, so what is stored is as with the code of a fault (MQTT 5.0, 2.2.1, 4.1, 4.13).
+use Rattle.std.proofs.Common.{◌≡◌, ℕ, Bool, true, false, List, [], ◌∷◌, Option, Some, None, refl, ap, subst, ◌∙◌}
+use Rattle.mqtt_codec_parts.specs.Faults.{answer_to}
+use Rattle.mqtt_codec_parts.specs.declared.fault.Fault.TheVariants.{Malformed}
+use Rattle.mqtt_records.specs.Records.{nothing}
+use Rattle.mqtt_records.specs.declared.records.Records.{Records}
+use Rattle.mqtt_rules.specs.Contents.{TakesLawful}
+use Rattle.mqtt_rules.specs.Laws.{Asked, Event, Reopened, after_event, after_events, blank}
+use Rattle.mqtt_rules.specs.Piece.{code_of}
+use Rattle.mqtt_rules.specs.State.{Broker, Env, Line, MemberChoice, line_at}
+use Rattle.mqtt_rules.specs.Step.{BadInput, Call, Input, Lost, NewLine, Pump, Tick, at_moment, done, env_of, is_opening_spent, is_spent, is_step_spent, on_fault, rows_written, stepped}
+use Rattle.mqtt_rules.specs.Deeds.{with_line}
+use Rattle.mqtt_rules.specs.declared.Limits.{Limits}
+use Rattle.mqtt_rules.proofs.contents.LawfulContents.{lawful_contents}
+use Rattle.mqtt_rules.proofs.fit.LawfulRecords.{lawful_coherent}
+use Rattle.mqtt_world_acceptance_laws.specs.Fair.{opened_world}
+use Rattle.mqtt_rules_spelling_laws.specs.Sending.{HaveSentPhases, IsAsked, SendsWell, TellsFault}
+use Rattle.mqtt_rules_spelling_laws.proofs.Steps.{well_begun, well_reopened, well_stepped}
+use Rattle.mqtt_broker_reopening_laws.specs.Written.{AreFair, IsFair, IsWritten}
+use Rattle.mqtt_broker_reopening_laws.proofs.WrittenKept.{nothing_written, run_written}
+use Rattle.mqtt_world_reopening_laws.specs.Reached.{WasLeft}
+
+-- ---- a fault's code is in what goes out alone
+
+same_done : (env : Env) (l : Line) (t : Bool) (code other : ℕ) (o : Option ℕ) (b : Broker) → done (on_fault env l t code o b) b ≡ done (on_fault env l t other o b) b
+same_done env l true code other None b = refl
+same_done env l false code other None b = refl
+same_done env l true code other (Some birth) b = refl
+same_done env l false code other (Some birth) b = refl
+
+same_rows : (env : Env) (l : Line) (t : Bool) (code other : ℕ) (o : Option ℕ) (b : Broker) → rows_written (on_fault env l t code o b) b ≡ rows_written (on_fault env l t other o b) b
+same_rows env l true code other None b = refl
+same_rows env l false code other None b = refl
+same_rows env l true code other (Some birth) b = refl
+same_rows env l false code other (Some birth) b = refl
+
+line_done : (env : Env) (t : Bool) (code other : ℕ) (o : Option Line) (b : Broker)
+    → done (with_line o (λ l. on_fault env l t code l.session) b) b ≡ done (with_line o (λ l. on_fault env l t other l.session) b) b
+line_done env t code other None b = refl
+line_done env t code other (Some l) b = same_done env l t code other l.session b
+
+line_rows : (env : Env) (t : Bool) (code other : ℕ) (o : Option Line) (b : Broker)
+    → rows_written (with_line o (λ l. on_fault env l t code l.session) b) b ≡ rows_written (with_line o (λ l. on_fault env l t other l.session) b) b
+line_rows env t code other None b = refl
+line_rows env t code other (Some l) b = same_rows env l t code other l.session b
+
+-- the call with the code of a malformed packet in its place
+abbrev as_fault : Call → Call
+as_fault (BadInput n t code) = BadInput n t (code_of (answer_to Malformed))
+as_fault call = call
+
+tells_fault : (call : Call) → TellsFault (as_fault call)
+tells_fault NewLine = tt
+tells_fault (Input n packet) = tt
+tells_fault (BadInput n t code) = (Malformed, refl)
+tells_fault (Lost n) = tt
+tells_fault (Pump n) = tt
+tells_fault Tick = tt
+
+takes_lawful : (call : Call) → TakesLawful call → TakesLawful (as_fault call)
+takes_lawful NewLine h = tt
+takes_lawful (Input n packet) h = h
+takes_lawful (BadInput n t code) h = tt
+takes_lawful (Lost n) h = tt
+takes_lawful (Pump n) h = tt
+takes_lawful Tick h = tt
+
+same_step : (limits : Limits) (choice : MemberChoice) (now : ℕ) (call : Call) (b : Broker) → stepped limits choice now (as_fault call) b ≡ stepped limits choice now call b
+same_step limits choice now NewLine b = refl
+same_step limits choice now (Input n packet) b = refl
+same_step limits choice now (BadInput n t code) b = let c = at_moment now b in line_done (env_of limits choice b) t (code_of (answer_to Malformed)) code (line_at n c) c
+same_step limits choice now (Lost n) b = refl
+same_step limits choice now (Pump n) b = refl
+same_step limits choice now Tick b = refl
+
+same_spent : (limits : Limits) (choice : MemberChoice) (now : ℕ) (call : Call) (b : Broker) → is_step_spent limits choice now (as_fault call) b ≡ is_step_spent limits choice now call b
+same_spent limits choice now NewLine b = refl
+same_spent limits choice now (Input n packet) b = refl
+same_spent limits choice now (BadInput n t code) b = let c = at_moment now b in ap is_spent (line_rows (env_of limits choice b) t (code_of (answer_to Malformed)) code (line_at n c) c)
+same_spent limits choice now (Lost n) b = refl
+same_spent limits choice now (Pump n) b = refl
+same_spent limits choice now Tick b = refl
+
+-- ---- event by event
+
+blank_sends : SendsWell blank
+blank_sends = record { contents = record { stored = lawful_contents nothing nothing_written.lawful; lines = tt }; ordered = (lawful_coherent nothing nothing_written.lawful).ordered; phases = tt }
+
+event_sends : (e : Event) (b : Broker) → IsFair e b → SendsWell b → SendsWell (after_event e b)
+event_sends (Asked limits choice now call) b fair h =
+    let asked : IsAsked limits choice now (as_fault call) b = record { taken = takes_lawful call fair.1; tells = tells_fault call; unspent = same_spent limits choice now call b ∙ fair.2 } in
+    subst SendsWell (same_step limits choice now call b) (well_stepped limits choice now (as_fault call) b asked h)
+event_sends (Reopened limits choice now) b fair h = well_reopened limits choice now b fair.1 h
+
+events_send : (es : List Event) (b : Broker) → AreFair es b → SendsWell b → SendsWell (after_events es b)
+events_send [] b fair h = h
+events_send (e ∷ es) b fair h = events_send es (after_event e b) fair.1 (event_sends e b fair.0 h)
+
+-- ---- what it has left
+
+-- it is such as a broker writes
+pub left_written : (r : Records) → WasLeft r → IsWritten r
+left_written r w = subst IsWritten w.is (run_written w.events w.fair)
+
+-- identifiers in flight have two bytes
+pub left_phases : (r : Records) → WasLeft r → HaveSentPhases r
+left_phases r w = subst HaveSentPhases w.is (events_send w.events blank w.fair blank_sends).phases
+
+-- a broker that is opened on it sends well
+pub left_sends : (limits : Limits) (choice : MemberChoice) (now : ℕ) (r : Records) → WasLeft r → is_opening_spent limits choice now r ≡ false → SendsWell (opened_world limits choice now r).broker
+left_sends limits choice now r w unspent = well_begun limits choice now r unspent (left_written r w).lawful (left_phases r w)

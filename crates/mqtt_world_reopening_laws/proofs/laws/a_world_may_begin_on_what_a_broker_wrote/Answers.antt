@@ -1,0 +1,19 @@
+-- By what lawful records have, and what a broker's have beside.
+use Rattle.mqtt_world_reopening_laws.proofs.Begun.{written_begins, written_contents, written_delivers, written_sends}
+use Rattle.mqtt_world_reopening_laws.proofs.Sending.{left_sends}
+use Rattle.mqtt_world_reopening_laws.proofs.laws.a_world_may_begin_on_what_a_broker_wrote.Goals as goal
+
+pub returns-clause-begins : goal.returns-clause-begins
+returns-clause-begins c = written_begins
+
+pub returns-clause-contents : goal.returns-clause-contents
+returns-clause-contents c = written_contents
+
+pub returns-clause-delivers : goal.returns-clause-delivers
+returns-clause-delivers c = written_delivers
+
+pub returns-clause-sends : goal.returns-clause-sends
+returns-clause-sends c = left_sends
+
+pub returns-clause-sends_wherever : goal.returns-clause-sends_wherever
+returns-clause-sends_wherever c = written_sends

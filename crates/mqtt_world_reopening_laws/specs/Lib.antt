@@ -1,0 +1,2 @@
+-- Stores that a broker wrote.
+pub mod Reached

@@ -1,0 +1,54 @@
+//! Laws of worlds that begin on what a broker wrote (2.2.1, 3.3.1.3, 4.1).
+ghost use Rattle.std.specs.Prelude.{◌≡◌, ℕ, List, false};
+ghost use Rattle.mqtt_records_lawful.specs.Lawful.{IsLawful};
+ghost use Rattle.mqtt_records.specs.declared.records.Records.{Records};
+ghost use Rattle.mqtt_rules.specs.Contents.{AreContentsLawful};
+ghost use Rattle.mqtt_rules.specs.Flight.{HasDistinctIdentifiers};
+ghost use Rattle.mqtt_rules.specs.Laws.{AreWithin};
+ghost use Rattle.mqtt_rules.specs.State.{MemberChoice};
+ghost use Rattle.mqtt_rules.specs.Step.{is_opening_spent};
+ghost use Rattle.mqtt_rules.specs.declared.Limits.{Limits as TheLimits};
+ghost use Rattle.mqtt_world_acceptance_laws.specs.Fair.{opened_world};
+ghost use Rattle.mqtt_world_receiver_laws.specs.Drains.{Doing};
+ghost use Rattle.mqtt_world_delivery_laws.specs.Retaining.{AreRetainedOnce};
+ghost use Rattle.mqtt_world_headline_laws.specs.Delivery.{DoingsDeliver};
+ghost use Rattle.mqtt_world_headline_laws.specs.Lives.{BeginsWell, IsFairScript};
+ghost use Rattle.mqtt_rules_spelling_laws.specs.Sending.{HaveSentPhases, SendsWell};
+ghost use Rattle.mqtt_broker_reopening_laws.specs.Written.{IsWritten};
+ghost use Rattle.mqtt_world_reopening_laws.specs.Reached.{WasLeft};
+
+/// In lawful records no two copies in flight in a session have one packet identifier; and in those that a broker wrote no two
+/// retained messages are of one publication (2.2.1, 3.3.1.3).
+pub fn what_a_broker_wrote_is_told_apart()
+    ensures identifiers { (r : Records) → IsLawful r → HasDistinctIdentifiers r }
+    ensures retained { (r : Records) → IsWritten r → AreRetainedOnce r }
+{}
+
+/// What a broker has left, after any openings and calls from nothing stored, is such as a broker writes; and each packet
+/// identifier in flight in it is from 1 and has two bytes, whatever faults came on its lines, with whatever codes (2.2.1, 4.13).
+pub fn what_a_broker_left_has_identifiers_of_two_bytes()
+    ensures written { (r : Records) → WasLeft r → IsWritten r }
+    ensures identifiers { (r : Records) → WasLeft r → HaveSentPhases r }
+{}
+
+/// So a run may begin when the broker is opened on what any broker wrote, under whatever limits, also where more sessions stand
+/// and queues are longer than these allow: its contents are lawful, and all of exactly-once delivery holds of every fair script
+/// from there. Opened on what a broker has left after any fair openings and calls from nothing stored it sends well, so that
+/// what is read in a run from there is lawful. So it does on whatever else is as a broker writes it, if each packet identifier
+/// in flight there has two bytes (2.2.1, 4.1).
+pub fn a_world_may_begin_on_what_a_broker_wrote()
+    ensures begins { (limits : TheLimits) (choice : MemberChoice) (now : ℕ) (r : Records) → AreWithin limits
+        → IsWritten r → is_opening_spent limits choice now r ≡ false
+        → BeginsWell limits (opened_world limits choice now r) }
+    ensures contents { (limits : TheLimits) (choice : MemberChoice) (now : ℕ) (r : Records) → IsWritten r
+        → AreContentsLawful (opened_world limits choice now r).broker }
+    ensures sends { (limits : TheLimits) (choice : MemberChoice) (now : ℕ) (r : Records) → WasLeft r
+        → is_opening_spent limits choice now r ≡ false → SendsWell (opened_world limits choice now r).broker }
+    ensures sends_wherever { (limits : TheLimits) (choice : MemberChoice) (now : ℕ) (r : Records) → IsWritten r
+        → HaveSentPhases r → is_opening_spent limits choice now r ≡ false
+        → SendsWell (opened_world limits choice now r).broker }
+    ensures delivers { (limits : TheLimits) (choice : MemberChoice) (now : ℕ) (r : Records) (ds : List Doing) → AreWithin limits
+        → IsWritten r → is_opening_spent limits choice now r ≡ false
+        → IsFairScript limits ds (opened_world limits choice now r)
+        → DoingsDeliver limits ds (opened_world limits choice now r) }
+{}

@@ -1,0 +1,2 @@
+-- What a receiver was never handed.
+pub mod Unsent

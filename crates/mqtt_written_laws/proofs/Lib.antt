@@ -1,2 +1,0 @@
--- What a broker wrote may begin a world.
-pub mod Begun

@@ -1,2 +1,0 @@
--- Stores that a broker wrote.
-pub mod Within
