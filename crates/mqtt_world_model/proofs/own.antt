@@ -1,5 +1,6 @@
 -- What the broker reads of a publisher's lines.
 pub mod Calls
+pub mod EitherLine
 pub mod LightPublishes
 pub mod OldCalls
 pub mod OldLine

@@ -1,7 +1,7 @@
 -- The broker reads a publisher's CONNECT with Clean Start while its session stands: that is taken over and ends, and a new one
 -- begins. It is the step of the hop (MQTT 5.0, 3.1.2.4, 3.1.4).
-use Rattle.std.proofs.Common.{◌≡◌, ℕ, suc, ◌<◌, ◌≤◌, Bool, true, false, cond, List, [], ◌∷◌, ◌++◌, length, map, drop, Option, Some, None, nat_eq, nat_lt, bytes_eq, refl, sym, ap, subst, ◌∙◌, append-nil, arith, inl, inr}
-use Rattle.std.specs.Prelude.{⊤, option_map, find, filter_map, is_some}
+use Rattle.std.proofs.Common.{◌≡◌, ℕ, suc, ◌<◌, ◌≤◌, Bool, true, false, cond, List, [], ◌∷◌, ◌++◌, length, map, Option, Some, None, nat_eq, nat_lt, bytes_eq, refl, sym, ap, subst, ◌∙◌, append-nil, arith, inl, inr}
+use Rattle.std.specs.Prelude.{⊤, option_map, find, filter_map}
 use Rattle.std.specs.List.{AllByRecursion}
 use Rattle.std.proofs.lemmas.Bool.{cases_Bool, lt-ltb}
 use Rattle.std.proofs.lemmas.Cmp.{nat_eq_equiv}
@@ -10,41 +10,40 @@ use Rattle.mqtt_base.specs.declared.limits.TheConstants.{SESSION_LIMIT}
 use Rattle.mqtt_base.specs.declared.session.Ending.TheVariants.{SessionEnded}
 use Rattle.mqtt_base.specs.Codes.{quota_exceeded}
 use Rattle.mqtt_codec_connect.specs.declared.connect.Connect.{Connect as Greeting}
-use Rattle.mqtt_codec.specs.declared.packet.Packet.TheVariants.{Connect}
 use Rattle.mqtt_topic.specs.Names.{is_empty}
 use Rattle.mqtt_records_message.specs.Queue.{CopyRow}
 use Rattle.mqtt_records_message.specs.declared.message.Will.{Will}
-use Rattle.mqtt_flow_inbound.specs.Publisher.{FromPublisher, CONNECT, ToPublisher, CONNACK}
-use Rattle.mqtt_flow_inbound.specs.InboundWorld.{takes, to_broker, spared, on_connect as on_hop, broker_reads, step}
+use Rattle.mqtt_flow_inbound.specs.Publisher.{CONNECT, ToPublisher, CONNACK}
+use Rattle.mqtt_flow_inbound.specs.InboundWorld.{takes, to_broker, spared, step}
 use Rattle.mqtt_records.specs.declared.session.Session.{Session}
 use Rattle.mqtt_records.specs.declared.records.Records.{Records}
 use Rattle.mqtt_records_rows.specs.Order.{row_at, remove_row}
-use Rattle.mqtt_records.specs.Session.{birth_of, fresh}
+use Rattle.mqtt_records.specs.Session.{birth_of}
 use Rattle.mqtt_records.specs.Records.{changed_all}
 use Rattle.mqtt_rules.specs.declared.Limits.{Limits}
 use Rattle.mqtt_rules.specs.State.{MemberChoice, Line as BrokerLine, Broker, Env, session_at, session_named, line_of}
-use Rattle.mqtt_rules.specs.Deeds.{whose, Part, Resume, Close, SetExpiry, DropWill, Subscribe, Unsubscribe, Open, Release, Enter, Mark, Leave, Hear, Deed, At, Finish, On, Send, Gone, will_row, part_rows_of, output, closing, after, after_all, rows_of_all, Act, always, series, only_if, with_session, with_line}
-use Rattle.mqtt_rules.specs.Closing.{never, will_deeds, publish_will, end_session}
-use Rattle.mqtt_rules.specs.Connect.{of_client, clear, prepare, fresh_row, begin, begin_named, refused, joins, joins_after, connect_by, on_connect}
+use Rattle.mqtt_rules.specs.Deeds.{whose, Part, Resume, Close, SetExpiry, DropWill, Subscribe, Unsubscribe, Open, Release, Enter, Mark, Leave, Hear, Deed, At, Finish, On, Send, Gone, will_row, part_rows_of, closing, after, after_all, Act, always, only_if, with_session}
+use Rattle.mqtt_rules.specs.Closing.{will_deeds, publish_will, end_session}
+use Rattle.mqtt_rules.specs.Connect.{of_client, clear, prepare, begin, begin_named, refused, joins, joins_after, connect_by, on_connect}
 use Rattle.mqtt_rules.specs.Numbers.{HasGivenBirths}
-use Rattle.mqtt_rules.specs.Step.{Input, on_packet, at_moment, env_of, deeds, stepped}
+use Rattle.mqtt_rules.specs.Step.{Input, at_moment, env_of, deeds, stepped}
 use Rattle.mqtt_rules.proofs.acts.Goods.{AreGood, after_append}
 use Rattle.mqtt_rules.proofs.order.Ordered.{length-change_row}
 use Rattle.mqtt_rules.proofs.numbers.NumberFacts.{GivesNext}
-use Rattle.mqtt_rules.proofs.numbers.NumberBirths.{below_none, given_all}
-use Rattle.mqtt_world_model.specs.Lines.{sent_to, is_one_of, unless_closed}
+use Rattle.mqtt_rules.proofs.numbers.NumberBirths.{given_all}
 use Rattle.mqtt_world_model.specs.Ends.{Sent, shake, Publisher}
-use Rattle.mqtt_world_model.specs.Seen.{qos_of_draft, shaken, heard_in, is_linked, open_in, seen}
+use Rattle.mqtt_world_model.specs.Seen.{shaken, heard_in, seen}
 use Rattle.mqtt_world_model.specs.Hops.{IsIts, IsOnly, lines_left, IsTaken, IsKept, IsAsking, MayBegin, Own, IsInOrder, connect_packet, after_step}
-use Rattle.mqtt_world_model.proofs.others.Rows.{Face, face, face_at}
+use Rattle.mqtt_world_model.proofs.others.Rows.{face, face_at}
 use Rattle.mqtt_world_model.proofs.others.Quiet.{AreQuiet, told_to, session_on, calm}
 use Rattle.mqtt_world_model.proofs.own.Publishes.{told_append, act_none}
 use Rattle.mqtt_world_model.proofs.others.Names.{BeginNone, only_deeds}
-use Rattle.mqtt_world_model.proofs.seats.Seeing.{done_sessions, done_lines, told_down, append_heard, linked_of, linked_is, some_face, named_face}
+use Rattle.mqtt_world_model.proofs.seats.Seeing.{some_face, named_face, hop_of}
 use Rattle.mqtt_world_model.proofs.own.OwnStep.{heard_of}
-use Rattle.mqtt_world_model.proofs.seats.Owned.{ArePatient, patient_append, patient_lines, found_alone, owned_after}
-use Rattle.mqtt_world_model.proofs.connects.Connects.{closings_append, left_by, left_leaves, greeted_line, taken_from, taken_at, taken_birth, taken_client, taken_will, named_taken, prepare_front, heard_line_of, heard_on_line, not_left}
-use Rattle.mqtt_world_model.proofs.connects.FirstConnects.{hello_by, refused_not, only_none, fresh_face}
+use Rattle.mqtt_world_model.proofs.seats.Owned.{ArePatient, patient_append}
+use Rattle.mqtt_world_model.proofs.connects.Connects.{closings_append, left_by, left_leaves, taken_from, taken_at, taken_birth, taken_client, taken_will, named_taken, prepare_front, heard_line_of, heard_on_line, not_left}
+use Rattle.mqtt_world_model.proofs.connects.AnyConnect.{waits_on, connect_call}
+use Rattle.mqtt_world_model.proofs.connects.FirstConnects.{hello_by, refused_not, Renews, begins, heard_first, renews_seen, renews_owns}
 
 -- ---- deeds that end a session: they give no number, and no session more stands after them
 
@@ -284,58 +283,38 @@ connect_is o env l client s b e t k some none room =
 
 -- ---- the call
 
--- the deeds of the call, and what they leave
-pub record Renews (o : Option BrokerLine) (client : List ℕ) (n : ℕ) (ds : List Deed) (b : Broker) : Type 0 where
-  pub birth : ℕ
-  pub shown : Face
-  pub face_is : face_at birth (after_all ds b).records ≡ Some shown
-  pub only : IsOnly client birth (after_all ds b).records
-  pub client_is : shown.client ≡ client
-  pub ids_is : shown.inbound ≡ []
-  pub line_is : session_on n (after_all ds b).lines ≡ Some (Some birth)
-  pub told_is : told_to n ds ≡ CONNACK false ∷ []
-  pub closings_is : filter_map closing ds ≡ lines_left o
-  pub no_will : shown.will ≡ None
-  pub no_end : shown.expiry ≡ never
-  pub patient : ArePatient ds
-
+-- a new session begins behind the end of the old one
 renews : (o : Option BrokerLine) (limits : Limits) (l : BrokerLine) (client : List ℕ) (s : Session) (b : Broker) → IsTaken o s.birth l.number → IsKept client s b → session_on l.number b.lines ≡ Some None
     → HasGivenBirths b.records → limits.sessions ≤ SESSION_LIMIT → count b ≤ limits.sessions
-    → Renews o client l.number (ended_by o s b.now ++ begin l (hello_by true client) false client (next_birth (ended_by o s b.now) b)) b
+    → Renews client l.number (ended_by o s b.now ++ begin l (hello_by true client) false client (next_birth (ended_by o s b.now) b)) b (lines_left o)
 renews o limits l client s b t k on births within room =
     let n = l.number in
     let ds = ended_by o s b.now in
     let c = after_all ds b in
     let given = cleared o client s n b t k on in
-    let birth = next_birth ds b in
-    let g = hello_by true client in
-    let es = begin l g false client birth in
+    let es = begin l (hello_by true client) false client (next_birth ds b) in
     let whole : after_all (ds ++ es) b ≡ after_all es c = after_append ds es b in
-    let f = face (fresh (fresh_row birth client g)) in
     let low : HasGivenBirths c.records = given_all ds b (ending_next ds b given.ending) births in
     let less = given.fewer in
-    let at : face_at birth (after_all es c).records ≡ Some f = fresh_face (fresh_row birth client g) c.records.sessions (below_none birth_of birth c.records.sessions low) (omega (arith, less, within, room)) in
-    let none : IsOnly client birth c.records = only_none client birth c.records.sessions given.none in
-    let only : IsOnly client birth (after_all es c).records = only_deeds client birth es c ((λ same. refl), (tt, (tt, tt))) none in
-    let it : nat_eq n n ≡ true = nat_eq_equiv.refl n in
-    let told : told_to n es ≡ CONNACK false ∷ [] = rw it refl in
+    let new = begins l true client c given.none low (omega (arith, less, within, room)) given.line_is in
     record {
-      birth = birth;
-      shown = f;
-      face_is = ap (λ (y : Broker). face_at birth y.records) whole ∙ at;
-      only = subst (λ (y : Broker). IsOnly client birth y.records) (sym whole) only;
-      client_is = refl;
-      ids_is = refl;
-      line_is = ap (λ (y : Broker). session_on n y.lines) whole ∙ greeted_line c.now n birth 0 _ _ c.lines given.line_is;
-      told_is = told_append n ds es ∙ (ap (λ (zs : List ToPublisher). zs ++ told_to n es) given.told_is ∙ told);
+      birth = new.birth;
+      shown = new.shown;
+      face_is = ap (λ (y : Broker). face_at new.birth y.records) whole ∙ new.face_is;
+      only = subst (λ (y : Broker). IsOnly client new.birth y.records) (sym whole) new.only;
+      client_is = new.client_is;
+      ids_is = new.ids_is;
+      line_is = ap (λ (y : Broker). session_on n y.lines) whole ∙ new.line_is;
+      told_is = told_append n ds es ∙ (ap (λ (zs : List ToPublisher). zs ++ told_to n es) given.told_is ∙ new.told_is);
       closings_is = closings_append ds es ∙ (ap (λ (zs : List ℕ). zs ++ []) given.closings_is ∙ append-nil (lines_left o));
-      no_will = refl;
-      no_end = refl;
-      patient = patient_append ds es (ending_patient ds given.ending) (tt, (refl, (tt, tt)));
+      no_will = new.no_will;
+      no_end = new.no_end;
+      patient = patient_append ds es (ending_patient ds given.ending) new.patient;
     }
 
+-- and so it does by the call
 pub call_renews : (limits : Limits) (choice : MemberChoice) (now : ℕ) (p : Publisher) (l : BrokerLine) (s : Session) (b : Broker) → IsAsking p l s b → MayBegin limits p.client b
-    → Renews (line_of s.birth b) p.client l.number (deeds limits choice now (Input l.number (connect_packet true p)) b) (at_moment now b)
+    → Renews p.client l.number (deeds limits choice now (Input l.number (connect_packet true p)) b) (at_moment now b) (lines_left (line_of s.birth b))
 call_renews limits choice now p l s b a m =
     let n = l.number in
     let h = heard_of now n b in
@@ -344,33 +323,16 @@ call_renews limits choice now p l s b a m =
     let heard_lines = heard_line_of s.birth n now b (line_of s.birth b) refl a.taken in
     let o = heard_lines.0 in
     let kept : IsKept p.client s h = record { session = a.kept.session; name = a.kept.name; only = a.kept.only; no_will = a.kept.no_will; no_end = a.kept.no_end; short = a.kept.short; plain = a.kept.plain } in
-    let on : session_on n b.lines ≡ Some None = ap (option_map (λ (x : BrokerLine). x.session)) a.line ∙ ap Some a.waits in
-    let on_h : session_on n h.lines ≡ Some None = heard_on_line n _ b.lines None on in
-    let given = cleared o p.client s n h heard_lines.2 kept on_h in
+    let on : session_on n h.lines ≡ Some None = heard_on_line n _ b.lines None (waits_on l b a.line a.waits) in
+    let given = cleared o p.client s n h heard_lines.2 kept on in
     let less = given.fewer in
     let room = m.room in
     let fits : nat_lt (count (after_all (ended_by o s h.now) h)) limits.sessions ≡ true = lt-ltb (count (after_all (ended_by o s h.now) h)) limits.sessions (omega (arith, less, room)) in
-    let own = renews o limits l p.client s h heard_lines.2 kept on_h m.births m.within m.room in
     let es = ended_by o s h.now ++ begin l c false p.client (next_birth (ended_by o s h.now) h) in
+    let own = subst (λ (ns : List ℕ). Renews p.client n es h ns) heard_lines.3 (renews o limits l p.client s h heard_lines.2 kept on m.births m.within m.room) in
     let is : deeds limits choice now (Input n (connect_packet true p)) b ≡ On n Hear ∷ es =
-    ap (λ (x : Option BrokerLine). with_line x (λ (y : BrokerLine). series (always (On n Hear ∷ []) ∷ on_packet env y (Connect c) y.session ∷ [])) (at_moment now b)) a.line
-    ∙ (ap (λ (x : Option ℕ). On n Hear ∷ (on_packet env l (Connect c) x h ++ [])) a.waits
-    ∙ (ap (λ (ds : List Deed). On n Hear ∷ ds) (append-nil (on_connect env l c h))
-    ∙ ap (λ (ds : List Deed). On n Hear ∷ ds) (connect_is o env l p.client s h heard_lines.1 heard_lines.2 kept m.some given.none fits))) in
-    subst (λ (ds : List Deed). Renews (line_of s.birth b) p.client n ds (at_moment now b)) (sym is) (record {
-      birth = own.birth;
-      shown = own.shown;
-      face_is = own.face_is;
-      only = own.only;
-      client_is = own.client_is;
-      ids_is = own.ids_is;
-      line_is = own.line_is;
-      told_is = own.told_is;
-      closings_is = own.closings_is ∙ heard_lines.3;
-      no_will = own.no_will;
-      no_end = own.no_end;
-      patient = (tt, own.patient);
-    })
+    connect_call limits choice now c l b a.line a.waits ∙ ap (λ (ds : List Deed). On n Hear ∷ ds) (connect_is o env l p.client s h heard_lines.1 heard_lines.2 kept m.some given.none fits) in
+    subst (λ (ds : List Deed). Renews p.client n ds (at_moment now b) (lines_left (line_of s.birth b))) (sym is) (heard_first p.client n now es b (lines_left (line_of s.birth b)) own)
 
 -- ---- what the publisher sees
 
@@ -381,63 +343,16 @@ pub clean_is_hop : (limits : Limits) (choice : MemberChoice) (now : ℕ) (p : Pu
     → seen accepted (after_step limits choice now (Input l.number (connect_packet true p)) p b) (stepped limits choice now (Input l.number (connect_packet true p)) b)
     ≡ step (seen accepted p b) (to_broker takes)
 clean_is_hop limits choice now p rest l s b accepted up a m =
-    let call = Input l.number (connect_packet true p) in
-    let ds = deeds limits choice now call b in
-    let start = at_moment now b in
-    let new = stepped limits choice now call b in
-    let rows = rows_of_all ds start.records in
-    let n = l.number in
-    let outputs = filter_map output ds in
-    let o = line_of s.birth b in
-    let g = call_renews limits choice now p l s b a m in
-    let named = named_face p.client g.birth (after_all ds start).records g.shown g.only g.face_is g.client_is in
     let before = named_face p.client s.birth b.records (face s) a.kept.only (ap (option_map face) a.kept.session) a.kept.name in
-    let sessions : new.records.sessions ≡ (after_all ds start).records.sessions = done_sessions rows (after_all ds start) in
-    let lines : new.lines ≡ (after_all ds start).lines = done_lines rows (after_all ds start) in
-    let linked : is_linked p.line.number new ≡ true =
-    ap (λ (x : Option ℕ). is_linked x new) a.number ∙ (linked_is n new ∙ (ap (λ (ls : List BrokerLine). linked_of (session_on n ls)) lines ∙ ap linked_of g.line_is)) in
-    let closed : is_one_of p.line.number (filter_map closing ds) ≡ false =
-    ap (λ (x : Option ℕ). is_one_of x (filter_map closing ds)) a.number ∙ (ap (is_one_of (Some n)) g.closings_is ∙ not_left o s.birth n a.taken) in
-    let ups : filter_map shaken (unless_closed (is_one_of p.line.number (filter_map closing ds)) (drop 1 p.line.up)) ≡ filter_map shaken rest =
-    ap (λ (x : Bool). filter_map shaken (unless_closed x (drop 1 p.line.up))) closed ∙ ap (λ (xs : List Sent). filter_map shaken (drop 1 xs)) up in
-    let downs : filter_map heard_in (p.line.down ++ sent_to p.line.number new outputs) ≡ filter_map heard_in p.line.down ++ CONNACK false ∷ [] =
-    ap (λ (x : Option ℕ). filter_map heard_in (p.line.down ++ sent_to x new outputs)) a.number
-    ∙ (append_heard p.line.down (sent_to (Some n) new outputs)
-    ∙ ap (λ (xs : List ToPublisher). filter_map heard_in p.line.down ++ xs) (told_down n new ds ∙ g.told_is)) in
-    let olds : filter_map shaken (unless_closed (is_one_of p.line.old_number (filter_map closing ds)) p.line.old) ≡ spared (filter_map shaken p.line.old) =
-    ap (λ (xs : List ℕ). filter_map shaken (unless_closed (is_one_of p.line.old_number xs) p.line.old)) g.closings_is ∙ a.old in
-    let stands : is_some (session_named p.client new.records) ≡ is_some (session_named p.client b.records) =
-    ap (λ (ss : List Session). is_some (find (λ (x : Session). bytes_eq x.client p.client) ss)) sessions ∙ (named.0 ∙ sym before.0) in
-    let ids : open_in (session_named p.client new.records) ≡ [] =
-    ap (λ (ss : List Session). open_in (find (λ (x : Session). bytes_eq x.client p.client) ss)) sessions ∙ (named.1 ∙ g.ids_is) in
-    let w = seen accepted p b in
-    let same : seen accepted (after_step limits choice now call p b) new ≡ on_hop true true takes (filter_map shaken rest) w =
-    λ i. record {
-      fates = p.fates;
-      unsent = filter_map qos_of_draft p.unsent;
-      link = p.line.link;
-      clean = p.line.clean;
-      linked = linked i;
-      up = ups i;
-      down = downs i;
-      old = olds i;
-      stands = stands i;
-      ids = ids i;
-      accepted = accepted;
-    } in
-    same
-    ∙ (ap (λ (t : Bool). on_hop t true takes (filter_map shaken rest) w) (sym before.0)
-    ∙ sym (ap (λ (xs : List FromPublisher). broker_reads takes xs w) (ap (filter_map shaken) up)))
+    let xs = filter_map shaken rest in
+    let old = spared (filter_map shaken p.line.old) in
+    renews_seen limits choice now true p rest l b accepted true (lines_left (line_of s.birth b)) up a.number before.0 (call_renews limits choice now p l s b a m)
+    (not_left (line_of s.birth b) s.birth l.number a.taken) a.old
+    (ap (λ (t : Bool). hop_of accepted p true xs (filter_map heard_in p.line.down ++ CONNACK false ∷ []) old t []) (sym before.0))
 
 -- and the new session and the line are its own after it
 pub clean_owns : (limits : Limits) (choice : MemberChoice) (now : ℕ) (p : Publisher) (l : BrokerLine) (s : Session) (b : Broker) → IsAsking p l s b → MayBegin limits p.client b → l.keep_alive ≡ 0 → IsInOrder b
     → IsInOrder (stepped limits choice now (Input l.number (connect_packet true p)) b) → (birth : ℕ) × Own p.client birth l.number (stepped limits choice now (Input l.number (connect_packet true p)) b)
 clean_owns limits choice now p l s b a m quiet order order_after =
-    let n = l.number in
-    let ds = deeds limits choice now (Input n (connect_packet true p)) b in
-    let start = at_moment now b in
-    let g = call_renews limits choice now p l s b a m in (
-      g.birth,
-      owned_after p.client g.birth n g.shown (rows_of_all ds start.records) (after_all ds start) order_after g.only g.face_is g.client_is g.no_will g.no_end g.line_is
-          (patient_lines n ds start g.patient (found_alone l b.lines order.lines.ascending a.line quiet)),
-    )
+    let g = call_renews limits choice now p l s b a m in
+    (g.birth, renews_owns limits choice now true p l b (lines_left (line_of s.birth b)) g a.line quiet order order_after)

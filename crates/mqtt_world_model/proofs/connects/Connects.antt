@@ -1,7 +1,7 @@
 -- The broker reads a publisher's CONNECT without Clean Start while its session stands: the session is resumed, and taken
 -- over from the line that it was connected on. It is the step of the hop (MQTT 5.0, 3.1.2.4, 3.1.4, 4.4).
-use Rattle.std.proofs.Common.{◌≡◌, ℕ, Bool, true, false, List, [], ◌∷◌, ◌++◌, length, map, drop, Option, Some, None, nat_eq, nat_lt, bytes_eq, refl, sym, ap, subst, ◌∙◌, append-nil, inl, inr}
-use Rattle.std.specs.Prelude.{option_map, find, filter_map, is_some, max, min}
+use Rattle.std.proofs.Common.{◌≡◌, ℕ, true, false, List, [], ◌∷◌, ◌++◌, length, map, Option, Some, None, nat_eq, nat_lt, refl, sym, ap, subst, ◌∙◌, append-nil, inl, inr}
+use Rattle.std.specs.Prelude.{option_map, find, filter_map, max, min}
 use Rattle.std.specs.List.{starts_with}
 use Rattle.std.proofs.lemmas.Bool.{cases_Bool}
 use Rattle.std.proofs.lemmas.Cmp.{nat_eq_equiv}
@@ -13,8 +13,8 @@ use Rattle.mqtt_props.specs.Properties.{U32}
 use Rattle.mqtt_flow.specs.declared.entry.Turn.TheVariants as turns
 use Rattle.mqtt_base.specs.Codes.{success, session_taken_over}
 use Rattle.mqtt_flow.specs.Outbound.{due_from}
-use Rattle.mqtt_flow_inbound.specs.Publisher.{FromPublisher, CONNECT, ToPublisher, CONNACK}
-use Rattle.mqtt_flow_inbound.specs.InboundWorld.{takes, to_broker, spared, on_connect as on_hop, broker_reads, step}
+use Rattle.mqtt_flow_inbound.specs.Publisher.{CONNECT, ToPublisher, CONNACK}
+use Rattle.mqtt_flow_inbound.specs.InboundWorld.{takes, to_broker, spared, step}
 use Rattle.mqtt_records.specs.declared.session.Session.{Session}
 use Rattle.mqtt_records.specs.declared.session.Columns.{Columns}
 use Rattle.mqtt_records.specs.declared.records.Records.{Records}
@@ -24,25 +24,26 @@ use Rattle.mqtt_records.specs.Records.{changed_all}
 use Rattle.mqtt_rules.specs.declared.Limits.{Limits}
 use Rattle.mqtt_rules.specs.Packets.{connack}
 use Rattle.mqtt_records_message.specs.PassedOn.{property}
-use Rattle.mqtt_rules.specs.State.{MemberChoice, Line as BrokerLine, Broker, Env, session_at, session_named, line_at, line_of, is_of, queue_on}
+use Rattle.mqtt_rules.specs.State.{MemberChoice, Line as BrokerLine, Broker, Env, session_at, session_named, line_of, is_of, queue_on}
 use Rattle.mqtt_base.specs.declared.limits.TheConstants.{LAST_NUMBER}
-use Rattle.mqtt_rules.specs.Deeds.{whose, Resume, Hear, Greet, Deed, At, On, Send, part_rows_of, on_line, output, closing, after_all, rows_of_all, Act, always, series, only_if, with_session, with_line}
+use Rattle.mqtt_rules.specs.Deeds.{whose, Resume, Hear, Greet, Deed, At, On, Send, part_rows_of, on_line, closing, after_all, rows_of_all, Act, series, only_if, with_session, with_line}
 use Rattle.mqtt_rules.specs.Outbound.{all_turn_deeds}
 use Rattle.mqtt_rules.specs.Closing.{never, settle, drop_line}
 use Rattle.mqtt_rules.specs.Connect.{refusal, of_client, take_over, clear, prepare, greet, connack_properties, expiry_of, will_of, resume, joins, joins_after, connect_by, on_connect}
-use Rattle.mqtt_rules.specs.Step.{Input, on_packet, at_moment, env_of, deeds, stepped}
+use Rattle.mqtt_rules.specs.Step.{Input, at_moment, env_of, deeds, stepped}
 use Rattle.mqtt_rules.proofs.acts.Goods.{after_append}
 use Rattle.mqtt_rules.proofs.flight.FlightRows.{change_row-here}
-use Rattle.mqtt_world_model.specs.Lines.{sent_to, is_one_of, unless_closed}
+use Rattle.mqtt_world_model.specs.Lines.{is_one_of, unless_closed}
 use Rattle.mqtt_world_model.specs.Ends.{Sent, shake, Publisher}
-use Rattle.mqtt_world_model.specs.Seen.{qos_of_draft, shaken, heard_in, is_linked, open_in, seen}
+use Rattle.mqtt_world_model.specs.Seen.{shaken, seen}
 use Rattle.mqtt_world_model.specs.Hops.{IsOnly, lines_left, IsTaken, IsKept, IsAsking, Own, IsInOrder, hello_packet, after_step}
 use Rattle.mqtt_world_model.proofs.others.Rows.{Face, face, face_at}
 use Rattle.mqtt_world_model.proofs.others.Quiet.{AreQuiet, told_to, numbers, begun, session_on, calm, line_gone, line_on}
 use Rattle.mqtt_world_model.proofs.own.Publishes.{told_append, numbers_append, begun_append, closed_row, closed_after, dropped, drop_is, settles_nothing, act_none}
 use Rattle.mqtt_world_model.proofs.others.Names.{named_is, only_deeds, none_begun}
-use Rattle.mqtt_world_model.proofs.seats.Seeing.{done_sessions, done_lines, told_down, append_heard, linked_of, linked_is, named_face}
+use Rattle.mqtt_world_model.proofs.seats.Seeing.{linked_of, named_face}
 use Rattle.mqtt_world_model.proofs.own.OwnStep.{heard_of}
+use Rattle.mqtt_world_model.proofs.connects.AnyConnect.{waits_on, connect_call, left_up, connect_seen}
 use Rattle.mqtt_world_model.proofs.seats.Owned.{ArePatient, patient_append, patient_lines, found_alone, owned_after}
 
 -- ---- what a list of deeds leaves, with the lines that it closes
@@ -297,15 +298,7 @@ heard_line_of k m now b o e t = in_list b.lines o e t
 pub heard_on_line : (m now : ℕ) (ls : List BrokerLine) (x : Option ℕ) → session_on m ls ≡ Some x → session_on m (on_line now m Hear ls) ≡ Some x
 heard_on_line m now ls x h = line_on now m m Hear ls (inr tt) ∙ h
 
--- the deeds of the call
-pub connect_call : (limits : Limits) (choice : MemberChoice) (now : ℕ) (client : List ℕ) (l : BrokerLine) (b : Broker) → line_at l.number b ≡ Some l → l.session ≡ None
-    → deeds limits choice now (Input l.number (Connect (hello client))) b
-    ≡ On l.number Hear ∷ (on_connect (env_of limits choice b) l (hello client) (heard_of now l.number b) ++ [])
-connect_call limits choice now client l b line waits =
-    let env = env_of limits choice b in
-    ap (λ (o : Option BrokerLine). with_line o (λ (x : BrokerLine). series (always (On l.number Hear ∷ []) ∷ on_packet env x (Connect (hello client)) x.session ∷ [])) (at_moment now b)) line
-    ∙ ap (λ (o : Option ℕ). On l.number Hear ∷ (on_packet env l (Connect (hello client)) o (heard_of now l.number b) ++ [])) waits
-
+-- what the call leaves of the session and the line
 pub call_leaves : (limits : Limits) (choice : MemberChoice) (now : ℕ) (p : Publisher) (l : BrokerLine) (s : Session) (b : Broker) → IsAsking p l s b
     → (f : Face) × Leaves s.birth l.number (deeds limits choice now (Input l.number (Connect (hello p.client))) b) (at_moment now b) f (Some (Some s.birth)) (CONNACK true ∷ []) (lines_left (line_of s.birth b)) × (f.client ≡ p.client) × (f.inbound ≡ s.inbound) × (f.will ≡ None) × (f.expiry ≡ never)
 call_leaves limits choice now p l s b a =
@@ -315,7 +308,7 @@ call_leaves limits choice now p l s b a =
     let heard_lines = heard_line_of s.birth n now b (line_of s.birth b) refl a.taken in
     let o = heard_lines.0 in
     let kept : IsKept p.client s h = record { session = a.kept.session; name = a.kept.name; only = a.kept.only; no_will = a.kept.no_will; no_end = a.kept.no_end; short = a.kept.short; plain = a.kept.plain } in
-    let on : session_on n b.lines ≡ Some None = ap (option_map (λ (x : BrokerLine). x.session)) a.line ∙ ap Some a.waits in
+    let on = waits_on l b a.line a.waits in
     let f = resumed_as (taken_from o h.now s) in
     let own = connect_leaves o env l p.client s h heard_lines.1 heard_lines.2 kept (heard_on_line n _ b.lines None on) in
     let first : Leaves s.birth n (On n Hear ∷ []) (at_moment now b) (face s) (Some None) [] [] = record {
@@ -330,7 +323,7 @@ call_leaves limits choice now p l s b a =
     let both = leaves_append s.birth n (On n Hear ∷ []) (on_connect env l (hello p.client) h) (at_moment now b) (face s) f (Some None) (Some (Some s.birth)) [] (CONNACK true ∷ []) [] (lines_left o) first own in
     let closed = subst (λ (zs : List ℕ). Leaves s.birth n (On n Hear ∷ on_connect env l (hello p.client) h) (at_moment now b) f (Some (Some s.birth)) (CONNACK true ∷ []) zs) heard_lines.3 both in
     let whole = subst (λ (zs : List Deed). Leaves s.birth n zs (at_moment now b) f (Some (Some s.birth)) (CONNACK true ∷ []) (lines_left (line_of s.birth b)))
-    (ap (λ (zs : List Deed). On n Hear ∷ zs) (sym (append-nil (on_connect env l (hello p.client) h))) ∙ sym (connect_call limits choice now p.client l b a.line a.waits)) closed in
+    (sym (connect_call limits choice now (hello p.client) l b a.line a.waits)) closed in
     (f, whole, taken_client o h.now s ∙ a.kept.name, taken_inbound o h.now s, refl, refl)
 
 pub not_left : (o : Option BrokerLine) (k n : ℕ) → IsTaken o k n → is_one_of (Some n) (lines_left o) ≡ false
@@ -344,56 +337,22 @@ pub connect_is_hop : (limits : Limits) (choice : MemberChoice) (now : ℕ) (p : 
     → seen accepted (after_step limits choice now (Input l.number (hello_packet p)) p b) (stepped limits choice now (Input l.number (hello_packet p)) b)
     ≡ step (seen accepted p b) (to_broker takes)
 connect_is_hop limits choice now p rest l s b accepted up a =
-    let call = Input l.number (hello_packet p) in
-    let ds = deeds limits choice now call b in
+    let ds = deeds limits choice now (Input l.number (hello_packet p)) b in
     let start = at_moment now b in
-    let new = stepped limits choice now call b in
-    let rows = rows_of_all ds start.records in
-    let n = l.number in
-    let outputs = filter_map output ds in
-    let o = line_of s.birth b in
     let given = call_leaves limits choice now p l s b a in
-    let f = given.0 in
     let g = given.1 in
     let only : IsOnly p.client s.birth (after_all ds start).records = only_deeds p.client s.birth ds start (none_begun p.client s.birth ds g.begun_is) a.kept.only in
-    let named = named_face p.client s.birth (after_all ds start).records f only g.face_is given.2 in
+    let named = named_face p.client s.birth (after_all ds start).records given.0 only g.face_is given.2 in
     let before = named_face p.client s.birth b.records (face s) a.kept.only (ap (option_map face) a.kept.session) a.kept.name in
-    let sessions : new.records.sessions ≡ (after_all ds start).records.sessions = done_sessions rows (after_all ds start) in
-    let lines : new.lines ≡ (after_all ds start).lines = done_lines rows (after_all ds start) in
-    let linked : is_linked p.line.number new ≡ true =
-    ap (λ (x : Option ℕ). is_linked x new) a.number ∙ (linked_is n new ∙ (ap (λ (ls : List BrokerLine). linked_of (session_on n ls)) lines ∙ ap linked_of g.line_is)) in
-    let closed : is_one_of p.line.number (filter_map closing ds) ≡ false =
-    ap (λ (x : Option ℕ). is_one_of x (filter_map closing ds)) a.number ∙ (ap (is_one_of (Some n)) g.closings_is ∙ not_left o s.birth n a.taken) in
-    let ups : filter_map shaken (unless_closed (is_one_of p.line.number (filter_map closing ds)) (drop 1 p.line.up)) ≡ filter_map shaken rest =
-    ap (λ (x : Bool). filter_map shaken (unless_closed x (drop 1 p.line.up))) closed ∙ ap (λ (xs : List Sent). filter_map shaken (drop 1 xs)) up in
-    let downs : filter_map heard_in (p.line.down ++ sent_to p.line.number new outputs) ≡ filter_map heard_in p.line.down ++ CONNACK true ∷ [] =
-    ap (λ (x : Option ℕ). filter_map heard_in (p.line.down ++ sent_to x new outputs)) a.number
-    ∙ (append_heard p.line.down (sent_to (Some n) new outputs)
-    ∙ ap (λ (xs : List ToPublisher). filter_map heard_in p.line.down ++ xs) (told_down n new ds ∙ g.told_is)) in
-    let olds : filter_map shaken (unless_closed (is_one_of p.line.old_number (filter_map closing ds)) p.line.old) ≡ spared (filter_map shaken p.line.old) =
-    ap (λ (xs : List ℕ). filter_map shaken (unless_closed (is_one_of p.line.old_number xs) p.line.old)) g.closings_is ∙ a.old in
-    let stands : is_some (session_named p.client new.records) ≡ is_some (session_named p.client b.records) =
-    ap (λ (ss : List Session). is_some (find (λ (x : Session). bytes_eq x.client p.client) ss)) sessions ∙ (named.0 ∙ sym before.0) in
-    let ids : open_in (session_named p.client new.records) ≡ open_in (session_named p.client b.records) =
-    ap (λ (ss : List Session). open_in (find (λ (x : Session). bytes_eq x.client p.client) ss)) sessions ∙ (named.1 ∙ (given.3 ∙ sym before.1)) in
     let w = seen accepted p b in
-    let same : seen accepted (after_step limits choice now call p b) new ≡ on_hop true false takes (filter_map shaken rest) w =
-    λ i. record {
-      fates = p.fates;
-      unsent = filter_map qos_of_draft p.unsent;
-      link = p.line.link;
-      clean = p.line.clean;
-      linked = linked i;
-      up = ups i;
-      down = downs i;
-      old = olds i;
-      stands = stands i;
-      ids = ids i;
-      accepted = accepted;
-    } in
-    same
-    ∙ (ap (λ (t : Bool). on_hop t false takes (filter_map shaken rest) w) (sym before.0)
-    ∙ sym (ap (λ (xs : List FromPublisher). broker_reads takes xs w) (ap (filter_map shaken) up)))
+    connect_seen limits choice now false p rest l b accepted takes true true (filter_map shaken rest) (CONNACK true ∷ []) (spared (filter_map shaken p.line.old)) w.stands w.ids up a.number before.0 (record {
+      linked_is = ap linked_of g.line_is;
+      up_is = left_up l.number ds (lines_left (line_of s.birth b)) p (shake (CONNECT false)) rest up g.closings_is (not_left (line_of s.birth b) s.birth l.number a.taken);
+      told_is = g.told_is;
+      old_is = ap (λ (xs : List ℕ). filter_map shaken (unless_closed (is_one_of p.line.old_number xs) p.line.old)) g.closings_is ∙ a.old;
+      stands_is = named.0 ∙ sym before.0;
+      ids_is = named.1 ∙ (given.3 ∙ sym before.1);
+    }) refl
 
 -- and the session and the line are its own after it
 pub connect_owns : (limits : Limits) (choice : MemberChoice) (now : ℕ) (p : Publisher) (l : BrokerLine) (s : Session) (b : Broker) → IsAsking p l s b → l.keep_alive ≡ 0 → IsInOrder b

@@ -1,11 +1,10 @@
 -- The broker restarts while no session of a publisher's stands: none does after it (MQTT 5.0, 4.1).
 use Rattle.std.proofs.Common.{◌≡◌, ℕ, Bool, true, false, List, [], ◌∷◌, ◌++◌, map, Option, Some, None, bytes_eq, refl, sym, ap, ◌∙◌, arith, inl, inr}
-use Rattle.std.specs.Prelude.{find, filter_map, is_some}
+use Rattle.std.specs.Prelude.{find, is_some}
 use Rattle.std.specs.List.{AllByRecursion}
 use Rattle.std.proofs.lemmas.Bool.{cases_Bool}
 use Rattle.std.proofs.lemmas.Slice.Eq.{bytes_eq-Decides}
 use Rattle.mqtt_base.specs.declared.session.Ending.TheVariants.{SessionEnded}
-use Rattle.mqtt_flow_inbound.specs.Line.{away}
 use Rattle.mqtt_flow_inbound.specs.InboundWorld.{restart, step}
 use Rattle.mqtt_records_message.specs.Queue.{CopyRow}
 use Rattle.mqtt_records_message.specs.declared.message.Will.{Will}
@@ -18,11 +17,11 @@ use Rattle.mqtt_rules.specs.Closing.{has_due_will, has_due_end, will_message, pu
 use Rattle.mqtt_rules.specs.Step.{env_of, close_if, opening, unopened, opened}
 use Rattle.mqtt_world_model.specs.Ends.{Publisher}
 use Rattle.mqtt_world_model.specs.World.{publisher_restarted}
-use Rattle.mqtt_world_model.specs.Seen.{qos_of_draft, open_in, seen}
+use Rattle.mqtt_world_model.specs.Seen.{open_in, seen}
 use Rattle.mqtt_world_model.specs.Hops.{IsIts}
 use Rattle.mqtt_world_model.proofs.others.Quiet.{AreQuiet, copies_of, quiet_copies}
 use Rattle.mqtt_world_model.proofs.others.Names.{BeginNone, only_deeds}
-use Rattle.mqtt_world_model.proofs.seats.Seeing.{done_sessions}
+use Rattle.mqtt_world_model.proofs.seats.Seeing.{done_sessions, hop_of}
 use Rattle.mqtt_world_model.proofs.connects.FirstConnects.{only_none}
 
 -- ---- deeds that begin no session
@@ -114,6 +113,7 @@ none_of client (x ∷ xs) p q = elim (cases_Bool (bytes_eq x.client client)) [
   | inr other ↦ rw other (none_of client xs p.1 q.1)
 ]
 
+-- and so is one while it has none
 pub empty_restart_is_hop : (limits : Limits) (choice : MemberChoice) (now : ℕ) (p : Publisher) (b : Broker) (accepted : List ℕ) → session_named p.client b.records ≡ None
     → seen accepted (publisher_restarted p) (opened limits choice now b.records) ≡ step (seen accepted p b) restart
 empty_restart_is_hop limits choice now p b accepted none =
@@ -126,16 +126,4 @@ empty_restart_is_hop limits choice now p b accepted none =
     let sessions : new.records.sessions ≡ end.records.sessions = done_sessions (rows_of_all ds start.records) end in
     let after_is : session_named p.client new.records ≡ session_named p.client b.records =
     ap (λ (ss : List Session). find (λ (x : Session). bytes_eq x.client p.client) ss) sessions ∙ (none_of p.client end.records.sessions (only 0) (only 1) ∙ sym none) in
-    λ i. record {
-      fates = p.fates;
-      unsent = filter_map qos_of_draft p.unsent;
-      link = away;
-      clean = p.line.clean;
-      linked = false;
-      up = [];
-      down = [];
-      old = [];
-      stands = is_some (after_is i);
-      ids = open_in (after_is i);
-      accepted = accepted;
-    }
+    λ i. hop_of accepted (publisher_restarted p) false [] [] [] (is_some (after_is i)) (open_in (after_is i))

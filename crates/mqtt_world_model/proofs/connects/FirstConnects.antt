@@ -1,6 +1,6 @@
 -- The broker reads a publisher's CONNECT where no session of its client stands: a new one begins, or the table is full (MQTT
 -- 5.0, 3.1.2.4, 3.2.2.2). It is the step of the hop.
-use Rattle.std.proofs.Common.{◌≡◌, ℕ, suc, ◌<◌, Bool, true, false, cond, ◌||◌, List, [], ◌∷◌, ◌++◌, length, drop, Option, Some, None, nat_eq, nat_lt, bytes_eq, refl, sym, ap, subst, ◌∙◌, append-nil, arith, inl, inr}
+use Rattle.std.proofs.Common.{◌≡◌, ℕ, suc, ◌<◌, Bool, true, false, cond, ◌||◌, List, [], ◌∷◌, ◌++◌, length, drop, Option, Some, None, nat_eq, nat_lt, bytes_eq, refl, sym, ap, subst, ◌∙◌, arith, inl, inr}
 use Rattle.std.specs.Prelude.{option_map, find, filter_map, is_some}
 use Rattle.std.specs.List.{AllByRecursion, starts_with}
 use Rattle.std.proofs.lemmas.Bool.{cases_Bool, ltb-true, lt-ltb}
@@ -11,8 +11,8 @@ use Rattle.mqtt_base.specs.Codes.{quota_exceeded}
 use Rattle.mqtt_codec_connect.specs.declared.connect.Connect.{Connect as Greeting}
 use Rattle.mqtt_codec.specs.declared.packet.Packet.TheVariants.{Connect}
 use Rattle.mqtt_topic.specs.Names.{is_empty}
-use Rattle.mqtt_flow_inbound.specs.Publisher.{FromPublisher, CONNECT, ToPublisher, CONNACK, CONNACK_REFUSED}
-use Rattle.mqtt_flow_inbound.specs.InboundWorld.{Event as HopEvent, takes, refuses, to_broker, spared, on_connect as on_hop, broker_reads, step}
+use Rattle.mqtt_flow_inbound.specs.Publisher.{CONNECT, CONNACK, CONNACK_REFUSED}
+use Rattle.mqtt_flow_inbound.specs.InboundWorld.{Event as HopEvent, takes, refuses, to_broker, spared, on_connect as on_hop}
 use Rattle.mqtt_records.specs.declared.session.Session.{Session}
 use Rattle.mqtt_records.specs.declared.session.Columns.{Columns}
 use Rattle.mqtt_records.specs.declared.records.Records.{Records}
@@ -21,23 +21,25 @@ use Rattle.mqtt_records_rows.proofs.LookUps.{row_at-put_row}
 use Rattle.mqtt_records.specs.Session.{birth_of, fresh, with_columns, auto}
 use Rattle.mqtt_records.specs.Records.{put_session}
 use Rattle.mqtt_rules.specs.declared.Limits.{Limits}
-use Rattle.mqtt_rules.specs.State.{MemberChoice, Line as BrokerLine, Broker, Env, session_named}
-use Rattle.mqtt_rules.specs.Deeds.{Hear, Deed, On, output, closing, after_all, rows_of_all, Act, always, series, only_if, with_session, with_line}
-use Rattle.mqtt_rules.specs.Closing.{settle}
+use Rattle.mqtt_rules.specs.State.{MemberChoice, Line as BrokerLine, Broker, Env, session_named, line_at}
+use Rattle.mqtt_rules.specs.Deeds.{Hear, Deed, On, closing, after_all, rows_of_all, Act, only_if, with_session}
+use Rattle.mqtt_rules.specs.Closing.{never, settle}
 use Rattle.mqtt_rules.specs.Connect.{refusal, of_client, take_over, clear, prepare, fresh_row, begin, begin_named, refused, joins, joins_after, connect_by, on_connect}
-use Rattle.mqtt_rules.specs.Step.{Input, on_packet, at_moment, env_of, deeds, stepped}
+use Rattle.mqtt_rules.specs.Numbers.{HasGivenBirths}
+use Rattle.mqtt_rules.specs.Step.{Input, at_moment, env_of, deeds, stepped}
 use Rattle.mqtt_rules.proofs.numbers.NumberBirths.{below_none}
-use Rattle.mqtt_world_model.specs.Lines.{sent_to, is_one_of, unless_closed}
+use Rattle.mqtt_world_model.specs.Lines.{is_one_of, unless_closed}
 use Rattle.mqtt_world_model.specs.Ends.{Sent, shake, Publisher}
-use Rattle.mqtt_world_model.specs.Seen.{qos_of_draft, shaken, heard_in, is_linked, open_in, seen}
-use Rattle.mqtt_world_model.specs.Hops.{IsIts, IsOnly, IsFirst, Own, IsInOrder, connect_packet, after_step}
-use Rattle.mqtt_world_model.proofs.others.Rows.{face, face_at}
+use Rattle.mqtt_world_model.specs.Seen.{shaken, heard_in, is_linked, open_in, seen}
+use Rattle.mqtt_world_model.specs.Hops.{IsIts, IsOnly, IsFirst, Own, IsInOrder, connect_packet}
+use Rattle.mqtt_world_model.proofs.others.Rows.{Face, face, face_at}
 use Rattle.mqtt_world_model.proofs.others.Quiet.{told_to, session_on}
 use Rattle.mqtt_world_model.proofs.own.Publishes.{act_none, line_none}
 use Rattle.mqtt_world_model.proofs.others.Names.{only_deeds}
-use Rattle.mqtt_world_model.proofs.seats.Seeing.{done_sessions, done_lines, told_down, append_heard, linked_of, linked_is, named_face}
+use Rattle.mqtt_world_model.proofs.seats.Seeing.{linked_of, linked_is, named_face, hop_of}
 use Rattle.mqtt_world_model.proofs.own.OwnStep.{heard_of}
-use Rattle.mqtt_world_model.proofs.seats.Owned.{NoneKeptAlive, patient_lines, found_alone, owned_after}
+use Rattle.mqtt_world_model.proofs.seats.Owned.{ArePatient, patient_lines, found_alone, owned_after}
+use Rattle.mqtt_world_model.proofs.connects.AnyConnect.{waits_on, connect_call, left_up, Sees, connect_seen}
 use Rattle.mqtt_world_model.proofs.connects.Connects.{hello, greeted_line, heard_on_line}
 
 abbrev pub hello_by : Bool → List ℕ → Greeting
@@ -79,6 +81,7 @@ connect_is env l clean client b none short plain some =
     ∙ (ap (λ (z : Option Session). joins env l c b.now [] b.records z) none
     ∙ joined_by_room (nat_lt (length b.records.sessions) env.limits.sessions) (is_empty client) l c b.records some))
 
+-- the deeds of the call: the line is heard of, and a session begins or is refused
 pub call_is : (limits : Limits) (choice : MemberChoice) (now : ℕ) (clean : Bool) (p : Publisher) (l : BrokerLine) (b : Broker) → IsFirst limits p l b
     → deeds limits choice now (Input l.number (Connect (hello_by clean p.client))) b
     ≡ On l.number Hear ∷ joins_by (nat_lt (length b.records.sessions) limits.sessions) l (hello_by clean p.client) b.records
@@ -86,10 +89,7 @@ call_is limits choice now clean p l b a =
     let env = env_of limits choice b in
     let c = hello_by clean p.client in
     let h = heard_of now l.number b in
-    ap (λ (o : Option BrokerLine). with_line o (λ (x : BrokerLine). series (always (On l.number Hear ∷ []) ∷ on_packet env x (Connect c) x.session ∷ [])) (at_moment now b)) a.line
-    ∙ (ap (λ (o : Option ℕ). On l.number Hear ∷ (on_packet env l (Connect c) o h ++ [])) a.waits
-    ∙ (ap (λ (ds : List Deed). On l.number Hear ∷ ds) (append-nil (on_connect env l c h))
-    ∙ ap (λ (ds : List Deed). On l.number Hear ∷ ds) (connect_is env l clean p.client h a.none a.short a.plain a.some)))
+    connect_call limits choice now c l b a.line a.waits ∙ ap (λ (ds : List Deed). On l.number Hear ∷ ds) (connect_is env l clean p.client h a.none a.short a.plain a.some)
 
 -- ---- the new session
 
@@ -120,136 +120,151 @@ fresh_face row ss new less =
     either true e = refl
     either false e = e
 
+-- ---- what is left by deeds that begin a session and close these lines
+
+pub record Renews (client : List ℕ) (n : ℕ) (ds : List Deed) (b : Broker) (closings : List ℕ) : Type 0 where
+  pub birth : ℕ
+  pub shown : Face
+  pub face_is : face_at birth (after_all ds b).records ≡ Some shown
+  pub only : IsOnly client birth (after_all ds b).records
+  pub client_is : shown.client ≡ client
+  pub ids_is : shown.inbound ≡ []
+  pub line_is : session_on n (after_all ds b).lines ≡ Some (Some birth)
+  pub told_is : told_to n ds ≡ CONNACK false ∷ []
+  pub closings_is : filter_map closing ds ≡ closings
+  pub no_will : shown.will ≡ None
+  pub no_end : shown.expiry ≡ never
+  pub patient : ArePatient ds
+
+-- the beginning alone closes none
+pub begins : (l : BrokerLine) (clean : Bool) (client : List ℕ) (b : Broker)
+    → session_named client b.records ≡ None → HasGivenBirths b.records → length b.records.sessions < SESSION_LIMIT → session_on l.number b.lines ≡ Some None
+    → Renews client l.number (begin l (hello_by clean client) false client (suc b.records.births)) b []
+begins l clean client b none births room on =
+    let n = l.number in
+    let birth = suc b.records.births in
+    let c = hello_by clean client in
+    let ds = begin l c false client birth in
+    let row = fresh_row birth client c in
+    let it : nat_eq n n ≡ true = nat_eq_equiv.refl n in
+    record {
+      birth = birth;
+      shown = face (fresh row);
+      face_is = fresh_face row b.records.sessions (below_none birth_of birth b.records.sessions births) room;
+      only = only_deeds client birth ds b ((λ same. refl), (tt, (tt, tt))) (only_none client birth b.records.sessions none);
+      client_is = refl;
+      ids_is = refl;
+      line_is = greeted_line b.now n birth 0 _ _ b.lines on;
+      told_is = rw it refl;
+      closings_is = refl;
+      no_will = refl;
+      no_end = refl;
+      patient = (tt, (refl, (tt, tt)));
+    }
+
+-- nor does it where the line was heard of first
+pub heard_first : (client : List ℕ) (n now : ℕ) (ds : List Deed) (b : Broker) (closings : List ℕ) → Renews client n ds (heard_of now n b) closings → Renews client n (On n Hear ∷ ds) (at_moment now b) closings
+heard_first client n now ds b closings g = record {
+  birth = g.birth;
+  shown = g.shown;
+  face_is = g.face_is;
+  only = g.only;
+  client_is = g.client_is;
+  ids_is = g.ids_is;
+  line_is = g.line_is;
+  told_is = g.told_is;
+  closings_is = g.closings_is;
+  no_will = g.no_will;
+  no_end = g.no_end;
+  patient = (tt, g.patient);
+}
+
+-- the call, if the table has a place
+pub call_begins : (limits : Limits) (choice : MemberChoice) (now : ℕ) (clean : Bool) (p : Publisher) (l : BrokerLine) (b : Broker) → IsFirst limits p l b → nat_lt (length b.records.sessions) limits.sessions ≡ true
+    → Renews p.client l.number (deeds limits choice now (Input l.number (connect_packet clean p)) b) (at_moment now b) []
+call_begins limits choice now clean p l b a room =
+    let n = l.number in
+    let es = begin l (hello_by clean p.client) false p.client (suc b.records.births) in
+    let is = call_is limits choice now clean p l b a ∙ ap (λ (t : Bool). On n Hear ∷ joins_by t l (hello_by clean p.client) b.records) room in
+    let less = ltb-true (length b.records.sessions) limits.sessions room in
+    let within = a.within in
+    subst (λ (ds : List Deed). Renews p.client n ds (at_moment now b) []) (sym is)
+    (heard_first p.client n now es b [] (begins l clean p.client (heard_of now n b) a.none a.births (omega (arith, less, within)) (heard_on_line n _ b.lines None (waits_on l b a.line a.waits))))
+
 -- ---- what the publisher sees
 
-abbrev Sees : Limits → MemberChoice → ℕ → Bool → Publisher → BrokerLine → Broker → List ℕ → HopEvent → Type 0
-Sees limits choice now clean p l b accepted e =
-    seen accepted (after_step limits choice now (Input l.number (connect_packet clean p)) p b) (stepped limits choice now (Input l.number (connect_packet clean p)) b)
-    ≡ step (seen accepted p b) e
+-- of a session that begins, as the hop has it
+pub renews_seen : (limits : Limits) (choice : MemberChoice) (now : ℕ) (clean : Bool) (p : Publisher) (rest : List Sent) (l : BrokerLine) (b : Broker) (accepted : List ℕ) (stood : Bool) (closings : List ℕ)
+    → p.line.up ≡ shake (CONNECT clean) ∷ rest → p.line.number ≡ Some l.number → is_some (session_named p.client b.records) ≡ stood
+    → Renews p.client l.number (deeds limits choice now (Input l.number (connect_packet clean p)) b) (at_moment now b) closings
+    → is_one_of (Some l.number) closings ≡ false → filter_map shaken (unless_closed (is_one_of p.line.old_number closings) p.line.old) ≡ spared (filter_map shaken p.line.old)
+    → hop_of accepted p true (filter_map shaken rest) (filter_map heard_in p.line.down ++ CONNACK false ∷ []) (spared (filter_map shaken p.line.old)) true []
+    ≡ on_hop stood clean takes (filter_map shaken rest) (seen accepted p b)
+    → Sees limits choice now clean p l b accepted (to_broker takes)
+renews_seen limits choice now clean p rest l b accepted stood closings up number before g stays old same =
+    let ds = deeds limits choice now (Input l.number (connect_packet clean p)) b in
+    let named = named_face p.client g.birth (after_all ds (at_moment now b)).records g.shown g.only g.face_is g.client_is in
+    connect_seen limits choice now clean p rest l b accepted takes stood true (filter_map shaken rest) (CONNACK false ∷ []) (spared (filter_map shaken p.line.old)) true [] up number before (record {
+      linked_is = ap linked_of g.line_is;
+      up_is = left_up l.number ds closings p (shake (CONNECT clean)) rest up g.closings_is stays;
+      told_is = g.told_is;
+      old_is = ap (λ (xs : List ℕ). filter_map shaken (unless_closed (is_one_of p.line.old_number xs) p.line.old)) g.closings_is ∙ old;
+      stands_is = named.0;
+      ids_is = named.1 ∙ g.ids_is;
+    }) same
 
-before_linked : (limits : Limits) (p : Publisher) (l : BrokerLine) (b : Broker) → IsFirst limits p l b → is_linked p.line.number b ≡ false
-before_linked limits p l b a =
-    ap (λ (o : Option ℕ). is_linked o b) a.number
-    ∙ (linked_is l.number b ∙ ap linked_of (ap (option_map (λ (x : BrokerLine). x.session)) a.line ∙ ap Some a.waits))
+-- and the session and the line are its own
+pub renews_owns : (limits : Limits) (choice : MemberChoice) (now : ℕ) (clean : Bool) (p : Publisher) (l : BrokerLine) (b : Broker) (closings : List ℕ)
+    (g : Renews p.client l.number (deeds limits choice now (Input l.number (connect_packet clean p)) b) (at_moment now b) closings) → line_at l.number b ≡ Some l
+    → l.keep_alive ≡ 0 → IsInOrder b → IsInOrder (stepped limits choice now (Input l.number (connect_packet clean p)) b)
+    → Own p.client g.birth l.number (stepped limits choice now (Input l.number (connect_packet clean p)) b)
+renews_owns limits choice now clean p l b closings g line quiet order order_after =
+    let ds = deeds limits choice now (Input l.number (connect_packet clean p)) b in
+    let start = at_moment now b in
+    owned_after p.client g.birth l.number g.shown (rows_of_all ds start.records) (after_all ds start) order_after g.only g.face_is g.client_is g.no_will g.no_end g.line_is
+    (patient_lines l.number ds start g.patient (found_alone l b.lines order.lines.ascending line quiet))
 
+-- no line is among none
+none_closed : (o : Option ℕ) → is_one_of o [] ≡ false
+none_closed None = refl
+none_closed (Some m) = refl
+
+-- a new session begins
 pub begins_seen : (limits : Limits) (choice : MemberChoice) (now : ℕ) (clean : Bool) (p : Publisher) (l : BrokerLine) (b : Broker) (accepted : List ℕ)
     → p.line.up ≡ shake (CONNECT clean) ∷ [] → IsFirst limits p l b → nat_lt (length b.records.sessions) limits.sessions ≡ true → Sees limits choice now clean p l b accepted (to_broker takes)
 begins_seen limits choice now clean p l b accepted up a room =
-    let c = hello_by clean p.client in
-    let call = Input l.number (connect_packet clean p) in
-    let n = l.number in
-    let birth = suc b.records.births in
-    let ds = deeds limits choice now call b in
-    let es : List Deed = On n Hear ∷ begin l c false p.client birth in
-    let is : ds ≡ es = call_is limits choice now clean p l b a ∙ ap (λ (t : Bool). On n Hear ∷ joins_by t l c b.records) room in
-    let start = at_moment now b in
-    let new = stepped limits choice now call b in
-    let rows = rows_of_all ds start.records in
-    let less = ltb-true (length b.records.sessions) limits.sessions room in
-    let within = a.within in
-    let f = face (fresh (fresh_row birth p.client c)) in
-    let at : face_at birth (after_all es start).records ≡ Some f = fresh_face (fresh_row birth p.client c) b.records.sessions (below_none birth_of birth b.records.sessions a.births) (omega (arith, less, within)) in
-    let only : IsOnly p.client birth (after_all es start).records = only_deeds p.client birth es start (tt, ((λ same. refl), (tt, (tt, tt)))) (only_none p.client birth b.records.sessions a.none) in
-    let named = named_face p.client birth (after_all es start).records f only at refl in
-    let end : after_all ds start ≡ after_all es start = ap (λ (xs : List Deed). after_all xs start) is in
-    let sessions : new.records.sessions ≡ (after_all es start).records.sessions = done_sessions rows (after_all ds start) ∙ ap (λ (x : Broker). x.records.sessions) end in
-    let lines : new.lines ≡ (after_all es start).lines = done_lines rows (after_all ds start) ∙ ap (λ (x : Broker). x.lines) end in
-    let on : session_on n b.lines ≡ Some None = ap (option_map (λ (x : BrokerLine). x.session)) a.line ∙ ap Some a.waits in
-    let line_is : session_on n (after_all es start).lines ≡ Some (Some birth) = greeted_line start.now n birth 0 _ _ (heard_of now n b).lines (heard_on_line n start.now b.lines None on) in
-    let linked : is_linked p.line.number new ≡ true =
-    ap (λ (x : Option ℕ). is_linked x new) a.number ∙ (linked_is n new ∙ (ap (λ (ls : List BrokerLine). linked_of (session_on n ls)) lines ∙ ap linked_of line_is)) in
-    let it : nat_eq n n ≡ true = nat_eq_equiv.refl n in
-    let told : told_to n es ≡ CONNACK false ∷ [] = rw it refl in
-    let ups : filter_map shaken (unless_closed (is_one_of p.line.number (filter_map closing ds)) (drop 1 p.line.up)) ≡ [] =
-    ap (λ (x : Option ℕ). filter_map shaken (unless_closed (is_one_of x (filter_map closing ds)) (drop 1 p.line.up))) a.number
-    ∙ (ap (λ (xs : List Deed). filter_map shaken (unless_closed (is_one_of (Some n) (filter_map closing xs)) (drop 1 p.line.up))) is ∙ ap (λ (xs : List Sent). filter_map shaken (drop 1 xs)) up) in
-    let downs : filter_map heard_in (p.line.down ++ sent_to p.line.number new (filter_map output ds)) ≡ filter_map heard_in p.line.down ++ CONNACK false ∷ [] =
-    ap (λ (x : Option ℕ). filter_map heard_in (p.line.down ++ sent_to x new (filter_map output ds))) a.number
-    ∙ (append_heard p.line.down (sent_to (Some n) new (filter_map output ds))
-    ∙ ap (λ (xs : List ToPublisher). filter_map heard_in p.line.down ++ xs) (told_down n new ds ∙ (ap (told_to n) is ∙ told))) in
-    let olds : filter_map shaken (unless_closed (is_one_of p.line.old_number (filter_map closing ds)) p.line.old) ≡ spared (filter_map shaken p.line.old) =
-    ap (λ (xs : List Deed). filter_map shaken (unless_closed (is_one_of p.line.old_number (filter_map closing xs)) p.line.old)) is
-    ∙ (ap (λ (t : Bool). filter_map shaken (unless_closed t p.line.old)) (none_closed p.line.old_number) ∙ a.old) in
-    let stands : is_some (session_named p.client new.records) ≡ true = ap (λ (ss : List Session). is_some (find (λ (x : Session). bytes_eq x.client p.client) ss)) sessions ∙ named.0 in
-    let ids : open_in (session_named p.client new.records) ≡ [] = ap (λ (ss : List Session). open_in (find (λ (x : Session). bytes_eq x.client p.client) ss)) sessions ∙ named.1 in
-    let w = seen accepted p b in
-    let same : seen accepted (after_step limits choice now call p b) new ≡ on_hop false clean takes [] w =
-    λ i. record {
-      fates = p.fates;
-      unsent = filter_map qos_of_draft p.unsent;
-      link = p.line.link;
-      clean = p.line.clean;
-      linked = linked i;
-      up = ups i;
-      down = downs i;
-      old = olds i;
-      stands = stands i;
-      ids = ids i;
-      accepted = accepted;
-    } in
-    same
-    ∙ (ap (λ (t : Bool). on_hop t clean takes [] w) (sym (ap is_some a.none))
-    ∙ sym (ap (λ (xs : List FromPublisher). broker_reads takes xs w) (ap (filter_map shaken) up)))
-  where
-    none_closed : (o : Option ℕ) → is_one_of o [] ≡ false
-    none_closed None = refl
-    none_closed (Some m) = refl
+    renews_seen limits choice now clean p [] l b accepted false [] up a.number (ap is_some a.none) (call_begins limits choice now clean p l b a room) refl
+    (ap (λ (t : Bool). filter_map shaken (unless_closed t p.line.old)) (none_closed p.line.old_number) ∙ a.old) refl
 
+-- or the table is full, and the line is closed
 pub refused_seen : (limits : Limits) (choice : MemberChoice) (now : ℕ) (clean : Bool) (p : Publisher) (l : BrokerLine) (b : Broker) (accepted : List ℕ)
     → p.line.up ≡ shake (CONNECT clean) ∷ [] → IsFirst limits p l b → nat_lt (length b.records.sessions) limits.sessions ≡ false → Sees limits choice now clean p l b accepted (to_broker refuses)
 refused_seen limits choice now clean p l b accepted up a full =
     let c = hello_by clean p.client in
-    let call = Input l.number (connect_packet clean p) in
     let n = l.number in
-    let ds = deeds limits choice now call b in
-    let es : List Deed = On n Hear ∷ refused l c quota_exceeded in
-    let is : ds ≡ es = call_is limits choice now clean p l b a ∙ ap (λ (t : Bool). On n Hear ∷ joins_by t l c b.records) full in
+    let ds = deeds limits choice now (Input n (connect_packet clean p)) b in
     let start = at_moment now b in
-    let new = stepped limits choice now call b in
-    let rows = rows_of_all ds start.records in
-    let end : after_all ds start ≡ after_all es start = ap (λ (xs : List Deed). after_all xs start) is in
-    let sessions : new.records.sessions ≡ b.records.sessions = done_sessions rows (after_all ds start) ∙ ap (λ (x : Broker). x.records.sessions) end in
-    let lines : new.lines ≡ (after_all es start).lines = done_lines rows (after_all ds start) ∙ ap (λ (x : Broker). x.lines) end in
-    let gone : session_on n (after_all es start).lines ≡ None = line_none n (heard_of now n b).lines in
-    let linked : is_linked p.line.number new ≡ is_linked p.line.number b =
-    ap (λ (x : Option ℕ). is_linked x new) a.number
-    ∙ (linked_is n new ∙ (ap (λ (ls : List BrokerLine). linked_of (session_on n ls)) lines ∙ (ap linked_of gone ∙ sym (before_linked limits p l b a)))) in
+    let is : ds ≡ On n Hear ∷ refused l c quota_exceeded = call_is limits choice now clean p l b a ∙ ap (λ (t : Bool). On n Hear ∷ joins_by t l c b.records) full in
     let it : nat_eq n n ≡ true = nat_eq_equiv.refl n in
-    let told : told_to n es ≡ CONNACK_REFUSED quota_exceeded ∷ [] = rw it refl in
-    let ups : filter_map shaken (unless_closed (is_one_of p.line.number (filter_map closing ds)) (drop 1 p.line.up)) ≡ [] =
-    ap (λ (xs : List Sent). filter_map shaken (unless_closed (is_one_of p.line.number (filter_map closing ds)) (drop 1 xs))) up ∙ nothing_up (is_one_of p.line.number (filter_map closing ds)) in
-    let downs : filter_map heard_in (p.line.down ++ sent_to p.line.number new (filter_map output ds)) ≡ filter_map heard_in p.line.down ++ CONNACK_REFUSED quota_exceeded ∷ [] =
-    ap (λ (x : Option ℕ). filter_map heard_in (p.line.down ++ sent_to x new (filter_map output ds))) a.number
-    ∙ (append_heard p.line.down (sent_to (Some n) new (filter_map output ds))
-    ∙ ap (λ (xs : List ToPublisher). filter_map heard_in p.line.down ++ xs) (told_down n new ds ∙ (ap (told_to n) is ∙ told))) in
-    let olds : filter_map shaken (unless_closed (is_one_of p.line.old_number (filter_map closing ds)) p.line.old) ≡ filter_map shaken p.line.old =
-    ap (λ (xs : List Deed). filter_map shaken (unless_closed (is_one_of p.line.old_number (filter_map closing xs)) p.line.old)) is
-    ∙ ap (λ (t : Bool). filter_map shaken (unless_closed t p.line.old)) a.apart in
-    let stands : is_some (session_named p.client new.records) ≡ is_some (session_named p.client b.records) = ap (λ (ss : List Session). is_some (find (λ (x : Session). bytes_eq x.client p.client) ss)) sessions in
-    let ids : open_in (session_named p.client new.records) ≡ open_in (session_named p.client b.records) = ap (λ (ss : List Session). open_in (find (λ (x : Session). bytes_eq x.client p.client) ss)) sessions in
+    let told : told_to n (On n Hear ∷ refused l c quota_exceeded) ≡ CONNACK_REFUSED quota_exceeded ∷ [] = rw it refl in
+    let before : is_linked p.line.number b ≡ false = ap (λ (o : Option ℕ). is_linked o b) a.number ∙ (linked_is n b ∙ ap linked_of (waits_on l b a.line a.waits)) in
     let w = seen accepted p b in
-    let same : seen accepted (after_step limits choice now call p b) new ≡ on_hop false clean refuses [] w =
-    λ i. record {
-      fates = p.fates;
-      unsent = filter_map qos_of_draft p.unsent;
-      link = p.line.link;
-      clean = p.line.clean;
-      linked = linked i;
-      up = ups i;
-      down = downs i;
-      old = olds i;
-      stands = stands i;
-      ids = ids i;
-      accepted = accepted;
-    } in
-    same
-    ∙ (ap (λ (t : Bool). on_hop t clean refuses [] w) (sym (ap is_some a.none))
-    ∙ sym (ap (λ (xs : List FromPublisher). broker_reads refuses xs w) (ap (filter_map shaken) up)))
+    connect_seen limits choice now clean p [] l b accepted refuses false w.linked [] (CONNACK_REFUSED quota_exceeded ∷ []) (filter_map shaken p.line.old) w.stands w.ids up a.number (ap is_some a.none) (record {
+      linked_is = ap (λ (xs : List Deed). linked_of (session_on n (after_all xs start).lines)) is ∙ (ap linked_of (line_none n (heard_of now n b).lines) ∙ sym before);
+      up_is = ap (λ (xs : List Sent). filter_map shaken (unless_closed (is_one_of (Some n) (filter_map closing ds)) (drop 1 xs))) up ∙ nothing_up (is_one_of (Some n) (filter_map closing ds));
+      told_is = ap (told_to n) is ∙ told;
+      old_is =
+          ap (λ (xs : List Deed). filter_map shaken (unless_closed (is_one_of p.line.old_number (filter_map closing xs)) p.line.old)) is
+          ∙ ap (λ (t : Bool). filter_map shaken (unless_closed t p.line.old)) a.apart;
+      stands_is = ap (λ (xs : List Deed). is_some (session_named p.client (after_all xs start).records)) is;
+      ids_is = ap (λ (xs : List Deed). open_in (session_named p.client (after_all xs start).records)) is;
+    }) refl
   where
     nothing_up : (t : Bool) → filter_map shaken (unless_closed t []) ≡ []
     nothing_up true = refl
     nothing_up false = refl
 
+-- one of the two
 pub first_is_hop : (limits : Limits) (choice : MemberChoice) (now : ℕ) (clean : Bool) (p : Publisher) (l : BrokerLine) (b : Broker) (accepted : List ℕ)
     → p.line.up ≡ shake (CONNECT clean) ∷ [] → IsFirst limits p l b
     → (e : HopEvent) × Sees limits choice now clean p l b accepted e
@@ -262,22 +277,6 @@ first_is_hop limits choice now clean p l b accepted up a = elim (cases_Bool (nat
 pub first_owns : (limits : Limits) (choice : MemberChoice) (now : ℕ) (clean : Bool) (p : Publisher) (l : BrokerLine) (b : Broker) → IsFirst limits p l b → nat_lt (length b.records.sessions) limits.sessions ≡ true
     → l.keep_alive ≡ 0 → IsInOrder b → IsInOrder (stepped limits choice now (Input l.number (connect_packet clean p)) b)
     → Own p.client (suc b.records.births) l.number (stepped limits choice now (Input l.number (connect_packet clean p)) b)
+unfolding call_begins heard_first begins
 first_owns limits choice now clean p l b a room quiet order order_after =
-    let c = hello_by clean p.client in
-    let n = l.number in
-    let birth = suc b.records.births in
-    let ds = deeds limits choice now (Input n (connect_packet clean p)) b in
-    let es : List Deed = On n Hear ∷ begin l c false p.client birth in
-    let is : ds ≡ es = call_is limits choice now clean p l b a ∙ ap (λ (t : Bool). On n Hear ∷ joins_by t l c b.records) room in
-    let start = at_moment now b in
-    let end : after_all ds start ≡ after_all es start = ap (λ (xs : List Deed). after_all xs start) is in
-    let less = ltb-true (length b.records.sessions) limits.sessions room in
-    let within = a.within in
-    let f = face (fresh (fresh_row birth p.client c)) in
-    let at : face_at birth (after_all es start).records ≡ Some f = fresh_face (fresh_row birth p.client c) b.records.sessions (below_none birth_of birth b.records.sessions a.births) (omega (arith, less, within)) in
-    let only : IsOnly p.client birth (after_all es start).records = only_deeds p.client birth es start (tt, ((λ same. refl), (tt, (tt, tt)))) (only_none p.client birth b.records.sessions a.none) in
-    let on : session_on n b.lines ≡ Some None = ap (option_map (λ (x : BrokerLine). x.session)) a.line ∙ ap Some a.waits in
-    let line_is : session_on n (after_all es start).lines ≡ Some (Some birth) = greeted_line start.now n birth 0 _ _ (heard_of now n b).lines (heard_on_line n start.now b.lines None on) in
-    owned_after p.client birth n f (rows_of_all ds start.records) (after_all ds start) order_after
-    (subst (λ (x : Broker). IsOnly p.client birth x.records) (sym end) only) (ap (λ (x : Broker). face_at birth x.records) end ∙ at) refl refl refl (ap (λ (x : Broker). session_on n x.lines) end ∙ line_is)
-    (subst (λ (x : Broker). NoneKeptAlive n x.lines) (sym end) (patient_lines n es start (tt, (tt, (refl, (tt, tt)))) (found_alone l b.lines order.lines.ascending a.line quiet)))
+    renews_owns limits choice now clean p l b [] (call_begins limits choice now clean p l b a room) a.line quiet order order_after

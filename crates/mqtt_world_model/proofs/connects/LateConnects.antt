@@ -1,7 +1,7 @@
 -- The broker reads a late CONNECT without Clean Start on the line that a publisher gave up, while its session stands: it is taken
 -- over from the publisher's own line, if it is connected there. It is that event of the hop (MQTT 5.0, 3.1.4).
-use Rattle.std.proofs.Common.{◌≡◌, ℕ, suc, Bool, true, false, ◌||◌, List, [], ◌∷◌, ◌++◌, drop, Option, Some, None, nat_eq, bytes_eq, refl, sym, ap, ◌∙◌, append-nil, inl, inr}
-use Rattle.std.specs.Prelude.{option_map, find, filter_map, is_some}
+use Rattle.std.proofs.Common.{◌≡◌, ℕ, suc, Bool, true, false, List, [], ◌∷◌, ◌++◌, drop, Option, Some, None, nat_eq, refl, sym, ap, ◌∙◌, append-nil, inl, inr}
+use Rattle.std.specs.Prelude.{option_map, filter_map, is_some}
 use Rattle.std.proofs.lemmas.Bool.{eqb-true, cases_Bool}
 use Rattle.mqtt_base.specs.Codes.{session_taken_over}
 use Rattle.mqtt_codec.specs.declared.packet.Packet.TheVariants.{Connect}
@@ -11,13 +11,13 @@ use Rattle.mqtt_flow_inbound.specs.InboundWorld.{World as Hop, takes, old_to_bro
 use Rattle.mqtt_records.specs.declared.session.Session.{Session}
 use Rattle.mqtt_rules.specs.declared.Limits.{Limits}
 use Rattle.mqtt_rules.specs.State.{MemberChoice, Line as BrokerLine, Broker, session_named, line_at, line_of, queue_on}
-use Rattle.mqtt_rules.specs.Deeds.{Hear, Deed, On, output, closing, after_all, rows_of_all}
-use Rattle.mqtt_rules.specs.Connect.{resume, on_connect}
+use Rattle.mqtt_rules.specs.Deeds.{Hear, Deed, On, output, closing, after_all}
+use Rattle.mqtt_rules.specs.Connect.{resume}
 use Rattle.mqtt_rules.specs.Step.{Input, at_moment, env_of, deeds, stepped}
 use Rattle.mqtt_rules.proofs.acts.Goods.{after_append}
 use Rattle.mqtt_world_model.specs.Lines.{sent_to, is_one_of, unless_closed}
 use Rattle.mqtt_world_model.specs.Ends.{Sent, shake, Publisher}
-use Rattle.mqtt_world_model.specs.Seen.{qos_of_draft, shaken, heard_in, is_linked, open_in, seen}
+use Rattle.mqtt_world_model.specs.Seen.{shaken, heard_in, is_linked, open_in, seen}
 use Rattle.mqtt_world_model.specs.Hops.{IsOnly, lines_left, IsTaken, IsKept, IsAsking, IsLate, hello_packet, after_old_step}
 use Rattle.mqtt_world_model.proofs.others.Rows.{face}
 use Rattle.mqtt_world_model.proofs.others.Quiet.{told_to, session_on, line_gone, line_on}
@@ -25,9 +25,10 @@ use Rattle.mqtt_world_model.proofs.others.Far.{AreFar, apart_by}
 use Rattle.mqtt_world_model.proofs.others.FarActs.{far_quiet}
 use Rattle.mqtt_world_model.proofs.own.Publishes.{told_append, line_none}
 use Rattle.mqtt_world_model.proofs.others.Names.{only_deeds, none_begun}
-use Rattle.mqtt_world_model.proofs.seats.Seeing.{done_sessions, done_lines, told_down, append_heard, linked_of, linked_is, named_face}
-use Rattle.mqtt_world_model.proofs.own.OwnStep.{heard_of}
-use Rattle.mqtt_world_model.proofs.connects.Connects.{left_by, taken_from, heard_line_of, not_left, hello, connect_is, connect_call, call_leaves, repeats_quiet}
+use Rattle.mqtt_world_model.proofs.seats.Seeing.{told_down, append_heard, linked_of, linked_is, named_face, named_after, linked_after, hop_of}
+use Rattle.mqtt_world_model.proofs.own.OwnStep.{heard_of, not_the_one}
+use Rattle.mqtt_world_model.proofs.connects.AnyConnect.{connect_call}
+use Rattle.mqtt_world_model.proofs.connects.Connects.{left_by, taken_from, heard_line_of, not_left, hello, connect_is, call_leaves, repeats_quiet}
 use Rattle.mqtt_world_model.proofs.own.OldLine.{further}
 
 -- ---- what the publisher's own line is told, and what is left of it
@@ -62,6 +63,7 @@ resumed_far client m now l x beside =
     let dues = due_from [] (queue_on [] x) in
     (inl (inl (further x.birth)), (inr (beside, further x.birth), (inl (inl beside), far_quiet client (suc x.birth) m _ (repeats_quiet (suc x.birth) m now l.number x dues (λ d. d.identifier)))))
 
+-- what the call does to another line than the one that it came on
 pub call_there : (limits : Limits) (choice : MemberChoice) (now : ℕ) (client : List ℕ) (l : BrokerLine) (s : Session) (m : ℕ) (b : Broker) → line_at l.number b ≡ Some l → l.session ≡ None → IsKept client s b
     → IsTaken (line_of s.birth b) s.birth l.number → nat_eq l.number m ≡ false
     → IsThere m (deeds limits choice now (Input l.number (Connect (hello client))) b) (at_moment now b) (is_one_of (Some m) (lines_left (line_of s.birth b)))
@@ -77,9 +79,7 @@ call_there limits choice now client l s m b line waits k taken beside =
     let x = taken_from o h.now s in
     let tail = resume l (hello client) h.now x in
     let is : deeds limits choice now (Input n (Connect (hello client))) b ≡ On n Hear ∷ (left ++ tail) =
-    connect_call limits choice now client l b line waits
-    ∙ (ap (λ (ds : List Deed). On n Hear ∷ ds) (append-nil (on_connect env l (hello client) h))
-    ∙ ap (λ (ds : List Deed). On n Hear ∷ ds) (connect_is o env l client s h heard_lines.1 heard_lines.2 kept)) in
+    connect_call limits choice now (hello client) l b line waits ∙ ap (λ (ds : List Deed). On n Hear ∷ ds) (connect_is o env l client s h heard_lines.1 heard_lines.2 kept) in
     let first = left_there o s m h in
     let far = apart_by client (suc x.birth) m tail c (resumed_far client m h.now l x beside) in
     let same : is_one_of (Some m) (lines_left o) ≡ is_one_of (Some m) (lines_left (line_of s.birth b)) = ap (is_one_of (Some m)) heard_lines.3 in
@@ -98,28 +98,15 @@ call_there limits choice now client l s m b line waits k taken beside =
 
 -- ---- what the publisher sees
 
-abbrev late_seen : Bool → Bool → List ℕ → Publisher → List FromPublisher → List ToPublisher → List FromPublisher → List ℕ → Hop
-late_seen linked stands accepted p up down old ids = record {
-  fates = p.fates;
-  unsent = filter_map qos_of_draft p.unsent;
-  link = p.line.link;
-  clean = p.line.clean;
-  linked = linked;
-  up = up;
-  down = down;
-  old = old;
-  stands = stands;
-  ids = ids;
-  accepted = accepted;
-}
-
+-- the hop does that to the publisher's own line
 agrees : (t : Bool) (accepted : List ℕ) (p : Publisher) (before old : List FromPublisher) (ids : List ℕ)
-    → late_seen false true accepted p (filter_map shaken (unless_closed t p.line.up)) (filter_map heard_in p.line.down ++ late_told t) old ids
-    ≡ taken_over t (record (late_seen t true accepted p (filter_map shaken p.line.up) (filter_map heard_in p.line.down) before ids) { old = old })
+    → hop_of accepted p false (filter_map shaken (unless_closed t p.line.up)) (filter_map heard_in p.line.down ++ late_told t) old true ids
+    ≡ taken_over t (record (hop_of accepted p t (filter_map shaken p.line.up) (filter_map heard_in p.line.down) before true ids) { old = old })
 agrees true accepted p before old ids = refl
 agrees false accepted p before old ids =
-    ap (λ (down : List ToPublisher). late_seen false true accepted p (filter_map shaken p.line.up) down old ids) (append-nil (filter_map heard_in p.line.down))
+    ap (λ (down : List ToPublisher). hop_of accepted p false (filter_map shaken p.line.up) down old true ids) (append-nil (filter_map heard_in p.line.down))
 
+-- the late CONNECT is that event of the hop
 pub late_is_hop : (limits : Limits) (choice : MemberChoice) (now : ℕ) (p : Publisher) (rest : List Sent) (l : BrokerLine) (s : Session) (b : Broker) (accepted : List ℕ)
     → p.line.old ≡ shake (CONNECT false) ∷ rest → IsLate p l s b
     → seen accepted (after_old_step limits choice now (Input l.number (hello_packet p)) p b) (stepped limits choice now (Input l.number (hello_packet p)) b)
@@ -129,7 +116,6 @@ late_is_hop limits choice now p rest l s b accepted old a =
     let ds = deeds limits choice now call b in
     let start = at_moment now b in
     let new = stepped limits choice now call b in
-    let rows = rows_of_all ds start.records in
     let n = l.number in
     let outputs = filter_map output ds in
     let o = line_of s.birth b in
@@ -142,7 +128,7 @@ late_is_hop limits choice now p rest l s b accepted old a =
     let only : IsOnly p.client s.birth (after_all ds start).records = only_deeds p.client s.birth ds start (none_begun p.client s.birth ds g.begun_is) a.kept.only in
     let named = named_face p.client s.birth (after_all ds start).records f only g.face_is given.2 in
     let before = named_face p.client s.birth b.records (face s) a.kept.only (ap (option_map face) a.kept.session) a.kept.name in
-    let sessions : new.records.sessions ≡ (after_all ds start).records.sessions = done_sessions rows (after_all ds start) in
+    let after = named_after limits choice now call p.client b in
     let linked : is_linked p.line.number new ≡ false = unlinked p.line.number a.apart a.linked in
     let ups : filter_map shaken (unless_closed (is_one_of p.line.number (filter_map closing ds)) p.line.up) ≡ filter_map shaken (unless_closed t p.line.up) =
     ap (λ (xs : List ℕ). filter_map shaken (unless_closed (is_one_of p.line.number xs) p.line.up)) g.closings_is in
@@ -152,25 +138,16 @@ late_is_hop limits choice now p rest l s b accepted old a =
     ap (λ (x : Option ℕ). is_one_of x (filter_map closing ds)) a.number ∙ (ap (is_one_of (Some n)) g.closings_is ∙ not_left o s.birth n a.taken) in
     let olds : filter_map shaken (unless_closed (is_one_of p.line.old_number (filter_map closing ds)) (drop 1 p.line.old)) ≡ filter_map shaken rest =
     ap (λ (x : Bool). filter_map shaken (unless_closed x (drop 1 p.line.old))) closed ∙ ap (λ (xs : List Sent). filter_map shaken (drop 1 xs)) old in
-    let stands : is_some (session_named p.client new.records) ≡ true =
-    ap (λ (ss : List Session). is_some (find (λ (x : Session). bytes_eq x.client p.client) ss)) sessions ∙ named.0 in
-    let ids : open_in (session_named p.client new.records) ≡ s.inbound =
-    ap (λ (ss : List Session). open_in (find (λ (x : Session). bytes_eq x.client p.client) ss)) sessions ∙ (named.1 ∙ given.3) in
-    let after_is : seen accepted (after_old_step limits choice now call p b) new ≡ late_seen false true accepted p (filter_map shaken (unless_closed t p.line.up)) (filter_map heard_in p.line.down ++ late_told t) (filter_map shaken rest) s.inbound =
-    λ i. late_seen (linked i) (stands i) accepted p (ups i) (downs i) (olds i) (ids i) in
-    let before_is : seen accepted p b ≡ late_seen t true accepted p (filter_map shaken p.line.up) (filter_map heard_in p.line.down) (CONNECT false ∷ filter_map shaken rest) s.inbound =
-    λ i. late_seen (a.linked i) (before.0 i) accepted p (filter_map shaken p.line.up) (filter_map heard_in p.line.down) (filter_map shaken (old i)) (before.1 i) in
+    let stands : is_some (session_named p.client new.records) ≡ true = ap is_some after ∙ named.0 in
+    let ids : open_in (session_named p.client new.records) ≡ s.inbound = ap open_in after ∙ (named.1 ∙ given.3) in
+    let after_is : seen accepted (after_old_step limits choice now call p b) new ≡ hop_of accepted p false (filter_map shaken (unless_closed t p.line.up)) (filter_map heard_in p.line.down ++ late_told t) (filter_map shaken rest) true s.inbound =
+    λ i. hop_of accepted p (linked i) (ups i) (downs i) (olds i) (stands i) (ids i) in
+    let before_is : seen accepted p b ≡ hop_of accepted p t (filter_map shaken p.line.up) (filter_map heard_in p.line.down) (CONNECT false ∷ filter_map shaken rest) true s.inbound =
+    λ i. hop_of accepted p (a.linked i) (filter_map shaken p.line.up) (filter_map heard_in p.line.down) (filter_map shaken (old i)) (before.0 i) (before.1 i) in
     after_is ∙ (agrees t accepted p (CONNECT false ∷ filter_map shaken rest) (filter_map shaken rest) s.inbound ∙ sym (ap (λ (w : Hop). step w (old_to_broker takes)) before_is))
   where
-    beside : (m : ℕ) → is_one_of (Some m) (l.number ∷ []) ≡ false → nat_eq l.number m ≡ false
-    beside m h = first (nat_eq l.number m) h
-      where
-        first : (x : Bool) → (x || false) ≡ false → x ≡ false
-        first true e = absurd cc
-        first false e = refl
-
     there : (m : ℕ) → is_one_of (Some m) (l.number ∷ []) ≡ false → IsThere m (deeds limits choice now (Input l.number (hello_packet p)) b) (at_moment now b) (is_one_of (Some m) (lines_left (line_of s.birth b)))
-    there m h = call_there limits choice now p.client l s m b a.line a.waits a.kept a.taken (beside m h)
+    there m h = call_there limits choice now p.client l s m b a.line a.waits a.kept a.taken (not_the_one l.number m h)
 
     not_on : (t : Bool) (on : Option (Option ℕ)) → linked_of on ≡ t → linked_of (late_on t on) ≡ false
     not_on true on h = refl
@@ -179,15 +156,8 @@ late_is_hop limits choice now p rest l s b accepted old a =
     unlinked : (x : Option ℕ) → is_one_of x (l.number ∷ []) ≡ false → is_linked x b ≡ is_one_of x (lines_left (line_of s.birth b)) → is_linked x (stepped limits choice now (Input l.number (hello_packet p)) b) ≡ false
     unlinked None h e = refl
     unlinked (Some m) h e =
-        let call = Input l.number (hello_packet p) in
-        let ds = deeds limits choice now call b in
-        let start = at_moment now b in
-        let new = stepped limits choice now call b in
-        let t = is_one_of (Some m) (lines_left (line_of s.birth b)) in
-        let lines : new.lines ≡ (after_all ds start).lines = done_lines (rows_of_all ds start.records) (after_all ds start) in
-        linked_is m new
-        ∙ (ap (λ (ls : List BrokerLine). linked_of (session_on m ls)) lines
-        ∙ (ap linked_of (there m h).line_is ∙ not_on t (session_on m b.lines) (sym (linked_is m b) ∙ e)))
+        linked_after limits choice now (Input l.number (hello_packet p)) m b
+        ∙ (ap linked_of (there m h).line_is ∙ not_on (is_one_of (Some m) (lines_left (line_of s.birth b))) (session_on m b.lines) (sym (linked_is m b) ∙ e))
 
     told : (x : Option ℕ) → is_one_of x (l.number ∷ []) ≡ false
         → filter_map heard_in (sent_to x (stepped limits choice now (Input l.number (hello_packet p)) b) (filter_map output (deeds limits choice now (Input l.number (hello_packet p)) b))) ≡ late_told (is_one_of x (lines_left (line_of s.birth b)))

@@ -1,9 +1,8 @@
 -- The broker restarts while a publisher's session stands: the publisher sees that event of its hop (MQTT 5.0, 4.1).
 use Rattle.std.proofs.Common.{◌≡◌, ℕ, ◌≤◌, Bool, true, false, List, [], ◌∷◌, ◌++◌, map, Option, Some, None, nat_eq, bytes_eq, refl, sym, ap, subst, ◌∙◌, arith, inl, inr}
-use Rattle.std.specs.Prelude.{option_map, find, filter_map, is_some}
+use Rattle.std.specs.Prelude.{option_map, find, is_some}
 use Rattle.std.specs.List.{AllByRecursion, starts_with}
 use Rattle.std.proofs.lemmas.Bool.{cases_Bool, eqb-true}
-use Rattle.mqtt_flow_inbound.specs.Line.{away}
 use Rattle.mqtt_flow_inbound.specs.InboundWorld.{restart, step}
 use Rattle.mqtt_records.specs.declared.session.Session.{Session}
 use Rattle.mqtt_records.specs.Records.{changed_all}
@@ -18,11 +17,11 @@ use Rattle.mqtt_rules.proofs.acts.Goods.{after_append}
 use Rattle.mqtt_rules.proofs.acts.Acts.{leads_settle}
 use Rattle.mqtt_world_model.specs.Ends.{Publisher}
 use Rattle.mqtt_world_model.specs.World.{publisher_restarted}
-use Rattle.mqtt_world_model.specs.Seen.{qos_of_draft, open_in, seen}
+use Rattle.mqtt_world_model.specs.Seen.{open_in, seen}
 use Rattle.mqtt_world_model.specs.Hops.{IsIts, IsOnly, IsOurs, Own, IsKept}
 use Rattle.mqtt_world_model.proofs.others.Rows.{Face, face, face_at}
 use Rattle.mqtt_world_model.proofs.own.Publishes.{closed_row, closed_at, settles_nothing}
-use Rattle.mqtt_world_model.proofs.seats.Seeing.{done_sessions, some_face, named_face}
+use Rattle.mqtt_world_model.proofs.seats.Seeing.{done_sessions, some_face, named_face, hop_of}
 use Rattle.mqtt_world_model.proofs.others.Far.{AreFar, apart_by, own_deeds}
 use Rattle.mqtt_world_model.proofs.others.FarActs.{IsFarDeed, others, far_law, far_of, far_append}
 use Rattle.mqtt_world_model.proofs.others.Frame.{own_done}
@@ -127,6 +126,7 @@ restart_owns limits choice now client s b k ours births =
     let ds = opening (env_of limits choice start) start in
     own_done client s.birth 0 (rows_of_all ds start.records) (after_all ds start) (stays_opened limits choice now client s b k ours births).own
 
+-- a restart while its session stands is that event of the hop
 pub restart_is_hop : (limits : Limits) (choice : MemberChoice) (now : ℕ) (p : Publisher) (s : Session) (b : Broker) (accepted : List ℕ)
     → IsKept p.client s b → AllByRecursion (IsOurs p.client s.birth) b.records.sessions → s.birth ≤ b.records.births
     → seen accepted (publisher_restarted p) (opened limits choice now b.records) ≡ step (seen accepted p b) restart
@@ -145,16 +145,4 @@ restart_is_hop limits choice now p s b accepted k ours births =
     ap (λ (ss : List Session). is_some (find (λ (x : Session). bytes_eq x.client p.client) ss)) sessions ∙ (named.0 ∙ sym before.0) in
     let open_ids : open_in (session_named p.client new.records) ≡ open_in (session_named p.client b.records) =
     ap (λ (ss : List Session). open_in (find (λ (x : Session). bytes_eq x.client p.client) ss)) sessions ∙ (named.1 ∙ (last.ids_is ∙ sym before.1)) in
-    λ i. record {
-      fates = p.fates;
-      unsent = filter_map qos_of_draft p.unsent;
-      link = away;
-      clean = p.line.clean;
-      linked = false;
-      up = [];
-      down = [];
-      old = [];
-      stands = stands i;
-      ids = open_ids i;
-      accepted = accepted;
-    }
+    λ i. hop_of accepted (publisher_restarted p) false [] [] [] (stands i) (open_ids i)

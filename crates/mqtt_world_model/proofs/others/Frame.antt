@@ -19,11 +19,11 @@ use Rattle.mqtt_rules.proofs.flight.FlightRows.{all_more}
 use Rattle.mqtt_world_model.specs.Lines.{sent_to, is_one_of, unless_closed}
 use Rattle.mqtt_world_model.specs.Ends.{Sent, Publisher}
 use Rattle.mqtt_world_model.specs.World.{publisher_told}
-use Rattle.mqtt_world_model.specs.Seen.{qos_of_draft, shaken, heard_in, is_linked, open_in, seen}
+use Rattle.mqtt_world_model.specs.Seen.{shaken, heard_in, is_linked, open_in, seen}
 use Rattle.mqtt_world_model.specs.Hops.{IsIts, IsOurs, IsOurLine, Own, IsFarCall, IsConnected, IsKept}
 use Rattle.mqtt_world_model.proofs.others.Rows.{face}
 use Rattle.mqtt_world_model.proofs.others.Quiet.{session_on}
-use Rattle.mqtt_world_model.proofs.seats.Seeing.{done_sessions, done_lines, among_closed, told_down, append_heard, linked_of, linked_is, named_face}
+use Rattle.mqtt_world_model.proofs.seats.Seeing.{done_sessions, done_lines, among_closed, told_down, append_heard, linked_of, linked_is, named_face, hop_of}
 use Rattle.mqtt_world_model.proofs.others.Far.{apart_by, not_same, own_deeds}
 use Rattle.mqtt_world_model.proofs.others.FarActs.{far_call}
 
@@ -39,6 +39,7 @@ old_closed : (t : Bool) (old : List Sent) (w : Hop) → w.old ≡ filter_map sha
 old_closed true old w e = refl
 old_closed false old w e = λ i. record w { old = sym e i }
 
+-- a step of others is unseen, but that the line given up may be closed
 pub frame : (limits : Limits) (choice : MemberChoice) (now : ℕ) (call : Call) (p : Publisher) (l : BrokerLine) (s : Session) (b : Broker) (accepted : List ℕ)
     → IsConnected p l s b → Own p.client s.birth l.number b → starts_with nat_eq p.client auto ≡ false → IsFarCall p.client l.number call
     → (es : List HopEvent) × (seen accepted (publisher_told (stepped limits choice now call b) (told limits choice now call b) p) (stepped limits choice now call b) ≡ run es (seen accepted p b))
@@ -77,19 +78,7 @@ frame limits choice now call p l s b accepted c own plain far =
     let ids : open_in (session_named p.client new.records) ≡ open_in (session_named p.client b.records) =
     ap (λ (ss : List Session). open_in (find (λ (x : Session). bytes_eq x.client p.client) ss)) sessions ∙ (at_last.1 ∙ sym at_first.1) in
     let same : seen accepted (publisher_told new (told limits choice now call b) p) new ≡ record (seen accepted p b) { old = filter_map shaken (unless_closed t p.line.old) } =
-    λ i. record {
-      fates = p.fates;
-      unsent = filter_map qos_of_draft p.unsent;
-      link = p.line.link;
-      clean = p.line.clean;
-      linked = linked i;
-      up = ups i;
-      down = downs i;
-      old = filter_map shaken (unless_closed t p.line.old);
-      stands = stands i;
-      ids = ids i;
-      accepted = accepted;
-    } in
+    λ i. hop_of accepted p (linked i) (ups i) (downs i) (filter_map shaken (unless_closed t p.line.old)) (stands i) (ids i) in
     (old_events t, same ∙ old_closed t p.line.old (seen accepted p b) refl)
 
 -- the session and the line stay the publisher's
@@ -144,19 +133,7 @@ away_seen limits choice now call p b accepted none stands ids =
     ap (λ (x : Option ℕ). filter_map heard_in (p.line.down ++ sent_to x new outputs)) none
     ∙ ap (filter_map heard_in) (append-nil p.line.down) in
     let same : seen accepted (publisher_told new (told limits choice now call b) p) new ≡ record (seen accepted p b) { old = filter_map shaken (unless_closed t p.line.old) } =
-    λ i. record {
-      fates = p.fates;
-      unsent = filter_map qos_of_draft p.unsent;
-      link = p.line.link;
-      clean = p.line.clean;
-      linked = linked i;
-      up = ups i;
-      down = downs i;
-      old = filter_map shaken (unless_closed t p.line.old);
-      stands = stands i;
-      ids = ids i;
-      accepted = accepted;
-    } in
+    λ i. hop_of accepted p (linked i) (ups i) (downs i) (filter_map shaken (unless_closed t p.line.old)) (stands i) (ids i) in
     (old_events t, same ∙ old_closed t p.line.old (seen accepted p b) refl)
 
 -- its session stands, connected on the line that it gave up or nowhere

@@ -1,6 +1,6 @@
--- The broker reads a publisher's own PUBLISH of QoS 1 or 0, which opens no identifier: it is a step of the hop, or none.
+-- The broker reads a PUBLISH of QoS 1 or 0 on a line of the publisher's session, which opens no identifier: what its deeds give.
 use Rattle.std.proofs.Common.{◌≡◌, ℕ, Bool, true, false, List, [], ◌∷◌, ◌++◌, Option, Some, None, nat_eq, refl, sym, ap, subst, ◌∙◌, append-nil}
-use Rattle.std.specs.Prelude.{option_map, filter_map}
+use Rattle.std.specs.Prelude.{option_map}
 use Rattle.std.proofs.lemmas.Cmp.{nat_eq_equiv}
 use Rattle.mqtt_codec.specs.declared.publish.Delivery.{Delivery as Handing}
 use Rattle.mqtt_codec.specs.declared.publish.Delivery.TheVariants as delivery
@@ -9,24 +9,18 @@ use Rattle.mqtt_topic.specs.Names.{is_empty}
 use Rattle.mqtt_flow_inbound.specs.declared.inflow.Published.{Published}
 use Rattle.mqtt_flow_inbound.specs.declared.inflow.Published.TheVariants.{New, Again, Over}
 use Rattle.mqtt_base.specs.Codes.{success, no_matching_subscribers, quota_exceeded, receive_maximum_exceeded}
-use Rattle.mqtt_flow_inbound.specs.Inbound.{answer_to}
-use Rattle.mqtt_flow_inbound.specs.Publisher.{FromPublisher, PUBLISH_1, ToPublisher, PUBACK, PUBREC, DISCONNECT}
-use Rattle.mqtt_flow_inbound.specs.InboundWorld.{World as Hop, Choice, takes, takes_unheard, refuses, Event as HopEvent, to_broker, close, Verdict, accept, refuse, repeat, shut, verdict_on, answer_1, on_publish_1, step, run}
+use Rattle.mqtt_flow_inbound.specs.Publisher.{ToPublisher, PUBACK, PUBREC, DISCONNECT}
+use Rattle.mqtt_flow_inbound.specs.InboundWorld.{Choice, Verdict, accept, refuse, repeat, shut, verdict_on, answer_1}
 use Rattle.mqtt_records.specs.declared.session.Session.{Session}
-use Rattle.mqtt_rules.specs.declared.Limits.{Limits}
-use Rattle.mqtt_rules.specs.State.{Line as BrokerLine, Broker, Env, MemberChoice, session_at}
+use Rattle.mqtt_rules.specs.State.{Line as BrokerLine, Broker, Env, session_at}
 use Rattle.mqtt_rules.specs.Deeds.{Message, FromClient, Deed, Accept, after, after_all}
 use Rattle.mqtt_rules.specs.Routing.{CopyTo, accepted_copies, next_publication, is_wanted}
 use Rattle.mqtt_rules.specs.Closing.{never}
 use Rattle.mqtt_rules.specs.Inbound.{Meaning, Means, Wrong, meaning, sets_alias, standing, answer, opens, code_again, code_accepted, publish_new, publish_by, message_of, publish_meant, on_publish}
-use Rattle.mqtt_rules.specs.Step.{Input, next_packet, env_of, stepped}
-use Rattle.mqtt_world_model.specs.Ends.{Content, Sent, shake, plain, content_at, Publisher, wire}
-use Rattle.mqtt_world_model.specs.Seen.{shaken, heard_in, seen}
-use Rattle.mqtt_world_model.specs.Hops.{IsConnected, after_step, counted, numbers_of, wire_1, Becomes}
+use Rattle.mqtt_world_model.specs.Ends.{Content}
 use Rattle.mqtt_world_model.proofs.others.Rows.{Face, face, face_at}
 use Rattle.mqtt_world_model.proofs.others.Quiet.{session_on, calm, copies_of, quiet_copies}
 use Rattle.mqtt_world_model.proofs.own.Publishes.{Gives, quiet_then, choice_of, on_by, shuts, numbers_by, closed_face, drop_gives}
-use Rattle.mqtt_world_model.proofs.own.OwnStep.{heard_of, input_gives, still_on, seen_by, sees, seen_with, seen_before}
 
 -- ---- by its answer, of which QoS 0 has none
 
@@ -150,113 +144,25 @@ pub light_does : (env : Env) (l : BrokerLine) (s : Session) (d : Handing) (c : C
     → (e : Effect) × Does e d l s (on_publish env l s (handed d c) b) b
 light_does env l s d c b light at on there no_will no_end = meant_does (meaning (handed d c) l.aliases) env l s d c b light at on there no_will no_end
 
--- ---- QoS 1: one event of the hop
+-- ---- what QoS 1 is told, and what is left of the session
 
-told_1 : (v : Verdict) (dup : Bool) (id : ℕ) → told_by (delivery.AtLeastOnce dup id) v ≡ answer_1 v id ∷ []
+-- the answer of QoS 1 is the hop's
+pub told_1 : (v : Verdict) (dup : Bool) (id : ℕ) → told_by (delivery.AtLeastOnce dup id) v ≡ answer_1 v id ∷ []
 told_1 (accept code) dup id = refl
 told_1 refuse dup id = refl
 told_1 repeat dup id = refl
 told_1 shut dup id = refl
 
+-- the session keeps its client identifier
 pub light_client : (v : Verdict) (now : ℕ) (f : Face) → (light_face v now f).client ≡ f.client
 light_client (accept code) now f = refl
 light_client refuse now f = refl
 light_client repeat now f = refl
 light_client shut now f = refl
 
-agrees_1 : (v : Verdict) (id k m now : ℕ) (accepted : List ℕ) (p : Publisher) (rest : List Sent) (up : List FromPublisher) (f : Face) (birth : ℕ)
-    → seen_by (accepted ++ counted k (numbers_by v m)) p rest (light_face v now f) (on_by v birth) (answer_1 v id ∷ []) (shuts v)
-    ≡ on_publish_1 v id k (filter_map shaken rest) (seen_with accepted p up f.inbound)
-agrees_1 (accept code) id k m now accepted p rest up f birth = refl
-agrees_1 refuse id k m now accepted p rest up f birth = ap (λ (ks : List ℕ). seen_by ks p rest f (Some (Some birth)) (answer_1 refuse id ∷ []) false) (append-nil accepted)
-agrees_1 repeat id k m now accepted p rest up f birth = ap (λ (ks : List ℕ). seen_by ks p rest f (Some (Some birth)) (answer_1 repeat id ∷ []) false) (append-nil accepted)
-agrees_1 shut id k m now accepted p rest up f birth = ap (λ (ks : List ℕ). seen_by ks p rest f None (answer_1 shut id ∷ []) true) (append-nil accepted)
-
-effect_1 : (x : Effect) (limits : Limits) (choice : MemberChoice) (now : ℕ) (p : Publisher) (rest : List Sent) (id k : ℕ) (dup : Bool) (l : BrokerLine) (s : Session) (b : Broker) (accepted : List ℕ)
-    → p.line.up ≡ shake (PUBLISH_1 id k dup) ∷ rest → IsConnected p l s b
-    → Does x (delivery.AtLeastOnce dup id) l s (next_packet (env_of limits choice b) l (wire_1 p id k dup) s (heard_of now l.number b)) (heard_of now l.number b)
-    → (e : HopEvent) × Becomes limits choice now (Input l.number (wire_1 p id k dup)) k p b accepted e
-effect_1 (chooses pick) limits choice now p rest id k dup l s b accepted up c d =
-    let call = Input l.number (wire_1 p id k dup) in
-    let v = verdict_on (answer_to id s.inbound) pick in
-    let h = heard_of now l.number b in
-    let f = light_face v h.now (face s) in
-    let told = told_by (delivery.AtLeastOnce dup id) v in
-    let g = input_gives limits choice now (wire_1 p id k dup) l s b f (on_by v s.birth) told (shuts v) (numbers_by v (next_publication h.records)) c.line c.connected c.session d in (
-      to_broker pick,
-      sees limits choice now call p rest (shake (PUBLISH_1 id k dup)) l s b (accepted ++ counted k (numbers_of limits choice now call b)) f (on_by v s.birth) told (shuts v) _ up c (light_client v h.now (face s) ∙ c.client) g
-          ∙ (ap (λ (ks : List ℕ). seen_by (accepted ++ counted k ks) p rest f (on_by v s.birth) told (shuts v)) g.numbers_is
-          ∙ (ap (λ (ps : List ToPublisher). seen_by (accepted ++ counted k (numbers_by v (next_publication h.records))) p rest f (on_by v s.birth) ps (shuts v)) (told_1 v dup id)
-          ∙ (agrees_1 v id k (next_publication h.records) h.now accepted p rest (PUBLISH_1 id k dup ∷ filter_map shaken rest) (face s) s.birth
-          ∙ sym (ap (λ (w : Hop). step w (to_broker pick)) (seen_before p rest (shake (PUBLISH_1 id k dup)) l s b accepted up c))))),
-    )
-effect_1 (drops code) limits choice now p rest id k dup l s b accepted up c d =
-    let call = Input l.number (wire_1 p id k dup) in
-    let h = heard_of now l.number b in
-    let f = closed_face h.now (face s) in
-    let g = input_gives limits choice now (wire_1 p id k dup) l s b f None (DISCONNECT code ∷ []) true [] c.line c.connected c.session d in (
-      close code,
-      sees limits choice now call p rest (shake (PUBLISH_1 id k dup)) l s b (accepted ++ counted k (numbers_of limits choice now call b)) f None (DISCONNECT code ∷ []) true [] up c c.client g
-          ∙ (ap (λ (ks : List ℕ). seen_by (accepted ++ counted k ks) p rest f None (DISCONNECT code ∷ []) true) g.numbers_is
-          ∙ (ap (λ (ks : List ℕ). seen_by ks p rest f None (DISCONNECT code ∷ []) true) (append-nil accepted)
-          ∙ sym (ap (λ (w : Hop). step w (close code)) (seen_before p rest (shake (PUBLISH_1 id k dup)) l s b accepted up c)))),
-    )
-
-pub publish_1_is_hop : (limits : Limits) (choice : MemberChoice) (now : ℕ) (p : Publisher) (rest : List Sent) (id k : ℕ) (dup : Bool) (l : BrokerLine) (s : Session) (b : Broker) (accepted : List ℕ)
-    → p.line.up ≡ shake (PUBLISH_1 id k dup) ∷ rest → IsConnected p l s b
-    → (e : HopEvent) × Becomes limits choice now (Input l.number (wire_1 p id k dup)) k p b accepted e
-publish_1_is_hop limits choice now p rest id k dup l s b accepted up c =
-    let d = light_does (env_of limits choice b) l s (delivery.AtLeastOnce dup id) (content_at k p.contents) (heard_of now l.number b) refl c.session c.connected (still_on now l s b c.line c.connected) c.no_will c.no_end in
-    effect_1 d.0 limits choice now p rest id k dup l s b accepted up c d.1
-
--- ---- QoS 0: no event of the hop, or its line is dropped
-
-nothing_new : (v : Verdict) (p : Publisher) (rest : List Sent) (now : ℕ) (f : Face) (birth : ℕ) (accepted : List ℕ) → told_by delivery.AtMostOnce v ≡ [] → shuts v ≡ false
-    → seen_by accepted p rest (light_face v now f) (on_by v birth) (told_by delivery.AtMostOnce v) (shuts v) ≡ seen_with accepted p (filter_map shaken rest) f.inbound
-nothing_new (accept code) p rest now f birth accepted told open_ = λ i. record (seen_with accepted p (filter_map shaken rest) f.inbound) { down = append-nil (filter_map heard_in p.line.down) i }
-nothing_new refuse p rest now f birth accepted told open_ = λ i. record (seen_with accepted p (filter_map shaken rest) f.inbound) { down = append-nil (filter_map heard_in p.line.down) i }
-nothing_new repeat p rest now f birth accepted told open_ = λ i. record (seen_with accepted p (filter_map shaken rest) f.inbound) { down = append-nil (filter_map heard_in p.line.down) i }
-nothing_new shut p rest now f birth accepted told open_ = absurd cc
-
-pub untold : (pick : Choice) → (told_by delivery.AtMostOnce (verdict_on New pick) ≡ []) × (shuts (verdict_on New pick) ≡ false)
-untold takes = (refl, refl)
-untold takes_unheard = (refl, refl)
-untold refuses = (refl, refl)
-
-effect_0 : (x : Effect) (limits : Limits) (choice : MemberChoice) (now : ℕ) (p : Publisher) (rest : List Sent) (content : Content) (l : BrokerLine) (s : Session) (b : Broker) (accepted : List ℕ)
-    → p.line.up ≡ plain content ∷ rest → IsConnected p l s b
-    → Does x delivery.AtMostOnce l s (next_packet (env_of limits choice b) l (wire p.client p.contents (plain content)) s (heard_of now l.number b)) (heard_of now l.number b)
-    → (es : List HopEvent)
-    × (seen accepted (after_step limits choice now (Input l.number (wire p.client p.contents (plain content))) p b) (stepped limits choice now (Input l.number (wire p.client p.contents (plain content))) b) ≡ run es (seen accepted p b))
-effect_0 (chooses pick) limits choice now p rest content l s b accepted up c d =
-    let packet = wire p.client p.contents (plain content) in
-    let call = Input l.number packet in
-    let v = verdict_on New pick in
-    let h = heard_of now l.number b in
-    let f = light_face v h.now (face s) in
-    let told = told_by delivery.AtMostOnce v in
-    let g = input_gives limits choice now packet l s b f (on_by v s.birth) told (shuts v) (numbers_by v (next_publication h.records)) c.line c.connected c.session d in
-    let none = untold pick in (
-      [],
-      sees limits choice now call p rest (plain content) l s b accepted f (on_by v s.birth) told (shuts v) _ up c (light_client v h.now (face s) ∙ c.client) g
-          ∙ (nothing_new v p rest h.now (face s) s.birth accepted none.0 none.1
-          ∙ sym (seen_before p rest (plain content) l s b accepted up c)),
-    )
-effect_0 (drops code) limits choice now p rest content l s b accepted up c d =
-    let packet = wire p.client p.contents (plain content) in
-    let call = Input l.number packet in
-    let h = heard_of now l.number b in
-    let f = closed_face h.now (face s) in
-    let g = input_gives limits choice now packet l s b f None (DISCONNECT code ∷ []) true [] c.line c.connected c.session d in (
-      close code ∷ [],
-      sees limits choice now call p rest (plain content) l s b accepted f None (DISCONNECT code ∷ []) true [] up c c.client g
-          ∙ sym (ap (λ (w : Hop). step w (close code)) (seen_before p rest (plain content) l s b accepted up c)),
-    )
-
-pub plain_is_hop : (limits : Limits) (choice : MemberChoice) (now : ℕ) (p : Publisher) (rest : List Sent) (content : Content) (l : BrokerLine) (s : Session) (b : Broker) (accepted : List ℕ)
-    → p.line.up ≡ plain content ∷ rest → IsConnected p l s b
-    → (es : List HopEvent)
-    × (seen accepted (after_step limits choice now (Input l.number (wire p.client p.contents (plain content))) p b) (stepped limits choice now (Input l.number (wire p.client p.contents (plain content))) b) ≡ run es (seen accepted p b))
-plain_is_hop limits choice now p rest content l s b accepted up c =
-    let d = light_does (env_of limits choice b) l s delivery.AtMostOnce content (heard_of now l.number b) refl c.session c.connected (still_on now l s b c.line c.connected) c.no_will c.no_end in
-    effect_0 d.0 limits choice now p rest content l s b accepted up c d.1
+-- and its open identifiers
+pub light_ids : (v : Verdict) (now : ℕ) (f : Face) → (light_face v now f).inbound ≡ f.inbound
+light_ids (accept code) now f = refl
+light_ids refuse now f = refl
+light_ids repeat now f = refl
+light_ids shut now f = refl

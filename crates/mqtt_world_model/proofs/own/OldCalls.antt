@@ -1,25 +1,25 @@
 -- What the broker reads of the line that a publisher gave up: a packet of its session, or a late CONNECT.
-use Rattle.std.proofs.Common.{◌≡◌, ℕ, suc, ◌≤◌, Bool, true, false, List, [], ◌∷◌, ◌++◌, drop, length, Option, Some, None, nat_lt, refl, sym, ap, subst, ◌∙◌, append-nil, inl, inr}
+use Rattle.std.proofs.Common.{◌≡◌, ℕ, suc, ◌≤◌, Bool, true, false, List, [], ◌∷◌, ◌++◌, drop, length, Option, Some, None, nat_lt, refl, sym, ap, subst, ◌∙◌, inl, inr}
 use Rattle.std.specs.Prelude.{option_map, filter_map, is_some}
 use Rattle.std.specs.List.{AllByRecursion}
 use Rattle.std.proofs.lemmas.Bool.{cases_Bool}
-use Rattle.mqtt_flow_inbound.specs.Publisher.{FromPublisher, CONNECT, PUBLISH_1, PUBLISH_2, PUBREL}
-use Rattle.mqtt_flow_inbound.specs.InboundWorld.{World as Hop, Event as HopEvent, takes, refuses, old_to_broker, broker_reads_old, on_connect, on_old_connect, step, run}
+use Rattle.mqtt_flow_inbound.specs.Publisher.{FromPublisher, CONNECT}
+use Rattle.mqtt_flow_inbound.specs.InboundWorld.{World as Hop, takes, refuses, old_to_broker, broker_reads_old, on_connect, on_old_connect, step, run}
 use Rattle.mqtt_records.specs.declared.session.Session.{Session}
 use Rattle.mqtt_rules.specs.declared.Limits.{Limits}
 use Rattle.mqtt_rules.specs.State.{MemberChoice, Line as BrokerLine, Broker, session_named, line_at, line_of}
 use Rattle.mqtt_rules.specs.Deeds.{Deed, Accept, Begin, Name, Count, At, Finish, Keep, Forget, RefuseWill, Link, On, Send, Gone, after, after_all, rows_of_all}
 use Rattle.mqtt_rules.specs.Step.{Input, at_moment, deeds, stepped, told}
 use Rattle.mqtt_world_model.specs.Lines.{Line, is_one_of, unless_closed, told_by}
-use Rattle.mqtt_world_model.specs.Ends.{Sent, shake, plain, Publisher, wire, message_in}
+use Rattle.mqtt_world_model.specs.Ends.{Sent, shake, Publisher, wire, message_in}
 use Rattle.mqtt_world_model.specs.World.{taken_old}
 use Rattle.mqtt_world_model.specs.Run.{each_of}
-use Rattle.mqtt_world_model.specs.Seen.{qos_of_draft, shaken, is_linked, open_in, seen}
-use Rattle.mqtt_world_model.specs.Hops.{Own, IsInOrder, IsKept, IsConnected, IsNoConnect, IsAsking, IsFirst, IsLate, lines_left, after_old_step, turned_back, counted, numbers_of, connect_packet}
+use Rattle.mqtt_world_model.specs.Seen.{shaken, is_linked, open_in, seen}
+use Rattle.mqtt_world_model.specs.Hops.{Own, IsInOrder, IsKept, IsConnected, IsNoConnect, IsAsking, IsFirst, IsLate, lines_left, after_old_step, turned_back, connect_packet}
 use Rattle.mqtt_world_model.specs.Seats.{Comes, IsApart, IsHis, IsIdle, IsNamed, IsSound, Present, absent, closed, joined, over, waiting}
 use Rattle.mqtt_world_model.proofs.others.Quiet.{session_on}
-use Rattle.mqtt_world_model.proofs.seats.Seeing.{done_lines, linked_of, linked_is}
-use Rattle.mqtt_world_model.proofs.own.OldLine.{old_publish_is_hop, old_pubrel_is_hop, old_publish_1_is_hop, old_plain_is_hop}
+use Rattle.mqtt_world_model.proofs.seats.Seeing.{done_lines, linked_of, linked_is, hop_of}
+use Rattle.mqtt_world_model.proofs.own.EitherLine.{given_up, packet_events}
 use Rattle.mqtt_world_model.proofs.seats.Mine.{sent_stays}
 use Rattle.mqtt_world_model.proofs.others.Frame.{kept_given}
 use Rattle.mqtt_world_model.proofs.seats.Owned.{ArePatient}
@@ -43,34 +43,6 @@ all_drop (x ∷ xs) h = h.1
 
 -- ---- a packet of its session, which is connected there
 
-none_more : (accepted more : List ℕ) (q p : Publisher) (c b : Broker) (rest : List FromPublisher) (id : ℕ) → filter_map shaken p.line.old ≡ PUBREL id ∷ rest
-    → seen more q c ≡ step (seen accepted p b) (old_to_broker takes) → more ≡ accepted
-none_more accepted more q p c b rest id up e =
-    ap (λ (w : Hop). w.accepted) e ∙ ap (λ (xs : List FromPublisher). (broker_reads_old takes xs (seen accepted p b)).accepted) up
-
-old_events_of : (limits : Limits) (choice : MemberChoice) (now : ℕ) (p : Publisher) (rest : List Sent) (packet : Sent) (l : BrokerLine) (s : Session) (b : Broker) (accepted : List ℕ)
-    → p.line.old ≡ packet ∷ rest → IsNoConnect packet → IsConnected (turned_back p) l s b
-    → (es : List HopEvent)
-    × (seen (accepted ++ each_of (message_in packet) (deeds limits choice now (Input l.number (wire p.client p.contents packet)) b)) (after_old_step limits choice now (Input l.number (wire p.client p.contents packet)) p b)
-    (stepped limits choice now (Input l.number (wire p.client p.contents packet)) b)
-    ≡ run es (seen accepted p b))
-old_events_of limits choice now p rest (shake (CONNECT clean)) l s b accepted up other c = absurd other
-old_events_of limits choice now p rest (shake (PUBLISH_1 id k dup)) l s b accepted up other c =
-    let x = old_publish_1_is_hop limits choice now p rest id k dup l s b accepted up c in (x.0 ∷ [], x.1)
-old_events_of limits choice now p rest (shake (PUBLISH_2 id k dup)) l s b accepted up other c =
-    let x = old_publish_is_hop limits choice now p rest id k dup l s b accepted up c in (x.0 ∷ [], x.1)
-old_events_of limits choice now p rest (shake (PUBREL id)) l s b accepted up other c =
-    let call = Input l.number (wire p.client p.contents (shake (PUBREL id))) in
-    let e = old_pubrel_is_hop limits choice now p rest id 0 l s b accepted up c in
-    let same = none_more accepted (accepted ++ counted 0 (numbers_of limits choice now call b)) (after_old_step limits choice now call p b) p (stepped limits choice now call b) b (filter_map shaken rest) id (ap (filter_map shaken) up) e in (
-      old_to_broker takes ∷ [],
-      ap (λ (ns : List ℕ). seen ns (after_old_step limits choice now call p b) (stepped limits choice now call b)) (append-nil accepted ∙ sym same) ∙ e,
-    )
-old_events_of limits choice now p rest (plain content) l s b accepted up other c =
-    let call = Input l.number (wire p.client p.contents (plain content)) in
-    let x = old_plain_is_hop limits choice now p rest content l s b accepted up c in
-    (x.0, ap (λ (ns : List ℕ). seen ns (after_old_step limits choice now call p b) (stepped limits choice now call b)) (append-nil accepted) ∙ x.1)
-
 pub old_packet_comes : (limits : Limits) (choice : MemberChoice) (now : ℕ) (p : Publisher) (rest : List Sent) (packet : Sent) (l : BrokerLine) (s : Session) (b : Broker) (accepted : List ℕ)
     → p.line.old ≡ packet ∷ rest → IsNoConnect packet → AllByRecursion IsNoConnect p.line.old → IsConnected (turned_back p) l s b → IsApart p.line.number p.line.old_number
     → IsHis p.client (Some s.birth) l.number b → Present (Some s.birth) l.number p.line b
@@ -78,7 +50,7 @@ pub old_packet_comes : (limits : Limits) (choice : MemberChoice) (now : ℕ) (p 
     accepted (accepted ++ each_of (message_in packet) (deeds limits choice now (Input l.number (wire p.client p.contents packet)) b))
 old_packet_comes limits choice now p rest packet l s b accepted up other calm c apart his present =
     let call = Input l.number (wire p.client p.contents packet) in
-    let x = old_events_of limits choice now p rest packet l s b accepted up other c in
+    let x = packet_events given_up limits choice now p rest packet l s b accepted up other c in
     let own = sent_stays limits choice now (turned_back p) packet l s b other c his.0 in
     let stands = ap (λ (w : Hop). w.stands) x.1 ∙ stands_run x.0 (seen accepted p b) his.1 in
     let on : session_on l.number b.lines ≡ Some (Some s.birth) = ap (option_map (λ (y : BrokerLine). y.session)) c.line ∙ ap Some c.connected in
@@ -247,19 +219,7 @@ late_first limits choice now p l k b accepted named sound order old is apart at 
           let stands : is_some (session_named p.client new.records) ≡ true = ap (λ (z : Hop). z.stands) e ∙ ap (λ (x : Bool). (on_connect x false takes [] u).stands) (ap is_some none) in
           let ids : open_in (session_named p.client new.records) ≡ [] = ap (λ (z : Hop). z.ids) e ∙ ap (λ (x : Bool). (on_connect x false takes [] u).ids) (ap is_some none) in
           let same : seen accepted (after_old_step limits choice now call p b) new ≡ record (record w { up = filter_map shaken (unless_closed t p.line.up) }) { old = []; stands = true; ids = [] } =
-          λ i. record {
-            fates = p.fates;
-            unsent = filter_map qos_of_draft p.unsent;
-            link = p.line.link;
-            clean = p.line.clean;
-            linked = linked i;
-            up = ups i;
-            down = downs i;
-            old = olds i;
-            stands = stands i;
-            ids = ids i;
-            accepted = accepted;
-          } in
+          λ i. hop_of accepted p (linked i) (ups i) (downs i) (olds i) (stands i) (ids i) in
           record {
             birth = Some birth;
             line = l.number;
@@ -280,19 +240,7 @@ late_first limits choice now p l k b accepted named sound order old is apart at 
           ap (λ (z : Hop). z.stands) e ∙ (ap (λ (x : Bool). (on_connect x false refuses [] u).stands) (ap is_some none) ∙ ap is_some none) in
           let still = not_some (session_named p.client new.records) stands in
           let same : seen accepted (after_old_step limits choice now call p b) new ≡ record (record w { up = filter_map shaken (unless_closed t p.line.up) }) { old = [] } =
-          λ i. record {
-            fates = p.fates;
-            unsent = filter_map qos_of_draft p.unsent;
-            link = p.line.link;
-            clean = p.line.clean;
-            linked = linked i;
-            up = ups i;
-            down = downs i;
-            old = olds i;
-            stands = is_some ((still ∙ sym none) i);
-            ids = open_in ((still ∙ sym none) i);
-            accepted = accepted;
-          } in
+          λ i. hop_of accepted p (linked i) (ups i) (downs i) (olds i) (is_some ((still ∙ sym none) i)) (open_in ((still ∙ sym none) i)) in
           record {
             birth = None;
             line = k;

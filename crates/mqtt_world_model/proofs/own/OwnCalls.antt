@@ -1,12 +1,12 @@
 -- What the broker reads of a publisher's own line: a packet of its session, or the CONNECT that the line waits for.
-use Rattle.std.proofs.Common.{◌≡◌, ℕ, suc, ◌≤◌, Bool, true, false, List, [], ◌∷◌, ◌++◌, drop, length, Option, Some, None, nat_eq, nat_lt, refl, sym, ap, subst, ◌∙◌, append-nil, inl, inr}
+use Rattle.std.proofs.Common.{◌≡◌, ℕ, suc, ◌≤◌, Bool, true, false, List, [], ◌∷◌, ◌++◌, drop, length, Option, Some, None, nat_eq, nat_lt, refl, sym, ap, subst, ◌∙◌, inl, inr}
 use Rattle.std.specs.Prelude.{option_map, find, filter_map, is_some}
 use Rattle.std.specs.List.{AllByRecursion}
 use Rattle.std.proofs.lemmas.Bool.{eqb-true, cases_Bool}
 use Rattle.std.proofs.lemmas.Cmp.{nat_eq_equiv}
 use Rattle.mqtt_codec.specs.declared.packet.Packet.{Packet}
 use Rattle.mqtt_flow_inbound.specs.Publisher.{FromPublisher, CONNECT, PUBLISH_1, PUBLISH_2, PUBREL}
-use Rattle.mqtt_flow_inbound.specs.InboundWorld.{World as Hop, Event as HopEvent, takes, refuses, to_broker, spared, broker_reads, on_connect, step, run}
+use Rattle.mqtt_flow_inbound.specs.InboundWorld.{World as Hop, takes, refuses, to_broker, spared, broker_reads, on_connect, step}
 use Rattle.mqtt_records.specs.declared.session.Session.{Session}
 use Rattle.mqtt_rules.specs.declared.Limits.{Limits}
 use Rattle.mqtt_rules.specs.State.{MemberChoice, Line as BrokerLine, Broker, session_named, line_at, line_of, is_of}
@@ -17,13 +17,12 @@ use Rattle.mqtt_world_model.specs.Ends.{Sent, shake, plain, Publisher, wire, mes
 use Rattle.mqtt_world_model.specs.World.{taken_up}
 use Rattle.mqtt_world_model.specs.Run.{each_of}
 use Rattle.mqtt_world_model.specs.Seen.{shaken, is_linked, seen}
-use Rattle.mqtt_world_model.specs.Hops.{IsOurLine, Own, IsInOrder, IsKept, IsConnected, IsNoConnect, IsAsking, IsTaken, IsFirst, MayBegin, lines_left, after_step, counted, numbers_of, connect_packet}
+use Rattle.mqtt_world_model.specs.Hops.{IsOurLine, Own, IsInOrder, IsKept, IsConnected, IsNoConnect, IsAsking, IsTaken, IsFirst, MayBegin, lines_left, after_step, connect_packet}
 use Rattle.mqtt_world_model.specs.Seats.{Comes, Former, Glance, IsApart, IsHis, IsIdle, IsNamed, IsSound, closed, glance, glance_at, joined, late, lingers, over, waits_there}
 use Rattle.mqtt_world_model.proofs.others.Quiet.{session_on}
 use Rattle.mqtt_world_model.proofs.own.Publishes.{line_none}
 use Rattle.mqtt_world_model.proofs.seats.Seeing.{done_lines, linked_of, linked_is}
-use Rattle.mqtt_world_model.proofs.own.OwnStep.{publish_is_hop, pubrel_is_hop}
-use Rattle.mqtt_world_model.proofs.own.LightPublishes.{publish_1_is_hop, plain_is_hop}
+use Rattle.mqtt_world_model.proofs.own.EitherLine.{its_own, packet_events}
 use Rattle.mqtt_world_model.proofs.seats.Mine.{sent_stays}
 use Rattle.mqtt_world_model.proofs.others.Frame.{kept_given}
 use Rattle.mqtt_world_model.proofs.connects.Connects.{call_leaves, connect_is_hop, connect_owns}
@@ -50,42 +49,13 @@ former_taken o k l b (lingers birth own is calm there) = lingers birth own is ca
 
 -- ---- a packet of its session
 
--- no message is accepted
-none_more : (accepted more : List ℕ) (q p : Publisher) (c b : Broker) (rest : List FromPublisher) (id : ℕ) → filter_map shaken p.line.up ≡ PUBREL id ∷ rest
-    → seen more q c ≡ step (seen accepted p b) (to_broker takes) → more ≡ accepted
-none_more accepted more q p c b rest id up e =
-    ap (λ (w : Hop). w.accepted) e ∙ ap (λ (xs : List FromPublisher). (broker_reads takes xs (seen accepted p b)).accepted) up
-
-packet_events : (limits : Limits) (choice : MemberChoice) (now : ℕ) (p : Publisher) (rest : List Sent) (packet : Sent) (l : BrokerLine) (s : Session) (b : Broker) (accepted : List ℕ)
-    → p.line.up ≡ packet ∷ rest → IsNoConnect packet → IsConnected p l s b
-    → (es : List HopEvent)
-    × (seen (accepted ++ each_of (message_in packet) (deeds limits choice now (Input l.number (wire p.client p.contents packet)) b)) (after_step limits choice now (Input l.number (wire p.client p.contents packet)) p b)
-    (stepped limits choice now (Input l.number (wire p.client p.contents packet)) b)
-    ≡ run es (seen accepted p b))
-packet_events limits choice now p rest (shake (CONNECT clean)) l s b accepted up other c = absurd other
-packet_events limits choice now p rest (shake (PUBLISH_1 id k dup)) l s b accepted up other c =
-    let x = publish_1_is_hop limits choice now p rest id k dup l s b accepted up c in (x.0 ∷ [], x.1)
-packet_events limits choice now p rest (shake (PUBLISH_2 id k dup)) l s b accepted up other c =
-    let x = publish_is_hop limits choice now p rest id k dup l s b accepted up c in (x.0 ∷ [], x.1)
-packet_events limits choice now p rest (shake (PUBREL id)) l s b accepted up other c =
-    let call = Input l.number (wire p.client p.contents (shake (PUBREL id))) in
-    let e = pubrel_is_hop limits choice now p rest id 0 l s b accepted up c in
-    let same = none_more accepted (accepted ++ counted 0 (numbers_of limits choice now call b)) (after_step limits choice now call p b) p (stepped limits choice now call b) b (filter_map shaken rest) id (ap (filter_map shaken) up) e in (
-      to_broker takes ∷ [],
-      ap (λ (ns : List ℕ). seen ns (after_step limits choice now call p b) (stepped limits choice now call b)) (append-nil accepted ∙ sym same) ∙ e,
-    )
-packet_events limits choice now p rest (plain content) l s b accepted up other c =
-    let call = Input l.number (wire p.client p.contents (plain content)) in
-    let x = plain_is_hop limits choice now p rest content l s b accepted up c in
-    (x.0, ap (λ (ns : List ℕ). seen ns (after_step limits choice now call p b) (stepped limits choice now call b)) (append-nil accepted) ∙ x.1)
-
 pub packet_comes : (limits : Limits) (choice : MemberChoice) (now : ℕ) (p : Publisher) (rest : List Sent) (packet : Sent) (l : BrokerLine) (s : Session) (b : Broker) (accepted : List ℕ)
     → p.line.up ≡ packet ∷ rest → IsNoConnect packet → IsConnected p l s b → IsApart p.line.number p.line.old_number → IsHis p.client (Some s.birth) l.number b → Former (Some s.birth) l.number p.line b
     → Comes l.number p (after_step limits choice now (Input l.number (wire p.client p.contents packet)) p b) b (stepped limits choice now (Input l.number (wire p.client p.contents packet)) b)
     accepted (accepted ++ each_of (message_in packet) (deeds limits choice now (Input l.number (wire p.client p.contents packet)) b))
 packet_comes limits choice now p rest packet l s b accepted up other c apart his former =
     let call = Input l.number (wire p.client p.contents packet) in
-    let x = packet_events limits choice now p rest packet l s b accepted up other c in
+    let x = packet_events its_own limits choice now p rest packet l s b accepted up other c in
     let own = sent_stays limits choice now p packet l s b other c his.0 in
     let stands = ap (λ (w : Hop). w.stands) x.1 ∙ stands_run x.0 (seen accepted p b) his.1 in
     let on : session_on l.number b.lines ≡ Some (Some s.birth) = ap (option_map (λ (y : BrokerLine). y.session)) c.line ∙ ap Some c.connected in

@@ -20,12 +20,12 @@ use Rattle.mqtt_rules.specs.Step.{Call, Outcome, with_moment, at_moment, deeds, 
 use Rattle.mqtt_world_model.specs.Lines.{Line, sent_to, is_one_of, unless_closed, told_by}
 use Rattle.mqtt_world_model.specs.Ends.{Sent, Publisher}
 use Rattle.mqtt_world_model.specs.World.{publisher_told}
-use Rattle.mqtt_world_model.specs.Seen.{qos_of_draft, shaken, heard_in, has_session, is_linked, open_in, seen}
+use Rattle.mqtt_world_model.specs.Seen.{shaken, heard_in, has_session, is_linked, open_in, seen}
 use Rattle.mqtt_world_model.specs.Hops.{IsIts, IsOurs, Own, IsKept, IsNoConnect}
 use Rattle.mqtt_world_model.specs.Seats.{Former, HasNobody, IsHis, IsIdle, Present, Seat, absent, closed, glance_at, joined, late, lingers, over, waiting}
 use Rattle.mqtt_world_model.proofs.others.Rows.{Face, face}
 use Rattle.mqtt_world_model.proofs.others.Quiet.{told_to, closes, session_on}
-use Rattle.mqtt_world_model.proofs.seats.Seeing.{done_sessions, done_lines, among_closed, told_down, append_heard, linked_of, linked_is}
+use Rattle.mqtt_world_model.proofs.seats.Seeing.{done_sessions, done_lines, among_closed, told_down, append_heard, linked_of, linked_is, hop_of}
 use Rattle.mqtt_world_model.proofs.others.Far.{AreFar, apart_by, own_deeds}
 use Rattle.mqtt_world_model.proofs.others.Frame.{own_done, old_events}
 use Rattle.mqtt_world_model.proofs.others.Untouched.{AreAway, spared_by, idle_deeds}
@@ -367,6 +367,7 @@ pub old_after : (t : Bool) (w : Hop) → (run (own_events t) w).old ≡ w.old
 old_after true w = refl
 old_after false w = refl
 
+-- where the publisher is after a step of others, and what it saw of it
 pub far_step : (limits : Limits) (choice : MemberChoice) (now : ℕ) (call : Call) (o : Option ℕ) (k : ℕ) (p : Publisher) (b : Broker) (accepted : List ℕ)
     → Seat o k p b → AreFarFrom p.client o k p.line (deeds limits choice now call b) (at_moment now b)
     → Seat o k (publisher_told (stepped limits choice now call b) (told limits choice now call b) p) (stepped limits choice now call b)
@@ -391,19 +392,7 @@ far_step limits choice now call o k p b accepted seat far =
     let stands = r.stands in
     let ids = r.ids in
     let same : seen accepted q new ≡ record mid { old = filter_map shaken (unless_closed u p.line.old) } =
-    λ i. record {
-      fates = p.fates;
-      unsent = filter_map qos_of_draft p.unsent;
-      link = p.line.link;
-      clean = p.line.clean;
-      linked = linked i;
-      up = ups i;
-      down = downs i;
-      old = filter_map shaken (unless_closed u p.line.old);
-      stands = stands i;
-      ids = ids i;
-      accepted = accepted;
-    } in
+    λ i. hop_of accepted p (linked i) (ups i) (downs i) (filter_map shaken (unless_closed u p.line.old)) (stands i) (ids i) in
     let first = closes_own t p.line.up w refl own.ups.1 in
     let second = closes_old u p.line.old (run (own_events t) w) (old_after t w) in (
       record { his = r.his; present = own.present; former = former },

@@ -1,19 +1,22 @@
 -- From the deeds of a step to what a publisher sees of the world after it.
-use Rattle.std.proofs.Common.{◌≡◌, ℕ, Bool, true, false, cond, ◌||◌, List, [], ◌∷◌, ◌++◌, Option, Some, None, nat_eq, refl, ap, ◌∙◌}
-use Rattle.std.specs.Prelude.{option_map, filter_map, is_some}
+use Rattle.std.proofs.Common.{◌≡◌, ℕ, Bool, true, false, cond, ◌||◌, List, [], ◌∷◌, ◌++◌, drop, Option, Some, None, nat_eq, bytes_eq, refl, ap, ◌∙◌}
+use Rattle.std.specs.Prelude.{option_map, find, filter_map, is_some}
 use Rattle.std.specs.List.{cons_option}
 use Rattle.std.proofs.lemmas.List.Elements.{filter_map-append}
 use Rattle.mqtt_codec.specs.declared.packet.Packet.{Packet}
+use Rattle.mqtt_flow_inbound.specs.Publisher.{FromPublisher, ToPublisher}
+use Rattle.mqtt_flow_inbound.specs.InboundWorld.{World as Hop}
 use Rattle.mqtt_records.specs.declared.session.Session.{Session}
 use Rattle.mqtt_records.specs.declared.change.Change.{Change}
 use Rattle.mqtt_records.specs.declared.records.Records.{Records}
-use Rattle.mqtt_rules.specs.State.{Line as BrokerLine, Broker, session_at, session_named, line_at}
-use Rattle.mqtt_rules.specs.Deeds.{Deed, output, closing}
-use Rattle.mqtt_rules.specs.Step.{with_moment}
-use Rattle.mqtt_world_model.specs.Lines.{Down, copy_in, sent_to, is_one_of}
-use Rattle.mqtt_world_model.specs.Ends.{heard}
-use Rattle.mqtt_world_model.specs.Seen.{heard_in, has_session, is_linked, open_in}
-use Rattle.mqtt_world_model.specs.Hops.{IsOnly}
+use Rattle.mqtt_rules.specs.declared.Limits.{Limits}
+use Rattle.mqtt_rules.specs.State.{MemberChoice, Line as BrokerLine, Broker, session_at, session_named, line_at}
+use Rattle.mqtt_rules.specs.Deeds.{Deed, output, closing, after_all, rows_of_all}
+use Rattle.mqtt_rules.specs.Step.{Call, with_moment, at_moment, deeds, stepped}
+use Rattle.mqtt_world_model.specs.Lines.{Down, copy_in, sent_to, is_one_of, unless_closed}
+use Rattle.mqtt_world_model.specs.Ends.{Publisher, heard}
+use Rattle.mqtt_world_model.specs.Seen.{qos_of_draft, shaken, heard_in, has_session, is_linked, open_in, seen}
+use Rattle.mqtt_world_model.specs.Hops.{IsOnly, after_step}
 use Rattle.mqtt_world_model.proofs.others.Rows.{Face, face, face_at}
 use Rattle.mqtt_world_model.proofs.others.Quiet.{heard_on, heard_by, told_to, is_closing, closes, session_on}
 use Rattle.mqtt_world_model.proofs.others.Names.{named_is}
@@ -84,3 +87,77 @@ named_face client birth r f only at is =
     let its : s.client ≡ client = ap (λ (g : Face). g.client) found.2 ∙ is in
     let named : session_named client r ≡ Some s = named_is client birth r s only found.1 its in
     (ap is_some named, ap open_in named ∙ ap (λ (g : Face). g.inbound) found.2)
+
+-- ---- the world after a call, as its deeds leave it
+
+-- the session of a name
+pub named_after : (limits : Limits) (choice : MemberChoice) (now : ℕ) (call : Call) (client : List ℕ) (b : Broker)
+    → session_named client (stepped limits choice now call b).records ≡ session_named client (after_all (deeds limits choice now call b) (at_moment now b)).records
+named_after limits choice now call client b =
+    let ds = deeds limits choice now call b in
+    let start = at_moment now b in
+    ap (λ (ss : List Session). find (λ (x : Session). bytes_eq x.client client) ss) (done_sessions (rows_of_all ds start.records) (after_all ds start))
+
+-- whether a session is connected on a line
+pub linked_after : (limits : Limits) (choice : MemberChoice) (now : ℕ) (call : Call) (n : ℕ) (b : Broker)
+    → is_linked (Some n) (stepped limits choice now call b) ≡ linked_of (session_on n (after_all (deeds limits choice now call b) (at_moment now b)).lines)
+linked_after limits choice now call n b =
+    let ds = deeds limits choice now call b in
+    let start = at_moment now b in
+    linked_is n (stepped limits choice now call b)
+    ∙ ap (λ (ls : List BrokerLine). linked_of (session_on n ls)) (done_lines (rows_of_all ds start.records) (after_all ds start))
+
+-- what is under way on a line to its end
+pub told_after : (limits : Limits) (choice : MemberChoice) (now : ℕ) (call : Call) (n : ℕ) (down : List Down) (b : Broker)
+    → filter_map heard_in (down ++ sent_to (Some n) (stepped limits choice now call b) (filter_map output (deeds limits choice now call b)))
+    ≡ filter_map heard_in down ++ told_to n (deeds limits choice now call b)
+told_after limits choice now call n down b =
+    let ds = deeds limits choice now call b in
+    let new = stepped limits choice now call b in
+    append_heard down (sent_to (Some n) new (filter_map output ds)) ∙ ap (λ (ps : List ToPublisher). filter_map heard_in down ++ ps) (told_down n new ds)
+
+-- ---- what a publisher sees, part by part
+
+-- a hop with this publisher's messages, link and Clean Start, and these parts
+abbrev pub hop_of : List ℕ → Publisher → Bool → List FromPublisher → List ToPublisher → List FromPublisher → Bool → List ℕ → Hop
+hop_of accepted p linked up down old stands ids = record {
+  fates = p.fates;
+  unsent = filter_map qos_of_draft p.unsent;
+  link = p.line.link;
+  clean = p.line.clean;
+  linked = linked;
+  up = up;
+  down = down;
+  old = old;
+  stands = stands;
+  ids = ids;
+  accepted = accepted;
+}
+
+-- what deeds leave for a publisher whose line is n: the packets ps go out there
+pub record Shows (p : Publisher) (n : ℕ) (ds : List Deed) (b : Broker) (linked : Bool) (up : List FromPublisher) (ps : List ToPublisher) (old : List FromPublisher) (stands : Bool) (ids : List ℕ) : Type 0 where
+  pub linked_is : linked_of (session_on n (after_all ds b).lines) ≡ linked
+  pub up_is : filter_map shaken (unless_closed (is_one_of (Some n) (filter_map closing ds)) (drop 1 p.line.up)) ≡ up
+  pub told_is : told_to n ds ≡ ps
+  pub old_is : filter_map shaken (unless_closed (is_one_of p.line.old_number (filter_map closing ds)) p.line.old) ≡ old
+  pub stands_is : is_some (session_named p.client (after_all ds b).records) ≡ stands
+  pub ids_is : open_in (session_named p.client (after_all ds b).records) ≡ ids
+
+-- after a step in which the first packet of its line was read, it sees what the deeds leave for it
+pub shown_is_seen : (limits : Limits) (choice : MemberChoice) (now : ℕ) (call : Call) (p : Publisher) (n : ℕ) (b : Broker) (accepted : List ℕ)
+    (linked : Bool) (up : List FromPublisher) (ps : List ToPublisher) (old : List FromPublisher) (stands : Bool) (ids : List ℕ)
+    → p.line.number ≡ Some n → Shows p n (deeds limits choice now call b) (at_moment now b) linked up ps old stands ids
+    → seen accepted (after_step limits choice now call p b) (stepped limits choice now call b) ≡ hop_of accepted p linked up (filter_map heard_in p.line.down ++ ps) old stands ids
+shown_is_seen limits choice now call p n b accepted linked up ps old stands ids is x =
+    let ds = deeds limits choice now call b in
+    let new = stepped limits choice now call b in
+    let links : is_linked p.line.number new ≡ linked = ap (λ (o : Option ℕ). is_linked o new) is ∙ (linked_after limits choice now call n b ∙ x.linked_is) in
+    let ups : filter_map shaken (unless_closed (is_one_of p.line.number (filter_map closing ds)) (drop 1 p.line.up)) ≡ up =
+    ap (λ (o : Option ℕ). filter_map shaken (unless_closed (is_one_of o (filter_map closing ds)) (drop 1 p.line.up))) is ∙ x.up_is in
+    let downs : filter_map heard_in (p.line.down ++ sent_to p.line.number new (filter_map output ds)) ≡ filter_map heard_in p.line.down ++ ps =
+    ap (λ (o : Option ℕ). filter_map heard_in (p.line.down ++ sent_to o new (filter_map output ds))) is
+    ∙ (told_after limits choice now call n p.line.down b ∙ ap (λ (xs : List ToPublisher). filter_map heard_in p.line.down ++ xs) x.told_is) in
+    let named = named_after limits choice now call p.client b in
+    let stand : is_some (session_named p.client new.records) ≡ stands = ap is_some named ∙ x.stands_is in
+    let open_ids : open_in (session_named p.client new.records) ≡ ids = ap open_in named ∙ x.ids_is in
+    λ i. hop_of accepted p (links i) (ups i) (downs i) (x.old_is i) (stand i) (open_ids i)

@@ -1,6 +1,5 @@
 -- What the publisher sees of its own packets: by the deeds of each.
-use Rattle.mqtt_world_model.proofs.own.OwnStep.{publish_is_hop, pubrel_is_hop}
-use Rattle.mqtt_world_model.proofs.own.LightPublishes.{publish_1_is_hop, plain_is_hop}
+use Rattle.mqtt_world_model.proofs.own.EitherLine.{its_own, publish_is_hop, pubrel_is_hop, publish_1_is_hop, plain_is_hop}
 use Rattle.mqtt_world_model.proofs.seats.Mine.{sent_stays}
 use Rattle.mqtt_world_model.proofs.seats.Breaks.{break_is_hop}
 use Rattle.mqtt_world_model.proofs.connects.Connects.{connect_is_hop}
@@ -9,10 +8,10 @@ use Rattle.mqtt_world_model.proofs.connects.FirstConnects.{first_is_hop}
 use Rattle.mqtt_world_model.proofs.laws.own_packets_are_steps_of_the_hop.Goals as goal
 
 pub returns-clause-publish : goal.returns-clause-publish
-returns-clause-publish c = publish_is_hop
+returns-clause-publish c = publish_is_hop its_own
 
 pub returns-clause-release : goal.returns-clause-release
-returns-clause-release c = pubrel_is_hop
+returns-clause-release c = pubrel_is_hop its_own
 
 pub returns-clause-connect : goal.returns-clause-connect
 returns-clause-connect c = connect_is_hop
@@ -21,10 +20,10 @@ pub returns-clause-anew : goal.returns-clause-anew
 returns-clause-anew c = clean_is_hop
 
 pub returns-clause-publish_once : goal.returns-clause-publish_once
-returns-clause-publish_once c = publish_1_is_hop
+returns-clause-publish_once c = publish_1_is_hop its_own
 
 pub returns-clause-publish_plain : goal.returns-clause-publish_plain
-returns-clause-publish_plain c = plain_is_hop
+returns-clause-publish_plain c = plain_is_hop its_own
 
 pub returns-clause-stays : goal.returns-clause-stays
 returns-clause-stays c = sent_stays
