@@ -1,4 +1,5 @@
 pub mod Fronts
+mod Waits
 pub mod Cuts
 pub mod Runs
 pub mod Shorter

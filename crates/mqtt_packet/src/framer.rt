@@ -1,6 +1,6 @@
 //! The cut of a stream of bytes into packets, however it comes (2.1).
 
-ghost use Rattle.std.specs.Prelude.{◌≡◌, ◌≢◌, ◌-◌, ◌<◌, ◌≤◌, ◌++◌, length, take, drop, min, IfOk, IfErr, IfNone, IfSome, OnErr, OnOk, OnSome, IsOk, Ok, None};
+ghost use Rattle.std.specs.Prelude.{◌≡◌, ◌≢◌, ◌-◌, ◌<◌, ◌≤◌, ◌++◌, length, take, drop, min, IfOk, IfErr, IfNone, IfSome, OnErr, OnOk, OnSome, IsOk, Ok, None, false};
 ghost use Rattle.mqtt_codec_parts.specs.declared.fault.Fault.{Fault};
 ghost use Rattle.mqtt_base.specs.declared.limits.TheConstants.{PACKET_LIMIT};
 ghost use Rattle.mqtt_packet.specs.Front.{first_of};
@@ -8,7 +8,7 @@ ghost use Rattle.mqtt_packet.specs.Stream.{Framing, empty, after, first_byte, wi
 ghost use Rattle.mqtt_base.specs.Values.{FitsText};
 ghost use Rattle.mqtt_codec.specs.Frames.{packet_of};
 
-use crate::front::first_read;
+use crate::front::{first_read, is_whole};
 use crate::store::Store;
 use mqtt_base::{PACKET_LIMIT, Text};
 use mqtt_codec::{Packet, PacketRef, Publish, PublishRef};
@@ -70,6 +70,16 @@ impl Framer {
             [] => None,
             [first, ..] => Some(*first),
         }
+    }
+
+    /// Whether a packet, or a fault, stands first. The fixed header tells it (2.1.1, 2.1.4): no packet
+    /// is read, however long it is. Takes no memory.
+    pub fn is_whole(&self) -> bool
+        // Not exactly where nothing is whole yet.
+        ensures waits { result ≡ false → first_of self.now.held ≡ Ok None }
+        ensures whole { first_of self.now.held ≡ Ok None → result ≡ false }
+    {
+        is_whole(self.store.as_slice())
     }
 
     /// Takes as many bytes as fit, from the front of the piece, and answers how many.

@@ -1,6 +1,6 @@
 //! What the bytes that have come begin with (2.1.4).
 
-ghost use Rattle.std.specs.Prelude.{◌≡◌, ◌<◌, ◌≤◌, IfOk, IfSome, IfNone, length};
+ghost use Rattle.std.specs.Prelude.{◌≡◌, ◌<◌, ◌≤◌, IfOk, IfSome, IfNone, Ok, None, false, length};
 ghost use Rattle.mqtt_packet.specs.Front.{size_at, first_of, GivesFirst, EndsWithPayload};
 ghost use Rattle.mqtt_codec.specs.Packets.{Fits};
 ghost use Rattle.mqtt_codec.specs.Frames.{packet_of};
@@ -36,6 +36,19 @@ fn size_read(bytes: &[u8]) -> Result<Option<usize>, Fault>
                 Ok(Some(size))
             }
         }
+    }
+}
+
+/// Whether a packet, or a fault, stands at the front. The fixed header alone is looked at: where a
+/// packet has come whole, it or a fault stands there.
+#[tactic(auto, using(crate::proofs::Waits::waits_sized, crate::proofs::Waits::sized_waits))]
+pub(crate) fn is_whole(bytes: &[u8]) -> bool
+    ensures waits { result ≡ false → first_of bytes.now ≡ Ok None }
+    ensures whole { first_of bytes.now ≡ Ok None → result ≡ false }
+{
+    match size_read(bytes) {
+        Ok(None) => false,
+        Ok(Some(_)) | Err(_) => true,
     }
 }
 

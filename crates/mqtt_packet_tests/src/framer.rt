@@ -239,6 +239,7 @@ fn first_of(framer: &mut Framer) -> Result<Option<(u64, usize)>, (Fault, u64)> {
 /// its own, however often it is asked for.
 fn assert_first(rt: &impl Abort, framer: &mut Framer, first: Option<(u64, usize)>) {
     let want = Ok(first);
+    assert!(rt; framer.is_whole() == first.is_some());
     assert!(rt; looked(framer) == want);
     assert!(rt; first_of(framer) == want);
     assert!(rt; first_of(framer) == want, "again");
@@ -257,6 +258,38 @@ fn what_is_given_first_stays_until_it_is_skipped(rt: HostRuntime) {
     assert_first(&rt, &mut framer, None);
     assert!(rt; stands(&framer, 0, 11));
     drop(framer);
+}
+
+/// Fronts of a stream, each with whether a packet, or a fault, stands there (2.1.4).
+fn fronts() -> &'static [(&'static [u8], bool)] {
+    &[
+        (&[], false),
+        (&[0xc0], false),
+        (&[0xc0, 0], true),
+        // A first byte that is wrong is a fault by itself.
+        (&[0xc1], true),
+        // A Remaining Length that goes on, and one of two bytes that ends in 00 (1.5.5).
+        (&[0xc0, 0x80], false),
+        (&[0xc0, 0x80, 0], true),
+        (b"\x30\x07\x00\x03a/b\x00", false),
+        (b"\x30\x07\x00\x03a/b\x00!", true),
+        // An empty topic without a Topic Alias (3.3.2.1): the frame is whole, and a fault.
+        (&[0x30, 4, 0, 0, 0], false),
+        (&[0x30, 4, 0, 0, 0, 0x21], true),
+        // 65,537 bytes are one too many, 65,536 are awaited.
+        (&[0x30, 0xfd, 0xff, 0x03], true),
+        (&[0x30, 0xfc, 0xff, 0x03], false),
+    ]
+}
+
+#[test]
+fn the_fixed_header_tells_whether_anything_is_whole(rt: HostRuntime) {
+    for (bytes, is_whole) in fronts() {
+        let mut framer = Framer::new(rt.alloc());
+        assert!(rt; framer.feed(bytes) == Ok(bytes.len()));
+        assert!(rt; framer.is_whole() == *is_whole, "{bytes:?}");
+        drop(framer);
+    }
 }
 
 #[test]
@@ -316,6 +349,7 @@ fn a_fault_stands_before_each_call(rt: HostRuntime) {
     let mut framer = Framer::new(rt.alloc());
     assert!(rt; framer.feed(&[0xc0, 0, 0xc1]) == Ok(3));
     framer.skip(2);
+    assert!(rt; framer.is_whole(), "the fault");
     assert!(rt; looked(&framer) == Err(malformed));
     assert!(rt; first_of(&mut framer) == Err(malformed));
     framer.skip(1);
