@@ -1,9 +1,9 @@
 -- Lemmas on copies of a publication (MQTT 5.0, 3.3.4).
-use Rattle.std.proofs.Common.{◌≡◌, ℕ, suc, ◌+◌, ◌<◌, max, length, filter, drop, get_or, drop-cons, Bool, true, false, cond, not, ◌&&◌, ◌||◌, List, [], ◌∷◌, ◌++◌, map, refl, sym, ap, ◌∙◌, arith, append_assoc, append-nil, Option, Some, None}
+use Rattle.std.proofs.Common.{◌≡◌, ℕ, max, filter, Bool, true, false, cond, ◌&&◌, ◌||◌, List, [], ◌∷◌, ◌++◌, map, refl, sym, ap, ◌∙◌, arith, append_assoc, append-nil, Option, Some, None}
 use Rattle.std.specs.List.{list_any, filter_map, cons_option}
 use Rattle.std.specs.Option.{option_to_list}
 use Rattle.mqtt_routes.specs.declared.subscription.Subscription.{Subscription}
-use Rattle.mqtt_routes.specs.Intended.{Publication, Copy, granted_qos, greatest, copy_for, copies_for, add_to, empty_copy, is_none}
+use Rattle.mqtt_routes.specs.Intended.{Publication, Copy, granted_qos, greatest, copy_for, add_to, empty_copy}
 
 max_one : (a b c : ℕ) → max a (max b c) ≡ max (max a b) c
 max_one a b c = omega arith
@@ -54,38 +54,11 @@ with_all-empty p birth subs = same_copy birth _ _ _ _ _ _ (max_none (greatest (m
 pub with_all-nil : (p : Publication) (c : Copy) → with_all p c [] ≡ c
 with_all-nil p c = same_copy c.birth _ _ _ _ _ _ (max_last c.qos) (or_and_false c.retain p.retain) (append-nil c.identifiers)
 
--- one more subscription, if it is a hit
-pub hit_step : (b : Bool) (p : Publication) (c : Copy) (s : Subscription) (ss : List Subscription) → with_all p c (cond b (s ∷ ss) ss) ≡ with_all p (cond b (add_to p c s) c) ss
-hit_step true p c s ss = with_all-cons p c s ss
-hit_step false p c s ss = refl
-
--- the copy of a session that has one
-pub copies_for-found : (p : Publication) (birth : ℕ) (subs : List Subscription) → not (is_none subs) ≡ true → copies_for p birth subs ≡ copy_for p birth subs ∷ []
-copies_for-found p birth [] e = cc
-copies_for-found p birth (s ∷ ss) e = refl
-
-pub copies_for-none : (p : Publication) (birth : ℕ) (subs : List Subscription) → not (is_none subs) ≡ false → copies_for p birth subs ≡ []
-copies_for-none p birth [] e = refl
-copies_for-none p birth (s ∷ ss) e = cc
-
 -- a copy that serves one subscription
 pub add_to-empty : (p : Publication) (birth : ℕ) (s : Subscription) → add_to p (empty_copy birth) s ≡ copy_for p birth (s ∷ [])
 add_to-empty p birth s = sym (with_all-nil p (add_to p (empty_copy birth) s)) ∙ sym (with_all-cons p (empty_copy birth) s []) ∙ with_all-empty p birth (s ∷ [])
 
--- one subscription after the other
-filter_by : (b : Bool) (test : Subscription → Bool) (s : Subscription) (ss : List Subscription) → test s ≡ b → filter test (s ∷ ss) ≡ cond b (s ∷ filter test ss) (filter test ss)
+-- one subscription more, if it passes
+pub filter_by : (b : Bool) (test : Subscription → Bool) (s : Subscription) (ss : List Subscription) → test s ≡ b → filter test (s ∷ ss) ≡ cond b (s ∷ filter test ss) (filter test ss)
 filter_by true test s ss is = rw is refl
 filter_by false test s ss is = rw is refl
-
-pub hits_next : (b : Bool) (test : Subscription → Bool) (subs : List Subscription) (i : ℕ) (s : Subscription) → i < length subs → s ≡ get_or subs i s → test s ≡ b →
-    filter test (drop i subs) ≡ cond b (s ∷ filter test (drop (i + 1) subs)) (filter test (drop (i + 1) subs))
-hits_next b test subs i s within at is =
-    let next : i + 1 ≡ suc i = omega arith in
-    ap (filter test) (drop-cons subs i s within ∙ ap (λ (x : Subscription). x ∷ drop (suc i) subs) (sym at) ∙ ap (λ (n : ℕ). s ∷ drop n subs) (sym next))
-    ∙ filter_by b test s (drop (i + 1) subs) is
-
--- whether there was a hit
-pub for_step : (b a a' : Bool) (s : Subscription) (ss : List Subscription) → a' ≡ cond b true a → (a' || not (is_none ss)) ≡ (a || not (is_none (cond b (s ∷ ss) ss)))
-for_step true true a' s ss is = rw is refl
-for_step true false a' s ss is = rw is refl
-for_step false a a' s ss is = rw is refl

@@ -41,12 +41,12 @@ nowhere = record { birth = 0; at = 0 }
 pub one_more : (test : Spot → Bool) (x : Spot) (xs : List Spot) → count_by test (x ∷ xs) ≡ once (test x) + count_by test xs
 one_more test x xs = sum_by-cons (λ y. once (test y)) x xs
 
-count_at : (test : Spot → Bool) (xs : List Spot) (k : ℕ) → k < length xs → test (get_or xs k nowhere) ≡ true → 1 ≤ count_by test xs
+pub count_at : (test : Spot → Bool) (xs : List Spot) (k : ℕ) → k < length xs → test (get_or xs k nowhere) ≡ true → 1 ≤ count_by test xs
 count_at test [] k l h = absurd (omega (arith, l))
 count_at test (x ∷ xs) zero l h = let all = one_more test x xs in let one : once (test x) ≡ 1 = ap once h in omega (arith, all, one)
 count_at test (x ∷ xs) (suc k) l h = let all = one_more test x xs in let more = count_at test xs k (omega (arith, l)) h in omega (arith, all, more)
 
-pub some_by : (t : Bool) (n : ℕ) (rest : Bool) → 1 ≤ once t + n → (1 ≤ n → rest ≡ true) → (t || rest) ≡ true
+some_by : (t : Bool) (n : ℕ) (rest : Bool) → 1 ≤ once t + n → (1 ≤ n → rest ≡ true) → (t || rest) ≡ true
 some_by true n rest l more = refl
 some_by false n rest l more = more (omega (arith, l))
 

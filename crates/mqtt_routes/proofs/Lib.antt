@@ -1,16 +1,17 @@
 pub mod PlaceLemmas
 pub mod SpotLemmas
 pub mod RoomLemmas
+pub mod FoundLemmas
+pub mod DirectLemmas
+pub mod RisingLemmas
+pub mod TopicLemmas
 pub mod SomeLemmas
 pub mod TakerLemmas
-pub mod TurnLemmas
 pub mod CopyLemmas
 pub mod MemberLemmas
 pub mod ServeLemmas
 pub mod KeptLemmas
 mod Examples
-pub mod BirthLemmas
-pub mod ConcernLemmas
 pub mod SubsLemmas
 pub mod IndexLemmas
 pub mod RemoveLemmas
@@ -18,4 +19,3 @@ pub mod MoveLemmas
 pub mod PutIndexLemmas
 pub mod LeaveLemmas
 pub mod RoomWithinLemmas
-pub mod TopicLemmas

@@ -10,7 +10,7 @@ use Rattle.mqtt_routes.specs.Spots.{matched_at}
 use Rattle.mqtt_routes.proofs.SpotLemmas.{split, lt-yes, lt-no, eq-yes, eq-below, eq-above}
 
 -- of a session born no later than another nothing stands behind that
-none_before : (d c : ℕ) (xs : List Subscriber) → c ≤ d → AreAfter d xs → subs_of c xs ≡ []
+pub none_before : (d c : ℕ) (xs : List Subscriber) → c ≤ d → AreAfter d xs → subs_of c xs ≡ []
 none_before d c [] l h = refl
 none_before d c (x ∷ xs) l h = rw (lt-no x.birth c (let a = h.0 in omega (arith, l, a)), eq-above x.birth c (let a = h.0 in omega (arith, l, a))) refl
 

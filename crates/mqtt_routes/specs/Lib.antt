@@ -4,3 +4,4 @@ pub mod Acceptance
 pub mod Retained
 pub mod Keys
 pub mod Spots
+pub mod Found

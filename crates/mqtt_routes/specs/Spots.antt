@@ -1,13 +1,12 @@
 -- Subscriptions of all sessions in the order of the levels of their filters, as a tree has them (MQTT 5.0, 4.7).
-use Rattle.std.specs.Prelude.{◌≡◌, ⊤, ℕ, zero, suc, ◌-◌, ◌<◌, Bool, true, false, cond, ◌&&◌, List, [], ◌∷◌, length, map, min, nat_eq, nat_lt, Option, Some, None}
-use Rattle.std.specs.List.{count_by, list_any, position}
+use Rattle.std.specs.Prelude.{◌≡◌, ⊤, ℕ, zero, suc, ◌-◌, Bool, true, cond, ◌&&◌, List, [], ◌∷◌, length, map, min, nat_eq, nat_lt, Option}
+use Rattle.std.specs.List.{count_by, position}
 use Rattle.mqtt_topic.specs.Levels.{levels}
 use Rattle.mqtt_topic.specs.Filters.{matching_part_of}
 use Rattle.mqtt_routes_tree.specs.Tree.{in_order}
 use Rattle.mqtt_routes.specs.declared.spot.Spot.{Spot}
 use Rattle.mqtt_routes.specs.declared.subscription.Subscription.{Subscription}
-use Rattle.mqtt_routes.specs.Subscriptions.{Subscriber, subscriber, subs_of, is_to}
-use Rattle.mqtt_routes.specs.Intended.{Publication, matches_topic}
+use Rattle.mqtt_routes.specs.Subscriptions.{Subscriber, subs_of, is_to}
 
 -- the filter by which the subscription of a number is matched; without one, no text
 abbrev pub matched_at : List Subscription → ℕ → List ℕ
@@ -55,39 +54,6 @@ without_spot birth at (s ∷ ss) = cond (is_spot birth at s) (without_spot birth
 abbrev pub without_birth : ℕ → List Spot → List Spot
 without_birth birth [] = []
 without_birth birth (s ∷ ss) = cond (nat_eq birth s.birth) (without_birth birth ss) (s ∷ without_birth birth ss)
-
--- ---- sessions that a publication may concern
-
--- each is above the one before it
-abbrev pub AreAbove : ℕ → List ℕ → Type 0
-AreAbove birth [] = ⊤
-AreAbove birth (b ∷ bs) = (birth < b) × AreAbove birth bs
-
-abbrev pub AreBirths : List ℕ → Type 0
-AreBirths [] = ⊤
-AreBirths (b ∷ bs) = AreAbove b bs × AreBirths bs
-
-abbrev pub is_last : ℕ → Option ℕ → Bool
-is_last b None = false
-is_last b (Some l) = nat_eq b l
-
--- births in order, each once: not again behind itself
-abbrev pub births_behind : Option ℕ → List ℕ → List ℕ
-births_behind last [] = []
-births_behind last (b ∷ bs) = cond (is_last b last) (births_behind (Some b) bs) (b ∷ births_behind (Some b) bs)
-
-abbrev pub births_once : List ℕ → List ℕ
-births_once bs = births_behind None bs
-
--- births, each once and in order, and among them those of all sessions that have a subscription to the topic
-pub record AreConcerned (p : Publication) (sessions : List Subscriber) (births : List ℕ) : Type 0 where
-  pub rising : AreBirths births
-  pub all : (birth : ℕ) → list_any (matches_topic p) (subs_of birth sessions) ≡ true → list_any (nat_eq birth) births ≡ true
-
--- sessions of these births
-abbrev pub of_births : List Subscriber → List ℕ → List Subscriber
-of_births sessions [] = []
-of_births sessions (b ∷ bs) = subscriber b (subs_of b sessions) ∷ of_births sessions bs
 
 -- ---- room
 

@@ -4,6 +4,7 @@
 mod answers;
 mod copy;
 mod fault;
+mod found;
 mod laws;
 mod member;
 mod publication;

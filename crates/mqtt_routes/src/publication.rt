@@ -1,9 +1,11 @@
 //! What is published, and whom it concerns (MQTT 5.0, 3.3.4, 3.8.3.1, 4.8.2).
 ghost use Rattle.std.specs.Prelude.{◌≡◌};
-ghost use Rattle.mqtt_routes.specs.Intended.{granted_qos, is_barred, is_hit, is_shared, matches_topic};
+ghost use Rattle.mqtt_routes.specs.Intended.{granted_qos, is_barred, is_shared};
+ghost use Rattle.mqtt_routes.specs.Found.{is_direct};
 ghost use Rattle.mqtt_base.specs.Service.{qos_number};
 
 use crate::answers::Sessions;
+use crate::found::Found;
 use crate::service::lesser;
 use crate::subscription::Subscription;
 use mqtt_base::Qos;
@@ -36,13 +38,6 @@ impl<'a> Publication<'a> {
         lesser(self.qos, subscription.options.qos)
     }
 
-    /// Whether a subscription is to this topic.
-    pub(crate) fn matches_topic(&self, subscription: &Subscription) -> bool
-        ensures { result ≡ matches_topic self.now subscription.now }
-    {
-        subscription.filter.matches(self.topic)
-    }
-
     /// Whether No Local bars a subscription.
     fn is_barred<S: Sessions>(&self, at: &S, birth: u64, subscription: &Subscription) -> bool
         ensures { result ≡ is_barred (S.answers at.now) self.now birth subscription.now }
@@ -50,17 +45,12 @@ impl<'a> Publication<'a> {
         subscription.options.no_local && at.is_named(birth, self.sender)
     }
 
-    /// Whether a subscription that isn't shared gets a copy.
-    pub(crate) fn is_hit<S: Sessions>(
-        &self,
-        at: &S,
-        birth: u64,
-        subscription: &Subscription,
-    ) -> bool
-        ensures { result ≡ is_hit (S.answers at.now) self.now birth subscription.now }
+    /// Whether a subscription to the topic makes a direct copy: it isn't shared, and No Local doesn't
+    /// bar it.
+    pub(crate) fn is_direct<S: Sessions>(&self, at: &S, found: &Found<'_>) -> bool
+        ensures { result ≡ is_direct (S.answers at.now) self.now found.now }
     {
-        !subscription.filter.is_shared()
-            && self.matches_topic(subscription)
-            && !self.is_barred(at, birth, subscription)
+        let row = found.row;
+        !row.subscription.filter.is_shared() && !self.is_barred(at, found.birth, &row.subscription)
     }
 }

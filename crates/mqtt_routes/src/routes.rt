@@ -8,6 +8,7 @@ ghost use Rattle.mqtt_routes.specs.Acceptance.{IsRouting, RefusesRoute};
 
 use crate::answers::Sessions;
 use crate::fault::RoutesFault;
+use crate::found::{directs, members};
 use crate::publication::Publication;
 use crate::retained::{Kept, KeptTable};
 use crate::routed::Routed;
@@ -142,14 +143,12 @@ impl<M: Drop> Routes<M> {
             retain,
         };
         self.subscribers.show_order();
-        let births = self.subscribers.births_to(&publication)?;
-        let direct = self
-            .subscribers
-            .directs(&publication, at, births.as_slice())?;
+        let found = self.subscribers.found(&publication)?;
+        let direct = directs(self.alloc, &publication, at, found.as_slice())?;
         if !has_room(at, direct.as_slice()) {
             return Err(RoutesFault::Full);
         }
-        let members = self.subscribers.members(&publication, births.as_slice())?;
+        let members = members(self.alloc, found.as_slice())?;
         let served = serve(
             self.alloc,
             at,

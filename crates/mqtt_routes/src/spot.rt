@@ -1,12 +1,10 @@
 //! Where a subscription stands.
-ghost use Rattle.std.specs.Prelude.{◌≡◌, map, IfErr, IfOk};
-ghost use Rattle.mqtt_routes.specs.Spots.{births_once, moved_down};
+ghost use Rattle.std.specs.Prelude.{◌≡◌, map};
+ghost use Rattle.mqtt_routes.specs.Spots.{moved_down};
 
-use crate::fault::RoutesFault;
-use std::alloc::Global;
-
-/// The birth of a subscription's session, and its number there, from 0 in the order subscribed.
-#[derive(Clone, Copy, Drop)]
+/// The birth of a subscription's session, and its number there, from 0 in the order subscribed. Spots
+/// are compared by births, and those of a session by numbers.
+#[derive(Clone, Copy, PartialEq, Eq, PartialOrd, Ord, Drop)]
 pub(crate) struct Spot {
     pub(crate) birth: u64,
     pub(crate) at: usize,
@@ -33,20 +31,4 @@ pub(crate) fn move_down(spots: &mut Vec<Spot>, birth: u64, at: usize)
     for i in 0..spots.len() {
         spots[i] = moved_down(spots[i], birth, at);
     }
-}
-
-/// Each birth of a list in order once.
-pub(crate) fn once_each(alloc: Global, births: &[u64]) -> Result<Vec<u64>, RoutesFault>
-    ensures births { IfOk result (λ found. found.items ≡ births_once births.now) }
-    ensures fault { IfErr result (λ fault. fault ≡ RoutesFault.Memory) }
-{
-    let mut found = Vec::new(alloc);
-    let mut last = None;
-    for birth in births {
-        if last != Some(*birth) {
-            found.push(*birth)?;
-        }
-        last = Some(*birth);
-    }
-    Ok(found)
 }

@@ -1,16 +1,10 @@
 //! The subscriptions of one session (MQTT 5.0, 3.8, 3.10).
-ghost use Rattle.std.specs.Prelude.{◌≡◌, ◌+◌, ◌<◌, ◌≤◌, [], false, true, is_some, length, IfErr, IfOk, OnErr, OnOk};
-ghost use Rattle.std.specs.Option.{option_to_list};
-ghost use Rattle.mqtt_routes.specs.Intended.{copies_for, hits_of, members_with};
+ghost use Rattle.std.specs.Prelude.{◌≡◌, ◌+◌, ◌<◌, ◌≤◌, [], false, true, is_some, length, option_copied, slice_get, IfErr, OnErr, OnOk};
 ghost use Rattle.mqtt_routes.specs.Spots.{matched_at, number_of};
 ghost use Rattle.mqtt_base.specs.declared.limits.TheConstants.{SUBSCRIPTION_LIMIT};
 ghost use Rattle.mqtt_routes.specs.Subscriptions.{has_filter, takes_filter, put, without, RefusesPut};
 
-use crate::answers::Sessions;
-use crate::copy::RoutedCopy;
 use crate::fault::RoutesFault;
-use crate::member::{Member, insert_member};
-use crate::publication::Publication;
 use crate::row::Row;
 use crate::subscription::Subscription;
 use indexmap::IndexSet;
@@ -136,48 +130,11 @@ impl Subscriptions {
         }
     }
 
-    /// The direct copy of a publication for the session, if a subscription is for it.
-    pub(crate) fn direct_copy<S: Sessions>(
-        &self,
-        alloc: Global,
-        publication: &Publication<'_>,
-        at: &S,
-        birth: u64,
-    ) -> Result<Option<RoutedCopy>, RoutesFault>
-        ensures copy { IfOk result (λ copy. option_to_list copy
-            ≡ copies_for publication.now birth (hits_of (S.answers at.now) publication.now birth self.now.subs)) }
-        ensures fault { IfErr result (λ fault. fault ≡ RoutesFault.Memory) }
+    /// The subscription of a number, if there is one. Takes no memory.
+    pub(crate) fn row(&self, at: usize) -> Option<&Row>
+        ensures { option_copied result ≡ slice_get self.now.subs at }
     {
-        let mut copy = RoutedCopy::new(alloc, birth);
-        let mut is_for = false;
-        for row in self.rows.as_slice() {
-            let subscription = &row.subscription;
-            if publication.is_hit(at, birth, subscription) {
-                copy.add(publication, subscription)?;
-                is_for = true;
-            }
-        }
-        Ok(if is_for { Some(copy) } else { None })
-    }
-
-    /// Adds the shared subscriptions that are to the topic of a publication.
-    pub(crate) fn add_members<'a>(
-        &'a self,
-        publication: &Publication<'_>,
-        birth: u64,
-        members: &mut Vec<Member<'a>>,
-    ) -> Result<(), RoutesFault>
-        ensures ok { OnOk result (members.new.items
-            ≡ members_with publication.now birth self.now.subs members.old.items) }
-        ensures fault { IfErr result (λ fault. fault ≡ RoutesFault.Memory) }
-    {
-        for row in self.rows.as_slice() {
-            let subscription = &row.subscription;
-            if subscription.filter.is_shared() && publication.matches_topic(subscription) {
-                insert_member(members, Member { birth, row })?;
-            }
-        }
-        Ok(())
+        self.rows.get_index(at)
     }
 
     /// Notes which member a group, named by its filter, chose last. Takes no memory.

@@ -1,16 +1,12 @@
 //! The subscriptions of all sessions, by birth (MQTT 5.0, 3.8, 3.10).
-ghost use Rattle.std.specs.Prelude.{◌≡◌, ◌≤◌, ◌∷◌, [], ℕ, List, false, true, is_some, length, IfErr, IfOk, OnErr, OnOk};
-ghost use Rattle.std.specs.Option.{option_to_list};
-ghost use Rattle.mqtt_routes.specs.Intended.{copies_for, directs, hits_of, members, members_with};
-ghost use Rattle.mqtt_routes.specs.Spots.{matched_at, number_of, of_births};
+ghost use Rattle.std.specs.Prelude.{◌≡◌, ◌≤◌, ◌∷◌, [], ℕ, List, false, true, is_some, length, option_copied, slice_get, IfErr, IfOk, OnErr, OnOk};
+ghost use Rattle.mqtt_routes.specs.Spots.{matched_at, number_of};
 ghost use Rattle.mqtt_base.specs.declared.limits.TheConstants.{SUBSCRIPTION_LIMIT};
 ghost use Rattle.mqtt_routes.specs.Subscriptions.{has_filter, takes_filter, spot_of, subs_of, subscribed, unsubscribed, without_session, standing, filters_of, have_room, AreInOrder, RefusesPut};
 
-use crate::answers::Sessions;
-use crate::copy::RoutedCopy;
 use crate::fault::RoutesFault;
-use crate::member::Member;
-use crate::publication::Publication;
+use crate::row::Row;
+use crate::spot::Spot;
 use crate::subscriber::Subscriptions;
 use crate::subscription::Subscription;
 use indexmap::IndexMap;
@@ -169,77 +165,14 @@ impl Subscribers {
         }
     }
 
-    /// The direct copy of a publication for a session, if a subscription is for it.
-    fn direct_copy<S: Sessions>(
-        &self,
-        publication: &Publication<'_>,
-        at: &S,
-        birth: u64,
-    ) -> Result<Option<RoutedCopy>, RoutesFault>
-        ensures copy { IfOk result (λ copy. option_to_list copy
-            ≡ copies_for publication.now birth
-            (hits_of (S.answers at.now) publication.now birth (subs_of birth self.now.sessions))) }
-        ensures fault { IfErr result (λ fault. fault ≡ RoutesFault.Memory) }
+    /// The subscription that stands at a spot, if there is one. Takes no memory.
+    pub(crate) fn row(&self, spot: Spot) -> Option<&Row>
+        ensures { option_copied result ≡ slice_get (subs_of spot.birth self.now.sessions) spot.at }
     {
-        match self.sessions.get(&birth) {
-            Some(subscriptions) => { subscriptions.direct_copy(self.alloc, publication, at, birth) }
-            None => Ok(None),
+        match self.sessions.get(&spot.birth) {
+            Some(subscriptions) => subscriptions.row(spot.at),
+            None => None,
         }
-    }
-
-    /// Adds the shared subscriptions of a session that are to the topic of a publication.
-    fn add_members<'a>(
-        &'a self,
-        publication: &Publication<'_>,
-        birth: u64,
-        members: &mut Vec<Member<'a>>,
-    ) -> Result<(), RoutesFault>
-        ensures ok { OnOk result (members.new.items
-            ≡ members_with publication.now birth (subs_of birth self.now.sessions) members.old.items) }
-        ensures fault { IfErr result (λ fault. fault ≡ RoutesFault.Memory) }
-    {
-        match self.sessions.get(&birth) {
-            Some(subscriptions) => subscriptions.add_members(publication, birth, members),
-            None => Ok(()),
-        }
-    }
-
-    /// The direct copies of a publication for sessions of these births.
-    pub(crate) fn directs<S: Sessions>(
-        &self,
-        publication: &Publication<'_>,
-        at: &S,
-        births: &[u64],
-    ) -> Result<Vec<RoutedCopy>, RoutesFault>
-        ensures copies { IfOk result (λ copies. copies.items
-            ≡ directs (S.answers at.now) publication.now (of_births self.now.sessions births.now)) }
-        ensures fault { IfErr result (λ fault. fault ≡ RoutesFault.Memory) }
-    {
-        let mut copies = Vec::new(self.alloc);
-        for birth in births {
-            if let Some(copy) = self.direct_copy(publication, at, *birth)? {
-                copies.push(copy)?;
-            }
-        }
-        Ok(copies)
-    }
-
-    /// The members of all groups that match the topic of a publication, as they joined, of the
-    /// sessions of these births.
-    pub(crate) fn members<'a>(
-        &'a self,
-        publication: &Publication<'_>,
-        births: &[u64],
-    ) -> Result<Vec<Member<'a>>, RoutesFault>
-        ensures members { IfOk result (λ found. found.items
-            ≡ members publication.now (of_births self.now.sessions births.now)) }
-        ensures fault { IfErr result (λ fault. fault ≡ RoutesFault.Memory) }
-    {
-        let mut found = Vec::new(self.alloc);
-        for birth in births {
-            self.add_members(publication, *birth, &mut found)?;
-        }
-        Ok(found)
     }
 
     /// Notes which member a group, named by its filter and the births of its members, chose last.

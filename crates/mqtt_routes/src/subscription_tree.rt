@@ -1,15 +1,13 @@
 //! The subscriptions of all sessions, found by the levels of their filters (MQTT 5.0, 3.8, 3.10, 4.7).
 ghost use Rattle.std.specs.Prelude.{◌≡◌, ◌<◌, ◌∷◌, [], ℕ, List, false, true, length, get_or, IfErr, IfOk, OnErr, OnOk};
-ghost use Rattle.mqtt_routes.specs.Intended.{directs, members};
-ghost use Rattle.mqtt_routes.specs.Spots.{AreConcerned, texts_of};
+ghost use Rattle.mqtt_routes.specs.Found.{found_in, spots_in};
+ghost use Rattle.mqtt_routes.specs.Spots.{texts_of};
 ghost use Rattle.mqtt_routes.specs.Subscriptions.{has_filter, takes_filter, subs_of, subscribed, unsubscribed, without_session, standing, filters_of, have_room, AreInOrder, RefusesPut};
 
-use crate::answers::Sessions;
-use crate::copy::RoutedCopy;
 use crate::fault::RoutesFault;
-use crate::member::Member;
+use crate::found::Found;
 use crate::publication::Publication;
-use crate::spot::{Spot, move_down, once_each};
+use crate::spot::{Spot, move_down};
 use crate::subscribers::Subscribers;
 use crate::subscription::Subscription;
 use mqtt_base::SUBSCRIPTION_LIMIT;
@@ -153,50 +151,43 @@ impl SubscriptionTree {
         self.subscribers.show_order();
     }
 
-    /// The births of the sessions that have a subscription to a topic, in order.
-    pub(crate) fn births_to(&self, publication: &Publication<'_>) -> Result<Vec<u64>, RoutesFault>
-        ensures births { IfOk result (λ births. AreConcerned publication.now self.now.sessions births.items) }
-        ensures fault { IfErr result (λ fault. fault ≡ RoutesFault.Memory) }
-    {
-        let found = matching(self.alloc, self, publication.topic)?;
-        let mut births = Vec::new(self.alloc);
-        for number in found.as_slice() {
-            if let Some(spot) = self.spots.as_slice().get(*number) {
-                births.push(spot.birth)?;
-            }
-        }
-        births.sort_unstable();
-        once_each(self.alloc, births.as_slice())
-    }
-
-    /// The direct copies of a publication, by session birth.
-    pub(crate) fn directs<S: Sessions>(
-        &self,
-        publication: &Publication<'_>,
-        at: &S,
-        births: &[u64],
-    ) -> Result<Vec<RoutedCopy>, RoutesFault>
-        requires { AreConcerned publication.now self.now.sessions births.now }
-        ensures copies { IfOk result (λ copies. copies.items
-            ≡ directs (S.answers at.now) publication.now self.now.sessions) }
+    /// Where the subscriptions to a topic stand, by session birth, and those of a session in the
+    /// order subscribed.
+    fn spots_to(&self, publication: &Publication<'_>) -> Result<Vec<Spot>, RoutesFault>
+        ensures spots { IfOk result (λ spots. spots.items
+            ≡ spots_in publication.now self.now.sessions) }
         ensures fault { IfErr result (λ fault. fault ≡ RoutesFault.Memory) }
     {
         self.subscribers.show_order();
-        self.subscribers.directs(publication, at, births)
+        let found = matching(self.alloc, self, publication.topic)?;
+        let mut spots = Vec::new(self.alloc);
+        for number in found.as_slice() {
+            spots.push(self.spots[*number])?;
+        }
+        spots.sort_unstable();
+        Ok(spots)
     }
 
-    /// The members of all groups that match the topic of a publication, as they joined.
-    pub(crate) fn members<'a>(
+    /// The subscriptions to a topic, by session birth, and those of a session in the order
+    /// subscribed.
+    pub(crate) fn found<'a>(
         &'a self,
         publication: &Publication<'_>,
-        births: &[u64],
-    ) -> Result<Vec<Member<'a>>, RoutesFault>
-        requires { AreConcerned publication.now self.now.sessions births.now }
-        ensures members { IfOk result (λ found. found.items ≡ members publication.now self.now.sessions) }
+    ) -> Result<Vec<Found<'a>>, RoutesFault>
+        ensures found { IfOk result (λ found. found.items
+            ≡ found_in publication.now self.now.sessions) }
         ensures fault { IfErr result (λ fault. fault ≡ RoutesFault.Memory) }
     {
         self.subscribers.show_order();
-        self.subscribers.members(publication, births)
+        let spots = self.spots_to(publication)?;
+        let mut found = Vec::new(self.alloc);
+        for spot in spots.as_slice() {
+            let birth = spot.birth;
+            if let Some(row) = self.subscribers.row(*spot) {
+                found.push(Found { birth, row })?;
+            }
+        }
+        Ok(found)
     }
 
     /// Notes which member a group, named by its filter and the births of its members, chose last.

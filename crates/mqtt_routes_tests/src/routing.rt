@@ -136,3 +136,29 @@ fn a_group_that_matches_is_somebody(rt: HostRuntime) -> Result<(), Fail> {
     drop(bed);
     done
 }
+
+/// Session 1 has `a/b` plain and shared, between filters of other topics.
+fn have_it_twice(rt: &impl Abort, alloc: Global, bed: &mut Bed) -> Result<(), Fail> {
+    bed.subscribe(alloc, 1, "b/#", 1, TWO)?;
+    bed.subscribe(alloc, 1, "$share/g/a/b", 2, ONE)?;
+    bed.subscribe(alloc, 1, "a/b/c", 3, TWO)?;
+    bed.routes
+        .subscribe(1, identified(alloc, "a/b", 4, TWO, 9)?)?;
+    bed.subscribe(alloc, 2, "a/+", 5, ZERO)?;
+    let seen = bed.ask("p", 2, &ALL)?;
+    assert_eq!(rt; seen.direct, [(1, TWO, false, 1), (2, ZERO, false, 0)]);
+    assert_eq!(rt; (seen.chosen, seen.qos), ([1, 0], ONE));
+    assert!(rt; bed.routes.unsubscribe(1, "a/b"));
+    let seen = bed.ask("p", 2, &ALL)?;
+    assert_eq!(rt; seen.direct, [(2, ZERO, false, 0), NONE]);
+    assert_eq!(rt; seen.chosen, [1, 0]);
+    Ok(())
+}
+
+#[test]
+fn one_filter_plain_and_shared_is_two_subscriptions(rt: HostRuntime) -> Result<(), Fail> {
+    let mut bed = Bed::new(&rt)?;
+    let done = have_it_twice(&rt, rt.alloc(), &mut bed);
+    drop(bed);
+    done
+}
