@@ -15,8 +15,18 @@ use Rattle.sqlite_tied.specs.Compute.{everything}
 use Rattle.sqlite.proofs.Callers.{IsPlain, command_of, statement_of, runs_as}
 use Rattle.mqtt_store_schema.specs.declared.schema.StoreTable.{StoreTable}
 use Rattle.mqtt_store_schema.specs.declared.schema.StoreTable.TheVariants.{Meta, Session, Will, Subscription, Inbound, Copy, Retained}
-use Rattle.mqtt_store_schema.specs.Named.{table_called}
+use Rattle.mqtt_store_schema.specs.Tables.{meta, session, will, sub, inbound, copy, retained}
 use Rattle.mqtt_store_schema.specs.Creation.{create_text, place_of, first, AreEmpty, HasTables}
+
+-- the table that is made by that name
+abbrev table_called : StoreTable → Table
+table_called Meta = meta
+table_called Session = session
+table_called Will = will
+table_called Subscription = sub
+table_called Inbound = inbound
+table_called Copy = copy
+table_called Retained = retained
 
 -- the text makes this table, where the tables before it stand
 record Says (t : StoreTable) : Type 0 where
@@ -25,42 +35,15 @@ record Says (t : StoreTable) : Type 0 where
   table : table_defined_by (create_text t) ≡ Ok (record (table_called t) { tree = 0 })
   plain : IsPlain (understood (first (place_of t)) (create_text t))
 
-meta_says : Says Meta
-unfolding understood everything
-meta_says = record { command = refl; text = refl; table = refl; plain = (refl, refl) }
-
-session_says : Says Session
-unfolding understood everything
-session_says = record { command = refl; text = refl; table = refl; plain = (refl, refl) }
-
-will_says : Says Will
-unfolding understood everything
-will_says = record { command = refl; text = refl; table = refl; plain = (refl, refl) }
-
-sub_says : Says Subscription
-unfolding understood everything
-sub_says = record { command = refl; text = refl; table = refl; plain = (refl, refl) }
-
-inbound_says : Says Inbound
-unfolding understood everything
-inbound_says = record { command = refl; text = refl; table = refl; plain = (refl, refl) }
-
-copy_says : Says Copy
-unfolding understood everything
-copy_says = record { command = refl; text = refl; table = refl; plain = (refl, refl) }
-
-retained_says : Says Retained
-unfolding understood everything
-retained_says = record { command = refl; text = refl; table = refl; plain = (refl, refl) }
-
 says : (t : StoreTable) → Says t
-says Meta = meta_says
-says Session = session_says
-says Will = will_says
-says Subscription = sub_says
-says Inbound = inbound_says
-says Copy = copy_says
-says Retained = retained_says
+unfolding understood everything
+says Meta = record { command = refl; text = refl; table = refl; plain = (refl, refl) }
+says Session = record { command = refl; text = refl; table = refl; plain = (refl, refl) }
+says Will = record { command = refl; text = refl; table = refl; plain = (refl, refl) }
+says Subscription = record { command = refl; text = refl; table = refl; plain = (refl, refl) }
+says Inbound = record { command = refl; text = refl; table = refl; plain = (refl, refl) }
+says Copy = record { command = refl; text = refl; table = refl; plain = (refl, refl) }
+says Retained = record { command = refl; text = refl; table = refl; plain = (refl, refl) }
 
 created_is : (t : StoreTable) → created (first (place_of t)) (record (table_called t) { tree = 0 }) ≡ first (place_of t + 1)
 unfolding everything

@@ -1,6 +1,5 @@
 pub mod Tables
 pub mod Forms
-pub mod Named
 pub mod Creation
 pub mod Asking
 pub mod Finding

@@ -9,7 +9,6 @@ use sqlite_schema::code::lend_value;
 use sqlite_schema::schema::{Action, Column, Kind, Reference};
 use sqlite_value::keys::{Collation, Order};
 use sqlite_value::value::{Bytes, ValueRef};
-use std::marker::Model;
 
 /// What has a form that a constant says.
 pub trait Formed {
@@ -33,42 +32,13 @@ pub fn all_have<P: Formed>(items: &[P], forms: &[P::Form]) -> bool
     }
 }
 
-/// A column of a STRICT table, with no default.
-#[derive(Debug, Drop)]
-pub struct ColumnForm {
-    pub name: &'static [u8],
-    pub kind: Kind,
-    pub not_null: bool,
-}
-
-impl Model for ColumnForm {
-    ghost use Rattle.mqtt_store_schema.specs.Forms.{ColumnForm};
-
-    ghost Value = { ColumnForm };
-
-    ghost view = { λ f. record { name = f.name.now; kind = f.kind; not_null = f.not_null } };
-}
-
-/// A column that has no NULL.
-pub(crate) fn wanted(name: &'static [u8], kind: Kind) -> ColumnForm
-    ensures { result ≡ record { name = name.now; kind = kind; not_null = true } }
-{
-    ColumnForm {
-        name,
-        kind,
-        not_null: true,
-    }
-}
-
-/// A column that may have NULL.
-pub(crate) fn optional(name: &'static [u8], kind: Kind) -> ColumnForm
-    ensures { result ≡ record { name = name.now; kind = kind; not_null = false } }
-{
-    ColumnForm {
-        name,
-        kind,
-        not_null: false,
-    }
+/// A column of a STRICT table, with no default: its name and kind.
+#[derive(Clone, Copy, Debug)]
+pub enum ColumnForm {
+    /// It has no NULL.
+    Wanted(&'static [u8], Kind),
+    /// It may have NULL.
+    Optional(&'static [u8], Kind),
 }
 
 impl Formed for Column {
@@ -83,63 +53,44 @@ impl Formed for Column {
         let Collation::Binary = self.collation else {
             return false;
         };
+        let (not_null, name, kind) = match *form {
+            ColumnForm::Wanted(name, kind) => (true, name, kind),
+            ColumnForm::Optional(name, kind) => (false, name, kind),
+        };
         self.is_strict
-            && self.not_null == form.not_null
-            && self.kind == form.kind
-            && self.name.as_slice() == form.name
+            && self.not_null == not_null
+            && self.kind == kind
+            && self.name.as_slice() == name
     }
-}
-
-/// A name.
-#[derive(Debug, Drop)]
-pub struct NameForm(pub &'static [u8]);
-
-impl Model for NameForm {
-    ghost use Rattle.std.specs.Prelude.{ℕ, List};
-
-    ghost Value = { List ℕ };
-
-    ghost view = { λ f. f.0.now };
 }
 
 impl Formed for Bytes {
-    type Form = NameForm;
+    type Form = &'static [u8];
 
-    ghost formed = { λ f. f };
+    ghost formed = { λ name. name.now };
 
-    fn has(&self, form: &NameForm) -> bool {
-        self.as_slice() == form.0
+    fn has(&self, form: &&'static [u8]) -> bool {
+        self.as_slice() == *form
     }
-}
-
-/// The places of columns that are unique together.
-#[derive(Debug, Drop)]
-pub struct UniqueForm(pub &'static [usize]);
-
-impl Model for UniqueForm {
-    ghost use Rattle.std.specs.Prelude.{ℕ, List};
-
-    ghost Value = { List ℕ };
-
-    ghost view = { λ f. f.0.now };
 }
 
 impl Formed for Items<usize> {
-    type Form = UniqueForm;
+    type Form = &'static [usize];
 
-    ghost formed = { λ f. f };
+    ghost formed = { λ places. places.now };
 
-    fn has(&self, form: &UniqueForm) -> bool {
-        self.as_slice() == form.0
+    fn has(&self, form: &&'static [usize]) -> bool {
+        self.as_slice() == *form
     }
 }
 
+/// Columns that are unique together are in ascending order, each.
 impl Formed for Order {
-    type Form = UniqueForm;
+    type Form = &'static [usize];
 
     ghost formed = { λ _. plain };
 
-    fn has(&self, _form: &UniqueForm) -> bool {
+    fn has(&self, _form: &&'static [usize]) -> bool {
         self.digits == 0
     }
 }
@@ -148,7 +99,7 @@ impl Formed for Order {
 fn is_birth(names: &Items<Bytes>) -> bool
     ensures { MatchBool result (names.now ≡ codes "birth" ∷ []) (names.now ≢ codes "birth" ∷ []) }
 {
-    all_have(names.as_slice(), &[NameForm(b"birth")])
+    all_have(names.as_slice(), &[b"birth".as_slice()])
 }
 
 impl Formed for Reference {

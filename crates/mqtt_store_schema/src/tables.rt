@@ -2,37 +2,27 @@
 ghost use Rattle.std.specs.Prelude.{◌≡◌, ◌≢◌, [], MatchBool};
 ghost use Rattle.mqtt_store_schema.specs.Forms.{table_of, index_of, IsBare, HasKey, HasUniques};
 
-use crate::columns::{ColumnForm, Formed, UniqueForm, all_have};
+use crate::columns::{ColumnForm, Formed, all_have};
 use sqlite_schema::code::Terms;
 use sqlite_schema::schema::{Index, Stamps, Table};
-use std::marker::Model;
 
 /// A table, with references to sessions.
-#[derive(Debug, Drop)]
-pub(crate) struct TableForm<'a> {
-    pub name: &'a [u8],
+#[derive(Clone, Copy, Debug)]
+pub struct TableForm {
+    /// Its name.
+    pub name: &'static [u8],
+    /// Where its rows are.
     pub tree: u32,
-    pub columns: &'a [ColumnForm],
+    /// Its columns.
+    pub columns: &'static [ColumnForm],
+    /// The column that is the rowid.
     pub key: Option<usize>,
-    pub primary: &'a [usize],
-    pub uniques: &'a [UniqueForm],
-    pub parents: &'a [usize],
-}
-
-impl<'a> Model for TableForm<'a> {
-    ghost use Rattle.mqtt_store_schema.specs.Forms.{TableForm};
-
-    ghost Value = { TableForm };
-
-    ghost view = { λ f. record {
-      name = f.name.now;
-      tree = f.tree;
-      columns = f.columns.now;
-      key = f.key;
-      primary = f.primary.now;
-      uniques = f.uniques.now;
-      parents = f.parents.now;
-    } };
+    /// The places of the primary key, counted behind the rowid unless that is the key.
+    pub primary: &'static [usize],
+    /// The places of columns that are unique together, counted so too.
+    pub uniques: &'static [&'static [usize]],
+    /// The places of the birth of a session.
+    pub parents: &'static [usize],
 }
 
 /// Whether there are no terms.
@@ -61,53 +51,47 @@ fn is_bare(table: &Table) -> bool
 }
 
 /// Whether the key is that of the form.
-fn has_key(table: &Table, form: &TableForm<'_>) -> bool
+fn has_key(table: &Table, form: &TableForm) -> bool
     ensures { MatchBool result (HasKey table.now form.now) (HasKey table.now form.now → ⊥) }
 {
     table.key == form.key && table.primary.as_slice() == form.primary
 }
 
 /// Whether unique rows are those of the form.
-fn has_uniques(table: &Table, form: &TableForm<'_>) -> bool
+fn has_uniques(table: &Table, form: &TableForm) -> bool
     ensures { MatchBool result (HasUniques table.now form.now) (HasUniques table.now form.now → ⊥) }
 {
     all_have(table.uniques.as_slice(), form.uniques)
         && all_have(table.orders.as_slice(), form.uniques)
 }
 
-/// Whether a table has this form.
-pub(crate) fn has_form(table: &Table, form: &TableForm<'_>) -> bool
-    ensures { MatchBool result (table.now ≡ table_of form.now) (table.now ≢ table_of form.now) }
-{
-    table.name.as_slice() == form.name
-        && table.tree == form.tree
-        && all_have(table.columns.as_slice(), form.columns)
-        && has_key(table, form)
-        && has_uniques(table, form)
-        && all_have(table.references.as_slice(), form.parents)
-        && is_bare(table)
+impl Formed for Table {
+    type Form = TableForm;
+
+    ghost formed = { table_of };
+
+    fn has(&self, form: &TableForm) -> bool {
+        self.name.as_slice() == form.name
+            && self.tree == form.tree
+            && all_have(self.columns.as_slice(), form.columns)
+            && has_key(self, form)
+            && has_uniques(self, form)
+            && all_have(self.references.as_slice(), form.parents)
+            && is_bare(self)
+    }
 }
 
 /// An index that keeps rows unique, in ascending order.
-#[derive(Debug, Drop)]
+#[derive(Clone, Copy, Debug)]
 pub struct IndexForm {
+    /// Its name.
     pub name: &'static [u8],
+    /// Where its keys are.
     pub tree: u32,
+    /// Where the rows of its table are.
     pub table: u32,
+    /// The places of its columns.
     pub places: &'static [usize],
-}
-
-impl Model for IndexForm {
-    ghost use Rattle.mqtt_store_schema.specs.Forms.{IndexForm};
-
-    ghost Value = { IndexForm };
-
-    ghost view = { λ f. record {
-      name = f.name.now;
-      tree = f.tree;
-      table = f.table;
-      places = f.places.now;
-    } };
 }
 
 impl Formed for Index {
