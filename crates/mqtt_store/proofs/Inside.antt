@@ -4,7 +4,8 @@ use Rattle.sqlite_trees.specs.Tree.{Trees}
 use Rattle.sqlite.specs.State.{State, HasCleanDisk}
 use Rattle.sqlite.proofs.StateLemmas.{survives_then}
 use Rattle.mqtt_records.specs.declared.change.Change.{Change}
-use Rattle.mqtt_store.specs.Making.{Makes, MakeAll, NeedAll, StaysInside}
+use Rattle.mqtt_store_schema.specs.Settled.{StaysInside}
+use Rattle.mqtt_store.specs.Making.{Makes, MakeAll, NeedAll}
 use Rattle.mqtt_store.specs.Shortened.{MakesUnless, NeedsUnless, goes_anyway, shortened}
 
 pub clean_before : (a b : State) → StaysInside a b → HasCleanDisk b → HasCleanDisk a

@@ -1,7 +1,7 @@
 -- What changes make of the tables, one after the other.
 use Rattle.std.specs.Prelude.{◌≡◌, List, [], ◌∷◌}
 use Rattle.sqlite_trees.specs.Tree.{Trees}
-use Rattle.sqlite.specs.State.{State, HasCleanDisk, Survives, KeepsCommit}
+use Rattle.sqlite.specs.State.{State}
 use Rattle.mqtt_records.specs.declared.change.Change.{Change}
 use Rattle.mqtt_store_write.specs.declared.statement.Statement.{Statement}
 use Rattle.mqtt_store_write.specs.Step.{Asks, Does, IsSettled}
@@ -24,11 +24,6 @@ MakeAll (change ∷ changes) old new = (mid : Trees) × Makes change old mid × 
 abbrev pub NeedAll : List Change → Trees → Type 0
 NeedAll [] db = Unit {0}
 NeedAll (change ∷ changes) db = Needs change db × ((mid : Trees) → Makes change db mid → NeedAll changes mid)
-
--- nothing is committed, and a crash leaves what it left before
-pub record StaysInside (old new : State) : Type 0 where
-  pub kept : HasCleanDisk new → KeepsCommit old new
-  pub survives : Survives old new (λ _. ⊥)
 
 -- what a step may commit
 abbrev pub MayCommit : State → List Change → Trees → Type 0

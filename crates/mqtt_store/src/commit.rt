@@ -2,10 +2,11 @@
 ghost use Rattle.std.specs.Prelude.{◌≡◌, OnOk, OnErr, IsTrue, false};
 ghost use Rattle.sqlite.specs.Held.{state};
 ghost use Rattle.sqlite.specs.State.{HasCleanDisk, Survives};
-ghost use Rattle.mqtt_store_write.specs.Content.{IsWhole};
+ghost use Rattle.mqtt_store_schema.specs.Settled.{StaysInside};
 ghost use Rattle.mqtt_store_write.specs.Step.{IsSettled};
+ghost use Rattle.mqtt_store_write.specs.Writing.{WritesIf, StaysWhole};
 ghost use Rattle.mqtt_store.specs.Parts.{ArePartsOf};
-ghost use Rattle.mqtt_store.specs.Making.{Makes, Needs, MakeAll, NeedAll, StaysInside, MayCommit};
+ghost use Rattle.mqtt_store.specs.Making.{Makes, Needs, MakeAll, NeedAll, MayCommit};
 ghost use Rattle.mqtt_store.specs.Shortened.{MakesUnless, NeedsUnless, shortened};
 
 use crate::ending::{goes_by, known_behind};
@@ -25,11 +26,9 @@ fn write_parts<S: Alter>(
 ) -> Result<(), Error>
     requires { ArePartsOf change.now parts.now }
     ensures same_reference { tx.new.conn.ghost_name ≡ tx.old.conn.ghost_name }
-    ensures made { HasCleanDisk (state S.Store tx.new.conn.now) → IsWhole (state S.Store tx.old.conn.now)
-        → Needs change.now (state S.Store tx.old.conn.now).now.trees
-        → OnOk result (Makes change.now (state S.Store tx.old.conn.now).now.trees (state S.Store tx.new.conn.now).now.trees) }
-    ensures whole { HasCleanDisk (state S.Store tx.new.conn.now) → IsWhole (state S.Store tx.old.conn.now)
-        → OnOk result (IsWhole (state S.Store tx.new.conn.now)) }
+    ensures made { WritesIf S.Store tx.old.conn.now tx.new.conn.now result
+        (Needs change.now) (Makes change.now) }
+    ensures whole { StaysWhole S.Store tx.old.conn.now tx.new.conn.now result }
     ensures inside { StaysInside (state S.Store tx.old.conn.now) (state S.Store tx.new.conn.now) }
 {
     let statement = statement_of(change, parts);
@@ -49,11 +48,9 @@ fn write_change<S: Alter>(
     change: &Change,
 ) -> Result<(), Error>
     ensures same_reference { tx.new.conn.ghost_name ≡ tx.old.conn.ghost_name }
-    ensures made { HasCleanDisk (state S.Store tx.new.conn.now) → IsWhole (state S.Store tx.old.conn.now)
-        → Needs change.now (state S.Store tx.old.conn.now).now.trees
-        → OnOk result (Makes change.now (state S.Store tx.old.conn.now).now.trees (state S.Store tx.new.conn.now).now.trees) }
-    ensures whole { HasCleanDisk (state S.Store tx.new.conn.now) → IsWhole (state S.Store tx.old.conn.now)
-        → OnOk result (IsWhole (state S.Store tx.new.conn.now)) }
+    ensures made { WritesIf S.Store tx.old.conn.now tx.new.conn.now result
+        (Needs change.now) (Makes change.now) }
+    ensures whole { StaysWhole S.Store tx.old.conn.now tx.new.conn.now result }
     ensures inside { StaysInside (state S.Store tx.old.conn.now) (state S.Store tx.new.conn.now) }
 {
     match parts_of(alloc, change) {
@@ -74,11 +71,9 @@ fn write_unless<S: Alter>(
     change: &Change,
 ) -> Result<(), Error>
     ensures same_reference { tx.new.conn.ghost_name ≡ tx.old.conn.ghost_name }
-    ensures made { HasCleanDisk (state S.Store tx.new.conn.now) → IsWhole (state S.Store tx.old.conn.now)
-        → NeedsUnless goes change.now (state S.Store tx.old.conn.now).now.trees
-        → OnOk result (MakesUnless goes change.now (state S.Store tx.old.conn.now).now.trees (state S.Store tx.new.conn.now).now.trees) }
-    ensures whole { HasCleanDisk (state S.Store tx.new.conn.now) → IsWhole (state S.Store tx.old.conn.now)
-        → OnOk result (IsWhole (state S.Store tx.new.conn.now)) }
+    ensures made { WritesIf S.Store tx.old.conn.now tx.new.conn.now result
+        (NeedsUnless goes change.now) (MakesUnless goes change.now) }
+    ensures whole { StaysWhole S.Store tx.old.conn.now tx.new.conn.now result }
     ensures inside { StaysInside (state S.Store tx.old.conn.now) (state S.Store tx.new.conn.now) }
 {
     if goes {
@@ -95,11 +90,9 @@ fn write_changes<S: Alter>(
     changes: &[Change],
 ) -> Result<(), Error>
     ensures same_reference { tx.new.conn.ghost_name ≡ tx.old.conn.ghost_name }
-    ensures made { HasCleanDisk (state S.Store tx.new.conn.now) → IsWhole (state S.Store tx.old.conn.now)
-        → NeedAll (shortened changes.now) (state S.Store tx.old.conn.now).now.trees
-        → OnOk result (MakeAll (shortened changes.now) (state S.Store tx.old.conn.now).now.trees (state S.Store tx.new.conn.now).now.trees) }
-    ensures whole { HasCleanDisk (state S.Store tx.new.conn.now) → IsWhole (state S.Store tx.old.conn.now)
-        → OnOk result (IsWhole (state S.Store tx.new.conn.now)) }
+    ensures made { WritesIf S.Store tx.old.conn.now tx.new.conn.now result
+        (NeedAll (shortened changes.now)) (MakeAll (shortened changes.now)) }
+    ensures whole { StaysWhole S.Store tx.old.conn.now tx.new.conn.now result }
     ensures inside { StaysInside (state S.Store tx.old.conn.now) (state S.Store tx.new.conn.now) }
 {
     let mut rest = changes;
@@ -113,8 +106,9 @@ fn write_changes<S: Alter>(
 }
 
 /// Makes all changes one transaction: all are committed, or none; copies that are removed just before
-/// their session go with it, and are not written. A crash leaves the tables before or after. `OutOfMemory` where a block of properties takes more memory than there is, `TooBig`
-/// where SQL has no such number.
+/// their session go with it, and are not written. A crash leaves the tables before or after.
+/// `OutOfMemory` if a block of properties takes more memory than there is, `TooBig` if SQL has no
+/// such number.
 pub fn commit_changes<S: Alter>(
     alloc: Global,
     conn: &mut Connection<S>,

@@ -21,7 +21,7 @@ use Rattle.mqtt_store_rows.specs.Values.{IsIdentifier}
 use Rattle.mqtt_store_rows.specs.Rows.{SaysSession, SaysWill, SaysSubscription, SaysOpen, SaysCopy, SaysRetained}
 use Rattle.mqtt_store_schema.specs.declared.schema.StoreTable.{StoreTable}
 use Rattle.mqtt_store_schema.specs.declared.schema.StoreTable.TheVariants.{Meta, Session, Will, Subscription, Inbound, Copy, Retained}
-use Rattle.mqtt_store_write.proofs.Rows.{has_permuted}
+use Rattle.mqtt_store_write.proofs.tables.Rows.{has_permuted}
 use Rattle.mqtt_store_read.specs.Listing.{shown, tree_of, IsListing}
 use Rattle.mqtt_store_read.specs.Kept.{HasRecords}
 use Rattle.mqtt_store_laws.specs.Members.{Has as HasItem, HasColumns, IsOrdered, will_of, subscriptions_of, inbound_of, queue_of}

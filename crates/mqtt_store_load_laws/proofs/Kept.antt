@@ -23,8 +23,8 @@ use Rattle.mqtt_store_schema.specs.declared.schema.StoreTable.{StoreTable}
 use Rattle.mqtt_store_schema.specs.declared.schema.StoreTable.TheVariants.{Meta, Session, Will, Subscription, Inbound, Copy, Retained}
 use Rattle.mqtt_store_rows.specs.Values.{or_zero}
 use Rattle.mqtt_store_write.specs.Content.{IsShapedAt}
-use Rattle.mqtt_store_write.proofs.SetCopy.{one_copy, own_number}
-use Rattle.mqtt_store_write.proofs.SetNumber.{own_text, one_name}
+use Rattle.mqtt_store_write.proofs.sets.SetCopy.{one_copy, own_number}
+use Rattle.mqtt_store_write.proofs.sets.SetNumber.{own_text, one_name}
 use Rattle.mqtt_store_read.specs.Listing.{shown, tree_of}
 use Rattle.mqtt_store_laws.specs.Items.{IsNumberRow, IsSessionRow, IsWillRow, IsSubscriptionRow, IsOpenRow, IsCopyRow, IsRetainedRow}
 use Rattle.mqtt_store_laws.specs.Written.{AreWritten, HasRows, AreAllSingle, AreInOrder, KeepsRows}

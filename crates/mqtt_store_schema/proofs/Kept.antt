@@ -9,7 +9,8 @@ use Rattle.sqlite_trees.specs.declared.store.Store.{Ghosts}
 use Rattle.sqlite.specs.Held.{Held, state}
 use Rattle.sqlite.specs.Steps.{FailsToCommit}
 use Rattle.mqtt_store_schema.specs.Creation.{first, HasTables}
-use Rattle.sqlite.specs.State.{State, KeepsCommit, IsUnchanged, IsRolledBack, ExecutesInside}
+use Rattle.sqlite.specs.State.{State, HasCleanDisk, Survives, KeepsCommit, IsUnchanged, IsRolledBack, ExecutesInside}
+use Rattle.mqtt_store_schema.specs.Settled.{StaysInside}
 
 unchanged_keeps : (old new : State) → IsUnchanged old new → KeepsCommit old new
 unchanged_keeps old new h = record { was_open = λ _. h.0.was_open; committed = λ _. h.0.committed_is }
@@ -27,12 +28,17 @@ inside_keeps sql params old new (Err e) h = elim h [
 keeps_same : (s : State) → KeepsCommit s s
 keeps_same s = record { was_open = λ o. o; committed = λ _. refl }
 
-pub keeps_either : {S : Type 0} (g : Ghosts S) (sql : List ℕ) (params : Row) (old new : Held S) (r : Result ℕ Error) → ((state g old).in_transaction ≡ false → (r ≡ Err (SqliteFailure TransactionState)) × (new ≡ old))
+keeps_either : {S : Type 0} (g : Ghosts S) (sql : List ℕ) (params : Row) (old new : Held S) (r : Result ℕ Error) → ((state g old).in_transaction ≡ false → (r ≡ Err (SqliteFailure TransactionState)) × (new ≡ old))
     → (IsTrue (state g old).in_transaction → ExecutesInside 0 sql params (state g old) (state g new) r) → KeepsCommit (state g old) (state g new)
 keeps_either g sql params old new r ended runs = elim (cases_Bool (state g old).in_transaction) [
   | inl inside ↦ inside_keeps sql params (state g old) (state g new) r (runs inside)
   | inr out ↦ rw (ended out).1 (keeps_same (state g old))
 ]
+
+-- so it stays inside
+pub stays_inside : {S : Type 0} (g : Ghosts S) (sql : List ℕ) (params : Row) (old new : Held S) (r : Result ℕ Error) → ((state g old).in_transaction ≡ false → (r ≡ Err (SqliteFailure TransactionState)) × (new ≡ old))
+    → (HasCleanDisk (state g new) → IsTrue (state g old).in_transaction → ExecutesInside 0 sql params (state g old) (state g new) r) → Survives (state g old) (state g new) (λ _. ⊥) → StaysInside (state g old) (state g new)
+stays_inside g sql params old new r ended runs survives = record { kept = λ clean. keeps_either g sql params old new r ended (runs clean); survives = survives }
 
 pub begun_has : (old begun : State) → begun ≡ record old { in_transaction = true } → old.now.schema ≡ first 0 → HasTables 0 begun
 begun_has old begun same none = rw same (record { schema = none; inside = refl; empty = tt })

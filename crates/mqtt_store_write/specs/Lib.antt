@@ -1,4 +1,5 @@
 pub mod Content
+pub mod Writing
 pub mod Copy
 pub mod Removal
 pub mod Columns

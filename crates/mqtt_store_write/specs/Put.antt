@@ -18,6 +18,10 @@ pub record PutsInto (tree : ℕ) (put : Row) (gone : Row → Bool) (old new : Tr
 abbrev pub numbered : ℕ → Row → Trees → Row
 numbered tree row db = Int (next_rowid (db tree)) ∷ row
 
+-- so the row is put
+abbrev pub PutsNumbered : ℕ → Row → (Row → Bool) → Trees → Trees → Type 0
+PutsNumbered tree row gone old new = PutsInto tree (numbered tree row old) gone old new
+
 abbrev pub open_row : ℕ → ℕ → Row
 open_row birth identifier = Int (pos birth) ∷ Int (pos identifier) ∷ []
 

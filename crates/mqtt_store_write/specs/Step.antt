@@ -11,7 +11,7 @@ use Rattle.mqtt_store_write.specs.Removal.{is_keyed, is_subscription, RemovesFro
 use Rattle.mqtt_store_write.specs.Copy.{CopyColumns, copy_row, SetsCopy, IsSized as IsSizedCopy}
 use Rattle.mqtt_store_write.specs.Columns.{session_row, will_row, subscription_row, retained_row}
 use Rattle.mqtt_store_write.specs.Numbers.{number_row, SetsNumber}
-use Rattle.mqtt_store_write.specs.Put.{PutsInto, numbered, open_row, is_retained}
+use Rattle.mqtt_store_write.specs.Put.{PutsInto, PutsNumbered, open_row, is_retained}
 use Rattle.mqtt_store_write.specs.declared.statement.Statement.{Statement}
 use Rattle.mqtt_store_write.specs.declared.statement.Statement.TheVariants.{SetNumber, PutSession, RemoveSession, PutWill, RemoveWill, PutSubscription, RemoveSubscription, PutOpen, RemoveOpen, PutCopy, SetCopy, RemoveCopy, PutRetained, RemoveRetained}
 
@@ -59,13 +59,13 @@ Does (RemoveSession birth) old new = RemovesSession (pos birth) old new
 Does (PutWill birth will) old new = PutsInto 4 (will_row birth will) (is_of 0 (pos birth)) old new
 Does (RemoveWill birth) old new = RemovesFrom 4 (is_of 0 (pos birth)) old new
 Does (PutSubscription birth filter subscription) old new =
-    PutsInto 5 (numbered 5 (subscription_row birth filter.now subscription) old) (is_subscription (pos birth) filter.now) old new
+    PutsNumbered 5 (subscription_row birth filter.now subscription) (is_subscription (pos birth) filter.now) old new
 Does (RemoveSubscription birth filter) old new = RemovesFrom 5 (is_subscription (pos birth) filter.now) old new
 Does (PutOpen birth identifier) old new =
-    PutsInto 7 (numbered 7 (open_row birth identifier) old) (is_keyed (pos birth) (pos identifier)) old new
+    PutsNumbered 7 (open_row birth identifier) (is_keyed (pos birth) (pos identifier)) old new
 Does (RemoveOpen birth identifier) old new = RemovesFrom 7 (is_keyed (pos birth) (pos identifier)) old new
 Does (PutCopy birth place copy) old new =
-    PutsInto 9 (numbered 9 (copy_row birth place copy) old) (is_keyed (pos birth) (pos place)) old new
+    PutsNumbered 9 (copy_row birth place copy) (is_keyed (pos birth) (pos place)) old new
 Does (SetCopy birth place identifier phase order) old new =
     (id : ℤ) × (c : CopyColumns) × Has (old 9) (Int id ∷ copy_row birth place c) × SetsCopy birth place phase identifier order id c old new
 Does (RemoveCopy birth place) old new = RemovesFrom 9 (is_keyed (pos birth) (pos place)) old new

@@ -1,13 +1,14 @@
 //! The statements on copies.
-ghost use Rattle.std.specs.Prelude.{◌≡◌, ◌<◌, ◌^◌, ℤ, ◌∷◌, IfSome, OnOk, option_map, pos};
+ghost use Rattle.std.specs.Prelude.{◌≡◌, ◌<◌, ◌^◌, ℤ, ◌∷◌, IfSome, option_map, pos};
 ghost use Rattle.sqlite_value.specs.declared.value.Value.TheVariants.{Int};
 ghost use Rattle.sqlite_rules.specs.Lists.{Has};
 ghost use Rattle.sqlite.specs.Held.{state};
-ghost use Rattle.sqlite.specs.State.{HasCleanDisk, Survives, KeepsCommit};
+ghost use Rattle.mqtt_store_schema.specs.Settled.{StaysInside};
+ghost use Rattle.mqtt_store_write.specs.Writing.{Writes, StaysWhole};
 ghost use Rattle.mqtt_store_write.specs.Content.{IsReady, IsWhole};
 ghost use Rattle.mqtt_store_write.specs.Copy.{CopyColumns as Columns, copy_row, IsSized, SetsCopy};
 ghost use Rattle.mqtt_store_write.specs.Removal.{is_keyed, RemovesFrom};
-ghost use Rattle.mqtt_store_write.specs.Put.{PutsInto, numbered, open_row};
+ghost use Rattle.mqtt_store_write.specs.Put.{open_row, PutsNumbered};
 
 use crate::sessions::whole;
 use sqlite::{Alter, Error, Transaction, params};
@@ -92,16 +93,14 @@ pub fn set_copy<S: Alter>(
     requires pid { IfSome pid (λ n. n < 2 ^ 63) }
     requires rel { IfSome rel (λ n. n < 2 ^ 63) }
     ensures same_reference { tx.new.conn.ghost_name ≡ tx.old.conn.ghost_name }
-    ensures set { HasCleanDisk (state S.Store tx.new.conn.now) → IsReady (state S.Store tx.old.conn.now) → (id : ℤ) (c : Columns)
+    ensures set { (id : ℤ) (c : Columns)
         → Has ((state S.Store tx.old.conn.now).now.trees 9) (Int id ∷ copy_row birth place c)
-        → OnOk result (SetsCopy birth place phase pid rel id c (state S.Store tx.old.conn.now).now.trees (state S.Store tx.new.conn.now).now.trees)
-        × OnOk result (IsReady (state S.Store tx.new.conn.now)) }
+        → Writes S.Store tx.old.conn.now tx.new.conn.now result IsReady
+        (SetsCopy birth place phase pid rel id c) }
 
     // Where no copy has that place nothing is set.
-    ensures whole { HasCleanDisk (state S.Store tx.new.conn.now) → IsWhole (state S.Store tx.old.conn.now)
-        → OnOk result (IsWhole (state S.Store tx.new.conn.now)) }
-    ensures kept { HasCleanDisk (state S.Store tx.new.conn.now) → KeepsCommit (state S.Store tx.old.conn.now) (state S.Store tx.new.conn.now) }
-    ensures survives { Survives (state S.Store tx.old.conn.now) (state S.Store tx.new.conn.now) (λ _. ⊥) }
+    ensures whole { StaysWhole S.Store tx.old.conn.now tx.new.conn.now result }
+    ensures inside { StaysInside (state S.Store tx.old.conn.now) (state S.Store tx.new.conn.now) }
 {
     let birth = whole(birth);
     let place = whole(place);
@@ -122,11 +121,9 @@ pub fn remove_copy<S: Alter>(
     requires birth { birth < 2 ^ 63 }
     requires place { place < 2 ^ 63 }
     ensures same_reference { tx.new.conn.ghost_name ≡ tx.old.conn.ghost_name }
-    ensures removed { HasCleanDisk (state S.Store tx.new.conn.now) → IsReady (state S.Store tx.old.conn.now)
-        → OnOk result (RemovesFrom 9 (is_keyed (pos birth) (pos place)) (state S.Store tx.old.conn.now).now.trees (state S.Store tx.new.conn.now).now.trees)
-        × OnOk result (IsReady (state S.Store tx.new.conn.now)) }
-    ensures kept { HasCleanDisk (state S.Store tx.new.conn.now) → KeepsCommit (state S.Store tx.old.conn.now) (state S.Store tx.new.conn.now) }
-    ensures survives { Survives (state S.Store tx.old.conn.now) (state S.Store tx.new.conn.now) (λ _. ⊥) }
+    ensures removed { Writes S.Store tx.old.conn.now tx.new.conn.now result IsReady
+        (RemovesFrom 9 (is_keyed (pos birth) (pos place))) }
+    ensures inside { StaysInside (state S.Store tx.old.conn.now) (state S.Store tx.new.conn.now) }
 {
     let birth = whole(birth);
     let place = whole(place);
@@ -145,11 +142,9 @@ pub fn remove_open<S: Alter>(
     requires birth { birth < 2 ^ 63 }
     requires identifier { identifier < 2 ^ 63 }
     ensures same_reference { tx.new.conn.ghost_name ≡ tx.old.conn.ghost_name }
-    ensures removed { HasCleanDisk (state S.Store tx.new.conn.now) → IsReady (state S.Store tx.old.conn.now)
-        → OnOk result (RemovesFrom 7 (is_keyed (pos birth) (pos identifier)) (state S.Store tx.old.conn.now).now.trees (state S.Store tx.new.conn.now).now.trees)
-        × OnOk result (IsReady (state S.Store tx.new.conn.now)) }
-    ensures kept { HasCleanDisk (state S.Store tx.new.conn.now) → KeepsCommit (state S.Store tx.old.conn.now) (state S.Store tx.new.conn.now) }
-    ensures survives { Survives (state S.Store tx.old.conn.now) (state S.Store tx.new.conn.now) (λ _. ⊥) }
+    ensures removed { Writes S.Store tx.old.conn.now tx.new.conn.now result IsReady
+        (RemovesFrom 7 (is_keyed (pos birth) (pos identifier))) }
+    ensures inside { StaysInside (state S.Store tx.old.conn.now) (state S.Store tx.new.conn.now) }
 {
     let birth = whole(birth);
     let identifier = whole(identifier);
@@ -168,11 +163,9 @@ pub fn put_open<S: Alter>(
     requires birth { birth < 2 ^ 63 }
     requires identifier { identifier < 2 ^ 63 }
     ensures same_reference { tx.new.conn.ghost_name ≡ tx.old.conn.ghost_name }
-    ensures put { HasCleanDisk (state S.Store tx.new.conn.now) → IsWhole (state S.Store tx.old.conn.now)
-        → OnOk result (PutsInto 7 (numbered 7 (open_row birth identifier) (state S.Store tx.old.conn.now).now.trees) (is_keyed (pos birth) (pos identifier)) (state S.Store tx.old.conn.now).now.trees (state S.Store tx.new.conn.now).now.trees)
-        × OnOk result (IsWhole (state S.Store tx.new.conn.now)) }
-    ensures kept { HasCleanDisk (state S.Store tx.new.conn.now) → KeepsCommit (state S.Store tx.old.conn.now) (state S.Store tx.new.conn.now) }
-    ensures survives { Survives (state S.Store tx.old.conn.now) (state S.Store tx.new.conn.now) (λ _. ⊥) }
+    ensures put { Writes S.Store tx.old.conn.now tx.new.conn.now result IsWhole
+        (PutsNumbered 7 (open_row birth identifier) (is_keyed (pos birth) (pos identifier))) }
+    ensures inside { StaysInside (state S.Store tx.old.conn.now) (state S.Store tx.new.conn.now) }
 {
     let birth = whole(birth);
     let identifier = whole(identifier);
@@ -193,11 +186,9 @@ pub fn put_copy<S: Alter>(
     requires place { place < 2 ^ 63 }
     requires sized { IsSized copy.now }
     ensures same_reference { tx.new.conn.ghost_name ≡ tx.old.conn.ghost_name }
-    ensures put { HasCleanDisk (state S.Store tx.new.conn.now) → IsWhole (state S.Store tx.old.conn.now)
-        → OnOk result (PutsInto 9 (numbered 9 (copy_row birth place copy.now) (state S.Store tx.old.conn.now).now.trees) (is_keyed (pos birth) (pos place)) (state S.Store tx.old.conn.now).now.trees (state S.Store tx.new.conn.now).now.trees)
-        × OnOk result (IsWhole (state S.Store tx.new.conn.now)) }
-    ensures kept { HasCleanDisk (state S.Store tx.new.conn.now) → KeepsCommit (state S.Store tx.old.conn.now) (state S.Store tx.new.conn.now) }
-    ensures survives { Survives (state S.Store tx.old.conn.now) (state S.Store tx.new.conn.now) (λ _. ⊥) }
+    ensures put { Writes S.Store tx.old.conn.now tx.new.conn.now result IsWhole
+        (PutsNumbered 9 (copy_row birth place copy.now) (is_keyed (pos birth) (pos place))) }
+    ensures inside { StaysInside (state S.Store tx.old.conn.now) (state S.Store tx.new.conn.now) }
 {
     let birth = whole(birth);
     let place = whole(place);

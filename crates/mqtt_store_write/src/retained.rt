@@ -1,7 +1,8 @@
 //! The statements on retained messages.
-ghost use Rattle.std.specs.Prelude.{◌≡◌, ◌<◌, ◌^◌, pos, OnOk};
+ghost use Rattle.std.specs.Prelude.{◌≡◌, ◌<◌, ◌^◌, pos};
 ghost use Rattle.sqlite.specs.Held.{state};
-ghost use Rattle.sqlite.specs.State.{HasCleanDisk, Survives, KeepsCommit};
+ghost use Rattle.mqtt_store_schema.specs.Settled.{StaysInside};
+ghost use Rattle.mqtt_store_write.specs.Writing.{Writes};
 ghost use Rattle.mqtt_store_write.specs.Content.{is_of, IsWhole};
 ghost use Rattle.mqtt_store_write.specs.Removal.{RemovesFrom};
 ghost use Rattle.mqtt_store_write.specs.Columns.{retained_row};
@@ -56,11 +57,9 @@ pub fn put_retained<S: Alter>(
     requires publication { message.now.publication < 2 ^ 63 }
     requires arrived { message.now.arrived < 2 ^ 63 }
     ensures same_reference { tx.new.conn.ghost_name ≡ tx.old.conn.ghost_name }
-    ensures put { HasCleanDisk (state S.Store tx.new.conn.now) → IsWhole (state S.Store tx.old.conn.now)
-        → OnOk result (PutsInto 11 (retained_row place message.now) (is_retained place message.now.topic) (state S.Store tx.old.conn.now).now.trees (state S.Store tx.new.conn.now).now.trees)
-        × OnOk result (IsWhole (state S.Store tx.new.conn.now)) }
-    ensures kept { HasCleanDisk (state S.Store tx.new.conn.now) → KeepsCommit (state S.Store tx.old.conn.now) (state S.Store tx.new.conn.now) }
-    ensures survives { Survives (state S.Store tx.old.conn.now) (state S.Store tx.new.conn.now) (λ _. ⊥) }
+    ensures put { Writes S.Store tx.old.conn.now tx.new.conn.now result IsWhole
+        (PutsInto 11 (retained_row place message.now) (is_retained place message.now.topic)) }
+    ensures inside { StaysInside (state S.Store tx.old.conn.now) (state S.Store tx.new.conn.now) }
 {
     let place = whole(place);
     let publication = whole(message.publication);
@@ -85,11 +84,9 @@ pub fn put_retained<S: Alter>(
 pub fn remove_retained<S: Alter>(tx: &mut Transaction<'_, S>, place: u64) -> Result<usize, Error>
     requires { place < 2 ^ 63 }
     ensures same_reference { tx.new.conn.ghost_name ≡ tx.old.conn.ghost_name }
-    ensures removed { HasCleanDisk (state S.Store tx.new.conn.now) → IsWhole (state S.Store tx.old.conn.now)
-        → OnOk result (RemovesFrom 11 (is_of 0 (pos place)) (state S.Store tx.old.conn.now).now.trees (state S.Store tx.new.conn.now).now.trees)
-        × OnOk result (IsWhole (state S.Store tx.new.conn.now)) }
-    ensures kept { HasCleanDisk (state S.Store tx.new.conn.now) → KeepsCommit (state S.Store tx.old.conn.now) (state S.Store tx.new.conn.now) }
-    ensures survives { Survives (state S.Store tx.old.conn.now) (state S.Store tx.new.conn.now) (λ _. ⊥) }
+    ensures removed { Writes S.Store tx.old.conn.now tx.new.conn.now result IsWhole
+        (RemovesFrom 11 (is_of 0 (pos place))) }
+    ensures inside { StaysInside (state S.Store tx.old.conn.now) (state S.Store tx.new.conn.now) }
 {
     let place = whole(place);
     tx.execute("DELETE FROM retained WHERE place = ?1", params![place])

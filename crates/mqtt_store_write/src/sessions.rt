@@ -1,7 +1,8 @@
 //! The statements on sessions.
-ghost use Rattle.std.specs.Prelude.{◌≡◌, ◌<◌, ◌^◌, pos, IfSome, OnOk};
+ghost use Rattle.std.specs.Prelude.{◌≡◌, ◌<◌, ◌^◌, pos, IfSome};
 ghost use Rattle.sqlite.specs.Held.{state};
-ghost use Rattle.sqlite.specs.State.{HasCleanDisk, Survives, KeepsCommit};
+ghost use Rattle.mqtt_store_schema.specs.Settled.{StaysInside};
+ghost use Rattle.mqtt_store_write.specs.Writing.{Writes};
 ghost use Rattle.mqtt_store_write.specs.Content.{is_of, RemovesSession, IsReady, IsWhole};
 ghost use Rattle.mqtt_store_write.specs.Columns.{session_row};
 ghost use Rattle.mqtt_store_write.specs.Put.{PutsInto};
@@ -41,11 +42,9 @@ pub(crate) fn whole(n: u64) -> i64
 pub fn remove_session<S: Alter>(tx: &mut Transaction<'_, S>, birth: u64) -> Result<usize, Error>
     requires { birth < 2 ^ 63 }
     ensures same_reference { tx.new.conn.ghost_name ≡ tx.old.conn.ghost_name }
-    ensures removed { HasCleanDisk (state S.Store tx.new.conn.now) → IsReady (state S.Store tx.old.conn.now)
-        → OnOk result (RemovesSession (pos birth) (state S.Store tx.old.conn.now).now.trees (state S.Store tx.new.conn.now).now.trees)
-        × OnOk result (IsReady (state S.Store tx.new.conn.now)) }
-    ensures kept { HasCleanDisk (state S.Store tx.new.conn.now) → KeepsCommit (state S.Store tx.old.conn.now) (state S.Store tx.new.conn.now) }
-    ensures survives { Survives (state S.Store tx.old.conn.now) (state S.Store tx.new.conn.now) (λ _. ⊥) }
+    ensures removed { Writes S.Store tx.old.conn.now tx.new.conn.now result IsReady
+        (RemovesSession (pos birth)) }
+    ensures inside { StaysInside (state S.Store tx.old.conn.now) (state S.Store tx.new.conn.now) }
 {
     let birth = whole(birth);
     tx.execute("DELETE FROM session WHERE birth = ?1", params![birth])
@@ -61,11 +60,9 @@ pub fn put_session<S: Alter>(
     requires birth { birth < 2 ^ 63 }
     requires closed { IfSome session.now.closed (λ n. n < 2 ^ 63) }
     ensures same_reference { tx.new.conn.ghost_name ≡ tx.old.conn.ghost_name }
-    ensures put { HasCleanDisk (state S.Store tx.new.conn.now) → IsWhole (state S.Store tx.old.conn.now)
-        → OnOk result (PutsInto 2 (session_row birth session.now) (is_of 0 (pos birth)) (state S.Store tx.old.conn.now).now.trees (state S.Store tx.new.conn.now).now.trees)
-        × OnOk result (IsWhole (state S.Store tx.new.conn.now)) }
-    ensures kept { HasCleanDisk (state S.Store tx.new.conn.now) → KeepsCommit (state S.Store tx.old.conn.now) (state S.Store tx.new.conn.now) }
-    ensures survives { Survives (state S.Store tx.old.conn.now) (state S.Store tx.new.conn.now) (λ _. ⊥) }
+    ensures put { Writes S.Store tx.old.conn.now tx.new.conn.now result IsWhole
+        (PutsInto 2 (session_row birth session.now) (is_of 0 (pos birth))) }
+    ensures inside { StaysInside (state S.Store tx.old.conn.now) (state S.Store tx.new.conn.now) }
 {
     let birth = whole(birth);
     let closed = whole_or_none(session.closed);

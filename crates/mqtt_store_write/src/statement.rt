@@ -1,8 +1,8 @@
 //! One of the statements of the store, with its parameters.
-ghost use Rattle.std.specs.Prelude.{◌≡◌, OnOk};
+ghost use Rattle.std.specs.Prelude.{◌≡◌};
 ghost use Rattle.sqlite.specs.Held.{state};
-ghost use Rattle.sqlite.specs.State.{HasCleanDisk, Survives, KeepsCommit};
-ghost use Rattle.mqtt_store_write.specs.Content.{IsWhole};
+ghost use Rattle.mqtt_store_schema.specs.Settled.{StaysInside};
+ghost use Rattle.mqtt_store_write.specs.Writing.{WritesIf, StaysWhole};
 ghost use Rattle.mqtt_store_write.specs.Step.{IsSized, Asks, Does};
 
 use crate::copies::{CopyColumns, put_copy, put_open, remove_copy, remove_open, set_copy};
@@ -83,13 +83,10 @@ pub fn write<S: Alter>(
 ) -> Result<usize, Error>
     requires { IsSized statement.now }
     ensures same_reference { tx.new.conn.ghost_name ≡ tx.old.conn.ghost_name }
-    ensures made { HasCleanDisk (state S.Store tx.new.conn.now) → IsWhole (state S.Store tx.old.conn.now)
-        → Asks statement.now (state S.Store tx.old.conn.now).now.trees
-        → OnOk result (Does statement.now (state S.Store tx.old.conn.now).now.trees (state S.Store tx.new.conn.now).now.trees) }
-    ensures whole { HasCleanDisk (state S.Store tx.new.conn.now) → IsWhole (state S.Store tx.old.conn.now)
-        → OnOk result (IsWhole (state S.Store tx.new.conn.now)) }
-    ensures kept { HasCleanDisk (state S.Store tx.new.conn.now) → KeepsCommit (state S.Store tx.old.conn.now) (state S.Store tx.new.conn.now) }
-    ensures survives { Survives (state S.Store tx.old.conn.now) (state S.Store tx.new.conn.now) (λ _. ⊥) }
+    ensures made { WritesIf S.Store tx.old.conn.now tx.new.conn.now result
+        (Asks statement.now) (Does statement.now) }
+    ensures whole { StaysWhole S.Store tx.old.conn.now tx.new.conn.now result }
+    ensures inside { StaysInside (state S.Store tx.old.conn.now) (state S.Store tx.new.conn.now) }
 {
     match statement {
         Statement::SetNumber { name, value } => set_number(tx, name, *value),

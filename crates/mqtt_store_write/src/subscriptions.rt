@@ -1,11 +1,12 @@
 //! The statements on subscriptions.
-ghost use Rattle.std.specs.Prelude.{◌≡◌, ◌<◌, ◌^◌, pos, OnOk};
+ghost use Rattle.std.specs.Prelude.{◌≡◌, ◌<◌, ◌^◌, pos};
 ghost use Rattle.sqlite.specs.Held.{state};
-ghost use Rattle.sqlite.specs.State.{HasCleanDisk, Survives, KeepsCommit};
+ghost use Rattle.mqtt_store_schema.specs.Settled.{StaysInside};
+ghost use Rattle.mqtt_store_write.specs.Writing.{Writes};
 ghost use Rattle.mqtt_store_write.specs.Content.{IsWhole};
 ghost use Rattle.mqtt_store_write.specs.Removal.{is_subscription, RemovesFrom};
 ghost use Rattle.mqtt_store_write.specs.Columns.{subscription_row};
-ghost use Rattle.mqtt_store_write.specs.Put.{PutsInto, numbered};
+ghost use Rattle.mqtt_store_write.specs.Put.{PutsNumbered};
 
 use crate::sessions::whole;
 use sqlite::{Alter, Error, Transaction, params};
@@ -38,11 +39,9 @@ pub fn put_subscription<S: Alter>(
     requires birth { birth < 2 ^ 63 }
     requires place { subscription.now.place < 2 ^ 63 }
     ensures same_reference { tx.new.conn.ghost_name ≡ tx.old.conn.ghost_name }
-    ensures put { HasCleanDisk (state S.Store tx.new.conn.now) → IsWhole (state S.Store tx.old.conn.now)
-        → OnOk result (PutsInto 5 (numbered 5 (subscription_row birth filter.now subscription.now) (state S.Store tx.old.conn.now).now.trees) (is_subscription (pos birth) filter.now) (state S.Store tx.old.conn.now).now.trees (state S.Store tx.new.conn.now).now.trees)
-        × OnOk result (IsWhole (state S.Store tx.new.conn.now)) }
-    ensures kept { HasCleanDisk (state S.Store tx.new.conn.now) → KeepsCommit (state S.Store tx.old.conn.now) (state S.Store tx.new.conn.now) }
-    ensures survives { Survives (state S.Store tx.old.conn.now) (state S.Store tx.new.conn.now) (λ _. ⊥) }
+    ensures put { Writes S.Store tx.old.conn.now tx.new.conn.now result IsWhole
+        (PutsNumbered 5 (subscription_row birth filter.now subscription.now) (is_subscription (pos birth) filter.now)) }
+    ensures inside { StaysInside (state S.Store tx.old.conn.now) (state S.Store tx.new.conn.now) }
 {
     let birth = whole(birth);
     let place = whole(subscription.place);
@@ -71,11 +70,9 @@ pub fn remove_subscription<S: Alter>(
 ) -> Result<usize, Error>
     requires { birth < 2 ^ 63 }
     ensures same_reference { tx.new.conn.ghost_name ≡ tx.old.conn.ghost_name }
-    ensures removed { HasCleanDisk (state S.Store tx.new.conn.now) → IsWhole (state S.Store tx.old.conn.now)
-        → OnOk result (RemovesFrom 5 (is_subscription (pos birth) filter.now) (state S.Store tx.old.conn.now).now.trees (state S.Store tx.new.conn.now).now.trees)
-        × OnOk result (IsWhole (state S.Store tx.new.conn.now)) }
-    ensures kept { HasCleanDisk (state S.Store tx.new.conn.now) → KeepsCommit (state S.Store tx.old.conn.now) (state S.Store tx.new.conn.now) }
-    ensures survives { Survives (state S.Store tx.old.conn.now) (state S.Store tx.new.conn.now) (λ _. ⊥) }
+    ensures removed { Writes S.Store tx.old.conn.now tx.new.conn.now result IsWhole
+        (RemovesFrom 5 (is_subscription (pos birth) filter.now)) }
+    ensures inside { StaysInside (state S.Store tx.old.conn.now) (state S.Store tx.new.conn.now) }
 {
     let birth = whole(birth);
     tx.execute(

@@ -1,7 +1,8 @@
 //! The statements on Wills.
-ghost use Rattle.std.specs.Prelude.{◌≡◌, ◌<◌, ◌^◌, pos, OnOk};
+ghost use Rattle.std.specs.Prelude.{◌≡◌, ◌<◌, ◌^◌, pos};
 ghost use Rattle.sqlite.specs.Held.{state};
-ghost use Rattle.sqlite.specs.State.{HasCleanDisk, Survives, KeepsCommit};
+ghost use Rattle.mqtt_store_schema.specs.Settled.{StaysInside};
+ghost use Rattle.mqtt_store_write.specs.Writing.{Writes};
 ghost use Rattle.mqtt_store_write.specs.Content.{is_of, IsWhole};
 ghost use Rattle.mqtt_store_write.specs.Removal.{RemovesFrom};
 ghost use Rattle.mqtt_store_write.specs.Columns.{will_row};
@@ -51,11 +52,9 @@ pub fn put_will<S: Alter>(
 ) -> Result<usize, Error>
     requires { birth < 2 ^ 63 }
     ensures same_reference { tx.new.conn.ghost_name ≡ tx.old.conn.ghost_name }
-    ensures put { HasCleanDisk (state S.Store tx.new.conn.now) → IsWhole (state S.Store tx.old.conn.now)
-        → OnOk result (PutsInto 4 (will_row birth will.now) (is_of 0 (pos birth)) (state S.Store tx.old.conn.now).now.trees (state S.Store tx.new.conn.now).now.trees)
-        × OnOk result (IsWhole (state S.Store tx.new.conn.now)) }
-    ensures kept { HasCleanDisk (state S.Store tx.new.conn.now) → KeepsCommit (state S.Store tx.old.conn.now) (state S.Store tx.new.conn.now) }
-    ensures survives { Survives (state S.Store tx.old.conn.now) (state S.Store tx.new.conn.now) (λ _. ⊥) }
+    ensures put { Writes S.Store tx.old.conn.now tx.new.conn.now result IsWhole
+        (PutsInto 4 (will_row birth will.now) (is_of 0 (pos birth))) }
+    ensures inside { StaysInside (state S.Store tx.old.conn.now) (state S.Store tx.new.conn.now) }
 {
     let birth = whole(birth);
     let qos = u32::from(will.qos);
@@ -77,11 +76,9 @@ pub fn put_will<S: Alter>(
 pub fn remove_will<S: Alter>(tx: &mut Transaction<'_, S>, birth: u64) -> Result<usize, Error>
     requires { birth < 2 ^ 63 }
     ensures same_reference { tx.new.conn.ghost_name ≡ tx.old.conn.ghost_name }
-    ensures removed { HasCleanDisk (state S.Store tx.new.conn.now) → IsWhole (state S.Store tx.old.conn.now)
-        → OnOk result (RemovesFrom 4 (is_of 0 (pos birth)) (state S.Store tx.old.conn.now).now.trees (state S.Store tx.new.conn.now).now.trees)
-        × OnOk result (IsWhole (state S.Store tx.new.conn.now)) }
-    ensures kept { HasCleanDisk (state S.Store tx.new.conn.now) → KeepsCommit (state S.Store tx.old.conn.now) (state S.Store tx.new.conn.now) }
-    ensures survives { Survives (state S.Store tx.old.conn.now) (state S.Store tx.new.conn.now) (λ _. ⊥) }
+    ensures removed { Writes S.Store tx.old.conn.now tx.new.conn.now result IsWhole
+        (RemovesFrom 4 (is_of 0 (pos birth))) }
+    ensures inside { StaysInside (state S.Store tx.old.conn.now) (state S.Store tx.new.conn.now) }
 {
     let birth = whole(birth);
     tx.execute("DELETE FROM will WHERE birth = ?1", params![birth])

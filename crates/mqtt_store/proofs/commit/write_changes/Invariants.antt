@@ -1,8 +1,9 @@
 use Rattle.std.proofs.Common.{◌≡◌, length}
 use Rattle.sqlite.specs.State.{HasCleanDisk}
 use Rattle.sqlite.specs.Held.{state}
+use Rattle.mqtt_store_schema.specs.Settled.{StaysInside}
 use Rattle.mqtt_store_write.specs.Content.{IsWhole}
-use Rattle.mqtt_store.specs.Making.{NeedAll, StaysInside}
+use Rattle.mqtt_store.specs.Making.{NeedAll}
 use Rattle.mqtt_store.specs.Shortened.{KnowsEnd, shortened}
 use Rattle.mqtt_store.proofs.Inside.{Leads}
 use Rattle.mqtt_store.proofs.commit.write_changes.Given as goal

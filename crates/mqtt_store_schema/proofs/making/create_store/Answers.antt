@@ -17,5 +17,5 @@ returns-clause-err g c =
     (λ clean up none.
     let mid : HasCleanDisk tx = omega (arith, c.commit.ensures.survives.clean) in
     let made = c.in_ok-make_all.ensures.made mid (begun_has old (state g.S.Store c.transaction-tx.result.conn.now) (ap (state g.S.Store) c.transaction-tx.ensures.begun) none) in
-    let kept = c.make_all.ensures.kept mid in
+    let kept = c.make_all.ensures.inside.kept mid in
     commit_err old tx (state g.S.Store end) c.commit.result (λ was. rw c.transaction-tx.ensures.begun at (kept.committed was)) made.1 (c.commit.ensures.err clean) up)

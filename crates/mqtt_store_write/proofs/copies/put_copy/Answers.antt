@@ -1,14 +1,14 @@
 use Rattle.std.proofs.Common.{arith, w64, pos, ap, subst, OnOk}
 use Rattle.std.proofs.lemmas.Int.{to_z-of_z}
 use Rattle.sqlite.specs.Held.{state}
-use Rattle.mqtt_store_schema.proofs.Kept.{keeps_either}
+use Rattle.mqtt_store_schema.proofs.Kept.{stays_inside}
 use Rattle.mqtt_store_write.specs.Content.{IsWhole}
 use Rattle.mqtt_store_write.specs.Removal.{is_keyed}
 use Rattle.mqtt_store_write.specs.Copy.{CopyColumns, copy_row}
 use Rattle.mqtt_store_write.specs.Put.{PutsInto, numbered}
-use Rattle.mqtt_store_write.proofs.Fresh.{flag_is}
-use Rattle.mqtt_store_write.proofs.SetCopy.{bound_is}
-use Rattle.mqtt_store_write.proofs.PutCopy.{puts}
+use Rattle.mqtt_store_write.proofs.tables.Fresh.{flag_is}
+use Rattle.mqtt_store_write.proofs.sets.SetCopy.{bound_is}
+use Rattle.mqtt_store_write.proofs.puts.PutCopy.{puts}
 use Rattle.mqtt_store_write.proofs.copies.put_copy.Goals as goal
 
 pub returns-clause-put : goal.returns-clause-put
@@ -57,5 +57,5 @@ returns-clause-put g c clean whole =
       flag_is w.retain,
     ) at (c.execute.ensures.runs clean whole.ready.inside)))
 
-pub returns-clause-kept : goal.returns-clause-kept
-returns-clause-kept g c clean = keeps_either g.S.Store _ _ _ _ c.execute.result c.execute.ensures.ended (c.execute.ensures.runs clean)
+pub returns-clause-inside : goal.returns-clause-inside
+returns-clause-inside g c = stays_inside g.S.Store _ _ _ _ c.execute.result c.execute.ensures.ended c.execute.ensures.runs c.execute.ensures.survives

@@ -1,8 +1,8 @@
 use Rattle.std.proofs.Common.{arith, w64, pos}
 use Rattle.std.proofs.lemmas.Int.{to_z-of_z}
 use Rattle.sqlite.specs.Held.{state}
-use Rattle.mqtt_store_schema.proofs.Kept.{keeps_either}
-use Rattle.mqtt_store_write.proofs.Removal.{removes_open}
+use Rattle.mqtt_store_schema.proofs.Kept.{stays_inside}
+use Rattle.mqtt_store_write.proofs.deletes.Removal.{removes_open}
 use Rattle.mqtt_store_write.proofs.copies.remove_open.Goals as goal
 
 pub returns-clause-removed : goal.returns-clause-removed
@@ -17,5 +17,5 @@ returns-clause-removed g c clean ready =
       to_z-of_z w64 (pos c.args.identifier) (omega arith),
     ) at (c.execute.ensures.runs clean ready.inside))
 
-pub returns-clause-kept : goal.returns-clause-kept
-returns-clause-kept g c clean = keeps_either g.S.Store _ _ _ _ c.execute.result c.execute.ensures.ended (c.execute.ensures.runs clean)
+pub returns-clause-inside : goal.returns-clause-inside
+returns-clause-inside g c = stays_inside g.S.Store _ _ _ _ c.execute.result c.execute.ensures.ended c.execute.ensures.runs c.execute.ensures.survives

@@ -2,12 +2,12 @@ use Rattle.std.proofs.Common.{arith, w64, pos}
 use Rattle.std.proofs.lemmas.Int.{to_z-of_z}
 use Rattle.sqlite_value.specs.declared.value.Value.TheVariants.{Int}
 use Rattle.sqlite.specs.Held.{state}
-use Rattle.mqtt_store_schema.proofs.Kept.{keeps_either}
-use Rattle.mqtt_store_write.proofs.SetCopy.{sets_copy, any_copy, args_are}
+use Rattle.mqtt_store_schema.proofs.Kept.{stays_inside}
+use Rattle.mqtt_store_write.proofs.sets.SetCopy.{sets_copy, any_copy, args_are}
 use Rattle.mqtt_store_write.proofs.copies.set_copy.Goals as goal
 
 pub returns-clause-set : goal.returns-clause-set
-returns-clause-set g c clean ready id columns there =
+returns-clause-set g c id columns there clean ready =
     let old = state g.S.Store c.args.tx.now.conn.now in
     let new = state g.S.Store c.execute.new.self.conn.now in
     sets_copy c.args.birth c.args.place c.args.phase c.args.pid c.args.rel old new id columns c.execute.result ready there
@@ -27,8 +27,8 @@ returns-clause-set g c clean ready id columns there =
       to_z-of_z w64 (pos c.args.place) (omega arith),
     ) at (c.execute.ensures.runs clean ready.inside)))
 
-pub returns-clause-kept : goal.returns-clause-kept
-returns-clause-kept g c clean = keeps_either g.S.Store _ _ _ _ c.execute.result c.execute.ensures.ended (c.execute.ensures.runs clean)
+pub returns-clause-inside : goal.returns-clause-inside
+returns-clause-inside g c = stays_inside g.S.Store _ _ _ _ c.execute.result c.execute.ensures.ended c.execute.ensures.runs c.execute.ensures.survives
 
 pub returns-clause-whole : goal.returns-clause-whole
 returns-clause-whole g c clean whole =

@@ -1,4 +1,4 @@
-use Rattle.mqtt_store_write.proofs.Stands.{given_free, key_free}
+use Rattle.mqtt_store_write.proofs.steps.Stands.{given_free, key_free}
 use Rattle.mqtt_store_write.proofs.laws.number_is_free.Goals as goal
 
 pub returns-clause-given : goal.returns-clause-given

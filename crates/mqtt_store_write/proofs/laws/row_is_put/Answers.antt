@@ -1,4 +1,4 @@
-use Rattle.mqtt_store_write.proofs.Stands.{put_new, put_old}
+use Rattle.mqtt_store_write.proofs.steps.Stands.{put_new, put_old}
 use Rattle.mqtt_store_write.proofs.laws.row_is_put.Goals as goal
 
 pub returns-clause-new : goal.returns-clause-new

@@ -1,4 +1,4 @@
-use Rattle.mqtt_store_write.proofs.Stands.{removed_new, removed_old}
+use Rattle.mqtt_store_write.proofs.steps.Stands.{removed_new, removed_old}
 use Rattle.mqtt_store_write.proofs.laws.row_is_removed.Goals as goal
 
 pub returns-clause-new : goal.returns-clause-new

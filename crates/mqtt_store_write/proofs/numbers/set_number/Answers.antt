@@ -1,17 +1,17 @@
 use Rattle.std.proofs.Common.{arith, w64, pos}
 use Rattle.std.proofs.lemmas.Int.{to_z-of_z}
 use Rattle.sqlite.specs.Held.{state}
-use Rattle.mqtt_store_schema.proofs.Kept.{keeps_either}
-use Rattle.mqtt_store_write.proofs.SetNumber.{sets_number, any_number}
+use Rattle.mqtt_store_schema.proofs.Kept.{stays_inside}
+use Rattle.mqtt_store_write.proofs.sets.SetNumber.{sets_number, any_number}
 use Rattle.mqtt_store_write.proofs.numbers.set_number.Goals as goal
 
 pub returns-clause-set : goal.returns-clause-set
-returns-clause-set g c clean whole id n there =
+returns-clause-set g c id n there clean whole =
     sets_number c.args.name.now c.args.value (state g.S.Store c.args.tx.now.conn.now) (state g.S.Store c.execute.new.self.conn.now) id n c.execute.result whole there
     (rw (c.params-to_sql.ensures, c.params-to_sql-2.ensures, c.whole-value.ensures, to_z-of_z w64 (pos c.args.value) (omega arith)) at (c.execute.ensures.runs clean whole.ready.inside))
 
-pub returns-clause-kept : goal.returns-clause-kept
-returns-clause-kept g c clean = keeps_either g.S.Store _ _ _ _ c.execute.result c.execute.ensures.ended (c.execute.ensures.runs clean)
+pub returns-clause-inside : goal.returns-clause-inside
+returns-clause-inside g c = stays_inside g.S.Store _ _ _ _ c.execute.result c.execute.ensures.ended c.execute.ensures.runs c.execute.ensures.survives
 
 pub returns-clause-whole : goal.returns-clause-whole
 returns-clause-whole g c clean whole =

@@ -1,11 +1,11 @@
 use Rattle.std.proofs.Common.{arith, w64, pos, ap, subst, OnOk}
 use Rattle.std.proofs.lemmas.Int.{to_z-of_z}
 use Rattle.sqlite.specs.Held.{state}
-use Rattle.mqtt_store_schema.proofs.Kept.{keeps_either}
+use Rattle.mqtt_store_schema.proofs.Kept.{stays_inside}
 use Rattle.mqtt_store_write.specs.Content.{IsWhole}
 use Rattle.mqtt_store_write.specs.Columns.{RetainedColumns, retained_row}
 use Rattle.mqtt_store_write.specs.Put.{PutsInto, is_retained}
-use Rattle.mqtt_store_write.proofs.PutRetained.{puts}
+use Rattle.mqtt_store_write.proofs.puts.PutRetained.{puts}
 use Rattle.mqtt_store_write.proofs.retained.put_retained.Goals as goal
 
 pub returns-clause-put : goal.returns-clause-put
@@ -34,5 +34,5 @@ returns-clause-put g c clean whole =
       to_z-of_z w64 (pos c.message.inside.arrived) (omega (arith, arrived)),
     ) at (c.execute.ensures.runs clean whole.ready.inside)))
 
-pub returns-clause-kept : goal.returns-clause-kept
-returns-clause-kept g c clean = keeps_either g.S.Store _ _ _ _ c.execute.result c.execute.ensures.ended (c.execute.ensures.runs clean)
+pub returns-clause-inside : goal.returns-clause-inside
+returns-clause-inside g c = stays_inside g.S.Store _ _ _ _ c.execute.result c.execute.ensures.ended c.execute.ensures.runs c.execute.ensures.survives

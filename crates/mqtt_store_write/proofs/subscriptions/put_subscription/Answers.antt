@@ -1,9 +1,9 @@
 use Rattle.std.proofs.Common.{arith, w64, pos}
 use Rattle.std.proofs.lemmas.Int.{to_z-of_z}
 use Rattle.sqlite.specs.Held.{state}
-use Rattle.mqtt_store_schema.proofs.Kept.{keeps_either}
-use Rattle.mqtt_store_write.proofs.Fresh.{flag_is}
-use Rattle.mqtt_store_write.proofs.PutSubscription.{puts}
+use Rattle.mqtt_store_schema.proofs.Kept.{stays_inside}
+use Rattle.mqtt_store_write.proofs.tables.Fresh.{flag_is}
+use Rattle.mqtt_store_write.proofs.puts.PutSubscription.{puts}
 use Rattle.mqtt_store_write.proofs.subscriptions.put_subscription.Goals as goal
 
 pub returns-clause-put : goal.returns-clause-put
@@ -30,5 +30,5 @@ returns-clause-put g c clean whole =
       flag_is c.args.subscription.now.retain_as_published,
     ) at (c.execute.ensures.runs clean whole.ready.inside)))
 
-pub returns-clause-kept : goal.returns-clause-kept
-returns-clause-kept g c clean = keeps_either g.S.Store _ _ _ _ c.execute.result c.execute.ensures.ended (c.execute.ensures.runs clean)
+pub returns-clause-inside : goal.returns-clause-inside
+returns-clause-inside g c = stays_inside g.S.Store _ _ _ _ c.execute.result c.execute.ensures.ended c.execute.ensures.runs c.execute.ensures.survives

@@ -1,12 +1,12 @@
 use Rattle.std.proofs.Common.{arith, w64, pos, subst, OnOk}
 use Rattle.std.proofs.lemmas.Int.{to_z-of_z}
 use Rattle.sqlite.specs.Held.{state}
-use Rattle.mqtt_store_schema.proofs.Kept.{keeps_either}
+use Rattle.mqtt_store_schema.proofs.Kept.{stays_inside}
 use Rattle.mqtt_store_write.specs.Content.{is_of, IsWhole}
 use Rattle.mqtt_store_write.specs.Columns.{WillColumns, will_row}
 use Rattle.mqtt_store_write.specs.Put.{PutsInto}
-use Rattle.mqtt_store_write.proofs.Fresh.{flag_is}
-use Rattle.mqtt_store_write.proofs.PutWill.{puts}
+use Rattle.mqtt_store_write.proofs.tables.Fresh.{flag_is}
+use Rattle.mqtt_store_write.proofs.puts.PutWill.{puts}
 use Rattle.mqtt_store_write.proofs.wills.put_will.Goals as goal
 
 pub returns-clause-put : goal.returns-clause-put
@@ -29,5 +29,5 @@ returns-clause-put g c clean whole =
       flag_is c.will.inside.retain,
     ) at (c.execute.ensures.runs clean whole.ready.inside)))
 
-pub returns-clause-kept : goal.returns-clause-kept
-returns-clause-kept g c clean = keeps_either g.S.Store _ _ _ _ c.execute.result c.execute.ensures.ended (c.execute.ensures.runs clean)
+pub returns-clause-inside : goal.returns-clause-inside
+returns-clause-inside g c = stays_inside g.S.Store _ _ _ _ c.execute.result c.execute.ensures.ended c.execute.ensures.runs c.execute.ensures.survives

@@ -36,10 +36,10 @@ use Rattle.sqlite.proofs.Callers.{IsPlain, command_of, statement_of, runs_as, on
 use Rattle.mqtt_store_schema.specs.Tables.{keep_schema}
 use Rattle.mqtt_store_write.specs.Content.{IsShapedAt, IsWhole}
 use Rattle.mqtt_store_write.specs.Put.{PutsInto}
-use Rattle.mqtt_store_write.proofs.Parts.{went, same_value, plain_mode}
-use Rattle.mqtt_store_write.proofs.Rows.{without_those}
-use Rattle.mqtt_store_write.proofs.Removal.{has_map, map_has}
-use Rattle.mqtt_store_write.proofs.Whole.{whole_after}
+use Rattle.mqtt_store_write.proofs.tables.Parts.{went, same_value, plain_mode}
+use Rattle.mqtt_store_write.proofs.tables.Rows.{without_those}
+use Rattle.mqtt_store_write.proofs.deletes.Removal.{has_map, map_has}
+use Rattle.mqtt_store_write.proofs.tables.Whole.{whole_after}
 
 uncounted_gives : (b x : Bool) (P Q : Type 0) → b ≡ false → MatchBool (if b then x else false) P Q → Q
 uncounted_gives true x P Q e h = absurd (true≢false e)

@@ -28,12 +28,12 @@ use Rattle.sqlite_trees.proofs.TreeLemmas.{IsShaped-filter}
 use Rattle.sqlite.proofs.Callers.{statement_of, runs_as, one_permutation}
 use Rattle.mqtt_store_schema.specs.Tables.{keep_schema, will, sub, inbound, copy, session}
 use Rattle.mqtt_store_write.specs.Content.{is_of, without, RemovesSession, AreShaped, IsShapedAt, IsReady}
-use Rattle.mqtt_store_write.proofs.Rows.{without_those}
-use Rattle.mqtt_store_write.proofs.Commands.{over, program, equals, remove_session_is}
-use Rattle.mqtt_store_write.proofs.Parts.{passes, shows, answers_over, deleted}
-use Rattle.mqtt_store_write.proofs.Cascade.{work}
-use Rattle.mqtt_store_write.proofs.RemoveSession.{works_are, only_row}
-use Rattle.mqtt_store_write.proofs.RemovesSession.{and_true, tied_ids, is_own, lost, cascades, remove_session_text, remove_session_plain}
+use Rattle.mqtt_store_write.proofs.tables.Rows.{without_those}
+use Rattle.mqtt_store_write.proofs.tables.Commands.{over, program, equals, remove_session_is}
+use Rattle.mqtt_store_write.proofs.tables.Parts.{passes, shows, answers_over, deleted}
+use Rattle.mqtt_store_write.proofs.deletes.Cascade.{work}
+use Rattle.mqtt_store_write.proofs.deletes.RemoveSession.{works_are, only_row}
+use Rattle.mqtt_store_write.proofs.deletes.RemovesSession.{and_true, tied_ids, is_own, lost, cascades, remove_session_text, remove_session_plain}
 
 module _ (birth : ℤ) (db after : Trees) (one : Row) (shaped : AreShaped db) (has : Has (db 2) one) (is : rowid one ≡ Int birth) where
   at_birth : Row → Bool

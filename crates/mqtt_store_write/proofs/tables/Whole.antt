@@ -7,7 +7,7 @@ use Rattle.sqlite_rules.specs.Edit.{IsNoIndex}
 use Rattle.sqlite.specs.State.{State}
 use Rattle.mqtt_store_schema.specs.Tables.{keep_schema}
 use Rattle.mqtt_store_write.specs.Content.{IsShapedAt, IsWhole}
-use Rattle.mqtt_store_write.proofs.RemovesSession.{not_tree}
+use Rattle.mqtt_store_write.proofs.deletes.RemovesSession.{not_tree}
 
 abbrev pub Spares : ℕ → Trees → Trees → Type 0
 Spares tree old new = (t : ℕ) → t ≢ tree → IsNoIndex keep_schema t → new t ≡ old t

@@ -31,11 +31,11 @@ use Rattle.sqlite.proofs.Callers.{IsPlain, command_of, statement_of, runs_as, on
 use Rattle.mqtt_store_schema.specs.Tables.{keep_schema, inbound, copy}
 use Rattle.mqtt_store_write.specs.Content.{is_of, IsShapedAt, IsReady}
 use Rattle.mqtt_store_write.specs.Removal.{is_keyed, RemovesFrom}
-use Rattle.mqtt_store_write.proofs.Rows.{without_those, has_permuted, filter_alike}
-use Rattle.mqtt_store_write.proofs.Commands.{over, program, equals}
-use Rattle.mqtt_store_write.proofs.Parts.{passes, shows, answers_over, deleted}
-use Rattle.mqtt_store_write.proofs.RemovesSession.{not_tree}
-use Rattle.mqtt_store_write.proofs.Whole.{at_tree}
+use Rattle.mqtt_store_write.proofs.tables.Rows.{without_those, has_permuted, filter_alike}
+use Rattle.mqtt_store_write.proofs.tables.Commands.{over, program, equals}
+use Rattle.mqtt_store_write.proofs.tables.Parts.{passes, shows, answers_over, deleted}
+use Rattle.mqtt_store_write.proofs.deletes.RemovesSession.{not_tree}
+use Rattle.mqtt_store_write.proofs.tables.Whole.{at_tree}
 
 pub has_map : {X Y : Type 0} (f : X → Y) (xs : List X) (y : Y) → Has (map f xs) y → (x : X) × Has xs x × (y ≡ f x)
 has_map f [] y h = absurd h

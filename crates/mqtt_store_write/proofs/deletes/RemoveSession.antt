@@ -21,7 +21,7 @@ use Rattle.mqtt_store_write.specs.Content.{is_of}
 use Rattle.sqlite_value.proofs.OrderLemmas.{value_cmp_total}
 use Rattle.sqlite_trees.proofs.ListLemmas.{filter_none}
 use Rattle.sqlite_rules.proofs.ListLemmas.{all_has, all_from}
-use Rattle.mqtt_store_write.proofs.Cascade.{work}
+use Rattle.mqtt_store_write.proofs.deletes.Cascade.{work}
 
 truth_of : (b : Bool) → is_true (from_truth (Some b)) ≡ b
 truth_of true = refl

@@ -29,9 +29,9 @@ use Rattle.mqtt_store_write.specs.Content.{is_of, IsWhole}
 use Rattle.mqtt_store_write.specs.Removal.{is_keyed}
 use Rattle.mqtt_store_write.specs.Copy.{CopyColumns, copy_row}
 use Rattle.mqtt_store_write.specs.Put.{PutsInto, numbered}
-use Rattle.mqtt_store_write.proofs.SetCopy.{cast_int, cast_null, cast_number}
-use Rattle.mqtt_store_write.proofs.Fresh.{apart, and_true, or_false}
-use Rattle.mqtt_store_write.proofs.Replace.{replaces}
+use Rattle.mqtt_store_write.proofs.sets.SetCopy.{cast_int, cast_null, cast_number}
+use Rattle.mqtt_store_write.proofs.tables.Fresh.{apart, and_true, or_false}
+use Rattle.mqtt_store_write.proofs.puts.Replace.{replaces}
 
 abbrev pub put_text : List ℕ
 put_text = codes "INSERT OR REPLACE INTO copy VALUES (?1, ?2, ?3, ?4, ?5, ?6, ?7, ?8, ?9, ?10, ?11, ?12, ?13, ?14, ?15)"

@@ -21,9 +21,9 @@ use Rattle.sqlite_tied.specs.Compute.{everything}
 use Rattle.sqlite.proofs.Callers.{IsPlain}
 use Rattle.mqtt_store_schema.specs.Tables.{keep_schema, will, sub, inbound, copy, session}
 use Rattle.mqtt_store_write.specs.Content.{is_of, without, RemovesSession, AreShaped}
-use Rattle.mqtt_store_write.proofs.Rows.{filter_alike, equal_is}
-use Rattle.mqtt_store_write.proofs.Cascade.{work, stepped, will_childless, sub_childless, inbound_childless, copy_childless}
-use Rattle.mqtt_store_write.proofs.RemoveSession.{equal_ids, children_are}
+use Rattle.mqtt_store_write.proofs.tables.Rows.{filter_alike, equal_is}
+use Rattle.mqtt_store_write.proofs.deletes.Cascade.{work, stepped, will_childless, sub_childless, inbound_childless, copy_childless}
+use Rattle.mqtt_store_write.proofs.deletes.RemoveSession.{equal_ids, children_are}
 
 pub and_true : (b : Bool) → (b && true) ≡ b
 and_true true = refl

@@ -23,9 +23,9 @@ use Rattle.mqtt_store_schema.specs.Tables.{keep_schema, will}
 use Rattle.mqtt_store_write.specs.Content.{is_of, IsWhole}
 use Rattle.mqtt_store_write.specs.Columns.{flag, WillColumns, will_row}
 use Rattle.mqtt_store_write.specs.Put.{PutsInto}
-use Rattle.mqtt_store_write.proofs.SetCopy.{cast_int, cast_null}
-use Rattle.mqtt_store_write.proofs.Fresh.{and_true, or_false}
-use Rattle.mqtt_store_write.proofs.Replace.{replaces}
+use Rattle.mqtt_store_write.proofs.sets.SetCopy.{cast_int, cast_null}
+use Rattle.mqtt_store_write.proofs.tables.Fresh.{and_true, or_false}
+use Rattle.mqtt_store_write.proofs.puts.Replace.{replaces}
 
 abbrev pub put_text : List ℕ
 put_text = codes "INSERT OR REPLACE INTO will VALUES (?1, ?2, ?3, ?4, ?5, ?6, ?7)"

@@ -52,12 +52,12 @@ use Rattle.sqlite.proofs.Callers.{command_of}
 use Rattle.mqtt_store_schema.specs.Tables.{keep_schema, copy}
 use Rattle.mqtt_store_write.specs.Content.{IsShapedAt, IsReady, IsWhole}
 use Rattle.mqtt_store_write.specs.Copy.{CopyColumns, set_copy, number_or_null, copy_row, is_copy, SetsCopy}
-use Rattle.mqtt_store_write.proofs.Commands.{over, program, equals}
-use Rattle.mqtt_store_write.proofs.Parts.{passes, shows, answers_over, updated}
-use Rattle.mqtt_store_write.proofs.RemoveSession.{equal_ids, only_row}
-use Rattle.mqtt_store_write.proofs.RemovesSession.{not_tree}
-use Rattle.mqtt_store_write.proofs.SetAny.{any_whole}
-use Rattle.mqtt_store_write.proofs.Whole.{at_tree}
+use Rattle.mqtt_store_write.proofs.tables.Commands.{over, program, equals}
+use Rattle.mqtt_store_write.proofs.tables.Parts.{passes, shows, answers_over, updated}
+use Rattle.mqtt_store_write.proofs.deletes.RemoveSession.{equal_ids, only_row}
+use Rattle.mqtt_store_write.proofs.deletes.RemovesSession.{not_tree}
+use Rattle.mqtt_store_write.proofs.sets.SetAny.{any_whole}
+use Rattle.mqtt_store_write.proofs.tables.Whole.{at_tree}
 
 abbrev pub set_copy_text : List ℕ
 set_copy_text = codes "UPDATE copy SET pid = ?3, phase = ?4, rel = ?5 WHERE birth = ?1 AND place = ?2"

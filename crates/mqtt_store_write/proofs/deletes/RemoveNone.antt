@@ -33,11 +33,11 @@ use Rattle.sqlite.specs.State.{State, ExecutesInside, mode_of}
 use Rattle.sqlite.proofs.Callers.{statement_of, runs_as, one_step}
 use Rattle.mqtt_store_schema.specs.Tables.{keep_schema, to_session, session, will, sub, inbound, copy}
 use Rattle.mqtt_store_write.specs.Content.{is_of, without, RemovesSession, IsReady}
-use Rattle.mqtt_store_write.proofs.Commands.{over, program, equals, remove_session_is}
-use Rattle.mqtt_store_write.proofs.Parts.{passes, shows, answers_over, deleted}
-use Rattle.mqtt_store_write.proofs.RemovesSession.{and_true, not_tree, remove_session_text, remove_session_plain}
-use Rattle.mqtt_store_write.proofs.RemoveSessionRuns.{removes_inside, shaped_after}
-use Rattle.mqtt_store_write.proofs.PutSession.{own_number}
+use Rattle.mqtt_store_write.proofs.tables.Commands.{over, program, equals, remove_session_is}
+use Rattle.mqtt_store_write.proofs.tables.Parts.{passes, shows, answers_over, deleted}
+use Rattle.mqtt_store_write.proofs.deletes.RemovesSession.{and_true, not_tree, remove_session_text, remove_session_plain}
+use Rattle.mqtt_store_write.proofs.deletes.RemoveSessionRuns.{removes_inside, shaped_after}
+use Rattle.mqtt_store_write.proofs.puts.PutSession.{own_number}
 
 no_works : works keep_schema Enforced 0 2 [] [] ≡ []
 unfolding same_name joined

@@ -12,8 +12,8 @@ use Rattle.sqlite_rules.proofs.TableLemmas.{has_put, put_has, put_all_keeps}
 use Rattle.mqtt_store_write.specs.Content.{is_of, IsShapedAt}
 use Rattle.mqtt_store_write.specs.Removal.{RemovesFrom}
 use Rattle.mqtt_store_write.specs.Put.{PutsInto, numbered, IsFree}
-use Rattle.mqtt_store_write.proofs.RemoveSession.{equal_ids}
-use Rattle.mqtt_store_write.proofs.Fresh.{apart}
+use Rattle.mqtt_store_write.proofs.deletes.RemoveSession.{equal_ids}
+use Rattle.mqtt_store_write.proofs.tables.Fresh.{apart}
 
 untrue : (b : Bool) → not b ≡ true → b ≡ false
 untrue true h = absurd (true≢false (sym h))

@@ -43,15 +43,15 @@ use Rattle.mqtt_store_write.specs.Content.{is_of, AreShaped, IsWhole}
 use Rattle.mqtt_store_write.specs.Copy.{number_or_null}
 use Rattle.mqtt_store_write.specs.Columns.{SessionColumns, session_row}
 use Rattle.mqtt_store_write.specs.Put.{PutsInto}
-use Rattle.mqtt_store_write.proofs.Commands.{over, program, equals}
-use Rattle.mqtt_store_write.proofs.Parts.{went, same_value, passes, shows, answers_over}
-use Rattle.mqtt_store_write.proofs.Rows.{equal_is}
-use Rattle.mqtt_store_write.proofs.RemoveSession.{equal_ids, only_row}
-use Rattle.mqtt_store_write.proofs.RemovesSession.{tied_ids}
-use Rattle.mqtt_store_write.proofs.RemoveSessionRuns.{went_out}
-use Rattle.mqtt_store_write.proofs.SetCopy.{cast_int, cast_null, cast_number}
-use Rattle.mqtt_store_write.proofs.Fresh.{and_true, or_false}
-use Rattle.mqtt_store_write.proofs.Replace.{IsPutOf, task, puts_row, left, inserts}
+use Rattle.mqtt_store_write.proofs.tables.Commands.{over, program, equals}
+use Rattle.mqtt_store_write.proofs.tables.Parts.{went, same_value, passes, shows, answers_over}
+use Rattle.mqtt_store_write.proofs.tables.Rows.{equal_is}
+use Rattle.mqtt_store_write.proofs.deletes.RemoveSession.{equal_ids, only_row}
+use Rattle.mqtt_store_write.proofs.deletes.RemovesSession.{tied_ids}
+use Rattle.mqtt_store_write.proofs.deletes.RemoveSessionRuns.{went_out}
+use Rattle.mqtt_store_write.proofs.sets.SetCopy.{cast_int, cast_null, cast_number}
+use Rattle.mqtt_store_write.proofs.tables.Fresh.{and_true, or_false}
+use Rattle.mqtt_store_write.proofs.puts.Replace.{IsPutOf, task, puts_row, left, inserts}
 
 abbrev pub put_text : List ℕ
 put_text = codes "INSERT INTO session VALUES (?1, ?2, ?3, ?4) ON CONFLICT (birth) DO UPDATE SET client = excluded.client, expiry = excluded.expiry, closed = excluded.closed"
@@ -119,7 +119,7 @@ module _ (birth : ℕ) (s : SessionColumns) (db : Trees) (shaped : AreShaped db)
 
   module _ (row : Row) (has : Has (db 2) row) (is : rowid row ≡ Int (pos birth)) where
     own : is_of 0 (pos birth) row ≡ true
-    own = Rattle.mqtt_store_write.proofs.RemovesSession.is_own row (pos birth) is
+    own = Rattle.mqtt_store_write.proofs.deletes.RemovesSession.is_own row (pos birth) is
 
     alone : filter (passes all_params tests) (db 2) ≡ row ∷ []
     alone = only_row (db 2) (passes all_params tests) row shaped.session.up has (and_true (is_of 0 (pos birth) row) ∙ own)

@@ -17,11 +17,11 @@ use Rattle.sqlite.proofs.Callers.{IsPlain, command_of}
 use Rattle.mqtt_store_schema.specs.Tables.{keep_schema, will, sub, retained}
 use Rattle.mqtt_store_write.specs.Content.{is_of, is_text, IsShapedAt, IsWhole}
 use Rattle.mqtt_store_write.specs.Removal.{is_subscription, RemovesFrom}
-use Rattle.mqtt_store_write.proofs.Rows.{filter_alike}
-use Rattle.mqtt_store_write.proofs.Commands.{over, program, equals}
-use Rattle.mqtt_store_write.proofs.Parts.{passes}
-use Rattle.mqtt_store_write.proofs.Removal.{removed, shaped_left}
-use Rattle.mqtt_store_write.proofs.Whole.{whole_after}
+use Rattle.mqtt_store_write.proofs.tables.Rows.{filter_alike}
+use Rattle.mqtt_store_write.proofs.tables.Commands.{over, program, equals}
+use Rattle.mqtt_store_write.proofs.tables.Parts.{passes}
+use Rattle.mqtt_store_write.proofs.deletes.Removal.{removed, shaped_left}
+use Rattle.mqtt_store_write.proofs.tables.Whole.{whole_after}
 
 abbrev numbers : List Term
 numbers = col 1 0 ∷ []

@@ -20,7 +20,7 @@ use Rattle.sqlite.specs.declared.run.Mode.{Mode}
 use Rattle.sqlite.specs.Rows.{Written}
 use Rattle.sqlite.specs.Effect.{Database, Answers}
 use Rattle.sqlite.specs.Does.{Tally, Does}
-use Rattle.mqtt_store_write.proofs.Commands.{over}
+use Rattle.mqtt_store_write.proofs.tables.Commands.{over}
 
 pub went : {B E R : Type 0} {b : B} {Stops : E → Type 0} → ((stop : E) × Stops stop × (Ok b ≡ Err stop)) ⊎ R → R
 went (inl stopped) = absurd (let e = stopped.2 in cc)

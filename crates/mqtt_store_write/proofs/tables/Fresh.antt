@@ -14,7 +14,7 @@ use Rattle.sqlite_rules.proofs.ListLemmas.{all_has, some_from}
 use Rattle.sqlite_rules.proofs.PlaceLemmas.{next_is_free}
 use Rattle.mqtt_store_write.specs.Content.{IsShapedAt}
 use Rattle.mqtt_store_write.specs.Columns.{flag}
-use Rattle.mqtt_store_write.proofs.RemoveSession.{equal_ids}
+use Rattle.mqtt_store_write.proofs.deletes.RemoveSession.{equal_ids}
 
 pub apart : (db : Trees) (tree : ℕ) (r : Row) → IsShapedAt db tree → Has (db tree) r → equal Binary (rowid r) (Int (next_rowid (db tree))) ≡ false
 apart db tree r shaped h =

@@ -1,7 +1,6 @@
 -- What each statement leaves, and what a transaction of them leaves.
-use Rattle.std.proofs.Common.{◌≡◌, ◌≢◌, ℕ, ℤ, List, ◌∷◌, true, Option, Ok, Err, Result, OnOk, OnErr, IfErr, IsTrue, refl, sym, ap, subst, ◌∙◌, inl, inr, arith, true≢false}
+use Rattle.std.proofs.Common.{◌≡◌, ℕ, ℤ, List, ◌∷◌, true, Option, Ok, Err, Result, OnOk, OnErr, IfErr, IsTrue, refl, sym, ap, subst, ◌∙◌, inl, inr, true≢false}
 use Rattle.sqlite_value.specs.declared.value.Value.TheVariants.{Int}
-use Rattle.sqlite_trees.specs.Tree.{Trees}
 use Rattle.sqlite_schema.specs.Rules.{Obeys}
 use Rattle.sqlite_rules.specs.Lists.{Has}
 use Rattle.sqlite.specs.declared.error.Error.{Error}
@@ -9,7 +8,7 @@ use Rattle.sqlite.specs.State.{State, IsRolledBack}
 use Rattle.sqlite.specs.Effect.{Database}
 use Rattle.sqlite.specs.Steps.{FailsToCommit}
 use Rattle.mqtt_store_schema.specs.Tables.{keep_schema}
-use Rattle.mqtt_store_write.specs.Content.{AreShaped, IsShapedAt, IsReady, IsWhole}
+use Rattle.mqtt_store_write.specs.Content.{AreShaped, IsShapedAt, IsWhole}
 use Rattle.mqtt_store_write.specs.Copy.{CopyColumns, copy_row, SetsCopy}
 use Rattle.mqtt_store_write.specs.Numbers.{number_row, SetsNumber}
 use Rattle.mqtt_store_write.specs.Step.{IsSettled}

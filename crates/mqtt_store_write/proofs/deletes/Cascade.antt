@@ -12,7 +12,7 @@ use Rattle.sqlite_rules.specs.declared.action.Deed.TheVariants.{Delete}
 use Rattle.sqlite_rules.specs.Edit.{IsNoIndex, taken_by}
 use Rattle.sqlite_rules.specs.Action.{Work, works, is_child_of, action_edit, Leads}
 use Rattle.mqtt_store_schema.specs.Tables.{keep_schema, to_session}
-use Rattle.mqtt_store_write.proofs.Rows.{without_those}
+use Rattle.mqtt_store_write.proofs.tables.Rows.{without_those}
 
 pub last_same : {X : Type 0} (xs ys : List X) (x y : X) → xs ++ x ∷ [] ≡ ys ++ y ∷ [] → (xs ≡ ys) × (x ≡ y)
 last_same [] [] x y h = (refl, cc)

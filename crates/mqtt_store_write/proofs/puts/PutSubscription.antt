@@ -30,9 +30,9 @@ use Rattle.mqtt_store_write.specs.Removal.{is_subscription}
 use Rattle.mqtt_store_write.specs.Columns.{subscription_row}
 use Rattle.mqtt_store_write.specs.declared.subscriptions.SubscriptionColumns.{SubscriptionColumns}
 use Rattle.mqtt_store_write.specs.Put.{PutsInto, numbered}
-use Rattle.mqtt_store_write.proofs.SetCopy.{cast_int, cast_null}
-use Rattle.mqtt_store_write.proofs.Fresh.{apart, and_true, or_false}
-use Rattle.mqtt_store_write.proofs.Replace.{replaces}
+use Rattle.mqtt_store_write.proofs.sets.SetCopy.{cast_int, cast_null}
+use Rattle.mqtt_store_write.proofs.tables.Fresh.{apart, and_true, or_false}
+use Rattle.mqtt_store_write.proofs.puts.Replace.{replaces}
 
 abbrev pub put_text : List ℕ
 put_text = codes "INSERT OR REPLACE INTO sub VALUES (?1, ?2, ?3, ?4, ?5, ?6, ?7, ?8)"

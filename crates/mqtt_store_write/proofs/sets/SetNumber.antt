@@ -42,13 +42,13 @@ use Rattle.sqlite.proofs.Callers.{IsPlain, command_of, statement_of, runs_as, on
 use Rattle.mqtt_store_schema.specs.Tables.{keep_schema, meta}
 use Rattle.mqtt_store_write.specs.Content.{is_text, IsShapedAt, IsWhole}
 use Rattle.mqtt_store_write.specs.Numbers.{number_row, SetsNumber}
-use Rattle.mqtt_store_write.proofs.Commands.{over, program, equals}
-use Rattle.mqtt_store_write.proofs.Parts.{passes, shows, answers_over, updated}
-use Rattle.mqtt_store_write.proofs.RemoveSession.{only_row}
-use Rattle.mqtt_store_write.proofs.SetCopy.{cast_int, same_rowid}
-use Rattle.mqtt_store_write.proofs.Fresh.{and_true}
-use Rattle.mqtt_store_write.proofs.Whole.{whole_after}
-use Rattle.mqtt_store_write.proofs.SetAny.{any_whole}
+use Rattle.mqtt_store_write.proofs.tables.Commands.{over, program, equals}
+use Rattle.mqtt_store_write.proofs.tables.Parts.{passes, shows, answers_over, updated}
+use Rattle.mqtt_store_write.proofs.deletes.RemoveSession.{only_row}
+use Rattle.mqtt_store_write.proofs.sets.SetCopy.{cast_int, same_rowid}
+use Rattle.mqtt_store_write.proofs.tables.Fresh.{and_true}
+use Rattle.mqtt_store_write.proofs.tables.Whole.{whole_after}
+use Rattle.mqtt_store_write.proofs.sets.SetAny.{any_whole}
 
 abbrev pub set_text : List ℕ
 set_text = codes "UPDATE meta SET n = ?2 WHERE name = ?1"

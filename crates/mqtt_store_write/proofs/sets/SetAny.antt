@@ -1,5 +1,5 @@
 -- An UPDATE by key leaves the shapes of the tables, be there a row of that key or not.
-use Rattle.std.proofs.Common.{◌≡◌, ◌≢◌, ℕ, ℤ, Bool, true, false, not, List, [], ◌∷◌, filter, map, Some, None, Ok, Err, Result, refl, sym, ap, ◌∙◌, subst, inl, inr, true≢false, arith, IsTrue}
+use Rattle.std.proofs.Common.{◌≡◌, ℕ, ℤ, true, not, List, [], ◌∷◌, filter, map, Some, None, Ok, refl, sym, ap, ◌∙◌, subst, inl, inr, true≢false, arith, IsTrue}
 use Rattle.std.specs.List.{list_any}
 use Rattle.std.specs.List.Sorted.{IsPermutation}
 use Rattle.std.specs.Prelude.{slice_get}
@@ -33,10 +33,10 @@ use Rattle.sqlite.specs.State.{State, ExecutesInside, mode_of}
 use Rattle.sqlite.proofs.Callers.{IsPlain, command_of, statement_of, runs_as, one_permutation, one_step}
 use Rattle.mqtt_store_schema.specs.Tables.{keep_schema}
 use Rattle.mqtt_store_write.specs.Content.{IsShapedAt, IsWhole}
-use Rattle.mqtt_store_write.proofs.Commands.{over, program}
-use Rattle.mqtt_store_write.proofs.Parts.{passes, shows, answers_over, updated}
-use Rattle.mqtt_store_write.proofs.RemoveSession.{only_row}
-use Rattle.mqtt_store_write.proofs.Whole.{Spares, whole_after}
+use Rattle.mqtt_store_write.proofs.tables.Commands.{over, program}
+use Rattle.mqtt_store_write.proofs.tables.Parts.{passes, shows, answers_over, updated}
+use Rattle.mqtt_store_write.proofs.deletes.RemoveSession.{only_row}
+use Rattle.mqtt_store_write.proofs.tables.Whole.{Spares, whole_after}
 
 none_left : {X : Type 0} (xs : List X) → IsPermutation [] xs → xs ≡ []
 none_left [] p = refl

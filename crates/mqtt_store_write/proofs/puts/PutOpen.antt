@@ -28,9 +28,9 @@ use Rattle.mqtt_store_schema.specs.Tables.{keep_schema, inbound}
 use Rattle.mqtt_store_write.specs.Content.{IsWhole}
 use Rattle.mqtt_store_write.specs.Removal.{is_keyed}
 use Rattle.mqtt_store_write.specs.Put.{PutsInto, numbered, open_row}
-use Rattle.mqtt_store_write.proofs.SetCopy.{cast_int, cast_null}
-use Rattle.mqtt_store_write.proofs.Fresh.{apart, and_true, or_false}
-use Rattle.mqtt_store_write.proofs.Replace.{replaces}
+use Rattle.mqtt_store_write.proofs.sets.SetCopy.{cast_int, cast_null}
+use Rattle.mqtt_store_write.proofs.tables.Fresh.{apart, and_true, or_false}
+use Rattle.mqtt_store_write.proofs.puts.Replace.{replaces}
 
 abbrev pub put_open_text : List ℕ
 put_open_text = codes "INSERT OR REPLACE INTO inbound VALUES (?1, ?2)"

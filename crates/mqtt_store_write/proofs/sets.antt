@@ -1,0 +1,4 @@
+-- What each UPDATE leaves.
+pub mod SetAny
+pub mod SetCopy
+pub mod SetNumber

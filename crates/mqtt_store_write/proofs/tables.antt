@@ -1,0 +1,6 @@
+-- What statements come to over one table: their texts, their rows, and the shape that they leave.
+pub mod Commands
+pub mod Fresh
+pub mod Parts
+pub mod Rows
+pub mod Whole
