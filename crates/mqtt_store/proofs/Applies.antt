@@ -10,7 +10,7 @@ use Rattle.mqtt_records.specs.Records.{changed, changed_all, FitAll}
 use Rattle.mqtt_store_schema.specs.Tables.{keep_schema}
 use Rattle.mqtt_store_write.specs.Step.{IsSettled}
 use Rattle.mqtt_store_laws.specs.Written.{KeepsRows, AreInOrder, AllSayable}
-use Rattle.mqtt_store_laws.proofs.Statements.{statement_keeps, statement_asks}
+use Rattle.mqtt_store_laws.proofs.changes.Statements.{statement_keeps, statement_asks}
 use Rattle.mqtt_store.specs.Making.{MakeAll, NeedAll, MayCommit}
 use Rattle.mqtt_store.specs.Shortened.{shortened}
 use Rattle.mqtt_store.specs.Holding.{Holds, IsReady, OnlySteps}

@@ -12,7 +12,7 @@ use Rattle.mqtt_records_rows.specs.Order.{IsAscending}
 use Rattle.mqtt_store_schema.specs.declared.schema.StoreTable.{StoreTable}
 use Rattle.mqtt_store_schema.specs.declared.schema.StoreTable.TheVariants.{Meta, Session, Will, Subscription, Inbound, Copy, Retained}
 use Rattle.mqtt_store_laws.specs.Members.{Has as HasItem, HasColumns, AllOrdered, SameRows}
-use Rattle.mqtt_store_laws.proofs.Determined.{same_members, determined}
+use Rattle.mqtt_store_laws.proofs.records.Determined.{same_members, determined}
 use Rattle.mqtt_store_laws.specs.Written.{AreWritten, HasRows, AreSayable, numbers_in, IsWillOf, IsSubscriptionOf, IsOpenOf, IsCopyOf}
 use Rattle.mqtt_store_load_laws.proofs.Lines.{AreLined, number_line, session_line, will_line, subscription_line, open_line, copy_line, retained_line, number_shown, session_shown, will_shown, subscription_shown, open_shown, copy_shown, retained_shown}
 use Rattle.mqtt_store_load_laws.proofs.Same.{session_same, will_same, subscription_same, open_same, copy_same, retained_same, number_same}

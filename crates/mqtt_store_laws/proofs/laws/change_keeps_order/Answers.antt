@@ -1,4 +1,4 @@
-use Rattle.mqtt_store_laws.proofs.Ordered.{ordered_after, by_place_after}
+use Rattle.mqtt_store_laws.proofs.records.Ordered.{ordered_after, by_place_after}
 use Rattle.mqtt_store_laws.proofs.laws.change_keeps_order.Goals as goal
 
 pub returns-clause-sessions : goal.returns-clause-sessions

@@ -1,4 +1,4 @@
-use Rattle.mqtt_store_laws.proofs.Statements.{statement_asks}
+use Rattle.mqtt_store_laws.proofs.changes.Statements.{statement_asks}
 use Rattle.mqtt_store_laws.proofs.laws.statement_finds_its_row.Goals as goal
 
 pub returns : goal.returns

@@ -1,4 +1,4 @@
-use Rattle.mqtt_store_laws.proofs.Statements.{statement_keeps}
+use Rattle.mqtt_store_laws.proofs.changes.Statements.{statement_keeps}
 use Rattle.mqtt_store_laws.proofs.laws.statement_keeps_rows.Goals as goal
 
 pub returns-clause-rows : goal.returns-clause-rows

@@ -1,4 +1,4 @@
-use Rattle.mqtt_store_laws.proofs.Statements.{statements_ask}
+use Rattle.mqtt_store_laws.proofs.changes.Statements.{statements_ask}
 use Rattle.mqtt_store_laws.proofs.laws.statements_find_their_rows.Goals as goal
 
 pub returns : goal.returns

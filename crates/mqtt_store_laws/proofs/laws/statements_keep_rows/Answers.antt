@@ -1,4 +1,4 @@
-use Rattle.mqtt_store_laws.proofs.Statements.{statements_keep}
+use Rattle.mqtt_store_laws.proofs.changes.Statements.{statements_keep}
 use Rattle.mqtt_store_laws.proofs.laws.statements_keep_rows.Goals as goal
 
 pub returns-clause-rows : goal.returns-clause-rows

@@ -1,4 +1,4 @@
-use Rattle.mqtt_store_laws.proofs.Queues.{put_new, put_old}
+use Rattle.mqtt_store_laws.proofs.records.Queues.{put_new, put_old}
 use Rattle.mqtt_store_laws.proofs.member_laws.copy_is_put.Goals as goal
 
 pub returns-clause-new : goal.returns-clause-new

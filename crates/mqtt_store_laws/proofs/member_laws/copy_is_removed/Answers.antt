@@ -1,4 +1,4 @@
-use Rattle.mqtt_store_laws.proofs.Queues.{removed_copy_new, removed_copy_old}
+use Rattle.mqtt_store_laws.proofs.records.Queues.{removed_copy_new, removed_copy_old}
 use Rattle.mqtt_store_laws.proofs.member_laws.copy_is_removed.Goals as goal
 
 pub returns-clause-new : goal.returns-clause-new

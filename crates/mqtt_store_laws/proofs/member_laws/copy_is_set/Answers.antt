@@ -1,4 +1,4 @@
-use Rattle.mqtt_store_laws.proofs.Queues.{set_new, set_old}
+use Rattle.mqtt_store_laws.proofs.records.Queues.{set_new, set_old}
 use Rattle.mqtt_store_laws.proofs.member_laws.copy_is_set.Goals as goal
 
 pub returns-clause-new : goal.returns-clause-new

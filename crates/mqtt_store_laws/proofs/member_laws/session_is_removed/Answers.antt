@@ -1,4 +1,4 @@
-use Rattle.mqtt_store_laws.proofs.Queues.{ended_new, ended_old}
+use Rattle.mqtt_store_laws.proofs.records.Queues.{ended_new, ended_old}
 use Rattle.mqtt_store_laws.proofs.member_laws.session_is_removed.Goals as goal
 
 pub returns-clause-new : goal.returns-clause-new

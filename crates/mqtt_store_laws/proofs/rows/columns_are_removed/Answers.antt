@@ -1,4 +1,4 @@
-use Rattle.mqtt_store_laws.proofs.Owns.{columns_out_new, columns_out_old}
+use Rattle.mqtt_store_laws.proofs.records.Owns.{columns_out_new, columns_out_old}
 use Rattle.mqtt_store_laws.proofs.rows.columns_are_removed.Goals as goal
 
 pub returns-clause-new : goal.returns-clause-new

@@ -1,4 +1,4 @@
-use Rattle.mqtt_store_laws.proofs.Owns.{retained_new, retained_old}
+use Rattle.mqtt_store_laws.proofs.records.Owns.{retained_new, retained_old}
 use Rattle.mqtt_store_laws.proofs.rows.retained_is_put.Goals as goal
 
 pub returns-clause-new : goal.returns-clause-new

@@ -1,4 +1,4 @@
-use Rattle.mqtt_store_laws.proofs.Owns.{retained_out_new, retained_out_old}
+use Rattle.mqtt_store_laws.proofs.records.Owns.{retained_out_new, retained_out_old}
 use Rattle.mqtt_store_laws.proofs.rows.retained_is_removed.Goals as goal
 
 pub returns-clause-new : goal.returns-clause-new

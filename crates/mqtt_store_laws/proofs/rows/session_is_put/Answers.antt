@@ -1,4 +1,4 @@
-use Rattle.mqtt_store_laws.proofs.Owns.{columns_put_new, columns_put_old}
+use Rattle.mqtt_store_laws.proofs.records.Owns.{columns_put_new, columns_put_old}
 use Rattle.mqtt_store_laws.proofs.rows.session_is_put.Goals as goal
 
 pub returns-clause-new : goal.returns-clause-new

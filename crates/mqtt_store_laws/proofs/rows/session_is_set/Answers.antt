@@ -1,4 +1,4 @@
-use Rattle.mqtt_store_laws.proofs.Owns.{columns_set_new, columns_set_old, any_some}
+use Rattle.mqtt_store_laws.proofs.records.Owns.{columns_set_new, columns_set_old, any_some}
 use Rattle.mqtt_store_laws.proofs.rows.session_is_set.Goals as goal
 
 pub returns-clause-new : goal.returns-clause-new

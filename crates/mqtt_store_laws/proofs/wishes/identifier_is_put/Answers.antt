@@ -1,4 +1,4 @@
-use Rattle.mqtt_store_laws.proofs.Lists.{open_new, open_old}
+use Rattle.mqtt_store_laws.proofs.records.Lists.{open_new, open_old}
 use Rattle.mqtt_store_laws.proofs.wishes.identifier_is_put.Goals as goal
 
 pub returns-clause-new : goal.returns-clause-new

@@ -1,4 +1,4 @@
-use Rattle.mqtt_store_laws.proofs.Lists.{open_out_new, open_out_old}
+use Rattle.mqtt_store_laws.proofs.records.Lists.{open_out_new, open_out_old}
 use Rattle.mqtt_store_laws.proofs.wishes.identifier_is_removed.Goals as goal
 
 pub returns-clause-new : goal.returns-clause-new

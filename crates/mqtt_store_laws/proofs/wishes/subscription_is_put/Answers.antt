@@ -1,4 +1,4 @@
-use Rattle.mqtt_store_laws.proofs.Lists.{subscription_new, subscription_old}
+use Rattle.mqtt_store_laws.proofs.records.Lists.{subscription_new, subscription_old}
 use Rattle.mqtt_store_laws.proofs.wishes.subscription_is_put.Goals as goal
 
 pub returns-clause-new : goal.returns-clause-new

@@ -1,4 +1,4 @@
-use Rattle.mqtt_store_laws.proofs.Lists.{will_new, will_old}
+use Rattle.mqtt_store_laws.proofs.records.Lists.{will_new, will_old}
 use Rattle.mqtt_store_laws.proofs.wishes.will_is_put.Goals as goal
 
 pub returns-clause-new : goal.returns-clause-new

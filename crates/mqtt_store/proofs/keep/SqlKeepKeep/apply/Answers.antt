@@ -1,4 +1,4 @@
-use Rattle.mqtt_store_laws.proofs.Said.{all_said}
+use Rattle.mqtt_store_laws.proofs.records.Said.{all_said}
 use Rattle.mqtt_store.proofs.keep.SqlKeepKeep.apply.Goals as goal
 
 pub returns-clause-ok : goal.returns-clause-ok

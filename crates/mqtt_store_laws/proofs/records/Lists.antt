@@ -12,8 +12,8 @@ use Rattle.mqtt_records_rows.specs.Order.{IsAbove, IsAscending, HasRoomFor, row_
 use Rattle.mqtt_records.specs.Session.{birth_of, number_of, place_of, without_filter, with_will, with_open, without_open, with_subscription, without_subscription}
 use Rattle.mqtt_records.specs.Records.{changed, Fits, HasSome, TakesSubscription}
 use Rattle.mqtt_store_laws.specs.Members.{Has, InPart, will_of, inbound_of, subscriptions_of, IsOrdered, AllOrdered}
-use Rattle.mqtt_store_laws.proofs.Members.{has_all, inserted_new, inserted_old, removed_new, removed_old, found_has, edited_new, edited_old}
-use Rattle.mqtt_store_laws.proofs.Queues.{one_session}
+use Rattle.mqtt_store_laws.proofs.records.Members.{has_all, inserted_new, inserted_old, removed_new, removed_old, found_has, edited_new, edited_old}
+use Rattle.mqtt_store_laws.proofs.records.Queues.{one_session}
 
 has_filter : {X : Type 0} (p : X → Bool) (xs : List X) (x : X) → Has (filter p xs) x → Has xs x × (p x ≡ true)
 has_filter p [] x h = absurd h

@@ -15,8 +15,8 @@ use Rattle.sqlite_sql.specs.Ops.{is_true, from_truth, binary}
 use Rattle.sqlite_schema.specs.Rules.{equal}
 use Rattle.mqtt_store_write.specs.Content.{is_of, is_text}
 use Rattle.mqtt_store_write.specs.Removal.{is_keyed, is_subscription}
-use Rattle.mqtt_store_write.proofs.RemoveSession.{equal_ids}
-use Rattle.mqtt_store_write.proofs.Rows.{equal_is}
+use Rattle.mqtt_store_write.proofs.deletes.RemoveSession.{equal_ids}
+use Rattle.mqtt_store_write.proofs.tables.Rows.{equal_is}
 
 same_int : (m n : ℤ) → is_eq (int_cmp m n) ≡ true → m ≡ n
 same_int m n h = subst (λ o. MatchOrdering o (m <ℤ n) (m ≡ n) (n <ℤ m)) (equal_is (int_cmp m n) h) (int_ranks m n)

@@ -19,15 +19,15 @@ use Rattle.mqtt_records.specs.Records.{changed, with_counter, counter_of}
 use Rattle.mqtt_store_laws.specs.Members.{Has as HasItem, HasColumns}
 use Rattle.mqtt_store_write.specs.Numbers.{number_row, SetsNumber}
 use Rattle.mqtt_store_write.specs.Put.{PutsInto}
-use Rattle.mqtt_store_write.proofs.Rows.{equal_is}
+use Rattle.mqtt_store_write.proofs.tables.Rows.{equal_is}
 use Rattle.mqtt_store_laws.specs.Items.{IsNumberRow, IsSessionRow, IsWillRow, IsSubscriptionRow, IsOpenRow, IsCopyRow, IsRetainedRow}
 use Rattle.mqtt_store_laws.specs.Steps.{counter_name}
 use Rattle.mqtt_store_laws.specs.Written.{AreWritten, AreAllSingle, AreSayable, HasRows, KeepsRows, AreInOrder, numbers_in, IsWillOf, IsSubscriptionOf, IsOpenOf, IsCopyOf}
-use Rattle.mqtt_store_laws.proofs.Tables.{with_row}
-use Rattle.mqtt_store_laws.proofs.Ordered.{ordered_after, by_place_after}
-use Rattle.mqtt_store_laws.proofs.Trees.{session_same, will_same, sub_same, inbound_same, copy_same, retained_same, order_put}
-use Rattle.mqtt_store_laws.proofs.Kept.{moved, copies_same}
-use Rattle.mqtt_store_laws.proofs.Single.{named_put}
+use Rattle.mqtt_store_laws.proofs.tables.Tables.{with_row}
+use Rattle.mqtt_store_laws.proofs.records.Ordered.{ordered_after, by_place_after}
+use Rattle.mqtt_store_laws.proofs.tables.Trees.{session_same, will_same, sub_same, inbound_same, copy_same, retained_same, order_put}
+use Rattle.mqtt_store_laws.proofs.tables.Kept.{moved, copies_same}
+use Rattle.mqtt_store_laws.proofs.tables.Single.{named_put}
 
 -- ---- the numbers by their names
 

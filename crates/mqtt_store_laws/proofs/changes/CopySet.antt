@@ -18,20 +18,20 @@ use Rattle.mqtt_records.specs.declared.change.Change.TheVariants.{SetCopy}
 use Rattle.mqtt_records.specs.Records.{changed}
 use Rattle.mqtt_records.specs.Session.{in_phase, with_phase}
 use Rattle.mqtt_store_laws.specs.Members.{Has as HasItem, IsKept, IsOther, InQueue}
-use Rattle.mqtt_store_laws.proofs.Queues.{set_new, set_old}
+use Rattle.mqtt_store_laws.proofs.records.Queues.{set_new, set_old}
 use Rattle.mqtt_store_write.specs.Copy.{CopyColumns, copy_row, number_or_null, set_copy, SetsCopy}
 use Rattle.mqtt_store_write.specs.Put.{PutsInto}
-use Rattle.mqtt_store_write.proofs.Rows.{equal_is}
+use Rattle.mqtt_store_write.proofs.tables.Rows.{equal_is}
 use Rattle.mqtt_store_laws.specs.Items.{IsNumberRow, IsCopyRow, IsRetainedRow, packet_identifier, phase_number, release_order}
 use Rattle.mqtt_store_laws.specs.Written.{AreWritten, AreAllSingle, KeepsRows, AreInOrder, numbers_in, IsCopyOf}
-use Rattle.mqtt_store_laws.proofs.Keys.{same_number}
-use Rattle.mqtt_store_laws.proofs.Tables.{with_row}
-use Rattle.mqtt_store_laws.proofs.Ordered.{ordered_after, by_place_after}
-use Rattle.mqtt_store_laws.proofs.Trees.{meta_same, session_same, will_same, sub_same, inbound_same, retained_same, order_put}
-use Rattle.mqtt_store_laws.proofs.Edited.{sessions_stay, wills_stay, subscriptions_stay, inbound_stays, wills_said, subscriptions_said}
-use Rattle.mqtt_store_laws.proofs.Kept.{moved, numbers_same}
-use Rattle.mqtt_store_laws.proofs.Single.{placed_put}
-use Rattle.mqtt_store_laws.proofs.Copies.{copy_birth, copy_at, kept_of}
+use Rattle.mqtt_store_laws.proofs.tables.Keys.{same_number}
+use Rattle.mqtt_store_laws.proofs.tables.Tables.{with_row}
+use Rattle.mqtt_store_laws.proofs.records.Ordered.{ordered_after, by_place_after}
+use Rattle.mqtt_store_laws.proofs.tables.Trees.{meta_same, session_same, will_same, sub_same, inbound_same, retained_same, order_put}
+use Rattle.mqtt_store_laws.proofs.tables.Edited.{sessions_stay, wills_stay, subscriptions_stay, inbound_stays, wills_said, subscriptions_said}
+use Rattle.mqtt_store_laws.proofs.tables.Kept.{moved, numbers_same}
+use Rattle.mqtt_store_laws.proofs.tables.Single.{placed_put}
+use Rattle.mqtt_store_laws.proofs.changes.Copies.{copy_birth, copy_at, kept_of}
 
 -- a row with the columns of another handshake
 abbrev set_row : Option ℕ → ℕ → Option ℕ → Row → Row

@@ -13,20 +13,20 @@ use Rattle.mqtt_records.specs.Records.{changed, Fits}
 use Rattle.mqtt_records.specs.Session.{copy_place, with_copy, without_copy}
 use Rattle.mqtt_records_rows.specs.Order.{IsAscending}
 use Rattle.mqtt_store_laws.specs.Members.{Has as HasItem, IsKept, IsOrdered, AllOrdered, IsOther}
-use Rattle.mqtt_store_laws.proofs.Queues.{put_new, put_old, removed_copy_new, removed_copy_old}
+use Rattle.mqtt_store_laws.proofs.records.Queues.{put_new, put_old, removed_copy_new, removed_copy_old}
 use Rattle.mqtt_store_write.specs.Copy.{copy_row}
 use Rattle.mqtt_store_write.specs.Put.{PutsInto, numbered}
 use Rattle.mqtt_store_write.specs.Removal.{RemovesFrom, is_keyed}
-use Rattle.mqtt_store_write.proofs.Stands.{given_free}
+use Rattle.mqtt_store_write.proofs.steps.Stands.{given_free}
 use Rattle.mqtt_store_laws.specs.Items.{IsNumberRow, IsCopyRow, IsRetainedRow, copy_columns}
 use Rattle.mqtt_store_laws.specs.Written.{AreWritten, AreAllSingle, KeepsRows, AreInOrder, numbers_in, IsCopyOf, IsSayableCopy}
-use Rattle.mqtt_store_laws.proofs.Keys.{missed_key, other_key}
-use Rattle.mqtt_store_laws.proofs.Tables.{without_rows, with_row}
-use Rattle.mqtt_store_laws.proofs.Ordered.{ordered_after, by_place_after}
-use Rattle.mqtt_store_laws.proofs.Trees.{meta_same, session_same, will_same, sub_same, inbound_same, retained_same, order_put, order_removed}
-use Rattle.mqtt_store_laws.proofs.Edited.{sessions_stay, wills_stay, subscriptions_stay, inbound_stays, wills_said, subscriptions_said}
-use Rattle.mqtt_store_laws.proofs.Kept.{moved, numbers_same}
-use Rattle.mqtt_store_laws.proofs.Single.{placed_put, placed_left}
+use Rattle.mqtt_store_laws.proofs.tables.Keys.{missed_key, other_key}
+use Rattle.mqtt_store_laws.proofs.tables.Tables.{without_rows, with_row}
+use Rattle.mqtt_store_laws.proofs.records.Ordered.{ordered_after, by_place_after}
+use Rattle.mqtt_store_laws.proofs.tables.Trees.{meta_same, session_same, will_same, sub_same, inbound_same, retained_same, order_put, order_removed}
+use Rattle.mqtt_store_laws.proofs.tables.Edited.{sessions_stay, wills_stay, subscriptions_stay, inbound_stays, wills_said, subscriptions_said}
+use Rattle.mqtt_store_laws.proofs.tables.Kept.{moved, numbers_same}
+use Rattle.mqtt_store_laws.proofs.tables.Single.{placed_put, placed_left}
 
 pub copy_birth : (x : ℕ × CopyRow) (row : Row) → IsCopyRow x row → column row 1 ≡ Int (pos x.0)
 copy_birth x row is = ap (λ (r : Row). column r 1) is.1

@@ -10,8 +10,8 @@ use Rattle.mqtt_records.specs.declared.records.Records.{Records}
 use Rattle.mqtt_records_rows.specs.Order.{IsAbove, IsAscending}
 use Rattle.mqtt_records.specs.Session.{birth_of, place_of, number_of, copy_place, columns_of}
 use Rattle.mqtt_store_laws.specs.Members.{Has, InPart, listed, will_of, subscriptions_of, inbound_of, queue_of, SameRows, IsOrdered, AllOrdered}
-use Rattle.mqtt_store_laws.proofs.Members.{has_all, has_above}
-use Rattle.mqtt_store_laws.proofs.Queues.{one_session}
+use Rattle.mqtt_store_laws.proofs.records.Members.{has_all, has_above}
+use Rattle.mqtt_store_laws.proofs.records.Queues.{one_session}
 
 module _ {X : Type 0} (key : X → ℕ) where
   -- the first of one list is the first of the other

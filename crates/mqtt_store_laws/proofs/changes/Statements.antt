@@ -15,8 +15,8 @@ use Rattle.mqtt_records.specs.Records.{changed, changed_all, counter_of, Fits, F
 use Rattle.mqtt_records.specs.Session.{birth_of, copy_place}
 use Rattle.mqtt_records_rows.specs.Order.{has_row}
 use Rattle.mqtt_store_laws.specs.Members.{InQueue}
-use Rattle.mqtt_store_laws.proofs.Members.{found_has}
-use Rattle.mqtt_store_laws.proofs.Owns.{some_row}
+use Rattle.mqtt_store_laws.proofs.records.Members.{found_has}
+use Rattle.mqtt_store_laws.proofs.records.Owns.{some_row}
 use Rattle.mqtt_store_write.specs.Columns.{subscription_row}
 use Rattle.mqtt_store_write.specs.Copy.{CopyColumns, copy_row}
 use Rattle.mqtt_store_write.specs.Numbers.{number_row, SetsNumber}
@@ -29,15 +29,15 @@ use Rattle.mqtt_store_write.specs.Step.{Asks, Does, AskAll, DoAll}
 use Rattle.mqtt_store_laws.specs.Items.{subscription_columns, copy_columns}
 use Rattle.mqtt_store_laws.specs.Steps.{counter_name, SetsNumberOf, PutsSubscriptionOf, RemovesSubscriptionOf, IsStatementFor, AreStatementsFor}
 use Rattle.mqtt_store_laws.specs.Written.{KeepsRows, AreInOrder, IsSayable, AllSayable}
-use Rattle.mqtt_store_laws.proofs.Numbers as numbers
-use Rattle.mqtt_store_laws.proofs.Sessions as sessions
-use Rattle.mqtt_store_laws.proofs.EndedSession as ended
-use Rattle.mqtt_store_laws.proofs.Wills as wills
-use Rattle.mqtt_store_laws.proofs.Subscriptions as subscriptions
-use Rattle.mqtt_store_laws.proofs.Inbound as inbound
-use Rattle.mqtt_store_laws.proofs.Copies as copies
-use Rattle.mqtt_store_laws.proofs.CopySet as set
-use Rattle.mqtt_store_laws.proofs.Retained as retained
+use Rattle.mqtt_store_laws.proofs.changes.Numbers as numbers
+use Rattle.mqtt_store_laws.proofs.changes.Sessions as sessions
+use Rattle.mqtt_store_laws.proofs.changes.EndedSession as ended
+use Rattle.mqtt_store_laws.proofs.changes.Wills as wills
+use Rattle.mqtt_store_laws.proofs.changes.Subscriptions as subscriptions
+use Rattle.mqtt_store_laws.proofs.changes.Inbound as inbound
+use Rattle.mqtt_store_laws.proofs.changes.Copies as copies
+use Rattle.mqtt_store_laws.proofs.changes.CopySet as set
+use Rattle.mqtt_store_laws.proofs.changes.Retained as retained
 
 -- ---- statements that name something by a text
 

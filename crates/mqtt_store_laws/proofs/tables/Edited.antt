@@ -12,8 +12,8 @@ use Rattle.mqtt_records.specs.Records.{in_session}
 use Rattle.mqtt_store_laws.specs.Members.{InPart, InQueue, HasColumns, will_of, subscriptions_of, inbound_of, queue_of}
 use Rattle.mqtt_store_laws.specs.Items.{IsSessionRow, IsWillRow, IsSubscriptionRow, IsOpenRow, IsCopyRow}
 use Rattle.mqtt_store_laws.specs.Written.{AreWritten, AreSayable, IsWillOf, IsSubscriptionOf, IsOpenOf, IsCopyOf, IsSayableWill, IsSayableSubscription, IsSayableCopy}
-use Rattle.mqtt_store_laws.proofs.Parts.{part_new, part_old, own_new, own_old}
-use Rattle.mqtt_store_laws.proofs.Tables.{unchanged}
+use Rattle.mqtt_store_laws.proofs.records.Parts.{part_new, part_old, own_new, own_old}
+use Rattle.mqtt_store_laws.proofs.tables.Tables.{unchanged}
 
 module _ (r : Records) (birth : ℕ) (f : Session → Session) (up : IsAscending birth_of r.sessions) (keeps : (s : Session) → (f s).birth ≡ s.birth) where
   abbrev after : Records

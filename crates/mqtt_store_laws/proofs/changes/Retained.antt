@@ -14,19 +14,19 @@ use Rattle.mqtt_records.specs.declared.records.Records.{Records}
 use Rattle.mqtt_records.specs.declared.change.Change.TheVariants.{PutRetained, RemoveRetained}
 use Rattle.mqtt_records.specs.Records.{changed, Fits}
 use Rattle.mqtt_store_laws.specs.Members.{Has as HasItem, HasColumns}
-use Rattle.mqtt_store_laws.proofs.Owns.{retained_new, retained_old, retained_out_new, retained_out_old}
+use Rattle.mqtt_store_laws.proofs.records.Owns.{retained_new, retained_old, retained_out_new, retained_out_old}
 use Rattle.mqtt_store_write.specs.Columns.{retained_row}
 use Rattle.mqtt_store_write.specs.Content.{is_of}
 use Rattle.mqtt_store_write.specs.Put.{PutsInto, is_retained}
 use Rattle.mqtt_store_write.specs.Removal.{RemovesFrom}
-use Rattle.mqtt_store_write.proofs.Stands.{key_free}
+use Rattle.mqtt_store_write.proofs.steps.Stands.{key_free}
 use Rattle.mqtt_store_laws.specs.Items.{IsNumberRow, IsSessionRow, IsWillRow, IsSubscriptionRow, IsOpenRow, IsCopyRow, IsRetainedRow, retained_columns}
 use Rattle.mqtt_store_laws.specs.Written.{AreWritten, KeepsRows, AreInOrder, numbers_in, IsWillOf, IsSubscriptionOf, IsOpenOf, IsCopyOf, IsSayableRetained}
-use Rattle.mqtt_store_laws.proofs.Keys.{missed_number, other_number, is_text_bytes}
-use Rattle.mqtt_store_laws.proofs.Tables.{without_rows, with_row}
-use Rattle.mqtt_store_laws.proofs.Ordered.{ordered_after, by_place_after}
-use Rattle.mqtt_store_laws.proofs.Trees.{meta_same, session_same, will_same, sub_same, inbound_same, copy_same, order_put, order_removed}
-use Rattle.mqtt_store_laws.proofs.Kept.{moved, single_same}
+use Rattle.mqtt_store_laws.proofs.tables.Keys.{missed_number, other_number, is_text_bytes}
+use Rattle.mqtt_store_laws.proofs.tables.Tables.{without_rows, with_row}
+use Rattle.mqtt_store_laws.proofs.records.Ordered.{ordered_after, by_place_after}
+use Rattle.mqtt_store_laws.proofs.tables.Trees.{meta_same, session_same, will_same, sub_same, inbound_same, copy_same, order_put, order_removed}
+use Rattle.mqtt_store_laws.proofs.tables.Kept.{moved, single_same}
 
 kept_at : (x : RetainedMessage) (row : Row) → IsRetainedRow x row → column row 0 ≡ Int (pos x.place)
 kept_at x row is = ap (λ (r : Row). column r 0) is

@@ -9,20 +9,20 @@ use Rattle.mqtt_records.specs.declared.change.Change.TheVariants.{PutSession, Se
 use Rattle.mqtt_records.specs.Records.{changed, Fits}
 use Rattle.mqtt_records.specs.Session.{with_columns}
 use Rattle.mqtt_store_laws.specs.Members.{Has as HasItem, HasColumns, will_of, subscriptions_of, inbound_of, queue_of}
-use Rattle.mqtt_store_laws.proofs.Owns.{columns_put_new, columns_put_old, columns_set_new, columns_set_old, any_some}
+use Rattle.mqtt_store_laws.proofs.records.Owns.{columns_put_new, columns_put_old, columns_set_new, columns_set_old, any_some}
 use Rattle.mqtt_store_write.specs.Columns.{session_row}
 use Rattle.mqtt_store_write.specs.Content.{is_of}
 use Rattle.mqtt_store_write.specs.Put.{PutsInto}
-use Rattle.mqtt_store_write.proofs.Stands.{key_free}
+use Rattle.mqtt_store_write.proofs.steps.Stands.{key_free}
 use Rattle.mqtt_store_laws.specs.Items.{IsNumberRow, IsSessionRow, IsWillRow, IsSubscriptionRow, IsOpenRow, IsCopyRow, IsRetainedRow, session_columns}
 use Rattle.mqtt_store_laws.specs.Written.{AreWritten, KeepsRows, AreInOrder, numbers_in, IsWillOf, IsSubscriptionOf, IsOpenOf, IsCopyOf}
-use Rattle.mqtt_store_laws.proofs.Keys.{missed_number, other_number}
-use Rattle.mqtt_store_laws.proofs.Tables.{with_row, unchanged}
-use Rattle.mqtt_store_laws.proofs.Parts.{put_part_new, put_part_old}
-use Rattle.mqtt_store_laws.proofs.Ordered.{ordered_after, by_place_after}
-use Rattle.mqtt_store_laws.proofs.Trees.{meta_same, will_same, sub_same, inbound_same, copy_same, retained_same, order_put}
-use Rattle.mqtt_store_laws.proofs.Edited.{wills_stay, subscriptions_stay, inbound_stays, copies_stay, wills_said, subscriptions_said, own_said, copies_said}
-use Rattle.mqtt_store_laws.proofs.Kept.{moved, single_same}
+use Rattle.mqtt_store_laws.proofs.tables.Keys.{missed_number, other_number}
+use Rattle.mqtt_store_laws.proofs.tables.Tables.{with_row, unchanged}
+use Rattle.mqtt_store_laws.proofs.records.Parts.{put_part_new, put_part_old}
+use Rattle.mqtt_store_laws.proofs.records.Ordered.{ordered_after, by_place_after}
+use Rattle.mqtt_store_laws.proofs.tables.Trees.{meta_same, will_same, sub_same, inbound_same, copy_same, retained_same, order_put}
+use Rattle.mqtt_store_laws.proofs.tables.Edited.{wills_stay, subscriptions_stay, inbound_stays, copies_stay, wills_said, subscriptions_said, own_said, copies_said}
+use Rattle.mqtt_store_laws.proofs.tables.Kept.{moved, single_same}
 
 module _ (db next : Trees) (r : Records) (keeps : KeepsRows db r) (order : AreInOrder db) (row : Columns)
     (h : PutsInto 2 (session_row row.birth (session_columns row)) (is_of 0 (pos row.birth)) db next) where

@@ -8,7 +8,7 @@ use Rattle.mqtt_records_rows.specs.Order.{IsAscending, HasRoomFor, has_row, inse
 use Rattle.mqtt_records.specs.Session.{birth_of, columns_of, with_columns, fresh}
 use Rattle.mqtt_records.specs.Records.{put_session}
 use Rattle.mqtt_store_laws.specs.Members.{Has, InPart}
-use Rattle.mqtt_store_laws.proofs.Members.{changed_new, changed_old, inserted_new, inserted_old, removed_new, removed_old, edited_new, edited_old}
+use Rattle.mqtt_store_laws.proofs.records.Members.{changed_new, changed_old, inserted_new, inserted_old, removed_new, removed_old, edited_new, edited_old}
 
 -- a row that stands is found
 has_found : {X : Type 0} (key : X → ℕ) (k : ℕ) (xs : List X) (x : X) → Has xs x → key x ≡ k → has_row key k xs ≡ true

@@ -5,7 +5,7 @@ use Rattle.sqlite_trees.specs.Tree.{Trees}
 use Rattle.sqlite_rules.specs.Lists.{Has}
 use Rattle.sqlite_rules.proofs.ListLemmas.{has_filtered, has_kept}
 use Rattle.mqtt_store_write.specs.Put.{PutsInto, IsFree}
-use Rattle.mqtt_store_write.proofs.Stands.{put_new, put_old}
+use Rattle.mqtt_store_write.proofs.steps.Stands.{put_new, put_old}
 use Rattle.mqtt_store_laws.specs.Written.{AreWritten}
 
 untrue : (b : Bool) → not b ≡ true → b ≡ false

@@ -10,7 +10,7 @@ use Rattle.mqtt_records_rows.specs.Order.{IsAscending, HasRoomFor}
 use Rattle.mqtt_records.specs.Session.{birth_of, copy_place, in_phase, with_copy, with_phase, without_copy}
 use Rattle.mqtt_records.specs.Records.{changed, Fits}
 use Rattle.mqtt_store_laws.specs.Members.{Has, queue_of, InQueue, IsOther, IsKept}
-use Rattle.mqtt_store_laws.proofs.Members.{has_all, has_above, changed_new, changed_old, inserted_new, inserted_old, removed_new, removed_old, found_has, edited_new, edited_old}
+use Rattle.mqtt_store_laws.proofs.records.Members.{has_all, has_above, changed_new, changed_old, inserted_new, inserted_old, removed_new, removed_old, found_has, edited_new, edited_old}
 
 -- of two sessions in order, those with one birth are one
 pub one_session : (sessions : List Session) (s t : Session) → IsAscending birth_of sessions → Has sessions s → Has sessions t → s.birth ≡ t.birth → s ≡ t

@@ -11,9 +11,9 @@ use Rattle.mqtt_store_schema.specs.Tables.{keep_schema}
 use Rattle.mqtt_store_write.specs.Content.{IsShapedAt, RemovesSession, is_of}
 use Rattle.mqtt_store_write.specs.Put.{PutsInto}
 use Rattle.mqtt_store_write.specs.Removal.{RemovesFrom}
-use Rattle.mqtt_store_write.proofs.RemovesSession.{not_tree}
-use Rattle.mqtt_store_write.proofs.Removal.{shaped_left}
-use Rattle.mqtt_store_write.proofs.Whole.{Spares, at_tree, kept_shape}
+use Rattle.mqtt_store_write.proofs.deletes.RemovesSession.{not_tree}
+use Rattle.mqtt_store_write.proofs.deletes.Removal.{shaped_left}
+use Rattle.mqtt_store_write.proofs.tables.Whole.{Spares, at_tree, kept_shape}
 use Rattle.mqtt_store_laws.specs.Written.{AreInOrder}
 
 -- ---- no table's tree is an index

@@ -5,8 +5,8 @@ use Rattle.sqlite_trees.specs.Tree.{Trees}
 use Rattle.sqlite_rules.specs.Lists.{Has}
 use Rattle.sqlite_rules.proofs.ListLemmas.{has_filtered}
 use Rattle.mqtt_store_write.specs.Put.{PutsInto}
-use Rattle.mqtt_store_write.proofs.Stands.{put_new}
-use Rattle.mqtt_store_laws.proofs.Kept.{Named, Placed}
+use Rattle.mqtt_store_write.proofs.steps.Stands.{put_new}
+use Rattle.mqtt_store_laws.proofs.tables.Kept.{Named, Placed}
 
 module _ (tree : ℕ) (put : Row) (gone : Row → Bool) (old new : Trees) (h : PutsInto tree put gone old new) where
   pub named_put : ((b : Row) → Has (old tree) b → gone b ≡ false → column b 1 ≡ column put 1 → ⊥) → Named (old tree) → Named (new tree)

@@ -10,21 +10,21 @@ use Rattle.mqtt_records.specs.declared.records.Records.{Records}
 use Rattle.mqtt_records.specs.declared.change.Change.TheVariants.{PutWill, RemoveWill}
 use Rattle.mqtt_records.specs.Records.{changed, Fits}
 use Rattle.mqtt_records.specs.Session.{with_will}
-use Rattle.mqtt_store_laws.proofs.Lists.{will_new, will_old, will_out_new, will_out_old}
+use Rattle.mqtt_store_laws.proofs.records.Lists.{will_new, will_old, will_out_new, will_out_old}
 use Rattle.mqtt_store_write.specs.Columns.{will_row}
 use Rattle.mqtt_store_write.specs.Content.{is_of}
 use Rattle.mqtt_store_write.specs.Put.{PutsInto}
 use Rattle.mqtt_store_write.specs.Removal.{RemovesFrom}
-use Rattle.mqtt_store_write.proofs.Stands.{key_free}
+use Rattle.mqtt_store_write.proofs.steps.Stands.{key_free}
 use Rattle.mqtt_store_laws.specs.Members.{Has as HasItem}
 use Rattle.mqtt_store_laws.specs.Items.{IsNumberRow, IsWillRow, IsRetainedRow, will_columns}
 use Rattle.mqtt_store_laws.specs.Written.{AreWritten, KeepsRows, AreInOrder, numbers_in, IsWillOf, IsSayableWill}
-use Rattle.mqtt_store_laws.proofs.Keys.{missed_number, other_number}
-use Rattle.mqtt_store_laws.proofs.Tables.{without_rows, with_row}
-use Rattle.mqtt_store_laws.proofs.Ordered.{ordered_after, by_place_after}
-use Rattle.mqtt_store_laws.proofs.Trees.{meta_same, session_same, sub_same, inbound_same, copy_same, retained_same, order_put, order_removed}
-use Rattle.mqtt_store_laws.proofs.Edited.{sessions_stay, subscriptions_stay, inbound_stays, copies_stay, subscriptions_said, own_said, copies_said}
-use Rattle.mqtt_store_laws.proofs.Kept.{moved, single_same}
+use Rattle.mqtt_store_laws.proofs.tables.Keys.{missed_number, other_number}
+use Rattle.mqtt_store_laws.proofs.tables.Tables.{without_rows, with_row}
+use Rattle.mqtt_store_laws.proofs.records.Ordered.{ordered_after, by_place_after}
+use Rattle.mqtt_store_laws.proofs.tables.Trees.{meta_same, session_same, sub_same, inbound_same, copy_same, retained_same, order_put, order_removed}
+use Rattle.mqtt_store_laws.proofs.tables.Edited.{sessions_stay, subscriptions_stay, inbound_stays, copies_stay, subscriptions_said, own_said, copies_said}
+use Rattle.mqtt_store_laws.proofs.tables.Kept.{moved, single_same}
 
 pub will_birth : (x : ℕ × Will) (row : Row) → IsWillRow x row → column row 0 ≡ Int (pos x.0)
 will_birth x row is = ap (λ (r : Row). column r 0) is

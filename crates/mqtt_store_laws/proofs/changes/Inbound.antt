@@ -10,18 +10,18 @@ use Rattle.mqtt_records.specs.declared.change.Change.TheVariants.{PutInbound, Re
 use Rattle.mqtt_records.specs.Records.{changed, Fits}
 use Rattle.mqtt_records.specs.Session.{with_open, without_open}
 use Rattle.mqtt_store_laws.specs.Members.{Has as HasItem}
-use Rattle.mqtt_store_laws.proofs.Lists.{open_new, open_old, open_out_new, open_out_old}
+use Rattle.mqtt_store_laws.proofs.records.Lists.{open_new, open_old, open_out_new, open_out_old}
 use Rattle.mqtt_store_write.specs.Put.{PutsInto, numbered, open_row}
 use Rattle.mqtt_store_write.specs.Removal.{RemovesFrom, is_keyed}
-use Rattle.mqtt_store_write.proofs.Stands.{given_free}
+use Rattle.mqtt_store_write.proofs.steps.Stands.{given_free}
 use Rattle.mqtt_store_laws.specs.Items.{IsNumberRow, IsOpenRow, IsRetainedRow}
 use Rattle.mqtt_store_laws.specs.Written.{AreWritten, KeepsRows, AreInOrder, numbers_in, IsOpenOf}
-use Rattle.mqtt_store_laws.proofs.Keys.{missed_key, other_key}
-use Rattle.mqtt_store_laws.proofs.Tables.{without_rows, with_row}
-use Rattle.mqtt_store_laws.proofs.Ordered.{ordered_after, by_place_after}
-use Rattle.mqtt_store_laws.proofs.Trees.{meta_same, session_same, will_same, sub_same, copy_same, retained_same, order_put, order_removed}
-use Rattle.mqtt_store_laws.proofs.Edited.{sessions_stay, wills_stay, subscriptions_stay, copies_stay, wills_said, subscriptions_said, own_said, copies_said}
-use Rattle.mqtt_store_laws.proofs.Kept.{moved, single_same}
+use Rattle.mqtt_store_laws.proofs.tables.Keys.{missed_key, other_key}
+use Rattle.mqtt_store_laws.proofs.tables.Tables.{without_rows, with_row}
+use Rattle.mqtt_store_laws.proofs.records.Ordered.{ordered_after, by_place_after}
+use Rattle.mqtt_store_laws.proofs.tables.Trees.{meta_same, session_same, will_same, sub_same, copy_same, retained_same, order_put, order_removed}
+use Rattle.mqtt_store_laws.proofs.tables.Edited.{sessions_stay, wills_stay, subscriptions_stay, copies_stay, wills_said, subscriptions_said, own_said, copies_said}
+use Rattle.mqtt_store_laws.proofs.tables.Kept.{moved, single_same}
 
 open_birth : (x : ℕ × ℕ) (row : Row) → IsOpenRow x row → column row 1 ≡ Int (pos x.0)
 open_birth x row is = ap (λ (r : Row). column r 1) is.1

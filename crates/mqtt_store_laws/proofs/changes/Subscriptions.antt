@@ -11,19 +11,19 @@ use Rattle.mqtt_records.specs.declared.change.Change.TheVariants.{PutSubscriptio
 use Rattle.mqtt_records.specs.Records.{changed, Fits}
 use Rattle.mqtt_records.specs.Session.{with_subscription, without_subscription}
 use Rattle.mqtt_store_laws.specs.Members.{Has as HasItem}
-use Rattle.mqtt_store_laws.proofs.Lists.{subscription_new, subscription_old, subscription_out_new, subscription_out_old}
+use Rattle.mqtt_store_laws.proofs.records.Lists.{subscription_new, subscription_old, subscription_out_new, subscription_out_old}
 use Rattle.mqtt_store_write.specs.Columns.{subscription_row}
 use Rattle.mqtt_store_write.specs.Put.{PutsInto, numbered}
 use Rattle.mqtt_store_write.specs.Removal.{RemovesFrom, is_subscription}
-use Rattle.mqtt_store_write.proofs.Stands.{given_free}
+use Rattle.mqtt_store_write.proofs.steps.Stands.{given_free}
 use Rattle.mqtt_store_laws.specs.Items.{IsNumberRow, IsSubscriptionRow, IsRetainedRow, subscription_columns}
 use Rattle.mqtt_store_laws.specs.Written.{AreWritten, KeepsRows, AreInOrder, numbers_in, IsSubscriptionOf, IsSayableSubscription}
-use Rattle.mqtt_store_laws.proofs.Keys.{missed_filter, other_filter}
-use Rattle.mqtt_store_laws.proofs.Tables.{without_rows, with_row}
-use Rattle.mqtt_store_laws.proofs.Ordered.{ordered_after, by_place_after}
-use Rattle.mqtt_store_laws.proofs.Trees.{meta_same, session_same, will_same, inbound_same, copy_same, retained_same, order_put, order_removed}
-use Rattle.mqtt_store_laws.proofs.Edited.{sessions_stay, wills_stay, inbound_stays, copies_stay, wills_said, own_said, copies_said}
-use Rattle.mqtt_store_laws.proofs.Kept.{moved, single_same}
+use Rattle.mqtt_store_laws.proofs.tables.Keys.{missed_filter, other_filter}
+use Rattle.mqtt_store_laws.proofs.tables.Tables.{without_rows, with_row}
+use Rattle.mqtt_store_laws.proofs.records.Ordered.{ordered_after, by_place_after}
+use Rattle.mqtt_store_laws.proofs.tables.Trees.{meta_same, session_same, will_same, inbound_same, copy_same, retained_same, order_put, order_removed}
+use Rattle.mqtt_store_laws.proofs.tables.Edited.{sessions_stay, wills_stay, inbound_stays, copies_stay, wills_said, own_said, copies_said}
+use Rattle.mqtt_store_laws.proofs.tables.Kept.{moved, single_same}
 
 sub_birth : (x : ℕ × Subscription) (row : Row) → IsSubscriptionRow x row → column row 1 ≡ Int (pos x.0)
 sub_birth x row is = ap (λ (r : Row). column r 1) is.1

@@ -6,17 +6,17 @@ use Rattle.mqtt_records.specs.declared.records.Records.{Records}
 use Rattle.mqtt_records.specs.declared.change.Change.TheVariants.{RemoveSession}
 use Rattle.mqtt_records.specs.Records.{changed}
 use Rattle.mqtt_store_laws.specs.Members.{Has as HasItem, HasColumns, will_of, subscriptions_of, inbound_of, queue_of}
-use Rattle.mqtt_store_laws.proofs.Owns.{columns_out_new, columns_out_old}
+use Rattle.mqtt_store_laws.proofs.records.Owns.{columns_out_new, columns_out_old}
 use Rattle.mqtt_store_write.specs.Content.{is_of, RemovesSession}
 use Rattle.mqtt_store_laws.specs.Items.{IsNumberRow, IsSessionRow, IsWillRow, IsSubscriptionRow, IsOpenRow, IsCopyRow, IsRetainedRow}
 use Rattle.mqtt_store_laws.specs.Written.{AreWritten, KeepsRows, AreInOrder, numbers_in, IsWillOf, IsSubscriptionOf, IsOpenOf, IsCopyOf}
-use Rattle.mqtt_store_laws.proofs.Keys.{missed_number, other_number}
-use Rattle.mqtt_store_laws.proofs.Tables.{without_rows}
-use Rattle.mqtt_store_laws.proofs.Parts.{left_new, left_old}
-use Rattle.mqtt_store_laws.proofs.Ordered.{ordered_after, by_place_after}
-use Rattle.mqtt_store_laws.proofs.Trees.{order_ended}
-use Rattle.mqtt_store_laws.proofs.Kept.{moved, numbers_same}
-use Rattle.mqtt_store_laws.proofs.Single.{placed_left}
+use Rattle.mqtt_store_laws.proofs.tables.Keys.{missed_number, other_number}
+use Rattle.mqtt_store_laws.proofs.tables.Tables.{without_rows}
+use Rattle.mqtt_store_laws.proofs.records.Parts.{left_new, left_old}
+use Rattle.mqtt_store_laws.proofs.records.Ordered.{ordered_after, by_place_after}
+use Rattle.mqtt_store_laws.proofs.tables.Trees.{order_ended}
+use Rattle.mqtt_store_laws.proofs.tables.Kept.{moved, numbers_same}
+use Rattle.mqtt_store_laws.proofs.tables.Single.{placed_left}
 
 module _ (db next : Trees) (r : Records) (keeps : KeepsRows db r) (order : AreInOrder db) (birth : ℕ) (h : RemovesSession (pos birth) db next) where
   abbrev after : Records

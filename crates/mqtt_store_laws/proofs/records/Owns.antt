@@ -12,7 +12,7 @@ use Rattle.mqtt_records_rows.specs.Order.{IsAscending, HasRoomFor, row_at, has_r
 use Rattle.mqtt_records.specs.Session.{birth_of, columns_of, with_columns, fresh}
 use Rattle.mqtt_records.specs.Records.{changed, HasSome, kept_place}
 use Rattle.mqtt_store_laws.specs.Members.{Has, HasColumns}
-use Rattle.mqtt_store_laws.proofs.Members.{changed_new, changed_old, inserted_new, inserted_old, removed_new, removed_old, found_has}
+use Rattle.mqtt_store_laws.proofs.records.Members.{changed_new, changed_old, inserted_new, inserted_old, removed_new, removed_old, found_has}
 
 -- a row that stands is found
 pub some_row : {X : Type 0} (key : X → ℕ) (k : ℕ) (xs : List X) → has_row key k xs ≡ true → HasSome (row_at key k xs) (λ _. Unit {0})
