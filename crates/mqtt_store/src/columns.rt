@@ -1,14 +1,12 @@
 //! What stands in the columns of a row that is put.
 ghost use Rattle.std.specs.Prelude.{◌≡◌};
-ghost use Rattle.mqtt_base.specs.Service.{qos_number};
 ghost use Rattle.mqtt_props.specs.Properties.{block};
 ghost use Rattle.mqtt_records_message.specs.Queue.{first_sent};
-ghost use Rattle.mqtt_store_rows.specs.Values.{handling_number};
 ghost use Rattle.mqtt_store_laws.specs.Steps.{counter_name};
 ghost use Rattle.mqtt_store_laws.specs.Items.{cause_number, cause_text, cause_n, phase_number, packet_identifier, release_order};
 ghost use Rattle.mqtt_store_laws.specs.Items.{session_columns, will_columns, subscription_columns, copy_columns, retained_columns};
 
-use mqtt_base::{Cause, Phase, Qos, RetainHandling};
+use mqtt_base::{Cause, Phase};
 use mqtt_records::{Columns, Counter, Subscription};
 use mqtt_records_message::{CopyRow, RetainedMessage, Will};
 use mqtt_store_write::{
@@ -25,28 +23,6 @@ pub(crate) fn counter_name(counter: Counter) -> &'static str
         Counter::Subscribes => "subscribes",
         Counter::Autos => "autos",
         Counter::Moment => "moment",
-    }
-}
-
-/// The quality of service by its number.
-fn qos_number(qos: Qos) -> u8
-    ensures { result ≡ qos_number qos }
-{
-    match qos {
-        Qos::AtMostOnce => 0,
-        Qos::AtLeastOnce => 1,
-        Qos::ExactlyOnce => 2,
-    }
-}
-
-/// Retain Handling by its number (3.8.3.1).
-fn handling_number(handling: RetainHandling) -> u8
-    ensures { result ≡ handling_number handling }
-{
-    match handling {
-        RetainHandling::SendAlways => 0,
-        RetainHandling::SendIfNew => 1,
-        RetainHandling::DoNotSend => 2,
     }
 }
 
@@ -134,7 +110,7 @@ pub(crate) fn will_columns<'a>(will: &'a Will, bytes: &'a [u8]) -> WillColumns<'
     WillColumns {
         delay: will.delay,
         topic: will.topic.as_str(),
-        qos: qos_number(will.qos),
+        qos: will.qos as u8,
         retain: will.retain,
         properties: bytes,
         payload: will.payload.as_slice(),
@@ -147,10 +123,10 @@ pub(crate) fn subscription_columns(subscription: &Subscription) -> SubscriptionC
 {
     SubscriptionColumns {
         place: subscription.place,
-        qos: qos_number(subscription.options.qos),
+        qos: subscription.options.qos as u8,
         no_local: subscription.options.no_local,
         retain_as_published: subscription.options.retain_as_published,
-        handling: handling_number(subscription.options.retain_handling),
+        handling: subscription.options.retain_handling as u8,
         identifier: subscription.identifier.unwrap_or(0),
     }
 }
@@ -171,7 +147,7 @@ pub(crate) fn copy_columns<'a>(row: &'a CopyRow, bytes: &'a [u8]) -> CopyColumns
         phase: phase_number(phase),
         order: release_order(phase),
         topic: copy.content.topic.as_str(),
-        qos: qos_number(copy.qos),
+        qos: copy.qos as u8,
         retain: copy.retain,
         properties: bytes,
         payload: copy.content.payload.as_slice(),
@@ -191,7 +167,7 @@ pub(crate) fn retained_columns<'a>(
         topic: kept.content.topic.as_str(),
         sender: kept.sender.as_str(),
         publication: kept.publication,
-        qos: qos_number(kept.qos),
+        qos: kept.qos as u8,
         properties: bytes,
         payload: kept.content.payload.as_slice(),
         arrived: kept.content.arrived,
