@@ -6,6 +6,7 @@ ghost use Rattle.mqtt_flow.specs.Outbound.{after_answer, ending_by, is_refusal, 
 use crate::entry::Turn;
 use crate::look::{look_puback, look_pubcomp, look_pubrec};
 use crate::outflow::Outflow;
+use crate::row::Entries;
 use mqtt_base::{Ending, LAST_NUMBER, Phase, Qos, Reason};
 use mqtt_flow_inbound::FlowFault;
 
@@ -90,14 +91,14 @@ impl Outflow {
     pub fn look_puback(&self, identifier: u16, code: Reason) -> Result<Option<Turn>, FlowFault>
         ensures { result ≡ puback identifier code.0 self.now.queue }
     {
-        look_puback(self.entries(), identifier, code)
+        look_puback::<Entries>(self.entries(), identifier, code)
     }
 
     /// What a PUBREC asks for (4.3.3). Takes no memory.
     pub fn look_pubrec(&self, identifier: u16, code: Reason) -> Result<Option<Turn>, FlowFault>
         ensures { result ≡ pubrec identifier code.0 self.now.queue }
     {
-        look_pubrec(self.entries(), identifier, code)
+        look_pubrec::<Entries>(self.entries(), identifier, code)
     }
 
     /// What a PUBCOMP asks for: a turn, or none where no copy has the identifier (4.3.3). Takes no
@@ -105,7 +106,7 @@ impl Outflow {
     pub fn look_pubcomp(&self, identifier: u16) -> Result<Option<Turn>, FlowFault>
         ensures { result ≡ pubcomp identifier self.now.queue }
     {
-        look_pubcomp(self.entries(), identifier)
+        look_pubcomp::<Entries>(self.entries(), identifier)
     }
 
     /// Does what an answer asks for.

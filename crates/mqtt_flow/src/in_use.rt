@@ -5,7 +5,7 @@ ghost use Rattle.mqtt_flow_inbound.specs.Identifiers.{ids_without};
 ghost use Rattle.mqtt_flow.specs.Queue.{also, identifiers};
 ghost use Rattle.mqtt_flow.specs.Outbound.{freed};
 
-use crate::row::QueueRow;
+use crate::row::QueueView;
 use mqtt_base::Phase;
 use mqtt_flow_inbound::FlowFault;
 
@@ -21,15 +21,15 @@ fn push_identifier(used: &mut Vec<u16>, identifier: Option<u16>) -> Result<(), F
 }
 
 /// Adds the identifiers in use.
-pub(crate) fn push_identifiers<R: QueueRow>(
+pub(crate) fn push_identifiers<V: QueueView>(
     used: &mut Vec<u16>,
-    rows: &[R],
+    rows: &[V::Row],
 ) -> Result<(), FlowFault>
-    ensures exact { (went : R.Went) → OnOk result (used.new.items ≡ used.old.items ++ identifiers (map (R.entry went) rows.now)) }
+    ensures exact { (view : V) → OnOk result (used.new.items ≡ used.old.items ++ identifiers (map (V.entry view) rows.now)) }
     ensures fault { IfErr result (λ fault. fault ≡ FlowFault.Memory) }
 {
     for row in rows {
-        push_identifier(used, row.phase().identifier())?;
+        push_identifier(used, V::phase(row).identifier())?;
     }
     Ok(())
 }

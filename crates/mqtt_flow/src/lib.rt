@@ -13,6 +13,7 @@ mod plan;
 mod pump;
 mod queueing;
 mod row;
+mod still;
 
 pub use entry::{Entry, Full, QueueLimits, QueuedCopy, Turn, Way};
 pub use known::{Known, know, pump_known};
@@ -26,4 +27,4 @@ pub use mqtt_flow_inbound::{
 pub use outbound_laws::{numbers_go_on, outbound_once, pump_in_order};
 pub use outflow::Outflow;
 pub use plan::has_room;
-pub use row::QueueRow;
+pub use row::{Entries, QueueView};

@@ -11,85 +11,89 @@ use crate::plan::{
     push_repeats,
 };
 use crate::pump::{first_pace, push_pumped};
-use crate::row::QueueRow;
+use crate::row::QueueView;
+use crate::still::is_idle;
 use mqtt_base::{LAST_NUMBER, QUEUE_LIMIT, Reason};
 use mqtt_flow_inbound::FlowFault;
 use std::alloc::Global;
 
 /// The turns by which a full queue makes way for a copy; `since` is the first place that the broker gives in this step
 /// (ours). Refuses a copy for which there is no room: `Full`.
-pub fn look_enter<R: QueueRow>(
+pub fn look_enter<V: QueueView>(
     alloc: Global,
     limits: QueueLimits,
     since: u64,
-    rows: &[R],
+    rows: &[V::Row],
 ) -> Result<Vec<Turn>, FlowFault>
     requires { length rows.now ≤ QUEUE_LIMIT }
-    ensures turns { (went : R.Went) → IfOk result (λ turns. turns.items ≡ way_made limits since (map (R.entry went) rows.now)) }
-    ensures only { (went : R.Went) → OnOk result (has_room limits since (map (R.entry went) rows.now) ≡ true) }
-    ensures fault { (went : R.Went) → IfErr result (KeptOut (has_room limits since (map (R.entry went) rows.now))) }
+    ensures turns { (view : V) → IfOk result (λ turns. turns.items ≡ way_made limits since (map (V.entry view) rows.now)) }
+    ensures only { (view : V) → OnOk result (has_room limits since (map (V.entry view) rows.now) ≡ true) }
+    ensures fault { (view : V) → IfErr result (KeptOut (has_room limits since (map (V.entry view) rows.now))) }
 {
-    if !has_room(limits, since, rows) {
+    if !has_room::<V>(limits, since, rows) {
         return Err(FlowFault::Full);
     }
     let count = (rows.len() + 1).saturating_sub(limits.queue);
     let mut turns = Vec::new(alloc);
-    push_dropped(&mut turns, count, since, rows)?;
+    push_dropped::<V>(&mut turns, count, since, rows)?;
     Ok(turns)
 }
 
-/// The turns of one pump (4.6, 4.9).
-pub fn look_pump<R: QueueRow>(
+/// The turns of one pump (4.6, 4.9). Where the front of the queue tells that there is none, it looks at no row behind it
+/// and takes no memory.
+pub fn look_pump<V: QueueView>(
     alloc: Global,
     way: Way,
-    rows: &[R],
-    went: &R::Went,
+    view: &V,
+    rows: &[V::Row],
 ) -> Result<Vec<Turn>, FlowFault>
-    requires orders { greatest_order (map (R.entry went.now) rows.now) ≤ LAST_NUMBER }
+    requires orders { greatest_order (map (V.entry view.now) rows.now) ≤ LAST_NUMBER }
     requires few { length rows.now ≤ QUEUE_LIMIT }
-    ensures turns { IfOk result (λ turns. turns.items ≡ pump way (map (R.entry went.now) rows.now)) }
+    ensures turns { IfOk result (λ turns. turns.items ≡ pump way (map (V.entry view.now) rows.now)) }
     ensures fault { IfErr result (λ fault. fault ≡ FlowFault.Memory) }
 {
     let mut turns = Vec::new(alloc);
-    let mut pace = first_pace(
-        alloc,
-        way,
-        rows,
-        in_window(rows, went),
-        greatest_order(rows),
-    )?;
-    push_pumped(alloc, &mut turns, &mut pace, way, rows, went)?;
+    if is_idle(way, view, rows) {
+        return Ok(turns);
+    }
+    let (window, order) = (in_window(view, rows), greatest_order::<V>(rows));
+    let mut pace = first_pace::<V>(alloc, way, rows, window, order)?;
+    push_pumped(alloc, &mut turns, &mut pace, way, view, rows)?;
     Ok(turns)
 }
 
 /// The turns by which copies that wait and are late at a moment leave (3.3.2.3.3).
-pub fn look_expire<R: QueueRow>(alloc: Global, now: u64, rows: &[R]) -> Result<Vec<Turn>, FlowFault>
-    ensures turns { (went : R.Went) → IfOk result (λ turns. turns.items ≡ expired now (map (R.entry went) rows.now)) }
+pub fn look_expire<V: QueueView>(
+    alloc: Global,
+    now: u64,
+    rows: &[V::Row],
+) -> Result<Vec<Turn>, FlowFault>
+    ensures turns { (view : V) → IfOk result (λ turns. turns.items ≡ expired now (map (V.entry view) rows.now)) }
     ensures fault { IfErr result (λ fault. fault ≡ FlowFault.Memory) }
 {
     let mut turns = Vec::new(alloc);
-    push_expired(&mut turns, now, rows)?;
+    push_expired::<V>(&mut turns, now, rows)?;
     Ok(turns)
 }
 
 /// The turns with which a resumption begins: a PUBREL for each released copy, in the order of release (4.4, 4.6).
-pub fn look_resume<R: QueueRow>(alloc: Global, rows: &[R]) -> Result<Vec<Turn>, FlowFault>
-    ensures turns { (went : R.Went) → IfOk result (λ turns. turns.items ≡ resumed_with (map (R.entry went) rows.now)) }
+pub fn look_resume<V: QueueView>(alloc: Global, rows: &[V::Row]) -> Result<Vec<Turn>, FlowFault>
+    ensures turns { (view : V) → IfOk result (λ turns. turns.items ≡ resumed_with (map (V.entry view) rows.now)) }
     ensures fault { IfErr result (λ fault. fault ≡ FlowFault.Memory) }
 {
     let mut dues = Vec::new(alloc);
-    insert_due(&mut dues, rows)?;
+    insert_due::<V>(&mut dues, rows)?;
     let mut turns = Vec::new(alloc);
     push_repeats(&mut turns, &dues)?;
     Ok(turns)
 }
 
 /// The row of the copy that has a packet identifier (2.2.1). Takes no memory.
-pub fn holder<R: QueueRow>(rows: &[R], identifier: u16) -> Option<&R>
-    ensures { (went : R.Went) → option_map (R.entry went) (option_copied result) ≡ holder identifier (map (R.entry went) rows.now) }
+pub fn holder<V: QueueView>(rows: &[V::Row], identifier: u16) -> Option<&V::Row>
+    ensures { (view : V) → option_map (V.entry view) (option_copied result) ≡ holder identifier (map (V.entry view) rows.now) }
 {
     for row in rows {
-        if holds(row.phase(), identifier) {
+        if holds(V::phase(row), identifier) {
             return Some(row);
         }
     }
@@ -97,46 +101,49 @@ pub fn holder<R: QueueRow>(rows: &[R], identifier: u16) -> Option<&R>
 }
 
 /// What a PUBACK asks for: a turn, or none where no copy has the identifier (4.3.2). Takes no memory.
-pub fn look_puback<R: QueueRow>(
-    rows: &[R],
+pub fn look_puback<V: QueueView>(
+    rows: &[V::Row],
     identifier: u16,
     code: Reason,
 ) -> Result<Option<Turn>, FlowFault>
-    ensures { (went : R.Went) → result ≡ puback identifier code.0 (map (R.entry went) rows.now) }
+    ensures { (view : V) → result ≡ puback identifier code.0 (map (V.entry view) rows.now) }
 {
-    match holder(rows, identifier) {
+    match holder::<V>(rows, identifier) {
         None => Ok(None),
-        Some(row) => puback_by(row.phase(), row.qos(), code, row.place()),
+        Some(row) => puback_by(V::phase(row), V::qos(row), code, V::place(row)),
     }
 }
 
 /// What a PUBREC asks for (4.3.3). Takes no memory.
-pub fn look_pubrec<R: QueueRow>(
-    rows: &[R],
+pub fn look_pubrec<V: QueueView>(
+    rows: &[V::Row],
     identifier: u16,
     code: Reason,
 ) -> Result<Option<Turn>, FlowFault>
-    requires { (went : R.Went) → greatest_order (map (R.entry went) rows.now) ≤ LAST_NUMBER }
-    ensures { (went : R.Went) → result ≡ pubrec identifier code.0 (map (R.entry went) rows.now) }
+    requires { (view : V) → greatest_order (map (V.entry view) rows.now) ≤ LAST_NUMBER }
+    ensures { (view : V) → result ≡ pubrec identifier code.0 (map (V.entry view) rows.now) }
 {
-    match holder(rows, identifier) {
+    match holder::<V>(rows, identifier) {
         None => Ok(Some(Turn::Unknown { identifier })),
         Some(row) => pubrec_by(
-            row.phase(),
-            row.qos(),
+            V::phase(row),
+            V::qos(row),
             code,
-            row.place(),
-            greatest_order(rows).saturating_add(1),
+            V::place(row),
+            greatest_order::<V>(rows).saturating_add(1),
         ),
     }
 }
 
 /// What a PUBCOMP asks for: a turn, or none where no copy has the identifier (4.3.3). Takes no memory.
-pub fn look_pubcomp<R: QueueRow>(rows: &[R], identifier: u16) -> Result<Option<Turn>, FlowFault>
-    ensures { (went : R.Went) → result ≡ pubcomp identifier (map (R.entry went) rows.now) }
+pub fn look_pubcomp<V: QueueView>(
+    rows: &[V::Row],
+    identifier: u16,
+) -> Result<Option<Turn>, FlowFault>
+    ensures { (view : V) → result ≡ pubcomp identifier (map (V.entry view) rows.now) }
 {
-    match holder(rows, identifier) {
+    match holder::<V>(rows, identifier) {
         None => Ok(None),
-        Some(row) => pubcomp_by(row.phase(), row.place()),
+        Some(row) => pubcomp_by(V::phase(row), V::place(row)),
     }
 }

@@ -9,6 +9,7 @@ use crate::change::{apply, forget};
 use crate::entry::{Entry, QueuedCopy, Turn};
 use crate::look::holder;
 use crate::plan::{greatest_order, greatest_place};
+use crate::row::Entries;
 use mqtt_base::{LAST_NUMBER, Phase, QUEUE_LIMIT};
 use mqtt_flow_inbound::FlowFault;
 use std::alloc::Global;
@@ -62,7 +63,7 @@ impl Outflow {
     pub fn holder(&self, identifier: u16) -> Option<&Entry>
         ensures { option_copied result ≡ holder identifier self.now.queue }
     {
-        holder(&self.entries, identifier)
+        holder::<Entries>(&self.entries, identifier)
     }
 
     /// The place that the next copy gets.
@@ -76,7 +77,7 @@ impl Outflow {
     pub fn next_order(&self) -> u64
         ensures { result ≡ next_order self.now.queue }
     {
-        greatest_order(&self.entries) + 1
+        greatest_order::<Entries>(&self.entries) + 1
     }
 
     /// Takes a turn. Takes no memory.

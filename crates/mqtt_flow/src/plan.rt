@@ -6,7 +6,7 @@ ghost use Rattle.mqtt_flow.specs.Queue.{is_holder, greatest_place, greatest_orde
 ghost use Rattle.mqtt_flow.specs.Outbound.{is_waiting, gives_way, staying, has_room, dropped, is_late, is_large, expired, due_from, due_of, by_order};
 
 use crate::entry::{Due, Entry, Full, QueueLimits, Turn, Way};
-use crate::row::QueueRow;
+use crate::row::QueueView;
 use mqtt_base::{Ending, Phase};
 use mqtt_flow_inbound::FlowFault;
 
@@ -50,24 +50,24 @@ pub(crate) fn greatest_place(entries: &[Entry]) -> u64
 }
 
 /// The greatest order of release that stands, 0 where none does.
-pub(crate) fn greatest_order<R: QueueRow>(rows: &[R]) -> u64
-    ensures { (went : R.Went) → result ≡ greatest_order (map (R.entry went) rows.now) }
+pub(crate) fn greatest_order<V: QueueView>(rows: &[V::Row]) -> u64
+    ensures { (view : V) → result ≡ greatest_order (map (V.entry view) rows.now) }
 {
     let mut greatest = 0;
     for row in rows {
-        greatest = greatest.max(row.phase().order());
+        greatest = greatest.max(V::phase(row).order());
     }
     greatest
 }
 
 /// How many entries fill the client's window.
-pub(crate) fn in_window<R: QueueRow>(rows: &[R], went: &R::Went) -> usize
-    ensures exact { result ≡ in_window (map (R.entry went.now) rows.now) }
+pub(crate) fn in_window<V: QueueView>(view: &V, rows: &[V::Row]) -> usize
+    ensures exact { result ≡ in_window (map (V.entry view.now) rows.now) }
     ensures within { result ≤ length rows.now }
 {
     let mut count = 0;
     for row in rows {
-        if row.here(went) {
+        if view.here(row) {
             count += 1;
         }
     }
@@ -75,32 +75,32 @@ pub(crate) fn in_window<R: QueueRow>(rows: &[R], went: &R::Went) -> usize
 }
 
 /// Whether a copy is late at a moment (3.3.2.3.3).
-pub(crate) fn is_late<R: QueueRow>(now: u64, row: &R) -> bool
-    ensures { (went : R.Went) → result ≡ is_late now (R.entry went row.now).copy }
+pub(crate) fn is_late<V: QueueView>(now: u64, row: &V::Row) -> bool
+    ensures { (view : V) → result ≡ is_late now (V.entry view row.now).copy }
 {
-    match row.expiry() {
+    match V::expiry(row) {
         None => false,
-        Some(interval) => u64::from(interval) <= now.saturating_sub(row.arrived()) / 1000,
+        Some(interval) => u64::from(interval) <= now.saturating_sub(V::arrived(row)) / 1000,
     }
 }
 
 /// Whether a copy is too large for a connection (3.1.2.11.4).
-pub(crate) fn is_large<R: QueueRow>(way: Way, row: &R) -> bool
-    ensures { (went : R.Went) → result ≡ is_large way (R.entry went row.now).copy }
+pub(crate) fn is_large<V: QueueView>(way: Way, row: &V::Row) -> bool
+    ensures { (view : V) → result ≡ is_large way (V.entry view row.now).copy }
 {
-    way.largest < row.size()
+    way.largest < V::size(row)
 }
 
 /// Whether a copy gives way in a full queue (ours).
-fn gives_way<R: QueueRow>(since: u64, row: &R) -> bool
-    ensures { (went : R.Went) → result ≡ gives_way since (R.entry went row.now) }
+fn gives_way<V: QueueView>(since: u64, row: &V::Row) -> bool
+    ensures { (view : V) → result ≡ gives_way since (V.entry view row.now) }
 {
-    is_waiting(row.phase()) && row.place() < since
+    is_waiting(V::phase(row)) && V::place(row) < since
 }
 
 /// How many copies a further one leaves standing in any case (ours).
-fn staying<R: QueueRow>(full: Full, since: u64, rows: &[R]) -> usize
-    ensures exact { (went : R.Went) → result ≡ staying full since (map (R.entry went) rows.now) }
+fn staying<V: QueueView>(full: Full, since: u64, rows: &[V::Row]) -> usize
+    ensures exact { (view : V) → result ≡ staying full since (map (V.entry view) rows.now) }
     ensures within { result ≤ length rows.now }
 {
     match full {
@@ -108,7 +108,7 @@ fn staying<R: QueueRow>(full: Full, since: u64, rows: &[R]) -> usize
         Full::Drop => {
             let mut count = 0;
             for row in rows {
-                if !gives_way(since, row) {
+                if !gives_way::<V>(since, row) {
                     count += 1;
                 }
             }
@@ -118,10 +118,10 @@ fn staying<R: QueueRow>(full: Full, since: u64, rows: &[R]) -> usize
 }
 
 /// Whether a queue has room for a further copy (ours). Takes no memory.
-pub fn has_room<R: QueueRow>(limits: QueueLimits, since: u64, rows: &[R]) -> bool
-    ensures { (went : R.Went) → result ≡ has_room limits since (map (R.entry went) rows.now) }
+pub fn has_room<V: QueueView>(limits: QueueLimits, since: u64, rows: &[V::Row]) -> bool
+    ensures { (view : V) → result ≡ has_room limits since (map (V.entry view) rows.now) }
 {
-    staying(limits.full, since, rows) < limits.queue
+    staying::<V>(limits.full, since, rows) < limits.queue
 }
 
 /// Adds a turn.
@@ -133,13 +133,13 @@ fn add(turns: &mut Vec<Turn>, turn: Turn) -> Result<(), FlowFault>
 }
 
 /// Adds the turns by which so many copies give way, the oldest first (ours).
-pub(crate) fn push_dropped<R: QueueRow>(
+pub(crate) fn push_dropped<V: QueueView>(
     turns: &mut Vec<Turn>,
     count: usize,
     since: u64,
-    rows: &[R],
+    rows: &[V::Row],
 ) -> Result<(), FlowFault>
-    ensures turns { (went : R.Went) → OnOk result (turns.new.items ≡ turns.old.items ++ dropped count since (map (R.entry went) rows.now)) }
+    ensures turns { (view : V) → OnOk result (turns.new.items ≡ turns.old.items ++ dropped count since (map (V.entry view) rows.now)) }
     ensures fault { IfErr result (λ fault. fault ≡ FlowFault.Memory) }
 {
     let mut left = count;
@@ -147,8 +147,8 @@ pub(crate) fn push_dropped<R: QueueRow>(
         if left == 0 {
             return Ok(());
         }
-        if gives_way(since, row) {
-            let (place, ending) = (row.place(), Ending::Dropped);
+        if gives_way::<V>(since, row) {
+            let (place, ending) = (V::place(row), Ending::Dropped);
             add(turns, Turn::Leave { place, ending })?;
             left -= 1;
         }
@@ -157,24 +157,24 @@ pub(crate) fn push_dropped<R: QueueRow>(
 }
 
 /// Whether a copy's time is up: it waits and is late (3.3.2.3.3).
-fn is_up<R: QueueRow>(now: u64, row: &R) -> bool
-    ensures { (went : R.Went) → result ≡ (is_waiting (R.entry went row.now).phase && is_late now (R.entry went row.now).copy) }
+fn is_up<V: QueueView>(now: u64, row: &V::Row) -> bool
+    ensures { (view : V) → result ≡ (is_waiting (V.entry view row.now).phase && is_late now (V.entry view row.now).copy) }
 {
-    is_waiting(row.phase()) && is_late(now, row)
+    is_waiting(V::phase(row)) && is_late::<V>(now, row)
 }
 
 /// Adds the turns by which late copies that wait leave (3.3.2.3.3).
-pub(crate) fn push_expired<R: QueueRow>(
+pub(crate) fn push_expired<V: QueueView>(
     turns: &mut Vec<Turn>,
     now: u64,
-    rows: &[R],
+    rows: &[V::Row],
 ) -> Result<(), FlowFault>
-    ensures turns { (went : R.Went) → OnOk result (turns.new.items ≡ turns.old.items ++ expired now (map (R.entry went) rows.now)) }
+    ensures turns { (view : V) → OnOk result (turns.new.items ≡ turns.old.items ++ expired now (map (V.entry view) rows.now)) }
     ensures fault { IfErr result (λ fault. fault ≡ FlowFault.Memory) }
 {
     for row in rows {
-        if is_up(now, row) {
-            let (place, ending) = (row.place(), Ending::Expired);
+        if is_up::<V>(now, row) {
+            let (place, ending) = (V::place(row), Ending::Expired);
             add(turns, Turn::Leave { place, ending })?;
         }
     }
@@ -216,12 +216,15 @@ fn insert_phase(dues: &mut Vec<Due>, phase: Phase) -> Result<(), FlowFault>
 }
 
 /// Puts the released copies in their order (4.6).
-pub(crate) fn insert_due<R: QueueRow>(dues: &mut Vec<Due>, rows: &[R]) -> Result<(), FlowFault>
-    ensures exact { (went : R.Went) → OnOk result (dues.new.items ≡ due_from dues.old.items (map (R.entry went) rows.now)) }
+pub(crate) fn insert_due<V: QueueView>(
+    dues: &mut Vec<Due>,
+    rows: &[V::Row],
+) -> Result<(), FlowFault>
+    ensures exact { (view : V) → OnOk result (dues.new.items ≡ due_from dues.old.items (map (V.entry view) rows.now)) }
     ensures fault { IfErr result (λ fault. fault ≡ FlowFault.Memory) }
 {
     for row in rows {
-        insert_phase(dues, row.phase())?;
+        insert_phase(dues, V::phase(row))?;
     }
     Ok(())
 }

@@ -6,7 +6,7 @@ ghost use Rattle.mqtt_flow.specs.Outbound.{first_step, in_room, later_step, pace
 use crate::entry::{Turn, Way};
 use crate::in_use::{free, push_identifiers};
 use crate::plan::{is_large, is_late};
-use crate::row::QueueRow;
+use crate::row::QueueView;
 use mqtt_base::{Ending, PUMP_LIMIT, Phase, Qos};
 use mqtt_flow_inbound::{FlowFault, lowest_free};
 use std::alloc::Global;
@@ -56,19 +56,24 @@ fn in_room(pace: &Pace, turn: Turn) -> Step
 }
 
 /// A turn for a copy that waits (4.3).
-fn first_time<R: QueueRow>(alloc: Global, way: Way, pace: &Pace, row: &R) -> Result<Step, FlowFault>
+fn first_time<V: QueueView>(
+    alloc: Global,
+    way: Way,
+    pace: &Pace,
+    row: &V::Row,
+) -> Result<Step, FlowFault>
     requires { length pace.now.used < 65534 }
-    ensures step { (went : R.Went) → IfOk result (λ step. step ≡ first_step way (R.entry went row.now) pace.now) }
+    ensures step { (view : V) → IfOk result (λ step. step ≡ first_step way (V.entry view row.now) pace.now) }
     ensures fault { IfErr result (λ fault. fault ≡ FlowFault.Memory) }
 {
-    let place = row.place();
-    if is_late(way.now, row) {
+    let place = V::place(row);
+    if is_late::<V>(way.now, row) {
         return Ok(Step::Take(Turn::Leave {
             place,
             ending: Ending::Expired,
         }));
     }
-    if is_large(way, row) {
+    if is_large::<V>(way, row) {
         return Ok(Step::Take(Turn::Leave {
             place,
             ending: Ending::TooLarge,
@@ -82,17 +87,17 @@ fn first_time<R: QueueRow>(alloc: Global, way: Way, pace: &Pace, row: &R) -> Res
 }
 
 /// A turn for a copy that was sent (4.4).
-fn once_more<R: QueueRow>(way: Way, pace: &Pace, row: &R, went: &R::Went, identifier: u16) -> Step
-    ensures { result ≡ later_step way identifier (R.entry went.now row.now) pace.now }
+fn once_more<V: QueueView>(way: Way, pace: &Pace, view: &V, row: &V::Row, identifier: u16) -> Step
+    ensures { result ≡ later_step way identifier (V.entry view.now row.now) pace.now }
 {
-    let place = row.place();
-    if row.here(went) {
+    let place = V::place(row);
+    if view.here(row) {
         return Step::GoOn;
     }
-    if !is_large(way, row) {
+    if !is_large::<V>(way, row) {
         return in_room(pace, Turn::Resend { place, identifier });
     }
-    match row.qos() {
+    match V::qos(row) {
         Qos::AtMostOnce | Qos::AtLeastOnce => Step::Take(Turn::Leave {
             place,
             ending: Ending::TooLarge,
@@ -106,23 +111,23 @@ fn once_more<R: QueueRow>(way: Way, pace: &Pace, row: &R, went: &R::Went, identi
 }
 
 /// What a pump does at a row.
-fn step_at<R: QueueRow>(
+fn step_at<V: QueueView>(
     alloc: Global,
     way: Way,
     pace: &Pace,
-    row: &R,
-    went: &R::Went,
+    view: &V,
+    row: &V::Row,
 ) -> Result<Step, FlowFault>
     requires { length pace.now.used < 65534 }
-    ensures step { IfOk result (λ step. step ≡ pump_step way pace.now (R.entry went.now row.now)) }
+    ensures step { IfOk result (λ step. step ≡ pump_step way pace.now (V.entry view.now row.now)) }
     ensures fault { IfErr result (λ fault. fault ≡ FlowFault.Memory) }
 {
     if pace.left == 0 {
         return Ok(Step::Stop);
     }
-    match row.phase() {
-        Phase::Waiting => first_time(alloc, way, pace, row),
-        Phase::Sent { identifier } => Ok(once_more(way, pace, row, went, identifier)),
+    match V::phase(row) {
+        Phase::Waiting => first_time::<V>(alloc, way, pace, row),
+        Phase::Sent { identifier } => Ok(once_more(way, pace, view, row, identifier)),
         Phase::Released { .. } | Phase::Oversize { .. } => Ok(Step::GoOn),
     }
 }
@@ -166,19 +171,19 @@ fn take(turns: &mut Vec<Turn>, pace: &mut Pace, turn: Turn, phase: Phase) -> Res
 }
 
 /// What a pump may do before its first step, where this much of the window is filled and this is the greatest order.
-pub(crate) fn first_pace<R: QueueRow>(
+pub(crate) fn first_pace<V: QueueView>(
     alloc: Global,
     way: Way,
-    rows: &[R],
+    rows: &[V::Row],
     window: usize,
     order: u64,
 ) -> Result<Pace, FlowFault>
     requires { order < 2 ^ 63 }
-    ensures exact { (went : R.Went) → IfOk result (λ p. p ≡ pace_known way window order (map (R.entry went) rows.now)) }
+    ensures exact { (view : V) → IfOk result (λ p. p ≡ pace_known way window order (map (V.entry view) rows.now)) }
     ensures fault { IfErr result (λ fault. fault ≡ FlowFault.Memory) }
 {
     let mut used = Vec::new(alloc);
-    push_identifiers(&mut used, rows)?;
+    push_identifiers::<V>(&mut used, rows)?;
     Ok(Pace {
         left: PUMP_LIMIT,
         room: usize::from(way.window).saturating_sub(window),
@@ -189,24 +194,24 @@ pub(crate) fn first_pace<R: QueueRow>(
 
 /// Adds the turns of a pump from these rows on: resends and first sends in the order of the queue, as far as the window
 /// and the limit of `PUMP_LIMIT` go (4.6, 4.9).
-pub(crate) fn push_pumped<R: QueueRow>(
+pub(crate) fn push_pumped<V: QueueView>(
     alloc: Global,
     turns: &mut Vec<Turn>,
     pace: &mut Pace,
     way: Way,
-    rows: &[R],
-    went: &R::Went,
+    view: &V,
+    rows: &[V::Row],
 ) -> Result<(), FlowFault>
     requires orders { pace.old.order + length rows.now < 2 ^ 64 }
     requires few { length pace.old.used + length rows.now < 65534 }
-    ensures turns { OnOk result (turns.new.items ≡ turns.old.items ++ pump_from way (map (R.entry went.now) rows.now) pace.old) }
+    ensures turns { OnOk result (turns.new.items ≡ turns.old.items ++ pump_from way (map (V.entry view.now) rows.now) pace.old) }
     ensures fault { IfErr result (λ fault. fault ≡ FlowFault.Memory) }
 {
     for row in rows {
-        match step_at(alloc, way, pace, row, went)? {
+        match step_at(alloc, way, pace, view, row)? {
             Step::Stop => return Ok(()),
             Step::GoOn => {}
-            Step::Take(turn) => take(turns, pace, turn, row.phase())?,
+            Step::Take(turn) => take(turns, pace, turn, V::phase(row))?,
         }
     }
     Ok(())

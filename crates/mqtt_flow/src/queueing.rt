@@ -8,6 +8,7 @@ ghost use Rattle.mqtt_flow.specs.Outbound.{KeptOut, anew, entered, expired, has_
 use crate::entry::{QueueLimits, QueuedCopy, Turn, Way};
 use crate::look::{look_enter, look_expire, look_pump, look_resume};
 use crate::outflow::Outflow;
+use crate::row::Entries;
 use mqtt_base::{LAST_NUMBER, QUEUE_LIMIT};
 use mqtt_flow_inbound::FlowFault;
 use std::alloc::Global;
@@ -27,7 +28,7 @@ impl Outflow {
         ensures below { OnOk result (length (way_open limits since self.now.queue) < limits.queue) }
         ensures fault { IfErr result (KeptOut (has_room limits since self.now.queue)) }
     {
-        look_enter(alloc, limits, since, self.entries())
+        look_enter::<Entries>(alloc, limits, since, self.entries())
     }
 
     /// Takes in a copy, and answers with the turns by which others made way (ours).
@@ -59,7 +60,7 @@ impl Outflow {
         ensures turns { IfOk result (λ turns. turns.items ≡ pump way self.now.queue) }
         ensures fault { IfErr result (λ fault. fault ≡ FlowFault.Memory) }
     {
-        look_pump(alloc, way, self.entries(), &())
+        look_pump(alloc, way, &Entries, self.entries())
     }
 
     /// Sends what order, window and the limit of `PUMP_LIMIT` let it send, and answers with the
@@ -81,7 +82,7 @@ impl Outflow {
         ensures turns { IfOk result (λ turns. turns.items ≡ expired now self.now.queue) }
         ensures fault { IfErr result (λ fault. fault ≡ FlowFault.Memory) }
     {
-        look_expire(alloc, now, self.entries())
+        look_expire::<Entries>(alloc, now, self.entries())
     }
 
     /// Ends the copies that wait and are late at a moment, and answers with the turns taken
@@ -103,7 +104,7 @@ impl Outflow {
         ensures turns { IfOk result (λ turns. turns.items ≡ resumed_with self.now.queue) }
         ensures fault { IfErr result (λ fault. fault ≡ FlowFault.Memory) }
     {
-        look_resume(alloc, self.entries())
+        look_resume::<Entries>(alloc, self.entries())
     }
 
     /// Begins a resumed connection, on which nothing was sent, and answers with the turns taken

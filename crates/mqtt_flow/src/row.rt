@@ -1,4 +1,4 @@
-//! A row of a session's queue of outbound copies, in whatever form it is kept.
+//! The rows of a session's queue of outbound copies, in whatever form they are kept.
 
 ghost use Rattle.std.specs.Prelude.{◌≡◌};
 ghost use Rattle.mqtt_flow.specs.declared.entry.Entry.{Entry};
@@ -6,73 +6,77 @@ ghost use Rattle.mqtt_flow.specs.declared.entry.Entry.{Entry};
 use crate::entry::Entry;
 use mqtt_base::{Phase, Qos};
 
-/// A copy in a session's queue, as who keeps the queue has it.
-pub trait QueueRow {
-    /// What is known beside the rows of a queue: the copies whose PUBLISH went out on the session's connection.
-    type Went;
+/// What is known of the rows of a queue. The rows tell the rest themselves, so a look goes over them where they stand.
+pub trait QueueView {
+    /// A copy in the queue, as who keeps the queue has it.
+    type Row;
 
     // The entry that a row stands for.
-    ghost entry: { Self.Went → Self → Entry };
+    ghost entry: { Self → Self.Row → Entry };
 
     /// The copy's place in the queue. Takes no memory.
-    fn place(&self) -> u64
-        ensures { (went : Self.Went) → result ≡ (entry went self.now).place };
+    fn place(row: &Self::Row) -> u64
+        ensures { (view : Self) → result ≡ (entry view row.now).place };
 
     /// How far the copy has come. Takes no memory.
-    fn phase(&self) -> Phase
-        ensures { (went : Self.Went) → result ≡ (entry went self.now).phase };
+    fn phase(row: &Self::Row) -> Phase
+        ensures { (view : Self) → result ≡ (entry view row.now).phase };
 
     /// The quality of service granted. Takes no memory.
-    fn qos(&self) -> Qos
-        ensures { (went : Self.Went) → result ≡ (entry went self.now).copy.qos };
+    fn qos(row: &Self::Row) -> Qos
+        ensures { (view : Self) → result ≡ (entry view row.now).copy.qos };
 
     /// Bytes of its PUBLISH, fixed header included (2.1.4). Takes no memory.
-    fn size(&self) -> u32
-        ensures { (went : Self.Went) → result ≡ (entry went self.now).copy.size };
+    fn size(row: &Self::Row) -> u32
+        ensures { (view : Self) → result ≡ (entry view row.now).copy.size };
 
     /// When its publication was accepted, in milliseconds. Takes no memory.
-    fn arrived(&self) -> u64
-        ensures { (went : Self.Went) → result ≡ (entry went self.now).copy.arrived };
+    fn arrived(row: &Self::Row) -> u64
+        ensures { (view : Self) → result ≡ (entry view row.now).copy.arrived };
 
     /// Its Message Expiry Interval, in seconds (3.3.2.3.3). Takes no memory.
-    fn expiry(&self) -> Option<u32>
-        ensures { (went : Self.Went) → result ≡ (entry went self.now).copy.expiry };
+    fn expiry(row: &Self::Row) -> Option<u32>
+        ensures { (view : Self) → result ≡ (entry view row.now).copy.expiry };
 
     /// Whether its PUBLISH went out on the session's connection. Takes no memory.
-    fn here(&self, went: &Self::Went) -> bool
-        ensures { result ≡ (entry went.now self.now).here };
+    fn here(&self, row: &Self::Row) -> bool
+        ensures { result ≡ (entry self.now row.now).here };
 }
 
-impl QueueRow for Entry {
-    type Went = ();
+/// Entries as rows: each knows by itself whether its PUBLISH went out.
+#[derive(Drop)]
+pub struct Entries;
 
-    ghost entry = { λ went e. e };
+impl QueueView for Entries {
+    type Row = Entry;
 
-    fn place(&self) -> u64 {
-        self.place
+    ghost entry = { λ view e. e };
+
+    fn place(row: &Entry) -> u64 {
+        row.place
     }
 
-    fn phase(&self) -> Phase {
-        self.phase
+    fn phase(row: &Entry) -> Phase {
+        row.phase
     }
 
-    fn qos(&self) -> Qos {
-        self.copy.qos
+    fn qos(row: &Entry) -> Qos {
+        row.copy.qos
     }
 
-    fn size(&self) -> u32 {
-        self.copy.size
+    fn size(row: &Entry) -> u32 {
+        row.copy.size
     }
 
-    fn arrived(&self) -> u64 {
-        self.copy.arrived
+    fn arrived(row: &Entry) -> u64 {
+        row.copy.arrived
     }
 
-    fn expiry(&self) -> Option<u32> {
-        self.copy.expiry
+    fn expiry(row: &Entry) -> Option<u32> {
+        row.copy.expiry
     }
 
-    fn here(&self, _went: &()) -> bool {
-        self.here
+    fn here(&self, row: &Entry) -> bool {
+        row.here
     }
 }

@@ -6,9 +6,9 @@ use Rattle.mqtt_flow.proofs.known.know.Goals as goal
 
 pub returns : goal.returns
 returns g c =
-    let queue = map (g.R.QueueRow.entry c.args.went.now) c.args.rows.now in
+    let queue = map (g.V.QueueView.entry c.args.view.now) c.args.rows.now in
     record {
       at_front = subst (λ n. AllStill (take n queue)) (sym c.front_still.ensures) (front_is_still queue);
       window_is = c.in_window.ensures.exact;
-      order_is = c.greatest_order.ensures c.args.went.now;
+      order_is = c.greatest_order.ensures c.args.view.now;
     }

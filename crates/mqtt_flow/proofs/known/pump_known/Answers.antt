@@ -10,7 +10,7 @@ use Rattle.mqtt_flow.proofs.known.pump_known.Goals as goal
 
 pub returns-then-rows-known-clause-turns : goal.returns-then-rows-known-clause-turns
 returns-then-rows-known-clause-turns g c =
-    let entry = g.R.QueueRow.entry c.args.went.now in
+    let entry = g.V.QueueView.entry c.args.view.now in
     let queue = map entry c.args.rows.now in
     let known = c.args.known in
     let long = length-map c.args.rows.now entry in
@@ -21,9 +21,9 @@ returns-then-rows-known-clause-turns g c =
 
 pub push_pumped-requires-clause-few : goal.push_pumped-requires-clause-few
 push_pumped-requires-clause-few g c =
-    let entry = g.R.QueueRow.entry c.args.went.now in
+    let entry = g.V.QueueView.entry c.args.view.now in
     let still = c.args.known.still in
-    let used = ap (λ (p : Pacing). length p.used) (c.in_ok-pace.ensures.exact c.args.went.now) in
+    let used = ap (λ (p : Pacing). length p.used) (c.in_ok-pace.ensures.exact c.args.view.now) in
     let few = length-identifiers (map entry c.args.rows.now) in
     let long = length-map c.args.rows.now entry in
     let rest = take_within (length c.args.rows.now - still) (drop still c.args.rows.now) in
@@ -32,10 +32,10 @@ push_pumped-requires-clause-few g c =
 
 pub returns-clause-turns : goal.returns-clause-turns
 returns-clause-turns g c =
-    let entry = g.R.QueueRow.entry c.args.went.now in
+    let entry = g.V.QueueView.entry c.args.view.now in
     let known = c.args.known in
     let rows = c.args.rows.now in
     let rest = map entry (take (length rows - known.still) (drop known.still rows)) in
     c.in_ok-push_pumped.ensures.turns
     ∙ ap (λ (ts : List Turn). ts ++ pump_from c.args.way rest c.in_ok-pace.pace) c.new-turns.ensures.items
-    ∙ pump_behind c.args.way (map entry rows) rest known.still known.window known.order c.in_ok-pace.pace c.requires.known (rows_behind entry known.still rows) (c.in_ok-pace.ensures.exact c.args.went.now)
+    ∙ pump_behind c.args.way (map entry rows) rest known.still known.window known.order c.in_ok-pace.pace c.requires.known (rows_behind entry known.still rows) (c.in_ok-pace.ensures.exact c.args.view.now)

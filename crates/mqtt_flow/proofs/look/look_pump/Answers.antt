@@ -7,8 +7,8 @@ use Rattle.mqtt_flow.proofs.look.look_pump.Goals as goal
 
 pub push_pumped-requires-clause-few : goal.push_pumped-requires-clause-few
 push_pumped-requires-clause-few g c =
-    let entry = g.R.QueueRow.entry c.args.went.now in
-    let used = ap (λ (p : Pacing). length p.used) (c.in_ok-pace.ensures.exact c.args.went.now) in
+    let entry = g.V.QueueView.entry c.args.view.now in
+    let used = ap (λ (p : Pacing). length p.used) (c.in_ok-pace.ensures.exact c.args.view.now) in
     let few = length-identifiers (map entry c.args.rows.now) in
     let long = length-map c.args.rows.now entry in
     omega arith

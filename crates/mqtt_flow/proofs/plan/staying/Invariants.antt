@@ -5,6 +5,6 @@ use Rattle.mqtt_flow.proofs.plan.staying.Given as goal
 
 abbrev pub invariant-loop-row : goal.invariant-loop-row
 invariant-loop-row g l = record {
-  counted : (went : _) → l.count + staying Drop l.since (map (g.R.QueueRow.entry went) (drop l.row-index l.rows)) ≡ staying Drop l.since (map (g.R.QueueRow.entry went) l.rows);
+  counted : (view : _) → l.count + staying Drop l.since (map (g.V.QueueView.entry view) (drop l.row-index l.rows)) ≡ staying Drop l.since (map (g.V.QueueView.entry view) l.rows);
   within : l.count ≤ l.row-index;
 }

@@ -10,7 +10,7 @@ use Rattle.mqtt_flow.proofs.pump.push_pumped.Goals as goal
 
 pub loop-row-preserved : goal.loop-row-preserved
 loop-row-preserved g c =
-    let entry = g.R.QueueRow.entry c.args.went.now in
+    let entry = g.V.QueueView.entry c.args.view.now in
     let l = c.loop-row in
     let m = c.match-branch-2 in
     let way = c.args.way in
@@ -28,7 +28,7 @@ loop-row-preserved g c =
             ∙ ap (λ (ts : List Turn). l.turns.items ++ ts) (one_passes way e rest l.pace step is w.in-GoOn.is)
             ∙ before
         | in-Take+in_ok-take-in-Take w ↦
-            one_turns way e rest l.pace m.pace step w.in-Take.turn w.phase.result l.turns.items m.turns.items is w.in-Take.is (w.phase.ensures c.args.went.now) (w.pace-is ∙ w.in_ok-take-in-Take.ensures.pace) (ap (λ (v : Vec Turn Global). v.items) w.turns-is ∙ w.in_ok-take-in-Take.ensures.turns)
+            one_turns way e rest l.pace m.pace step w.in-Take.turn w.phase.result l.turns.items m.turns.items is w.in-Take.is (w.phase.ensures c.args.view.now) (w.pace-is ∙ w.in_ok-take-in-Take.ensures.pace) (ap (λ (v : Vec Turn Global). v.items) w.turns-is ∙ w.in_ok-take-in-Take.ensures.turns)
             ∙ before
       ];
       used = elim m.branch [

@@ -9,4 +9,4 @@ use Rattle.mqtt_flow.proofs.outflow.Outflow.holder.Goals as goal
 pub returns : goal.returns
 returns c =
     let queue = map-id c.deref.result.now ∙ c.deref.ensures.value ∙ ap (λ v. v.queue) c.self.view_is in
-    sym (option_map_id (option_copied c.holder.result)) ∙ c.holder.ensures tt ∙ ap (holder c.args.identifier) queue
+    sym (option_map_id (option_copied c.holder.result)) ∙ c.holder.ensures (record {}) ∙ ap (holder c.args.identifier) queue

@@ -18,16 +18,16 @@ returns-clause-below c =
     let same = map-id c.entries.result.now ∙ c.entries.ensures.value in
     on_ok {P = has_room limits since queue ≡ true} {Q = length (way_open limits since queue) < limits.queue} c.look_enter.result
     (λ room. below_limit limits since queue room c.entries.ensures.lawful.ascends)
-    (subst (λ q. OnOk c.look_enter.result (has_room limits since q ≡ true)) same (c.look_enter.ensures.only tt))
+    (subst (λ q. OnOk c.look_enter.result (has_room limits since q ≡ true)) same (c.look_enter.ensures.only (record {})))
 
 pub returns-clause-only : goal.returns-clause-only
 returns-clause-only c =
-    subst (λ q. OnOk c.look_enter.result (has_room c.args.limits c.args.since q ≡ true)) (map-id c.entries.result.now ∙ c.entries.ensures.value) (c.look_enter.ensures.only tt)
+    subst (λ q. OnOk c.look_enter.result (has_room c.args.limits c.args.since q ≡ true)) (map-id c.entries.result.now ∙ c.entries.ensures.value) (c.look_enter.ensures.only (record {}))
 
 pub returns-clause-turns : goal.returns-clause-turns
 returns-clause-turns c =
-    subst (λ q. IfOk c.look_enter.result (λ turns. turns.items ≡ way_made c.args.limits c.args.since q)) (map-id c.entries.result.now ∙ c.entries.ensures.value) (c.look_enter.ensures.turns tt)
+    subst (λ q. IfOk c.look_enter.result (λ turns. turns.items ≡ way_made c.args.limits c.args.since q)) (map-id c.entries.result.now ∙ c.entries.ensures.value) (c.look_enter.ensures.turns (record {}))
 
 pub returns-clause-fault : goal.returns-clause-fault
 returns-clause-fault c =
-    subst (λ q. IfErr c.look_enter.result (KeptOut (has_room c.args.limits c.args.since q))) (map-id c.entries.result.now ∙ c.entries.ensures.value) (c.look_enter.ensures.fault tt)
+    subst (λ q. IfErr c.look_enter.result (KeptOut (has_room c.args.limits c.args.since q))) (map-id c.entries.result.now ∙ c.entries.ensures.value) (c.look_enter.ensures.fault (record {}))

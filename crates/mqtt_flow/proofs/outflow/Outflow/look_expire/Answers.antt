@@ -7,4 +7,4 @@ use Rattle.mqtt_flow.proofs.outflow.Outflow.look_expire.Goals as goal
 
 pub returns-clause-turns : goal.returns-clause-turns
 returns-clause-turns c =
-    subst (λ q. IfOk c.look_expire.result (λ turns. turns.items ≡ expired c.args.now q)) (map-id c.entries.result.now ∙ c.entries.ensures.value) (c.look_expire.ensures.turns tt)
+    subst (λ q. IfOk c.look_expire.result (λ turns. turns.items ≡ expired c.args.now q)) (map-id c.entries.result.now ∙ c.entries.ensures.value) (c.look_expire.ensures.turns (record {}))

@@ -5,4 +5,4 @@ use Rattle.mqtt_flow.specs.Outbound.{pubcomp}
 use Rattle.mqtt_flow.proofs.outflow.Outflow.look_pubcomp.Goals as goal
 
 pub returns : goal.returns
-returns c = c.look_pubcomp.ensures tt ∙ ap (pubcomp c.args.identifier) (map-id c.entries.result.now ∙ c.entries.ensures.value)
+returns c = c.look_pubcomp.ensures (record {}) ∙ ap (pubcomp c.args.identifier) (map-id c.entries.result.now ∙ c.entries.ensures.value)

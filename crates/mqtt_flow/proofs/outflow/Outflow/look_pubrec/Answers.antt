@@ -5,4 +5,4 @@ use Rattle.mqtt_flow.specs.Outbound.{pubrec}
 use Rattle.mqtt_flow.proofs.outflow.Outflow.look_pubrec.Goals as goal
 
 pub returns : goal.returns
-returns c = c.look_pubrec.ensures tt ∙ ap (pubrec c.args.identifier c.args.code.0) (map-id c.entries.result.now ∙ c.entries.ensures.value)
+returns c = c.look_pubrec.ensures (record {}) ∙ ap (pubrec c.args.identifier c.args.code.0) (map-id c.entries.result.now ∙ c.entries.ensures.value)

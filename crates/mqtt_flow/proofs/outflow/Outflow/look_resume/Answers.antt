@@ -7,4 +7,4 @@ use Rattle.mqtt_flow.proofs.outflow.Outflow.look_resume.Goals as goal
 
 pub returns-clause-turns : goal.returns-clause-turns
 returns-clause-turns c =
-    subst (λ q. IfOk c.look_resume.result (λ turns. turns.items ≡ resumed_with q)) (map-id c.entries.result.now ∙ c.entries.ensures.value) (c.look_resume.ensures.turns tt)
+    subst (λ q. IfOk c.look_resume.result (λ turns. turns.items ≡ resumed_with q)) (map-id c.entries.result.now ∙ c.entries.ensures.value) (c.look_resume.ensures.turns (record {}))
