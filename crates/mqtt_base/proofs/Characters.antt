@@ -16,6 +16,7 @@ or_false : (a b : Bool) → (a || b) ≡ false → (a ≡ false) × (b ≡ false
 or_false true b e = absurd cc
 or_false false b e = (refl, e)
 
+-- what is not the one, and is the other
 pub not_and : (a b : Bool) → (not a && b) ≡ true → (a ≡ false) × (b ≡ true)
 not_and true b e = absurd cc
 not_and false b e = (refl, e)
@@ -70,6 +71,7 @@ all_kept (c ∷ cs) some =
 
 -- ---- the test is the meaning
 
+-- what the test takes for a text is UTF-8 without a null character
 pub text_means : (bytes : List ℕ) → is_text bytes ≡ true → IsUtf8WithoutNull bytes
 unfolding has_zero
 text_means bytes e =
@@ -77,6 +79,7 @@ text_means bytes e =
     let u : IsUtf8 bytes = IsUtf8-from_is_utf8 bytes t.1 in
     (u.0, u.1.0, u.1.1, characters_kept u.0 (ap has_zero u.1.1 ∙ t.0))
 
+-- UTF-8 without a null character passes the test
 pub text_meant : (bytes : List ℕ) → IsUtf8WithoutNull bytes → is_text bytes ≡ true
 unfolding has_zero
 text_meant bytes m =

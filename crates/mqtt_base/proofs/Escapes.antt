@@ -36,6 +36,7 @@ word_byte b rest small word = go (is_plain b) refl
         let low = glyph_range (b % 16) (low_small b) in
         (omega arith, omega arith, (high.0, high.1, (low.0, low.1, word)))
 
+-- a text that is escaped is a word of the script
 pub word_of : (text : List ℕ) → AreBytes text → IsWord (escaped text)
 word_of [] bytes = tt
 word_of (b ∷ text) bytes = word_byte b (escaped text) bytes.0 (word_of text bytes.1)

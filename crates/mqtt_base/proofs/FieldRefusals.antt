@@ -25,6 +25,7 @@ length_is (a ∷ b ∷ bytes) le =
     let is : from_be_bytes w16 (a ∷ b ∷ []) ≡ 256 * a + b = omega arith in
     rw (le-ltb (length (a ∷ b ∷ bytes)) 2 le) (ap (read_length bytes) is)
 
+-- a field is whole or not
 pub whole_or_not : (bytes : List ℕ) → IsWhole bytes ⊎ ¬ IsWhole bytes
 whole_or_not bytes =
     elim (cases_lt (length bytes) 2) [
@@ -61,6 +62,7 @@ blob_short bytes cut =
       ]
     ]
 
+-- binary data is refused for what the definition says
 pub blob_refused : (f : ReadFault) (bytes : List ℕ) → blob_at bytes ≡ Err f → BinaryRefused f bytes
 blob_refused f bytes e =
     elim (whole_or_not bytes) [
@@ -68,6 +70,7 @@ blob_refused f bytes e =
       | inr cut ↦ subst (λ (g : ReadFault). BinaryRefused g bytes) (err_is Short f (sym (blob_short bytes cut) ∙ e)) cut
     ]
 
+-- what the definition refuses is refused
 pub blob_due : (f : ReadFault) (bytes : List ℕ) → BinaryRefused f bytes → blob_at bytes ≡ Err f
 blob_due Short bytes cut = blob_short bytes cut
 blob_due Overlong bytes h = absurd h
@@ -90,6 +93,7 @@ test_of : (b : Bool) → (b ≡ true) ⊎ (b ≡ false)
 test_of true = inl refl
 test_of false = inr refl
 
+-- a text is refused for what the definition says
 pub text_refusal : (f : ReadFault) (bytes : List ℕ) → text_at bytes ≡ Err f → TextRefused f bytes
 text_refusal f bytes e =
     elim (whole_or_not bytes) [
@@ -100,6 +104,7 @@ text_refusal f bytes e =
       ]
     ]
 
+-- what the definition refuses is refused
 pub text_due : (f : ReadFault) (bytes : List ℕ) → TextRefused f bytes → text_at bytes ≡ Err f
 text_due Short bytes cut = text_short bytes cut
 text_due Overlong bytes h = absurd h

@@ -16,6 +16,7 @@ pub record IsWide (w : Width) (limit : ℕ) : Type 0 where
   pub again : (n : ℕ) → n < limit → from_be_bytes w (to_be_bytes w n) ≡ n
   pub below : (bytes : List ℕ) → IsBytes bytes → from_be_bytes w bytes < limit
 
+-- two bytes hold numbers below 2^16
 pub wide16 : IsWide w16 (2 ^ 16)
 wide16 = record {
   len = λ n. refl;
@@ -24,6 +25,7 @@ wide16 = record {
   below = λ bytes fits. omega (arith, fits 0, fits 1);
 }
 
+-- four bytes hold numbers below 2^32
 pub wide32 : IsWide w32 (2 ^ 32)
 wide32 = record {
   len = λ n. refl;
@@ -32,6 +34,7 @@ wide32 = record {
   below = λ bytes fits. omega (arith, fits 0, fits 1, fits 2, fits 3);
 }
 
+-- a number that was read is the bytes that were taken
 pub number_takes : (w : Width) (limit : ℕ) (wide : IsWide w limit) (bytes : List ℕ) (x : ℕ × List ℕ) → IsBytes bytes → number_at w bytes ≡ Ok x → Takes bytes (to_be_bytes w x.0) x.1 × (x.0 < limit)
 number_takes w limit wide bytes x fits e =
     let made : ℕ × List ℕ = (from_be_bytes w (take (byte_len w) bytes), drop (byte_len w) bytes) in
@@ -41,6 +44,7 @@ number_takes w limit wide bytes x fits e =
     subst (λ (y : ℕ × List ℕ). Takes bytes (to_be_bytes w y.0) y.1 × (y.0 < limit)) (ok_is made x g.1)
     (record { parts = rw front (sym (take-append-drop (byte_len w) bytes)); rest_fits = IsBytes-drop (byte_len w) bytes fits }, wide.below (take (byte_len w) bytes) (IsBytes-take (byte_len w) bytes fits))
 
+-- a number that was written is read back
 pub number_again : (w : Width) (limit : ℕ) (wide : IsWide w limit) (n : ℕ) (rest : List ℕ) → n < limit → number_at w (to_be_bytes w n ++ rest) ≡ Ok (n, rest)
 number_again w limit wide n rest lt =
     let len = wide.len n in
@@ -49,6 +53,7 @@ number_again w limit wide n rest lt =
 
 -- ---- binary and text
 
+-- binary data that was read is the bytes that were taken
 pub blob_takes : (bytes : List ℕ) (x : List ℕ × List ℕ) → IsBytes bytes → blob_at bytes ≡ Ok x → Takes bytes (blob x.0) x.1 × (length x.0 < 2 ^ 16)
 unfolding blob_at
 blob_takes bytes x fits e =
@@ -64,12 +69,14 @@ blob_takes bytes x fits e =
     let whole : Takes bytes (blob (take n.0 n.1)) (drop n.0 n.1) = subst (λ (k : ℕ). Takes bytes (two_bytes k ++ take n.0 n.1) (drop n.0 n.1)) (sym len) both in
     subst (λ (p : List ℕ × List ℕ). Takes bytes (blob p.0) p.1 × (length p.0 < 2 ^ 16)) (ok_is made x g.1) (whole, omega (arith, t.1))
 
+-- binary data that was written is read back
 pub blob_again : (text rest : List ℕ) → length text < 2 ^ 16 → blob_at (blob text ++ rest) ≡ Ok (text, rest)
 unfolding blob_at
 blob_again text rest lt =
     let long : ltb (length (text ++ rest)) (length text) ≡ false = le-ltb _ _ (omega (arith, length-append text rest)) in
     rw (number_again w16 (2 ^ 16) wide16 (length text) (text ++ rest) lt, long, take_at text rest (length text) refl, drop_at text rest (length text) refl) refl
 
+-- a text that was read is the bytes that were taken
 pub text_takes : (bytes : List ℕ) (x : List ℕ × List ℕ) → IsBytes bytes → text_at bytes ≡ Ok x → Takes bytes (blob x.0) x.1 × (length x.0 < 2 ^ 16) × (is_text x.0 ≡ true)
 unfolding text_at
 text_takes bytes x fits e =
@@ -78,12 +85,14 @@ text_takes bytes x fits e =
     let g = when_ok (is_text b.0.0) BadText (Ok b.0) x b.2 in
     subst (λ (p : List ℕ × List ℕ). Takes bytes (blob p.0) p.1 × (length p.0 < 2 ^ 16) × (is_text p.0 ≡ true)) (ok_is b.0 x g.1) (t.0, t.1, g.0)
 
+-- a text that was written is read back
 pub text_again : (text rest : List ℕ) → length text < 2 ^ 16 → is_text text ≡ true → text_at (blob text ++ rest) ≡ Ok (text, rest)
 unfolding text_at
 text_again text rest lt good = rw (blob_again text rest lt, good) refl
 
 -- ---- one byte
 
+-- a byte that was read is the byte that was taken
 pub byte_takes : (bytes : List ℕ) (x : ℕ × List ℕ) → IsBytes bytes → u8_at bytes ≡ Ok x → Takes bytes (x.0 ∷ []) x.1 × (x.0 < 256)
 byte_takes [] x fits e = absurd cc
 byte_takes (b ∷ bytes) x fits e =
@@ -95,10 +104,12 @@ text_is bytes text n fits le e =
     let t = text_takes bytes (text, drop n bytes) fits e in
     ((t.1, t.2), sym (front_is bytes (blob text) n le t.0.parts))
 
+-- a text that was read fits its field, and what was taken spells it
 pub text_was : {X : Type 0} (view : X → List ℕ) (bytes : List ℕ) (r : Result (X × ℕ) ReadFault) → IsBytes bytes → Reads view r bytes (text_at bytes) → IfOk r (λ x. FitsText (view x.0) × (take x.1 bytes ≡ blob (view x.0)))
 text_was {X} view bytes (Ok x) fits read = text_is bytes (view x.0) x.1 fits read.0 read.1
 text_was {X} view bytes (Err e) fits read = tt
 
+-- binary data that was read fits its field, and what was taken spells it
 pub blob_was : {X : Type 0} (view : X → List ℕ) (bytes : List ℕ) (r : Result (X × ℕ) ReadFault) → IsBytes bytes → Reads view r bytes (blob_at bytes) → IfOk r (λ x. IsBinary (view x.0) (take x.1 bytes))
 blob_was {X} view bytes (Ok x) fits read =
     let t = blob_takes bytes (view x.0, drop x.1 bytes) fits read.1 in
@@ -109,5 +120,6 @@ blob_was {X} view bytes (Err e) fits read = tt
 pub binary_again : (d v rest : List ℕ) → IsBinary d v → blob_at (v ++ rest) ≡ Ok (d, rest)
 binary_again d v rest is = ap (λ (b : List ℕ). blob_at (b ++ rest)) is.1 ∙ blob_again d rest is.0
 
+-- a text in any spelling is read back
 pub spelled_again : (t v rest : List ℕ) → IsText t v → text_at (v ++ rest) ≡ Ok (t, rest)
 spelled_again t v rest is = ap (λ (b : List ℕ). text_at (b ++ rest)) is.1 ∙ text_again t rest is.0.0 is.0.1

@@ -76,5 +76,6 @@ fewest_is n (a ∷ b ∷ c ∷ d ∷ []) h least =
     ]
 fewest_is n (a ∷ b ∷ c ∷ d ∷ e ∷ v) h least = absurd (omega (arith, h.0))
 
+-- a Variable Byte Integer is the spelling with the fewest bytes, and no other
 pub varint_fewest : (n : ℕ) (v : List ℕ) → (IsVarInt n v → Encodes n v × Fewest n v) × (Encodes n v × Fewest n v → IsVarInt n v)
 varint_fewest n v = (λ is. ((is.0, continued v is.1, is.2), λ w k. varint_shortest n v w is k), λ h. fewest_is n v h.0 h.1)

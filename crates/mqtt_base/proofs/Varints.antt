@@ -36,6 +36,7 @@ one_again a rest lt = rw (lt-ltb a 128 lt) refl
 at : {rest : List ℕ} {m n : ℕ} (bytes : List ℕ) → m ≡ n → varint_at bytes ≡ Ok (m, rest) → varint_at bytes ≡ Ok (n, rest)
 at {rest} bytes e h = subst (λ (k : ℕ). varint_at bytes ≡ Ok (k, rest)) e h
 
+-- a Variable Byte Integer that was written is read back
 pub varint_again : (n : ℕ) (v rest : List ℕ) → IsVarInt n v → varint_at (v ++ rest) ≡ Ok (n, rest)
 varint_again n [] rest h = absurd h.1
 varint_again n (a ∷ []) rest h = at (a ∷ rest) (omega (arith, h.2, h.1)) (one_again a rest h.1)
@@ -112,6 +113,7 @@ groups_take (suc k) (a ∷ bytes) x fits e =
           subst (λ (y : ℕ × List ℕ). (v : List ℕ) × Behind (a ∷ bytes) v y.1 (suc k) y.0) (ok_is (a - 128 + 128 * b.0.0, b.0.1) x b.2) (a ∷ w.0, behind_more a bytes w.0 b.0.1 k b.0.0 fits t.0 w.1)
     ]
 
+-- one that was read is the bytes that were taken
 pub varint_takes : (bytes : List ℕ) (x : ℕ × List ℕ) → IsBytes bytes → varint_at bytes ≡ Ok x → (v : List ℕ) × Takes bytes v x.1 × IsVarInt x.0 v
 unfolding varint_at
 varint_takes [] x fits e = absurd cc
@@ -131,6 +133,7 @@ varint_takes (a ∷ bytes) x fits e =
 
 -- ---- the one spelling
 
+-- the writer writes a Variable Byte Integer
 pub varint_is : (n : ℕ) → n < 2 ^ 28 → IsVarInt n (varint n)
 unfolding varint
 varint_is n lt =
@@ -145,6 +148,7 @@ varint_is n lt =
       ]
     ]
 
+-- and a Variable Byte Integer is what the writer writes
 pub varint_only : (n : ℕ) (v : List ℕ) → IsVarInt n v → (v ≡ varint n) × (n < 2 ^ 28)
 unfolding varint
 varint_only n [] h = absurd h.1
@@ -197,10 +201,12 @@ varint_found bytes (Ok x) fits read =
     subst (λ (v : List ℕ). IsVarInt x.0 v) (front_is bytes t.0 x.1 read.0 t.1.parts) t.2
 varint_found bytes (Err e) fits read = tt
 
+-- one that was read is below 2^28
 pub varint_below : (bytes : List ℕ) (r : Result (ℕ × ℕ) ReadFault) → IsBytes bytes → Reads (λ n. n) r bytes (varint_at bytes) → IfOk r (λ x. x.0 < 2 ^ 28)
 varint_below bytes (Ok x) fits read = (varint_only x.0 (take x.1 bytes) (varint_found bytes (Ok x) fits read)).1
 varint_below bytes (Err e) fits read = tt
 
+-- it took at most four bytes
 pub varint_few : (bytes : List ℕ) (r : Result (ℕ × ℕ) ReadFault) → IsBytes bytes → Reads (λ n. n) r bytes (varint_at bytes) → IfOk r (λ x. x.1 ≤ 4)
 varint_few bytes (Ok x) fits read =
     let is = varint_found bytes (Ok x) fits read in
@@ -214,25 +220,30 @@ varint_reads bytes x fits e =
     let o = varint_only x.0 t.0 t.2 in
     (subst (λ (v : List ℕ). Takes bytes v x.1) o.0 t.1, o.1)
 
+-- what the writer wrote is read back
 pub varint_rereads : (n : ℕ) (rest : List ℕ) → n < 2 ^ 28 → varint_at (varint n ++ rest) ≡ Ok (n, rest)
 varint_rereads n rest lt = varint_again n (varint n) rest (varint_is n lt)
 
 -- ---- a greater number has no shorter spelling
 
+-- numbers below 2^7 take one byte
 pub size_first : (n : ℕ) → n < 2 ^ 7 → length (varint n) ≡ 1
 unfolding varint
 size_first n a = rw (lt-ltb n (2 ^ 7) a) refl
 
+-- below 2^14 two
 pub size_second : (n : ℕ) → 2 ^ 7 ≤ n → n < 2 ^ 14 → length (varint n) ≡ 2
 unfolding varint
 size_second n a b = rw (le-ltb n (2 ^ 7) a, lt-ltb n (2 ^ 14) b) refl
 
+-- below 2^21 three
 pub size_third : (n : ℕ) → 2 ^ 14 ≤ n → n < 2 ^ 21 → length (varint n) ≡ 3
 unfolding varint
 size_third n b c =
     let a : 2 ^ 7 ≤ n = omega (arith, b) in
     rw (le-ltb n (2 ^ 7) a, le-ltb n (2 ^ 14) b, lt-ltb n (2 ^ 21) c) refl
 
+-- the others four
 pub size_fourth : (n : ℕ) → 2 ^ 21 ≤ n → length (varint n) ≡ 4
 unfolding varint
 size_fourth n c =
@@ -281,6 +292,7 @@ size_at_least_2 n a =
       | inr b ↦ omega (arith, size_at_least_3 n b)
     ]
 
+-- each takes at least a byte
 pub varint_size : (n : ℕ) → 1 ≤ length (varint n)
 unfolding varint
 varint_size n =
@@ -289,6 +301,7 @@ varint_size n =
       | inr a ↦ omega (arith, size_at_least_2 n a)
     ]
 
+-- a greater number takes no fewer bytes
 pub varint_sizes : (m n : ℕ) → m ≤ n → length (varint m) ≤ length (varint n)
 varint_sizes m n le =
     elim (cases_lt n (2 ^ 7)) [

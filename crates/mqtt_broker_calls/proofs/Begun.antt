@@ -11,6 +11,7 @@ use Rattle.mqtt_broker_step.specs.Stepping.{Stepping, IsLeft, at_rest, env_in, w
 use Rattle.mqtt_broker_publish.specs.Choosing.{LeavesSome}
 use Rattle.mqtt_broker_calls.specs.Doing.{begun}
 
+-- a step at rest that is moved to a moment is one that has begun
 pub begun_is : (now : ℕ) (s s1 : Stepping) → s ≡ at_rest s.limits s.broker → s1 ≡ with_broker (at_moment now s.broker) s → s1 ≡ begun s.limits now s.broker
 begun_is now s s1 rest is = is ∙ ap (with_broker (at_moment now s.broker)) rest
 
@@ -22,6 +23,7 @@ at_begun P limits now b s same h = subst (λ (t : Stepping). P t.broker.records)
 pub memory_left : (act : Act) (fault : StepFault) (s new : Stepping) → new.start ≡ s.start → new.limits ≡ s.limits → fault ≡ Memory → IsLeft act fault s new
 memory_left act fault s new start limits memory = record { start = start; limits = limits; spent = λ e. absurd cc }
 
+-- want of memory may leave any act undone
 pub memory_some : (act : Env → Act) (fault : StepFault) (s new : Stepping) → new.start ≡ s.start → new.limits ≡ s.limits → fault ≡ Memory → LeavesSome act fault s new
 memory_some act fault s new start limits memory = record {
   number = 0;
@@ -37,6 +39,7 @@ unbegun_left act now fault s new rest same memory =
     (ap (λ (t : Stepping). t.start) same ∙ ap (λ (t : Stepping). t.start) rest)
     (ap (λ (t : Stepping). t.limits) same) memory
 
+-- and also a step that did not begin
 pub unbegun_some : (act : Env → Act) (now : ℕ) (fault : StepFault) (s new : Stepping) → s ≡ at_rest s.limits s.broker → new ≡ s → fault ≡ Memory → LeavesSome act fault (begun s.limits now s.broker) new
 unbegun_some act now fault s new rest same memory =
     memory_some act fault (begun s.limits now s.broker) new

@@ -52,6 +52,7 @@ did_call limits now call again b s more does =
           ∙ ap (λ (c : Broker). is_again call (deeds s.limits choice now call c)) (sym start));
     }
 
+-- a call that is refused as spent would spend a number
 pub left_call : (limits : Limits) (now : ℕ) (call : Call) (b : Broker) (fault : StepFault) (s : Stepping)
     → LeavesSome (λ env. deeds_of env call) fault (begun limits now b) s → fault ≡ Spent → SpentStep s.limits s.start now call
 left_call limits now call b fault s leaves e =
@@ -71,6 +72,7 @@ some_of act s new does = record { number = 0; sender = []; members = []; is = λ
 some_left : (act : Env → Act) (fault : StepFault) (s new : Stepping) → Leaves act fault s new → LeavesSome act fault s new
 some_left act fault s new left = record { number = 0; sender = []; members = []; is = λ choice taken. left choice }
 
+-- an act that does what a call asks for is that call
 pub called_by : (limits : Limits) (now : ℕ) (call : Call) (again : Bool) (b : Broker) (s new : Stepping) (r : Result ⊤ StepFault) → s ≡ begun limits now b
     → ((choice : MemberChoice) → again ≡ is_again call (deeds limits choice now call b))
     → OnOk r (Does (λ env. deeds_of env call) s new) → IfErr r (λ fault. Leaves (λ env. deeds_of env call) fault s new)
@@ -91,6 +93,7 @@ pub start_by : (limits : Limits) (now : ℕ) (act : Env → Act) (b : Broker) (s
 start_by limits now act b s new (Ok done) same ok left = ap (λ (t : Stepping). t.start) (ok choosing_first).is ∙ ap (λ (t : Stepping). t.start) same
 start_by limits now act b s new (Err fault) same ok left = (left choosing_first).start ∙ ap (λ (t : Stepping). t.start) same
 
+-- an act leaves the limits
 pub limits_by : (limits : Limits) (now : ℕ) (act : Env → Act) (b : Broker) (s new : Stepping) (r : Result ⊤ StepFault) → s ≡ begun limits now b
     → OnOk r (Does act s new) → IfErr r (λ fault. Leaves act fault s new) → new.limits ≡ limits
 limits_by limits now act b s new (Ok done) same ok left = ap (λ (t : Stepping). t.limits) (ok choosing_first).is ∙ ap (λ (t : Stepping). t.limits) same
@@ -101,12 +104,14 @@ limits_by limits now act b s new (Err fault) same ok left = (left choosing_first
 abbrev of_birth : (Env → Session → Act) → ℕ → Env → Act
 of_birth f birth env = of_session birth (f env)
 
+-- an act of the session that stands is the act of its birth
 pub does_found : (f : Env → Session → Act) (birth : ℕ) (x : Session) (s new : Stepping) → session_at birth s.broker.records ≡ Some x
     → Does (λ env. f env x) s new → Does (of_birth f birth) s new
 does_found f birth x s new found does = λ choice.
     same_act (f (env_in choice s) x) (of_birth f birth (env_in choice s)) s new
     (sym (ap (λ o. with_session o (f (env_in choice s)) s.broker) found)) (does choice)
 
+-- or that is refused
 pub left_found : (f : Env → Session → Act) (birth : ℕ) (x : Session) (fault : StepFault) (s new : Stepping) → session_at birth s.broker.records ≡ Some x
     → Leaves (λ env. f env x) fault s new → Leaves (of_birth f birth) fault s new
 left_found f birth x fault s new found left = λ choice.
@@ -135,6 +140,7 @@ pub record Stands (line birth : ℕ) (b : Broker) : Type 0 where
   pub number : l.number ≡ line
   pub session : l.session ≡ Some birth
 
+-- a session on a line has that line, and stands
 pub stands_on : (line birth : ℕ) (b : Broker) → session_on line b ≡ Some (Some birth) → Stands line birth b
 stands_on line birth b on =
     let l = mapped_some (λ (x : Line). x.session) (line_at line b) (Some birth) on in
@@ -145,6 +151,7 @@ stands_on line birth b on =
       session = l.2;
     }
 
+-- hearing a packet, and what it asks for: that is a packet's call
 pub input_does : (line birth : ℕ) (packet : Packet) (s s1 s2 : Stepping) (h : Stands line birth s.broker) → Did (hears line) s s1
     → Does (λ env. on_packet env h.l packet (Some birth)) s1 s2 → Does (λ env. deeds_of env (Input line packet)) s s2
 input_does line birth packet s s1 s2 h heard does = λ choice.
@@ -155,6 +162,7 @@ input_does line birth packet s s1 s2 h heard does = λ choice.
     (same_input env line birth packet h.l s.broker h.found h.session)
     (did_then (hears line) act s s1 s2 heard (subst (λ (e : Env). Did (on_packet e h.l packet (Some birth)) s1 s2) same (does choice)))
 
+-- or it is refused at the second
 pub input_left : (line birth : ℕ) (packet : Packet) (fault : StepFault) (s s1 s2 : Stepping) (h : Stands line birth s.broker) → Did (hears line) s s1
     → Leaves (λ env. on_packet env h.l packet (Some birth)) fault s1 s2 → Leaves (λ env. deeds_of env (Input line packet)) fault s s2
 input_left line birth packet fault s s1 s2 h heard left = λ choice.
@@ -170,6 +178,7 @@ varint_zero : varint 0 ≡ 0 ∷ []
 unfolding varint
 varint_zero = refl
 
+-- a PINGREQ is a packet that may come
 pub ping_taken : IsTaken Pingreq
 ping_taken =
     let body : length (shortest_body Pingreq) ≡ 0 = refl in

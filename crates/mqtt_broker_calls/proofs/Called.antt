@@ -9,6 +9,7 @@ use Rattle.mqtt_broker_calls.specs.Sound.{IsSound}
 use Rattle.mqtt_broker_calls.specs.Inputs.{HasClient}
 use Rattle.mqtt_broker_calls.proofs.Clients.{client_begun}
 
+-- in a sound broker a session on a line is a client with a line
 pub client_sound : (limits : Limits) (line birth moment : ℕ) (b : Broker) → IsSound limits b → session_on line b ≡ Some (Some birth) → HasClient line birth (at_moment moment b)
 client_sound limits line birth moment b sound on = client_begun line birth moment b (record {
   on = on;

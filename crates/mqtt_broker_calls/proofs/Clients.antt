@@ -38,6 +38,7 @@ heard_line moment n (x ∷ xs) l found = elim (cases_Bool (nat_eq x.number n)) [
 abbrev pub heard_broker : ℕ → Broker → Broker
 heard_broker line b = after_all (On line Hear ∷ []) b
 
+-- a line that was heard is found with the moment
 pub line_heard : (line : ℕ) (b : Broker) (l : Line) → line_at line b ≡ Some l → line_at line (heard_broker line b) ≡ Some (record l { heard = b.now })
 line_heard line b l found = heard_line b.now line b.lines l found
 
@@ -48,6 +49,7 @@ topics_heard moment n (x ∷ xs) h = elim (cases_Bool (nat_eq x.number n)) [
   | inr other ↦ rw other (h.0, topics_heard moment n xs h.1)
 ]
 
+-- a client that was heard is still one
 pub client_heard : (line birth : ℕ) (b : Broker) → HasClient line birth b → HasClient line birth (heard_broker line b)
 client_heard line birth b k =
     let l = mapped_some (λ (y : Line). y.session) (line_at line b) (Some birth) k.on in
@@ -61,6 +63,7 @@ client_heard line birth b k =
 
 -- ---- a call begins
 
+-- so it is behind the moment of a step
 pub client_begun : (line birth moment : ℕ) (b : Broker) → HasClient line birth b → HasClient line birth (at_moment moment b)
 client_begun line birth moment b k = record {
   on = k.on;
@@ -85,6 +88,7 @@ topics_in n (x ∷ xs) l h found = elim (cases_Bool (nat_eq x.number n)) [
 rows_sizes : AreSizes of_rows
 rows_sizes = record { bytes = (omega arith, omega arith); identifiers = (omega arith, omega arith) }
 
+-- a PUBLISH that may come and has a meaning is a lawful message
 pub lawful_message : (line : ℕ) (b : Broker) (p : Publish) (l : Line) (s : Session) (topic : List ℕ) → AreContentsLawful b → IsTaken (packets.Publish p)
     → row_at line_number line b.lines ≡ Some l → meaning p l.aliases ≡ Means topic → IsLawfulMessage (message_of s.client topic p)
 lawful_message line b p l s topic k taken found means =
@@ -100,6 +104,7 @@ fewer (f ∷ fs) =
     let two = length-append (two_bytes (length f)) f in
     omega (arith, rest, one, two)
 
+-- an UNSUBSCRIBE that may come has few filters
 pub few_filters : (u : Unsubscribe) → IsTaken (packets.Unsubscribe u) → length u.filters + 3 < 2 ^ 28
 few_filters u taken =
     let body = unsubscribe_body u in

@@ -61,6 +61,7 @@ found_once place other n (x ∷ xs) h one two = elim (cases_Bool (nat_eq x.place
       ]
 ]
 
+-- what a store may hold has its identifiers in flight apart
 pub lawful_flight : (r : Records) → IsLawful r → HasDistinctIdentifiers r
 lawful_flight r h =
     each_more (IsLawfulSession (last_of r)) (λ (s : Session). IsFlight s.queue)

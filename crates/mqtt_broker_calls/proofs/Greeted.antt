@@ -34,6 +34,7 @@ use Rattle.mqtt_broker_calls.proofs.Begun.{memory_left}
 pub records_heard : (line : ℕ) (s s1 : Stepping) → Did (hears line) s s1 → s1.broker.records ≡ s.broker.records
 records_heard line s s1 heard = ap (λ (t : Stepping). t.broker.records) heard.is
 
+-- that a line was heard changes nothing that is stored
 pub at_heard : (P : Records → Type 0) (line : ℕ) (s s1 : Stepping) → Did (hears line) s s1 → P s.broker.records → P s1.broker.records
 at_heard P line s s1 heard h = subst P (sym (records_heard line s s1 heard)) h
 
@@ -84,18 +85,21 @@ greeted_by NoPlace line c s s1 s2 h heard k =
 turned_is : (line : ℕ) (l : Line) (c : Connect) (b : Broker) → l.number ≡ line → On line Hear ∷ refused l c quota_exceeded ≡ turns_away l c b
 turned_is line l c b number = ap (λ n. On n Hear ∷ refused l c quota_exceeded) (sym number)
 
+-- a CONNECT for which there is no place is heard, and refused with 0x97
 pub turned : (line : ℕ) (l : Line) (c : Connect) (s s1 s2 : Stepping) → l.number ≡ line → Did (hears line) s s1
     → Did (always (refused l c quota_exceeded)) s1 s2 → Did (turns_away l c) s s2
 turned line l c s s1 s2 number heard is =
     same_act (always (On line Hear ∷ refused l c quota_exceeded)) (turns_away l c) s s2 (turned_is line l c s.broker number)
     (did_then (hears line) (always (refused l c quota_exceeded)) s s1 s2 heard is)
 
+-- or that is refused at the second
 pub turned_left : (line : ℕ) (l : Line) (c : Connect) (fault : StepFault) (s s1 s2 : Stepping) → l.number ≡ line → Did (hears line) s s1
     → IsLeft (always (refused l c quota_exceeded)) fault s1 s2 → IsLeft (turns_away l c) fault s s2
 turned_left line l c fault s s1 s2 number heard left =
     same_left (always (On line Hear ∷ refused l c quota_exceeded)) (turns_away l c) fault s s2 (turned_is line l c s.broker number)
     (left_then (hears line) (always (refused l c quota_exceeded)) fault s s1 s2 heard left)
 
+-- or at the first
 pub untold_left : (line : ℕ) (l : Line) (c : Connect) (fault : StepFault) (s s1 : Stepping) → l.number ≡ line
     → IsLeft (hears line) fault s s1 → IsLeft (turns_away l c) fault s s1
 untold_left line l c fault s s1 number left =
@@ -104,9 +108,11 @@ untold_left line l c fault s s1 number left =
 
 -- ---- the step begins again
 
+-- what was taken back begins anew as it began
 pub again_is : (now : ℕ) (s s1 s2 : Stepping) → s1 ≡ at_rest s.limits s.start → s2 ≡ with_broker (at_moment now s1.broker) s1 → s2 ≡ begun s.limits now s.start
 again_is now s s1 s2 back is = is ∙ ap (λ (t : Stepping). with_broker (at_moment now t.broker) t) back
 
+-- or that finds no memory
 pub not_again : (l : Line) (c : Connect) (now : ℕ) (fault : StepFault) (s s1 s2 : Stepping) → s1 ≡ at_rest s.limits s.start → s2 ≡ s1 → fault ≡ Memory
     → IsLeft (turns_away l c) fault (begun s.limits now s.start) s2
 not_again l c now fault s s1 s2 back same memory =
@@ -116,6 +122,7 @@ not_again l c now fault s s1 s2 back same memory =
 same_begun : (now : ℕ) (limits : Limits) (b : Broker) (s : Stepping) → s.start ≡ b → s.limits ≡ limits → begun s.limits now s.start ≡ begun limits now b
 same_begun now limits b s start is = ap (λ (x : Limits). begun x now s.start) is ∙ ap (begun limits now) start
 
+-- a client that is turned away is what its CONNECT comes to
 pub away_done : (line : ℕ) (l : Line) (c : Connect) (now : ℕ) (limits : Limits) (b : Broker) (s new : Stepping) → l.number ≡ line → IsTurnedAway line c (begun limits now b)
     → s.start ≡ b → s.limits ≡ limits → Did (turns_away l c) (begun s.limits now s.start) new
     → DoesSome (λ env. deeds_of env (Input line (packets.Connect c))) (begun limits now b) new
@@ -130,6 +137,7 @@ away_done line l c now limits b s new number away start is did =
           same_act (turns_away l c) (deeds_of (env_in choice first) (Input line (packets.Connect c))) first new (sym (away.is l choice number same)) done;
     }
 
+-- or that is refused
 pub away_left : (line : ℕ) (l : Line) (c : Connect) (now : ℕ) (limits : Limits) (b : Broker) (fault : StepFault) (s new : Stepping) → l.number ≡ line → IsTurnedAway line c (begun limits now b)
     → s.start ≡ b → s.limits ≡ limits → IsLeft (turns_away l c) fault (begun s.limits now s.start) new
     → LeavesSome (λ env. deeds_of env (Input line (packets.Connect c))) fault (begun limits now b) new
@@ -163,12 +171,14 @@ other_is packets.Pingresp env l b other = refl
 other_is (packets.Disconnect a) env l b other = refl
 other_is (packets.Auth a) env l b other = refl
 
+-- a packet before the CONNECT is heard, and the line closes
 pub other_closes : (line : ℕ) (packet : Packet) (s s1 s2 : Stepping) (h : OnLine line None s.broker) → IsOther packet → Did (hears line) s s1
     → DoesSome (λ env. close env true h.l) s1 s2 → DoesSome (λ env. deeds_of env (Input line packet)) s s2
 other_closes line packet s s1 s2 h other heard does =
     input_some line None packet s s1 s2 h heard
     (same_some (λ env. close env true h.l) (λ env. on_packet env h.l packet None) s1 s2 (λ choice. other_is packet (env_in choice s1) h.l s1.broker other) does)
 
+-- or that is refused
 pub other_left : (line : ℕ) (packet : Packet) (fault : StepFault) (s s1 s2 : Stepping) (h : OnLine line None s.broker) → IsOther packet → Did (hears line) s s1
     → LeavesSome (λ env. close env true h.l) fault s1 s2 → LeavesSome (λ env. deeds_of env (Input line packet)) fault s s2
 other_left line packet fault s s1 s2 h other heard left =

@@ -101,6 +101,7 @@ heard_is line birth packet env b h =
     ∙ (ap (λ o. series (always hear ∷ on_packet env l packet o ∷ []) b) (sym h.session)
     ∙ ap (λ o. with_line o (λ y. series (always hear ∷ on_packet env y packet y.session ∷ [])) b) (sym h.found)))))
 
+-- hearing a packet, and taking it: that is its call
 pub some_heard : (line birth : ℕ) (packet : Packet) (s s1 s2 : Stepping) (h : OnLine line birth s.broker) → Did (always (On line Hear ∷ [])) s s1
     → DoesSome (takes line packet) s1 s2 → DoesSome (λ env. deeds_of env (Input line packet)) s s2
 some_heard line birth packet s s1 s2 h heard done =
@@ -108,6 +109,7 @@ some_heard line birth packet s s1 s2 h heard done =
     (λ choice. heard_is line birth packet (env_in choice s) s.broker h)
     (then_some (hears line) (takes line packet) s s1 s2 (λ choice. heard) done)
 
+-- or it is refused at the second
 pub left_heard : (line birth : ℕ) (packet : Packet) (fault : StepFault) (s s1 s2 : Stepping) (h : OnLine line birth s.broker) → Did (always (On line Hear ∷ [])) s s1
     → LeavesSome (takes line packet) fault s1 s2 → LeavesSome (λ env. deeds_of env (Input line packet)) fault s s2
 left_heard line birth packet fault s s1 s2 h heard left =
@@ -115,6 +117,7 @@ left_heard line birth packet fault s s1 s2 h heard left =
     (λ choice. heard_is line birth packet (env_in choice s) s.broker h)
     (then_some_left (hears line) (takes line packet) fault s s1 s2 (λ choice. heard) left)
 
+-- or at the first
 pub unheard : (line birth : ℕ) (packet : Packet) (fault : StepFault) (s s1 : Stepping) (h : OnLine line birth s.broker) → IsLeft (always (On line Hear ∷ [])) fault s s1
     → LeavesSome (λ env. deeds_of env (Input line packet)) fault s s1
 unheard line birth packet fault s s1 h left =

@@ -146,6 +146,7 @@ lawful_filters r h =
 
 -- ---- a step and an opening
 
+-- behind a step orders of release are such as are kept
 pub step_orders : (limits : Limits) (choice : MemberChoice) (now : ℕ) (call : Call) (b : Broker) → AreWithin limits → IsCoherent b.records → IsTimed b → IsNumber b.now
     → is_step_spent limits choice now call b ≡ false → ((birth : ℕ) → HasKeptOrders birth b.records) → (birth : ℕ) → HasKeptOrders birth (stepped limits choice now call b).records
 step_orders limits choice now call b within coherent timed last unspent orders =
@@ -155,12 +156,14 @@ step_orders limits choice now call b within coherent timed last unspent orders =
     kept_all (rows_written ds c) c.records (step_fits limits choice now call b within coherent timed last unspent) (orders_kept b.records coherent.ordered.sessions.ascending orders) in
     kept_orders (stepped limits choice now call b).records (subst HaveKept (rows_store ds c) kept)
 
+-- and a session has each filter once
 pub step_filters : (limits : Limits) (choice : MemberChoice) (now : ℕ) (call : Call) (b : Broker) → HaveFiltersOnce b.records → HaveFiltersOnce (stepped limits choice now call b).records
 step_filters limits choice now call b h =
     let c = at_moment now b in
     let ds = deeds limits choice now call b in
     subst HaveFiltersOnce (rows_store ds c) (once_all (rows_written ds c) c.records h)
 
+-- behind an opening orders of release are such as are kept
 pub opening_orders : (limits : Limits) (choice : MemberChoice) (now : ℕ) (r : Records) → AreWithin limits → IsCoherent r → IsLawful r
     → is_opening_spent limits choice now r ≡ false → (birth : ℕ) → HasKeptOrders birth (opened limits choice now r).records
 opening_orders limits choice now r within coherent lawful unspent =
@@ -170,6 +173,7 @@ opening_orders limits choice now r within coherent lawful unspent =
     kept_all (rows_written ds c) c.records (opening_fits limits choice now r within coherent unspent) (lawful_kept r lawful) in
     kept_orders (opened limits choice now r).records (subst HaveKept (rows_store ds c) kept)
 
+-- and a session has each filter once
 pub opening_filters : (limits : Limits) (choice : MemberChoice) (now : ℕ) (r : Records) → IsLawful r → HaveFiltersOnce (opened limits choice now r).records
 opening_filters limits choice now r lawful =
     let c = unopened now r in

@@ -29,6 +29,7 @@ pub record OnLine (line birth : ℕ) (b : Broker) : Type 0 where
   pub session : l.session ≡ Some birth
   pub stands : session_at birth b.records ≡ Some x
 
+-- a client on a line has its line and its session
 pub on_line : (line birth : ℕ) (b : Broker) → HasClient line birth b → OnLine line birth b
 on_line line birth b k =
     let l = mapped_some (λ (y : Line). y.session) (line_at line b) (Some birth) k.on in
@@ -50,12 +51,14 @@ takes_is : (line birth : ℕ) (packet : Packet) (env : Env) (l : Line) (b : Brok
 takes_is line birth packet env l b found session =
     ap (λ o. on_packet env l packet o b) (sym session) ∙ ap (λ o. with_line o (λ y. on_packet env y packet y.session) b) (sym found)
 
+-- what a packet asks for is taken on its line
 pub some_takes : (line birth : ℕ) (packet : Packet) (s new : Stepping) (h : OnLine line birth s.broker) → DoesSome (λ env. on_packet env h.l packet (Some birth)) s new
     → DoesSome (takes line packet) s new
 some_takes line birth packet s new h done =
     same_some (λ env. on_packet env h.l packet (Some birth)) (takes line packet) s new
     (λ choice. takes_is line birth packet (env_in choice s) h.l s.broker h.found h.session) done
 
+-- or that is refused
 pub left_takes : (line birth : ℕ) (packet : Packet) (fault : StepFault) (s new : Stepping) (h : OnLine line birth s.broker)
     → LeavesSome (λ env. on_packet env h.l packet (Some birth)) fault s new → LeavesSome (takes line packet) fault s new
 left_takes line birth packet fault s new h left =
@@ -67,6 +70,7 @@ found_is : (packet : Packet) (birth : ℕ) (env : Env) (l : Line) (x : Session) 
     → next_packet env l packet x b ≡ on_packet env l packet (Some birth) b
 found_is packet birth env l x b stands = ap (λ o. with_session o (next_packet env l packet) b) (sym stands)
 
+-- a packet behind the CONNECT is taken on its line
 pub some_next : (line birth : ℕ) (packet : Packet) (s new : Stepping) (h : OnLine line birth s.broker) → DoesSome (λ env. next_packet env h.l packet h.x) s new
     → DoesSome (takes line packet) s new
 some_next line birth packet s new h done =
@@ -74,6 +78,7 @@ some_next line birth packet s new h done =
     (same_some (λ env. next_packet env h.l packet h.x) (λ env. on_packet env h.l packet (Some birth)) s new
     (λ choice. found_is packet birth (env_in choice s) h.l h.x s.broker h.stands) done)
 
+-- or that is refused
 pub left_next : (line birth : ℕ) (packet : Packet) (fault : StepFault) (s new : Stepping) (h : OnLine line birth s.broker)
     → LeavesSome (λ env. next_packet env h.l packet h.x) fault s new → LeavesSome (takes line packet) fault s new
 left_next line birth packet fault s new h left =

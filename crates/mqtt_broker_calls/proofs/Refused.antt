@@ -41,6 +41,7 @@ first_is true line code l env b number =
     ∙ ap (λ n. series (always (Send n (connack false code []) ∷ []) ∷ close env true l ∷ []) b) (sym number)
 first_is false line code l env b number = refl
 
+-- a bad first packet is told, and the line closes
 pub first_refused : (line code : ℕ) (is_connect : Bool) (l : Line) (s s1 s2 : Stepping) → l.number ≡ line → Did (always (first_told line is_connect code)) s s1
     → DoesSome (λ env. close env true l) s1 s2 → DoesSome (λ env. on_fault env l is_connect code None) s s2
 first_refused line code is_connect l s s1 s2 number told closed =
@@ -48,6 +49,7 @@ first_refused line code is_connect l s s1 s2 number told closed =
     (λ choice. first_is is_connect line code l (env_in choice s) s.broker number)
     (then_some (tells line is_connect code) (closes l) s s1 s2 (λ choice. told) closed)
 
+-- or that is refused at the second
 pub first_left : (line code : ℕ) (is_connect : Bool) (l : Line) (fault : StepFault) (s s1 s2 : Stepping) → l.number ≡ line → Did (always (first_told line is_connect code)) s s1
     → LeavesSome (λ env. close env true l) fault s1 s2 → LeavesSome (λ env. on_fault env l is_connect code None) fault s s2
 first_left line code is_connect l fault s s1 s2 number told left =
@@ -55,6 +57,7 @@ first_left line code is_connect l fault s s1 s2 number told left =
     (λ choice. first_is is_connect line code l (env_in choice s) s.broker number)
     (then_some_left (tells line is_connect code) (closes l) fault s s1 s2 (λ choice. told) left)
 
+-- or at the first
 pub untold_left : (line code : ℕ) (is_connect : Bool) (l : Line) (fault : StepFault) (s new : Stepping) → l.number ≡ line → IsLeft (always (first_told line is_connect code)) fault s new
     → LeavesSome (λ env. on_fault env l is_connect code None) fault s new
 untold_left line code is_connect l fault s new number left =
@@ -71,12 +74,14 @@ fault_is line code is_connect session env b h =
     ap (λ o. on_fault env h.l is_connect code o b) (sym h.its)
     ∙ sym (ap (λ o. with_line o (λ x. on_fault env x is_connect code x.session) b) h.found)
 
+-- what a bad packet brings is brought on its line
 pub fault_on : (line code : ℕ) (is_connect : Bool) (session : Option ℕ) (s new : Stepping) (h : OnLine line session s.broker)
     → DoesSome (λ env. on_fault env h.l is_connect code session) s new → DoesSome (λ env. deeds_of env (BadInput line is_connect code)) s new
 fault_on line code is_connect session s new h does =
     same_some (faults h.l is_connect code session) (λ env. deeds_of env (BadInput line is_connect code)) s new
     (λ choice. fault_is line code is_connect session (env_in choice s) s.broker h) does
 
+-- or that is refused
 pub fault_on_left : (line code : ℕ) (is_connect : Bool) (session : Option ℕ) (fault : StepFault) (s new : Stepping) (h : OnLine line session s.broker)
     → LeavesSome (λ env. on_fault env h.l is_connect code session) fault s new → LeavesSome (λ env. deeds_of env (BadInput line is_connect code)) fault s new
 fault_on_left line code is_connect session fault s new h left =
@@ -90,6 +95,7 @@ late_is : (is_connect : Bool) (code late birth : ℕ) (l : Line) (env : Env) (b 
 late_is true code late birth l env b is = ap (λ n. drop_line env n l b) is
 late_is false code late birth l env b is = ap (λ n. drop_line env n l b) is
 
+-- a bad packet behind the CONNECT drops the line with a code
 pub late_refused : (line code late birth : ℕ) (is_connect : Bool) (session : Option ℕ) (s new : Stepping) (h : OnLine line session s.broker) → session ≡ Some birth → late ≡ late_code code
     → DoesSome (λ env. drop_line env late h.l) s new → DoesSome (λ env. deeds_of env (BadInput line is_connect code)) s new
 late_refused line code late birth is_connect session s new h is same does =
@@ -97,6 +103,7 @@ late_refused line code late birth is_connect session s new h is same does =
     (same_some (λ env. drop_line env late h.l) (faults h.l is_connect code session) s new
     (λ choice. late_is is_connect code late birth h.l (env_in choice s) s.broker same ∙ ap (λ o. on_fault (env_in choice s) h.l is_connect code o s.broker) (sym is)) does)
 
+-- or that is refused
 pub late_left : (line code late birth : ℕ) (is_connect : Bool) (session : Option ℕ) (fault : StepFault) (s new : Stepping) (h : OnLine line session s.broker) → session ≡ Some birth → late ≡ late_code code
     → LeavesSome (λ env. drop_line env late h.l) fault s new → LeavesSome (λ env. deeds_of env (BadInput line is_connect code)) fault s new
 late_left line code late birth is_connect session fault s new h is same left =
@@ -112,6 +119,7 @@ early_refused line code is_connect session s new h is does =
     (same_some (faults h.l is_connect code None) (faults h.l is_connect code session) s new
     (λ choice. ap (λ o. on_fault (env_in choice s) h.l is_connect code o s.broker) (sym is)) does)
 
+-- one before it may be refused as well
 pub early_left : (line code : ℕ) (is_connect : Bool) (session : Option ℕ) (fault : StepFault) (s new : Stepping) (h : OnLine line session s.broker) → session ≡ None
     → LeavesSome (λ env. on_fault env h.l is_connect code None) fault s new → LeavesSome (λ env. deeds_of env (BadInput line is_connect code)) fault s new
 early_left line code is_connect session fault s new h is left =

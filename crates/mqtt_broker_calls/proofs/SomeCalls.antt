@@ -20,6 +20,7 @@ use Rattle.mqtt_broker_calls.proofs.CallActs.{did_call, hears, left_call}
 
 -- ---- from its beginning
 
+-- an act that does what a call asks for is that call, whoever is chosen
 pub called_some : (limits : Limits) (now : ℕ) (call : Call) (again : Bool) (b : Broker) (s new : Stepping) (r : Result ⊤ StepFault) → s ≡ begun limits now b
     → ((choice : MemberChoice) → again ≡ is_again call (deeds limits choice now call b))
     → OnOk r (DoesSome (λ env. deeds_of env call) s new) → IfErr r (λ fault. LeavesSome (λ env. deeds_of env call) fault s new)
@@ -39,6 +40,7 @@ again_some limits now call b s new (Ok again) same more ok =
     (subst (λ (t : Stepping). DoesSome (λ env. deeds_of env call) t new) same ok)
 again_some limits now call b s new (Err fault) same more ok = tt
 
+-- a call that is refused as spent would spend a number
 pub spent_some : {A : Type 0} (limits : Limits) (now : ℕ) (call : Call) (b : Broker) (s new : Stepping) (r : Result A StepFault) → s ≡ begun limits now b
     → IfErr r (λ fault. LeavesSome (λ env. deeds_of env call) fault s new)
     → IfErr r (λ fault. fault ≡ Spent → SpentStep new.limits new.start now call)
@@ -54,6 +56,7 @@ start_some limits now act b s new (Ok done) same ok left =
 start_some limits now act b s new (Err fault) same ok left =
     (left.is (λ number sender. left.members) refl).start ∙ ap (λ (t : Stepping). t.start) same
 
+-- an act leaves the limits
 pub limits_some : {A : Type 0} (limits : Limits) (now : ℕ) (act : Env → Act) (b : Broker) (s new : Stepping) (r : Result A StepFault) → s ≡ begun limits now b
     → OnOk r (DoesSome act s new) → IfErr r (λ fault. LeavesSome act fault s new) → new.limits ≡ limits
 limits_some limits now act b s new (Ok done) same ok left =
@@ -69,6 +72,7 @@ pub record OnLine (line : ℕ) (session : Option ℕ) (b : Broker) : Type 0 wher
   pub number : l.number ≡ line
   pub its : l.session ≡ session
 
+-- a line that stands has its session on it
 pub on_line : (line : ℕ) (session : Option ℕ) (b : Broker) → session_on line b ≡ Some session → OnLine line session b
 on_line line session b on =
     let l = mapped_some (λ (x : Line). x.session) (line_at line b) session on in
@@ -85,6 +89,7 @@ hears_first line env = hears line
 abbrev pub answers : Line → Packet → Option ℕ → Env → Act
 answers l packet session env = on_packet env l packet session
 
+-- a packet's call is to hear it and to answer it
 pub input_is : (env : Env) (line : ℕ) (session : Option ℕ) (packet : Packet) (l : Line) (b : Broker) → line_at line b ≡ Some l → l.session ≡ session
     → both (hears_first line) (answers l packet session) env b ≡ deeds_of env (Input line packet) b
 input_is env line session packet l b found its =
@@ -93,6 +98,7 @@ input_is env line session packet l b found its =
     ∙ (ap (λ o. series (hears line ∷ on_packet env l packet o ∷ []) b) (sym its)
     ∙ sym (ap (λ o. with_line o (λ x. series (hears line ∷ on_packet env x packet x.session ∷ [])) b) found))
 
+-- hearing a packet, and what it asks for: that is its call
 pub input_some : (line : ℕ) (session : Option ℕ) (packet : Packet) (s s1 s2 : Stepping) (h : OnLine line session s.broker) → Did (hears line) s s1
     → DoesSome (λ env. on_packet env h.l packet session) s1 s2 → DoesSome (λ env. deeds_of env (Input line packet)) s s2
 input_some line session packet s s1 s2 h heard does =
@@ -100,6 +106,7 @@ input_some line session packet s s1 s2 h heard does =
     (λ choice. input_is (env_in choice s) line session packet h.l s.broker h.found h.its)
     (then_some (hears_first line) (answers h.l packet session) s s1 s2 (λ choice. heard) does)
 
+-- or it is refused at the second
 pub input_some_left : (line : ℕ) (session : Option ℕ) (packet : Packet) (fault : StepFault) (s s1 s2 : Stepping) (h : OnLine line session s.broker) → Did (hears line) s s1
     → LeavesSome (λ env. on_packet env h.l packet session) fault s1 s2 → LeavesSome (λ env. deeds_of env (Input line packet)) fault s s2
 input_some_left line session packet fault s s1 s2 h heard left =

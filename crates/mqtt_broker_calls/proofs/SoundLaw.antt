@@ -22,6 +22,7 @@ use Rattle.mqtt_broker_calls.specs.Sound.{IsSound, IsWithin}
 use Rattle.mqtt_broker_calls.proofs.Flights.{lawful_flight}
 use Rattle.mqtt_broker_calls.proofs.Kept.{step_orders, step_filters, opening_orders, opening_filters}
 
+-- a step that spends no number leaves a sound broker sound
 pub step_sound : (limits : Limits) (choice : MemberChoice) (now : ℕ) (call : Call) (b : Broker) → is_step_spent limits choice now call b ≡ false → TakesLawful call
     → IsSound limits b → IsSound limits (stepped limits choice now call b)
 step_sound limits choice now call b unspent taken h = record {
@@ -37,6 +38,7 @@ step_sound limits choice now call b unspent taken h = record {
   contents = step_contents of_rows rows_are limits choice now call b taken h.contents;
 }
 
+-- an opening that spends no number makes a sound broker
 pub opening_sound : (limits : Limits) (choice : MemberChoice) (now : ℕ) (r : Records) → AreWithin limits → IsLawful r → is_opening_spent limits choice now r ≡ false
     → IsSound limits (opened limits choice now r)
 opening_sound limits choice now r limited lawful unspent = record {
@@ -52,6 +54,7 @@ opening_sound limits choice now r limited lawful unspent = record {
   contents = opening_contents of_rows rows_are limits choice now r (lawful_contents r lawful);
 }
 
+-- a step keeps a sound broker within its own limits
 pub step_within : (limits : Limits) (choice : MemberChoice) (now : ℕ) (call : Call) (b : Broker) → IsSound limits b → IsWithin limits (stored b) → IsWithin limits (stored (stepped limits choice now call b))
 step_within limits choice now call b sound h = record {
   sessions = step_sessions limits choice now call b h.sessions;
@@ -59,6 +62,7 @@ step_within limits choice now call b sound h = record {
   queues = step_queues limits choice now call b sound.limited.queue sound.coherent.ordered h.queues;
 }
 
+-- an opening keeps records within the broker's limits
 pub opening_within : (limits : Limits) (choice : MemberChoice) (now : ℕ) (r : Records) → AreWithin limits → IsLawful r → IsWithin limits r → IsWithin limits (stored (opened limits choice now r))
 opening_within limits choice now r limited lawful h =
     let coherent = lawful_coherent r lawful in

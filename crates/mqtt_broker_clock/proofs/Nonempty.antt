@@ -23,6 +23,7 @@ behind : (ds : List Deed) (d : Deed) (es : List Deed) → is_none_done (ds ++ d 
 behind [] d es = refl
 behind (x ∷ ds) d es = refl
 
+-- a line that was silent too long is told so, or closed: something is done
 pub silence_does : (env : Env) (session : Option ℕ) (l : Line) (b : Broker) → is_none_done (silence env session l b) ≡ false
 silence_does env None l b = refl
 silence_does env (Some birth) l b = refl
@@ -36,9 +37,11 @@ will_does env who (Some closed) expiry (Some w) b due =
     let m = will_message who.client w in
     behind (publish_or_refuse env who m (accepted_copies env m b) b) (At who DropWill) []
 
+-- so it is with a Will that is due
 pub publishing_does : (env : Env) (s : Session) (b : Broker) → has_due_will b.now s ≡ true → is_none_done (publish_will env s b) ≡ false
 publishing_does env s b due = will_does env (whose s) s.closed s.expiry s.will b due
 
+-- and with a session's end
 pub end_does : (s : Session) → is_none_done (end_session s) ≡ false
 end_does s = behind (map (λ e. At (whose s) (Leave e SessionEnded)) s.queue) (Finish (whose s)) []
 
@@ -76,5 +79,6 @@ lapse_does now s (e ∷ es) stands some =
       | inr other ↦ rw other (lapse_does now s es stands.1 (rw other at some))
     ]
 
+-- and with copies that have expired
 pub lapsing_does : (now : ℕ) (s : Session) → has_lapsed now s ≡ true → is_none_done (lapse_deeds now s) ≡ false
 lapsing_does now s some = lapse_does now s s.queue (all_stand s.queue) some

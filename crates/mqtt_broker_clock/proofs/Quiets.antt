@@ -198,14 +198,17 @@ none_stale now r h = ap (option_map kept_place) (none_found (is_stale now) r.ret
 no_lapse : (now : ℕ) (r : Records) → AreQuiet now r → lapsed_in now r ≡ None
 no_lapse now r h = ap (option_map birth_of) (none_found (has_lapsed now) r.sessions (each_more (IsQuiet now) (λ s. has_lapsed now s ≡ false) (none_lapsed now) r.sessions h.sessions))
 
+-- before the moment until which all is quiet nothing stored is due
 pub none_stored : (now : ℕ) (r : Records) → AreQuiet now r → first_of (stored_in now r) ≡ None
 none_stored now r h = rw (no_will now r h) (rw (no_end now r h) (rw (none_stale now r h) (rw (no_lapse now r h) refl)))
 
 -- ---- walks from the front
 
+-- a walk that looked at one looks at those behind it
 pub each_behind : {X : Type 0} (P : X → Type 0) (x : X) (after rest all : List X) → rest ≡ x ∷ after → P x → (AllByRecursion P rest → AllByRecursion P all) → AllByRecursion P after → AllByRecursion P all
 each_behind P x after rest all is p more behind = more (subst (λ (xs : List _). AllByRecursion P xs) (sym is) (p, behind))
 
+-- behind the last it has looked at all
 pub each_ends : {X : Type 0} (P : X → Type 0) (rest all : List X) → length rest ≡ 0 → (AllByRecursion P rest → AllByRecursion P all) → AllByRecursion P all
 each_ends P [] all is more = more tt
 each_ends P (x ∷ rest) all is more = absurd cc

@@ -20,6 +20,7 @@ use Rattle.mqtt_broker_clock.specs.Ticking.{first_of, due_in, does_due, does_fir
 use Rattle.mqtt_broker_clock.proofs.Found.{found_at}
 use Rattle.mqtt_broker_clock.proofs.Nonempty.{silence_does, publishing_does, end_does, lapsing_does}
 
+-- a line of a number is found by its key
 pub line_found : (n : ℕ) (ls : List Line) → find (λ l. nat_eq l.number n) ls ≡ row_at line_number n ls
 line_found n [] = refl
 line_found n (l ∷ ls) = elim (cases_Bool (nat_eq l.number n)) [

@@ -40,6 +40,7 @@ pub record Keeps (birth : ℕ) (r r1 : Records) : Type 0 where
   pub willed : IsWilled (will_at birth r) → IsWilled (will_at birth r1)
   pub none : will_at birth r ≡ None → will_at birth r1 ≡ None
 
+-- records that stay as they are keep a session's Will and routes
 pub keeps_same : (birth : ℕ) (r r1 : Records) → r1 ≡ r → Keeps birth r r1
 keeps_same birth r r1 is = record {
   subs = ap subscribers is;
@@ -47,6 +48,7 @@ keeps_same birth r r1 is = record {
   none = λ n. ap (will_at birth) is ∙ n;
 }
 
+-- what two changes keep, both together keep
 pub keeps_then : (birth : ℕ) (r r1 r2 : Records) → Keeps birth r r1 → Keeps birth r1 r2 → Keeps birth r r2
 keeps_then birth r r1 r2 first second = record {
   subs = second.subs ∙ first.subs;
@@ -131,9 +133,11 @@ expiry_row expiry x = record (columns_of x) { expiry = expiry }
 expiry_changes : (expiry : ℕ) → Changes (SetExpiry expiry) (λ x. with_columns (expiry_row expiry x)) (λ w. w)
 expiry_changes expiry = record { rows = λ x r. refl; births = λ x y. refl; subs = λ x y. refl; wills = λ x y. refl; willed = λ w is. is; none = refl }
 
+-- the moment of a close leaves the Will and the routes
 pub close_keeps : (birth moment : ℕ) (s s1 : Stepping) → Did (to_session birth (Close moment)) s s1 → Keeps birth s.broker.records s1.broker.records
 close_keeps birth moment s s1 is = part_keeps birth birth (Close moment) (λ x. with_columns (closed_row moment x)) (λ w. w) (close_changes moment) s s1 is
 
+-- so does a new Session Expiry Interval
 pub expiry_keeps : (birth expiry : ℕ) (s s1 : Stepping) → Did (to_session birth (SetExpiry expiry)) s s1 → Keeps birth s.broker.records s1.broker.records
 expiry_keeps birth expiry s s1 is = part_keeps birth birth (SetExpiry expiry) (λ x. with_columns (expiry_row expiry x)) (λ w. w) (expiry_changes expiry) s s1 is
 
@@ -153,15 +157,19 @@ keeping keeps birth b is = by_found (session_at birth b.records)
     by_found None = refl
     by_found (Some x) = ap (λ t. only_if (not t) (always (At (whose x) DropWill ∷ [])) b) is
 
+-- a Will that is not to be kept goes
 pub will_dropped : (keeps : Bool) (birth : ℕ) (s new : Stepping) → keeps ≡ false → Did (to_session birth DropWill) s new → Did (drops_will keeps birth) s new
 will_dropped keeps birth s new not_kept is = same_act (to_session birth DropWill) (drops_will keeps birth) s new (dropping keeps birth s.broker not_kept) is
 
+-- or its going is refused
 pub drop_left : (keeps : Bool) (birth : ℕ) (fault : StepFault) (s new : Stepping) → keeps ≡ false → IsLeft (to_session birth DropWill) fault s new → IsLeft (drops_will keeps birth) fault s new
 drop_left keeps birth fault s new not_kept is = same_left (to_session birth DropWill) (drops_will keeps birth) fault s new (dropping keeps birth s.broker not_kept) is
 
+-- a Will that is to be kept stays
 pub will_kept : (keeps : Bool) (birth : ℕ) (s : Stepping) → keeps ≡ true → Did (drops_will keeps birth) s s
 will_kept keeps birth s kept = did_nothing (drops_will keeps birth) s (keeping keeps birth s.broker kept)
 
+-- no Will comes by it
 pub drops_keeps : (keeps : Bool) (birth : ℕ) (s s1 : Stepping) → Did (drops_will keeps birth) s s1 → Keeps birth s.broker.records s1.broker.records
 drops_keeps true birth s s1 is = keeps_same birth s.broker.records s1.broker.records (ap (λ (t : Stepping). t.broker.records) (is.is ∙ (ap (λ ds. did ds s) (keeping true birth s.broker refl) ∙ did_none s)))
 drops_keeps false birth s s1 is =
@@ -169,6 +177,7 @@ drops_keeps false birth s s1 is =
 
 -- ---- dropped or kept, closed, settled
 
+-- of a session that is gone nothing is due
 pub settle_absent : (birth : ℕ) (env : Env) (b : Broker) → session_at birth b.records ≡ None → settle env birth b ≡ []
 settle_absent birth env b none =
     ap (λ ds. then ds (series (settles_end b.now birth ∷ [])) b) (will_none b none)
@@ -244,6 +253,7 @@ parts_by keeps birth moment env b (Some x) found is = parts_found keeps birth mo
 parts_are : (keeps : Bool) (birth moment : ℕ) (env : Env) (b : Broker) → moment ≡ moment_of b → all_parts keeps moment birth env b ≡ closes keeps birth env b
 parts_are keeps birth moment env b is = parts_by keeps birth moment env b (session_at birth b.records) refl is
 
+-- dropping the Will, closing, and what is then due: that is the close of a session
 pub closed_is : (keeps : Bool) (birth moment : ℕ) (s s1 s2 s3 : Stepping) → moment ≡ moment_of s.broker → Did (drops_will keeps birth) s s1 → Did (to_session birth (Close moment)) s1 s2
     → DoesSome (λ env. settle env birth) s2 s3 → DoesSome (closes keeps birth) s s3
 closed_is keeps birth moment s s1 s2 s3 is drop close settle =
@@ -251,6 +261,7 @@ closed_is keeps birth moment s s1 s2 s3 is drop close settle =
     (then_some (drop_part keeps birth) (tail_parts moment birth) s s1 s3 (λ choice. drop)
     (then_some (close_part moment birth) (settle_part birth) s1 s2 s3 (λ choice. close) settle))
 
+-- so it is if nobody has to be chosen
 pub closed_quiet : (keeps : Bool) (birth moment : ℕ) (s s1 s2 s3 : Stepping) → moment ≡ moment_of s.broker → Did (drops_will keeps birth) s s1 → Did (to_session birth (Close moment)) s1 s2
     → Does (λ env. settle env birth) s2 s3 → Does (closes keeps birth) s s3
 closed_quiet keeps birth moment s s1 s2 s3 is drop close settle =
@@ -258,11 +269,13 @@ closed_quiet keeps birth moment s s1 s2 s3 is drop close settle =
     (does_then (drop_part keeps birth) (tail_parts moment birth) s s1 s3 (λ choice. drop)
     (does_then (close_part moment birth) (settle_part birth) s1 s2 s3 (λ choice. close) settle))
 
+-- a close may be refused at its Will
 pub drop_refused : (keeps : Bool) (birth moment : ℕ) (fault : StepFault) (s new : Stepping) → moment ≡ moment_of s.broker → IsLeft (drops_will keeps birth) fault s new → Leaves (closes keeps birth) fault s new
 drop_refused keeps birth moment fault s new is left =
     same_leaves (all_parts keeps moment birth) (closes keeps birth) fault s new (λ choice. parts_are keeps birth moment (env_in choice s) s.broker is)
     (leaves_first (drop_part keeps birth) (tail_parts moment birth) fault s new (λ choice. left))
 
+-- or at its moment
 pub close_refused : (keeps : Bool) (birth moment : ℕ) (fault : StepFault) (s s1 new : Stepping) → moment ≡ moment_of s.broker → Did (drops_will keeps birth) s s1
     → IsLeft (to_session birth (Close moment)) fault s1 new → Leaves (closes keeps birth) fault s new
 close_refused keeps birth moment fault s s1 new is drop left =
@@ -270,6 +283,7 @@ close_refused keeps birth moment fault s s1 new is drop left =
     (leaves_then (drop_part keeps birth) (tail_parts moment birth) fault s s1 new (λ choice. drop)
     (leaves_first (close_part moment birth) (settle_part birth) fault s1 new (λ choice. left)))
 
+-- or at what is then due
 pub settle_refused : (keeps : Bool) (birth moment : ℕ) (fault : StepFault) (s s1 s2 new : Stepping) → moment ≡ moment_of s.broker → Did (drops_will keeps birth) s s1
     → Did (to_session birth (Close moment)) s1 s2 → LeavesSome (λ env. settle env birth) fault s2 new → LeavesSome (closes keeps birth) fault s new
 settle_refused keeps birth moment fault s s1 s2 new is drop close left =
@@ -277,6 +291,7 @@ settle_refused keeps birth moment fault s s1 s2 new is drop close left =
     (then_some_left (drop_part keeps birth) (tail_parts moment birth) fault s s1 new (λ choice. drop)
     (then_some_left (close_part moment birth) (settle_part birth) fault s1 s2 new (λ choice. close) left))
 
+-- so it is if nobody has to be chosen
 pub settle_quiet_refused : (keeps : Bool) (birth moment : ℕ) (fault : StepFault) (s s1 s2 new : Stepping) → moment ≡ moment_of s.broker → Did (drops_will keeps birth) s s1
     → Did (to_session birth (Close moment)) s1 s2 → Leaves (λ env. settle env birth) fault s2 new → Leaves (closes keeps birth) fault s new
 settle_quiet_refused keeps birth moment fault s s1 s2 new is drop close left =
@@ -297,6 +312,7 @@ will_gone_by birth s (Some x) found =
     ∙ (ap (λ n. cond (nat_eq n birth) None (will_at birth r)) (found_birth birth r.sessions x found)
     ∙ ap (λ t. cond t None (will_at birth r)) (nat_eq_equiv.refl birth)))
 
+-- a Will that was dropped is gone
 pub will_gone : (birth : ℕ) (s s1 : Stepping) → Did (to_session birth DropWill) s s1 → will_at birth s1.broker.records ≡ None
 will_gone birth s s1 is =
     ap (λ (t : Stepping). will_at birth t.broker.records) is.is ∙ will_gone_by birth s (session_at birth s.broker.records) refl
@@ -332,16 +348,19 @@ end_none : (moment birth : ℕ) (s : Stepping) (o : Option Session) → will_at 
 end_none moment birth s None none = none
 end_none moment birth s (Some x) none = end_none_by birth x (has_due_end moment x) s none
 
+-- a session's end brings no Will
 pub end_keeps : (moment birth : ℕ) (s s1 : Stepping) → Did (settles_end moment birth) s s1 → will_at birth s.broker.records ≡ None → will_at birth s1.broker.records ≡ None
 end_keeps moment birth s s1 is none =
     ap (λ (t : Stepping). will_at birth t.broker.records) is.is ∙ end_none moment birth s (session_at birth s.broker.records) none
 
 -- ---- chosen once
 
+-- what is due publishes a Will at most once
 pub will_once : (moment birth : ℕ) (x : Session) (s new : Stepping) → session_at birth s.broker.records ≡ Some x → has_due_will moment x ≡ true
     → ChoosesOnce birth (publishes_will birth) s new → ChoosesOnce birth (settles_will moment birth) s new
 will_once moment birth x s new found due once = elim once [ inl gone ↦ inl gone | inr does ↦ inr (will_quiet moment birth x s new found due does) ]
 
+-- what is due asks for members of groups at most once
 pub settled_once : (moment birth : ℕ) (s s1 s2 : Stepping) → moment ≡ moment_of s.broker → ChoosesOnce birth (settles_will moment birth) s s1 → Did (settles_end moment birth) s1 s2
     → ChoosesOnce birth (λ env. settle env birth) s s2
 settled_once moment birth s s1 s2 is once end = elim once [
@@ -349,6 +368,7 @@ settled_once moment birth s s1 s2 is once end = elim once [
   | inr does ↦ inr (settled_quiet moment birth s s1 s2 is does end)
 ]
 
+-- so does a close
 pub closed_once : (keeps : Bool) (birth moment : ℕ) (s s1 s2 s3 : Stepping) → moment ≡ moment_of s.broker → Did (drops_will keeps birth) s s1 → Did (to_session birth (Close moment)) s1 s2
     → ChoosesOnce birth (λ env. settle env birth) s2 s3 → ChoosesOnce birth (closes keeps birth) s s3
 closed_once keeps birth moment s s1 s2 s3 is drop close once = elim once [

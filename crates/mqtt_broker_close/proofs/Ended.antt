@@ -100,21 +100,25 @@ first_act birth place x e es b found queue is =
     ∙ (ap (λ o. with_session o (λ s. always (at_place e.place s (λ k. At (whose s) (Leave k SessionEnded) ∷ []))) b) found
     ∙ (place_first x e es queue ∙ sym (ap (λ o. with_session o (λ s. always (first_ends s s.queue)) b) found)))
 
+-- the first copy's leaving is the first part of a session's end
 pub first_did : (birth place : ℕ) (x : Session) (e : CopyRow) (es : List CopyRow) (s new : Stepping) → session_at birth s.broker.records ≡ Some x → x.queue ≡ e ∷ es → place ≡ e.place
     → Did (leaves birth place SessionEnded) s new → Did (ends_first birth) s new
 first_did birth place x e es s new found queue is did =
     same_act (leaves birth place SessionEnded) (ends_first birth) s new (first_act birth place x e es s.broker found queue is) did
 
+-- or its leaving is refused
 pub first_left : (birth place : ℕ) (x : Session) (e : CopyRow) (es : List CopyRow) (fault : StepFault) (s new : Stepping) → session_at birth s.broker.records ≡ Some x → x.queue ≡ e ∷ es → place ≡ e.place
     → IsLeft (leaves birth place SessionEnded) fault s new → IsLeft (ends_first birth) fault s new
 first_left birth place x e es fault s new found queue is left =
     same_left (leaves birth place SessionEnded) (ends_first birth) fault s new (first_act birth place x e es s.broker found queue is) left
 
+-- a session that is gone has no first copy
 pub first_none : (birth : ℕ) (s : Stepping) → session_at birth s.broker.records ≡ None → Did (ends_first birth) s s
 first_none birth s none = record {
   is = sym (did_none s) ∙ ap (λ ds. did ds s) (sym (ap (λ o. with_session o (λ x. always (first_ends x x.queue)) s.broker) none));
 }
 
+-- nor has an empty queue
 pub first_empty : (birth : ℕ) (x : Session) (s : Stepping) → session_at birth s.broker.records ≡ Some x → x.queue ≡ [] → Did (ends_first birth) s s
 first_empty birth x s found empty = record { is = sym (did_none s) ∙ ap (λ ds. did ds s) (sym (first_is birth x [] s.broker found empty)) }
 
@@ -127,6 +131,7 @@ pub record Ends (birth count : ℕ) (first s : Stepping) : Type 0 where
   pub many : length (queue_at birth s.broker.records) ≡ count
   pub order : IsAscending copy_place (queue_at birth s.broker.records)
 
+-- a session's end begins with as many copies as stand
 pub ends_start : (birth left : ℕ) (first : Stepping) → left ≡ length (queue_at birth first.broker.records) → IsAscending copy_place (queue_at birth first.broker.records) → Ends birth left first first
 ends_start birth left first is up = record { ok = λ new did. did; left = λ fault new is. is; many = sym is; order = up }
 
@@ -140,6 +145,7 @@ queue_after birth left (e ∷ es) b is count some up =
     let rest : queue_at birth (after_all (ends_first birth b) b).records ≡ es = queue_next birth e es b is up in
     (ap length rest ∙ less_one (length es) left count, subst (IsAscending copy_place) (sym rest) (subst (IsAscending copy_place) is up).1)
 
+-- a copy that left leaves one less
 pub ends_step : (birth left : ℕ) (first s s2 : Stepping) → Ends birth left first s → 0 < left → Did (ends_first birth) s s2 → Ends birth (left - 1) first s2
 ends_step birth left first s s2 w some is =
     let next = ends_next birth s.broker w.order in
@@ -152,6 +158,7 @@ ends_step birth left first s s2 w some is =
       order = subst (λ (b : Broker). IsAscending copy_place (queue_at birth b.records)) (sym broker) after.1;
     }
 
+-- an end that is refused at a copy is refused
 pub ends_left : (birth left : ℕ) (fault : StepFault) (first s new : Stepping) → Ends birth left first s → IsLeft (ends_first birth) fault s new → IsLeft (ends birth) fault first new
 ends_left birth left fault first s new w is =
     w.left fault new (same_left (λ b. then (ends_first birth b) (ends birth) b) (ends birth) fault s new (ends_next birth s.broker w.order)
@@ -168,10 +175,12 @@ finish_by birth None b found none =
 finish_by birth (Some x) b found none =
     ap (λ o. with_session o (λ s. always (Finish (whose s) ∷ [])) b) found ∙ (none_left x x.queue refl none ∙ sym (ends_is birth x b found))
 
+-- behind the last copy the session is taken out
 pub ends_last : (birth left : ℕ) (first s new : Stepping) → Ends birth left first s → left ≡ 0 → Did (finishes birth) s new → Did (ends birth) first new
 ends_last birth left first s new w none is =
     w.ok new (same_act (finishes birth) (ends birth) s new (finish_by birth (session_at birth s.broker.records) s.broker refl (w.many ∙ none)) is)
 
+-- or that is refused
 pub ends_last_left : (birth left : ℕ) (fault : StepFault) (first s new : Stepping) → Ends birth left first s → left ≡ 0 → IsLeft (finishes birth) fault s new → IsLeft (ends birth) fault first new
 ends_last_left birth left fault first s new w none is =
     w.left fault new (same_left (finishes birth) (ends birth) fault s new (finish_by birth (session_at birth s.broker.records) s.broker refl (w.many ∙ none)) is)
@@ -181,12 +190,15 @@ ends_last_left birth left fault first s new w none is =
 finish_act : (birth : ℕ) (x : Session) (b : Broker) → session_at birth b.records ≡ Some x → always (Finish (whose x) ∷ []) b ≡ finishes birth b
 finish_act birth x b found = sym (ap (λ o. with_session o (λ s. always (Finish (whose s) ∷ [])) b) found)
 
+-- taking a session out is the last part of its end
 pub finish_did : (birth : ℕ) (x : Session) (s new : Stepping) → session_at birth s.broker.records ≡ Some x → Did (always (Finish (whose x) ∷ [])) s new → Did (finishes birth) s new
 finish_did birth x s new found is = same_act (always (Finish (whose x) ∷ [])) (finishes birth) s new (finish_act birth x s.broker found) is
 
+-- or that is refused
 pub finish_left : (birth : ℕ) (x : Session) (fault : StepFault) (s new : Stepping) → session_at birth s.broker.records ≡ Some x → IsLeft (always (Finish (whose x) ∷ [])) fault s new → IsLeft (finishes birth) fault s new
 finish_left birth x fault s new found is = same_left (always (Finish (whose x) ∷ [])) (finishes birth) fault s new (finish_act birth x s.broker found) is
 
+-- a session that is gone is not taken out
 pub finish_none : (birth : ℕ) (s : Stepping) → session_at birth s.broker.records ≡ None → Did (finishes birth) s s
 finish_none birth s none = record {
   is = sym (did_none s) ∙ ap (λ ds. did ds s) (sym (ap (λ o. with_session o (λ x. always (Finish (whose x) ∷ [])) s.broker) none));

@@ -16,19 +16,23 @@ silent_some l birth env b on = ap (λ o. silence env o l b) (sym on)
 silent_none : (l : Line) (env : Env) (b : Broker) → l.session ≡ None → close env true l b ≡ silence env l.session l b
 silent_none l env b on = ap (λ o. silence env o l b) (sym on)
 
+-- a session that was silent too long is told so, and its line dropped
 pub told_silent : (l : Line) (birth : ℕ) (s new : Stepping) → l.session ≡ Some birth → DoesSome (λ env. drop_line env keep_alive_timeout l) s new → DoesSome (λ env. silence env l.session l) s new
 told_silent l birth s new on is =
     same_some (λ env. drop_line env keep_alive_timeout l) (λ env. silence env l.session l) s new (λ choice. silent_some l birth (env_in choice s) s.broker on) is
 
+-- or that is refused
 pub told_silent_left : (l : Line) (birth : ℕ) (fault : StepFault) (s new : Stepping) → l.session ≡ Some birth → LeavesSome (λ env. drop_line env keep_alive_timeout l) fault s new
     → LeavesSome (λ env. silence env l.session l) fault s new
 told_silent_left l birth fault s new on is =
     same_some_left (λ env. drop_line env keep_alive_timeout l) (λ env. silence env l.session l) fault s new (λ choice. silent_some l birth (env_in choice s) s.broker on) is
 
+-- a line on which no CONNECT came in time is closed
 pub closed_silent : (l : Line) (s new : Stepping) → l.session ≡ None → DoesSome (λ env. close env true l) s new → DoesSome (λ env. silence env l.session l) s new
 closed_silent l s new on is =
     same_some (λ env. close env true l) (λ env. silence env l.session l) s new (λ choice. silent_none l (env_in choice s) s.broker on) is
 
+-- or that is refused
 pub closed_silent_left : (l : Line) (fault : StepFault) (s new : Stepping) → l.session ≡ None → LeavesSome (λ env. close env true l) fault s new → LeavesSome (λ env. silence env l.session l) fault s new
 closed_silent_left l fault s new on is =
     same_some_left (λ env. close env true l) (λ env. silence env l.session l) fault s new (λ choice. silent_none l (env_in choice s) s.broker on) is

@@ -32,6 +32,7 @@ memory_left act fault s is = record { start = refl; limits = refl; spent = λ e.
 
 -- ---- where it is routed to
 
+-- a Will that cannot be accepted is refused
 pub refused_is : (m : Message) (who : Whose) (s new : Stepping) → IsRefused m s → Did (always (RefuseWill who ∷ [])) s new → DoesSome (publishes who m) s new
 refused_is m who s new w is = record {
   number = next_publication s.broker.records;
@@ -42,6 +43,7 @@ refused_is m who s new w is = record {
       (ap (λ o. publish_or_refuse (env_in choice s) who m o s.broker) (sym (w.refused choice same))) is;
 }
 
+-- or that is not done
 pub refused_left : (m : Message) (who : Whose) (fault : StepFault) (s new : Stepping) → IsRefused m s → IsLeft (always (RefuseWill who ∷ [])) fault s new → LeavesSome (publishes who m) fault s new
 refused_left m who fault s new w is = record {
   number = next_publication s.broker.records;
@@ -52,9 +54,11 @@ refused_left m who fault s new w is = record {
       (ap (λ o. publish_or_refuse (env_in choice s) who m o s.broker) (sym (w.refused choice same))) is;
 }
 
+-- a refused Will changes no session
 pub refused_same : (who : Whose) (s new : Stepping) → Did (always (RefuseWill who ∷ [])) s new → SameSessions s.broker.records new.broker.records
 refused_same who s new is = λ birth. ap (λ (t : Stepping). whose_at birth t.broker.records) is.is
 
+-- a Will that can be accepted is published to those that it reaches
 pub accepted_is : (m : Message) (who : Whose) (copies : List MessageCopy) (wanted : Bool) (s new : Stepping) → IsAccepted m s copies wanted
     → Does (λ env. publish env FromWill m (addressed_all copies)) s new → DoesSome (publishes who m) s new
 accepted_is m who copies wanted s new w is = record {
@@ -66,6 +70,7 @@ accepted_is m who copies wanted s new w is = record {
       (ap (λ o. publish_or_refuse (env_in choice s) who m o s.broker) (sym (w.accepted choice same))) (is choice);
 }
 
+-- or that is refused
 pub accepted_left : (m : Message) (who : Whose) (copies : List MessageCopy) (wanted : Bool) (fault : StepFault) (s new : Stepping) → IsAccepted m s copies wanted
     → Leaves (λ env. publish env FromWill m (addressed_all copies)) fault s new → LeavesSome (publishes who m) fault s new
 accepted_left m who copies wanted fault s new w is = record {
@@ -101,9 +106,11 @@ wills_by birth m r (Some s) (Some w) found has is = record {
   message = some_is m (will_message s.client w) (sym is ∙ ap (option_map (will_message s.client)) has);
 }
 
+-- a message of a Will is of a session that has it
 pub wills : (birth : ℕ) (m : Message) (r : Records) → message_at birth r ≡ Some m → Wills birth m r
 wills birth m r is = wills_by birth m r (session_at birth r) (will_at birth r) refl refl is
 
+-- that session has that Will
 pub will_is : (birth : ℕ) (m : Message) (r : Records) (w : Wills birth m r) → will_at birth r ≡ Some w.will
 will_is birth m r w = ap will_of w.stands ∙ w.has
 
@@ -113,9 +120,11 @@ lawful_will birth m r w lawful =
     subst IsLawfulMessage (sym w.message)
     (published of_rows places.Will w.will.topic w.will.properties w.will.payload (subst IsWilled (will_is birth m r w) lawful))
 
+-- and that birth
 pub birth_is : (birth : ℕ) (m : Message) (r : Records) (w : Wills birth m r) → (whose w.session).birth ≡ birth
 birth_is birth m r w = found_birth birth r.sessions w.session w.stands
 
+-- and the client that the message names
 pub client_is : (birth : ℕ) (m : Message) (r : Records) (w : Wills birth m r) → (whose w.session).client ≡ m.sender
 client_is birth m r w = sym (ap (λ (x : Message). x.sender) w.message)
 
@@ -143,6 +152,7 @@ dropped : (birth : ℕ) (m : Message) (s s1 s2 : Stepping) (w : Wills birth m s.
     → to_session birth DropWill s1.broker ≡ At (whose w.session) DropWill ∷ []
 dropped birth m s s1 s2 w same = part_at birth DropWill (whose w.session) s1.broker (same birth ∙ ap (option_map whose) w.stands)
 
+-- a Will is published, and then it is gone
 pub will_done : (birth : ℕ) (m : Message) (s s1 s2 : Stepping) (w : Wills birth m s.broker.records) → SameSessions s.broker.records s1.broker.records
     → DoesSome (publishes (whose w.session) m) s s1 → Did (to_session birth DropWill) s1 s2 → DoesSome (publishes_will birth) s s2
 will_done birth m s s1 s2 w same published is =
@@ -151,6 +161,7 @@ will_done birth m s s1 s2 w same published is =
     (some_then (publishes who m) (drops who) s s1 s2 published
     (λ choice. same_act (to_session birth DropWill) (always (At who DropWill ∷ [])) s1 s2 (dropped birth m s s1 s2 w same) is))
 
+-- that may be refused at its publication
 pub will_first_left : (birth : ℕ) (m : Message) (fault : StepFault) (s new : Stepping) (w : Wills birth m s.broker.records)
     → LeavesSome (publishes (whose w.session) m) fault s new → LeavesSome (publishes_will birth) fault s new
 will_first_left birth m fault s new w left =
@@ -158,6 +169,7 @@ will_first_left birth m fault s new w left =
     same_some_left (both (publishes who m) (drops who)) (publishes_will birth) fault s new (λ choice. will_act birth m (env_in choice s) s.broker w)
     (some_left_first (publishes who m) (drops who) fault s new left)
 
+-- or at its going
 pub will_then_left : (birth : ℕ) (m : Message) (fault : StepFault) (s s1 new : Stepping) (w : Wills birth m s.broker.records) → SameSessions s.broker.records s1.broker.records
     → DoesSome (publishes (whose w.session) m) s s1 → IsLeft (to_session birth DropWill) fault s1 new → LeavesSome (publishes_will birth) fault s new
 will_then_left birth m fault s s1 new w same published is =
@@ -172,6 +184,7 @@ none_by : (birth : ℕ) (env : Env) (b : Broker) (o : Option Session) → sessio
 none_by birth env b None found none = ap (λ o. with_session o (publish_will env) b) found
 none_by birth env b (Some s) found none = ap (λ o. with_session o (publish_will env) b) found ∙ ap (λ o. will_deeds env (whose s) o b) none
 
+-- a session without a Will publishes none
 pub no_will : (birth : ℕ) (env : Env) (b : Broker) → will_at birth b.records ≡ None → publishes_will birth env b ≡ []
 no_will birth env b none = none_by birth env b (session_at birth b.records) refl none
 
@@ -183,9 +196,11 @@ unwilled_by (Some s) none = by s.will refl none
     by None is none = is
     by (Some w) is none = absurd cc (ap (option_map (will_message s.client)) is)
 
+-- without a message there is no Will
 pub unwilled : (birth : ℕ) (r : Records) → message_at birth r ≡ None → will_at birth r ≡ None
 unwilled birth r none = unwilled_by (session_at birth r) none
 
+-- publishing no Will is done by doing nothing
 pub no_will_did : (birth : ℕ) (s : Stepping) → will_at birth s.broker.records ≡ None → Does (publishes_will birth) s s
 no_will_did birth s none = λ choice. record { is = sym (did_none s) ∙ ap (λ ds. did ds s) (sym (no_will birth (env_in choice s) s.broker none)) }
 

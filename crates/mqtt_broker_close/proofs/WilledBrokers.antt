@@ -14,5 +14,6 @@ willed_by : (birth : ℕ) (r : Records) (o : Option Session) → session_at birt
 willed_by birth r None found h = tt
 willed_by birth r (Some s) found h = (all_at birth_of HasContents birth s r.sessions h found).will
 
+-- with lawful contents each Will is lawful
 pub willed : (b : Broker) → AreContentsLawful b → (birth : ℕ) → IsWilled (will_at birth b.records)
 willed b h birth = willed_by birth b.records (session_at birth b.records) refl h.stored.sessions

@@ -23,9 +23,11 @@ use Rattle.mqtt_broker_connect.proofs.Wholes.{begins_named}
 abbrev pub resumes : Line → Connect → Session → Act
 resumes l c x b = resume l c b.now x
 
+-- a client whose session stands has a place
 pub named_placed : (c : Connect) (x : Session) (s : Stepping) → session_named c.client_identifier s.broker.records ≡ Some x → IsPlaced c s
 named_placed c x s named = ap (λ o. is_some o || nat_lt (length s.broker.records.sessions) s.limits.sessions) named
 
+-- any other has one where there is room for a session
 pub room_placed : (c : Connect) (s : Stepping) → nat_lt (length s.broker.records.sessions) s.limits.sessions ≡ true → IsPlaced c s
 room_placed c s room =
     let known = is_some (session_named c.client_identifier s.broker.records) in
@@ -36,6 +38,7 @@ resumes_is : (env : Env) (l : Line) (c : Connect) (x : Session) (s : Stepping) �
     → resumes l c x s.broker ≡ joins_now l c env s.broker
 resumes_is env l c x s named = sym (ap (λ o. joins env l c s.broker.now [] s.broker.records o) named)
 
+-- a session that stands is resumed, and its client has joined
 pub resumed_joins : (l : Line) (c : Connect) (x : Session) (s s1 : Stepping) → session_named c.client_identifier s.broker.records ≡ Some x
     → Did (resumes l c x) s s1 → IsJoined l c s s1
 resumed_joins l c x s s1 named is = record {
@@ -43,6 +46,7 @@ resumed_joins l c x s s1 named is = record {
   place = named_placed c x s named;
 }
 
+-- or that is refused
 pub resumed_left : (l : Line) (c : Connect) (x : Session) (fault : StepFault) (s s1 : Stepping) → session_named c.client_identifier s.broker.records ≡ Some x
     → IsLeft (resumes l c x) fault s s1 → Leaves (joins_now l c) fault s s1
 resumed_left l c x fault s s1 named left = λ choice. same_left (resumes l c x) (joins_now l c (env_in choice s)) fault s s1 (resumes_is (env_in choice s) l c x s named) left
@@ -55,6 +59,7 @@ begins_is choice l c s none room =
     sym (ap (λ o. joins (env_in choice s) l c s.broker.now [] s.broker.records o) none
     ∙ placed (nat_lt (length s.broker.records.sessions) s.limits.sessions) (begin_named (is_empty c.client_identifier) l c s.broker.records) (refused l c quota_exceeded) room)
 
+-- a session that does not stand begins, and its client has joined
 pub begun_joins : (l : Line) (c : Connect) (s s1 : Stepping) → session_named c.client_identifier s.broker.records ≡ None
     → nat_lt (length s.broker.records.sessions) s.limits.sessions ≡ true
     → Did (begins_named (is_empty c.client_identifier) l c) s s1 → IsJoined l c s s1
@@ -63,6 +68,7 @@ begun_joins l c s s1 none room is = record {
   place = room_placed c s room;
 }
 
+-- or that is refused
 pub begun_left : (l : Line) (c : Connect) (fault : StepFault) (s s1 : Stepping) → session_named c.client_identifier s.broker.records ≡ None
     → nat_lt (length s.broker.records.sessions) s.limits.sessions ≡ true
     → IsLeft (begins_named (is_empty c.client_identifier) l c) fault s s1 → Leaves (joins_now l c) fault s s1
@@ -80,6 +86,7 @@ whole_is choice l c first s p place =
     connects_in_parts (env_in choice first) l c first.broker (subst (λ (t : Stepping). IsPlaced c t) p.did.is place)
     ∙ by_refusal None (env_in choice first) l c first.broker (sym p.unrefused)
 
+-- preparing and joining are the CONNECT
 pub whole_joined : (joined : Joined) (choice : MemberChoice) (l : Line) (c : Connect) (first s s1 : Stepping) → IsPrepared (env_in choice first) c first s
     → JoinedBy l c joined s s1 → ConnectedBy (env_in choice first) l c joined first s1
 whole_joined Done choice l c first s s1 p j =
@@ -96,6 +103,7 @@ whole_joined NoPlace choice l c first s s1 p j =
       limits = ap (λ (t : Stepping). t.limits) j.0 ∙ ap (λ (t : Stepping). t.limits) p.did.is;
     }
 
+-- a CONNECT may be refused at its joining
 pub whole_left : (choice : MemberChoice) (l : Line) (c : Connect) (fault : StepFault) (first s s1 : Stepping) → IsPrepared (env_in choice first) c first s
     → Leaves (joins_now l c) fault s s1 → IsPlaced c s → IsLeft (on_connect (env_in choice first) l c) fault first s1
 whole_left choice l c fault first s s1 p left place =

@@ -23,6 +23,7 @@ nobody_if : (t : Bool) (client : List ℕ) (f : Session → Act) (b : Broker) �
 nobody_if true client f b none = nobody client f b none
 nobody_if false client f b none = refl
 
+-- for a client without a session nothing is prepared
 pub prepares_none : (env : Env) (c : Connect) (b : Broker) → session_named c.client_identifier b.records ≡ None → prepare env c b ≡ []
 prepares_none env c b none =
     let name = c.client_identifier in
@@ -39,6 +40,7 @@ joins_new env l c b none =
     ap (λ ds. joins_after env l c b.now ds (after_all ds b).records) (prepares_none env c b none)
     ∙ ap (λ o. joins env l c b.now [] b.records o) none
 
+-- a client with a place is let in
 pub placed : (t : Bool) (xs ys : List Deed) → t ≡ true → cond t xs ys ≡ xs
 placed true xs ys e = refl
 placed false xs ys e = absurd cc
@@ -77,6 +79,7 @@ joins_behind env l c now ds r None room =
     let begins = begin_named (is_empty c.client_identifier) l c r in
     ap (λ es. ds ++ es) (placed t begins (refused l c quota_exceeded) room) ∙ sym (placed t (ds ++ begins) (refused l c quota_exceeded) room)
 
+-- a CONNECT is its preparing and then its joining, if there is a place
 pub connects_in_parts : (env : Env) (l : Line) (c : Connect) (b : Broker)
     → has_place env.limits.sessions c (after_all (prepare env c b) b).records ≡ true
     → then (prepare env c b) (joins_now l c env) b ≡ connect_by None env l c b

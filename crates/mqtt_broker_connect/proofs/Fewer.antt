@@ -199,6 +199,7 @@ named_is_client client (s ∷ ss) = elim (cases_Bool (bytes_eq s.client client))
   | inr other ↦ rw other (named_is_client client ss)
 ]
 
+-- "or" holds if its second part does
 pub or_true : (t : Bool) → (t || true) ≡ true
 or_true true = refl
 or_true false = refl

@@ -12,6 +12,7 @@ pub record GoesOn (rest all : List Deed) (first s : Stepping) : Type 0 where
   pub ok : (new : Stepping) → Did (always rest) s new → Did (always all) first new
   pub left : (fault : StepFault) (new : Stepping) → IsLeft (always rest) fault s new → IsLeft (always all) fault first new
 
+-- at first all is still to be sent
 pub goes_first : (all : List Deed) (s : Stepping) → GoesOn all all s s
 goes_first all s = record { ok = λ new is. is; left = λ fault new is. is }
 
@@ -32,11 +33,13 @@ goes_last all first s w = w.ok s (record { is = sym (did_none s) })
 
 -- ---- PUBRELs
 
+-- one that is sent leaves those behind it
 pub sends_next : (line : ℕ) (t : Turn) (ts rest all : List Turn) (first s s2 : Stepping) → rest ≡ t ∷ ts → GoesOn (repeats line rest) (repeats line all) first s
     → Did (always (repeat line t)) s s2 → GoesOn (repeats line ts) (repeats line all) first s2
 sends_next line t ts rest all first s s2 steps w is =
     goes_next (repeat line t) (repeats line ts) (repeats line all) first s s2 (subst (λ (xs : List Turn). GoesOn (repeats line xs) (repeats line all) first s) steps w) is
 
+-- sending may be refused at one
 pub sends_left : (line : ℕ) (t : Turn) (ts rest all : List Turn) (fault : StepFault) (first s new : Stepping) → rest ≡ t ∷ ts → GoesOn (repeats line rest) (repeats line all) first s
     → IsLeft (always (repeat line t)) fault s new → IsLeft (always (repeats line all)) fault first new
 sends_left line t ts rest all fault first s new steps w is =
@@ -46,6 +49,7 @@ empty_is : (ts : List Turn) → length ts ≡ 0 → ts ≡ []
 empty_is [] none = refl
 empty_is (t ∷ ts) none = absurd (omega (arith, none))
 
+-- behind the last all are sent
 pub sends_last : (line : ℕ) (rest all : List Turn) (first s : Stepping) → length rest ≡ 0 → GoesOn (repeats line rest) (repeats line all) first s → Did (always (repeats line all)) first s
 sends_last line rest all first s none w =
     goes_last (repeats line all) first s (subst (λ (xs : List Turn). GoesOn (repeats line xs) (repeats line all) first s) (empty_is rest none) w)

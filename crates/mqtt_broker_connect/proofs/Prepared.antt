@@ -30,6 +30,7 @@ use Rattle.mqtt_broker_close.proofs.Closed.{settle_absent}
 
 -- ---- what stays over an act
 
+-- what steady deeds keep of the sessions an act of such deeds keeps
 pub some_keeps : (birth : ℕ) (P : List Session → Type 0) (act : Env → Act) (s new : Stepping) → IsKept birth P → ((env : Env) → GoodAct (IsSteady birth) (act env)) → DoesSome act s new
     → P s.broker.records.sessions → P new.broker.records.sessions
 some_keeps birth P act s new kept steady some p =
@@ -38,10 +39,12 @@ some_keeps birth P act s new kept steady some p =
     subst (λ (t : Stepping). P t.broker.records.sessions) (sym is.is)
     (steady_keeps birth P kept (act (env_in choice s) s.broker) s.broker (steady (env_in choice s) s.broker) p)
 
+-- such an act keeps a lawful Will lawful
 pub some_willed : (birth : ℕ) (act : Env → Act) (s new : Stepping) → ((env : Env) → GoodAct (IsSteady birth) (act env)) → DoesSome act s new
     → IsWilled (will_at birth s.broker.records) → IsWilled (will_at birth new.broker.records)
 some_willed birth act s new steady some willed = some_keeps birth (WillIn IsWilled birth) act s new (will_kept IsWilled birth tt) steady some willed
 
+-- it brings no Will
 pub some_none : (birth : ℕ) (act : Env → Act) (s new : Stepping) → ((env : Env) → GoodAct (IsSteady birth) (act env)) → DoesSome act s new
     → will_at birth s.broker.records ≡ None → will_at birth new.broker.records ≡ None
 some_none birth act s new steady some none = some_keeps birth (WillIn (λ w. w ≡ None) birth) act s new (will_kept (λ w. w ≡ None) birth refl) steady some none
@@ -55,6 +58,7 @@ some_gone birth act s new steady some none = some_keeps birth (IsGone birth) act
 stood : (o : Option Session) (x : Session) → o ≡ None → o ≡ Some x → ⊥
 stood o x none is = absurd cc
 
+-- it leaves the routes, if the session stood
 pub some_serves : (Serves : List Subscriber → Type 0) (birth : ℕ) (act : Env → Act) (s new : Stepping) → ((env : Env) → GoodAct (IsSteady birth) (act env)) → DoesSome act s new
     → ((x : Session) → session_at birth s.broker.records ≡ Some x → Serves (subscribers s.broker.records))
     → (x : Session) → session_at birth new.broker.records ≡ Some x → Serves (subscribers new.broker.records)
@@ -111,6 +115,7 @@ its_client client birth x b only found =
     (bytes_eq-Decides x.client client).0
     (found_passes (λ (s : Session). bytes_eq s.client client) x b.records.sessions (named_is client birth b.records.sessions only ∙ found))
 
+-- of a session that is gone nothing is cleared
 pub clear_gone : (birth : ℕ) (env : Env) (b : Broker) → session_at birth b.records ≡ None → clears birth env b ≡ []
 clear_gone birth env b none =
     ap (λ ds. then ds (ends birth) b) (ap (λ o. with_session o (publish_will env) b) none)
@@ -136,6 +141,7 @@ clear_is client birth true env b only = clear_by client birth env b (session_at 
 abbrev pub prepares : Bool → ℕ → Env → Act
 prepares clean birth env b = then (takes_over birth env b) (settles_and_clears clean birth env) b
 
+-- the one session of a client's name is what its CONNECT prepares
 pub prepare_is : (birth : ℕ) (x : Session) (env : Env) (c : Connect) (b : Broker) → IsOnly c.client_identifier birth b.records → session_at birth b.records ≡ Some x
     → prepares c.clean_start birth env b ≡ prepare env c b
 prepare_is birth x env c b only found =
@@ -154,19 +160,23 @@ prepare_is birth x env c b only found =
 
 -- ---- where there is a line, or none
 
+-- a session on no line is not taken over
 pub over_none : (birth : ℕ) (s : Stepping) → line_of birth s.broker ≡ None → Does (takes_over birth) s s
 over_none birth s none = does_nothing (takes_over birth) s (λ env. ap (λ o. with_line o (drop_line env session_taken_over) s.broker) none)
 
 over_line : (birth : ℕ) (l : Line) (env : Env) (b : Broker) → line_of birth b ≡ Some l → drop_line env session_taken_over l b ≡ takes_over birth env b
 over_line birth l env b found = ap (λ o. with_line o (drop_line env session_taken_over) b) (sym found)
 
+-- a session on a line is, and that line is dropped
 pub over_done : (birth : ℕ) (l : Line) (s new : Stepping) → line_of birth s.broker ≡ Some l → DoesSome (λ env. drop_line env session_taken_over l) s new → DoesSome (takes_over birth) s new
 over_done birth l s new found is = same_some (λ env. drop_line env session_taken_over l) (takes_over birth) s new (λ choice. over_line birth l (env_in choice s) s.broker found) is
 
+-- or that is refused
 pub over_left : (birth : ℕ) (l : Line) (fault : StepFault) (s new : Stepping) → line_of birth s.broker ≡ Some l → LeavesSome (λ env. drop_line env session_taken_over l) fault s new
     → LeavesSome (takes_over birth) fault s new
 over_left birth l fault s new found is = same_some_left (λ env. drop_line env session_taken_over l) (takes_over birth) fault s new (λ choice. over_line birth l (env_in choice s) s.broker found) is
 
+-- a takeover asks for members of groups at most once
 pub over_once : (birth : ℕ) (l : Line) (s new : Stepping) → line_of birth s.broker ≡ Some l → ChoosesOnce birth (λ env. drop_line env session_taken_over l) s new → ChoosesOnce birth (takes_over birth) s new
 over_once birth l s new found once = elim once [
   | inl gone ↦ inl gone
@@ -177,6 +187,7 @@ over_once birth l s new found once = elim once [
 pub settles_nothing : (birth : ℕ) (s : Stepping) → session_at birth s.broker.records ≡ None → Does (settles birth) s s
 settles_nothing birth s none = does_nothing (settles birth) s (λ env. settle_absent birth env s.broker none)
 
+-- clearing a session that is gone is done by doing nothing
 pub clears_nothing : (birth : ℕ) (s : Stepping) → session_at birth s.broker.records ≡ None → Does (clears birth) s s
 clears_nothing birth s none = does_nothing (clears birth) s (λ env. clear_gone birth env s.broker none)
 
@@ -184,28 +195,35 @@ clears_nothing birth s none = does_nothing (clears birth) s (λ env. clear_gone 
 clean_is : (clean : Bool) (birth : ℕ) (env : Env) (b : Broker) → clean ≡ true → clears birth env b ≡ clears_if clean birth env b
 clean_is clean birth env b is = ap (λ t. only_if t (clears birth env) b) (sym is)
 
+-- without Clean Start nothing is cleared
 pub unclean_does : (clean : Bool) (birth : ℕ) (s : Stepping) → clean ≡ false → Does (clears_if clean birth) s s
 unclean_does clean birth s is = does_nothing (clears_if clean birth) s (λ env. ap (λ t. only_if t (clears birth env) s.broker) is)
 
+-- with Clean Start the session is cleared
 pub clean_some : (clean : Bool) (birth : ℕ) (s new : Stepping) → clean ≡ true → DoesSome (clears birth) s new → DoesSome (clears_if clean birth) s new
 clean_some clean birth s new is some = same_some (clears birth) (clears_if clean birth) s new (λ choice. clean_is clean birth (env_in choice s) s.broker is) some
 
+-- so it is if nobody has to be chosen
 pub clean_does : (clean : Bool) (birth : ℕ) (s new : Stepping) → clean ≡ true → Does (clears birth) s new → Does (clears_if clean birth) s new
 clean_does clean birth s new is does = same_does (clears birth) (clears_if clean birth) s new (λ choice. clean_is clean birth (env_in choice s) s.broker is) does
 
+-- or that is refused
 pub clean_left : (clean : Bool) (birth : ℕ) (fault : StepFault) (s new : Stepping) → clean ≡ true → LeavesSome (clears birth) fault s new → LeavesSome (clears_if clean birth) fault s new
 clean_left clean birth fault s new is left = same_some_left (clears birth) (clears_if clean birth) fault s new (λ choice. clean_is clean birth (env_in choice s) s.broker is) left
 
+-- so it is if nobody has to be chosen
 pub clean_quiet_left : (clean : Bool) (birth : ℕ) (fault : StepFault) (s new : Stepping) → clean ≡ true → Leaves (clears birth) fault s new → Leaves (clears_if clean birth) fault s new
 clean_quiet_left clean birth fault s new is left = same_leaves (clears birth) (clears_if clean birth) fault s new (λ choice. clean_is clean birth (env_in choice s) s.broker is) left
 
 -- ---- the whole
 
+-- taking over and clearing are what a CONNECT prepares
 pub prepared_some : (birth : ℕ) (x : Session) (c : Connect) (s new : Stepping) → IsOnly c.client_identifier birth s.broker.records → session_at birth s.broker.records ≡ Some x
     → DoesSome (prepares c.clean_start birth) s new → DoesSome (λ env. prepare env c) s new
 prepared_some birth x c s new only found some =
     same_some (prepares c.clean_start birth) (λ env. prepare env c) s new (λ choice. prepare_is birth x (env_in choice s) c s.broker only found) some
 
+-- or that is refused
 pub prepared_left : (birth : ℕ) (x : Session) (c : Connect) (fault : StepFault) (s new : Stepping) → IsOnly c.client_identifier birth s.broker.records → session_at birth s.broker.records ≡ Some x
     → LeavesSome (prepares c.clean_start birth) fault s new → LeavesSome (λ env. prepare env c) fault s new
 prepared_left birth x c fault s new only found left =

@@ -15,6 +15,7 @@ use Rattle.mqtt_broker_connect.proofs.Connected.{by_refusal, connects_in_parts}
 use Rattle.mqtt_broker_connect.proofs.Fewer.{births_stay_given, place_is_left}
 use Rattle.mqtt_broker_connect.proofs.Parts.{first_left}
 
+-- a session that is found by a name is known by it
 pub known : (c : Connect) (birth : ℕ) (s : Stepping) → IsNamedAt c.client_identifier birth s.broker.records → is_some (session_named c.client_identifier s.broker.records) ≡ true
 known c birth s named = ap is_some named.named
 

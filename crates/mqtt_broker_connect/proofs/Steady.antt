@@ -138,6 +138,7 @@ only_finished client birth k (s ∷ ss) only = elim (cases_Bool (nat_eq s.birth 
   | inr later ↦ rw later (only.0, only_finished client birth k ss only.1)
 ]
 
+-- steady deeds leave a name with its one session
 pub only_kept : (client : List ℕ) (birth : ℕ) → IsKept birth (OnlyIn client birth)
 only_kept client birth = record {
   changed = λ k f slight ss same only. only_changed client birth k f slight ss same only;
@@ -159,6 +160,7 @@ either_none : (t : Bool) (f : Session → Session) (o : Option Session) → o �
 either_none true f o none = ap (option_map f) none
 either_none false f o none = none
 
+-- they leave the routes
 pub subs_kept : (subs : List Subscriber) (birth : ℕ) → IsKept birth (SubsIn subs birth)
 subs_kept subs birth = record {
   changed = λ k f slight ss its p. elim p [
@@ -175,6 +177,7 @@ IsGone birth ss = row_at birth_of birth ss ≡ None
 gone_finished : (birth : ℕ) (ss : List Session) → IsGone birth (remove_row birth_of birth ss)
 gone_finished birth ss = row_at-remove_row birth_of birth birth ss ∙ ap (λ t. cond t None (row_at birth_of birth ss)) (nat_eq_equiv.refl birth)
 
+-- what is gone stays gone
 pub gone_kept : (birth : ℕ) → IsKept birth (IsGone birth)
 gone_kept birth = record {
   changed = λ k f slight ss its none. row_at-change_row birth_of birth k f ss slight.births ∙ either_none (nat_eq k birth) f (row_at birth_of birth ss) none;
@@ -193,6 +196,7 @@ will_slight Q f nothing slight true (Some s) q = elim (slight.wills s) [
   | inr none ↦ subst Q (sym none) nothing
 ]
 
+-- a Will stays as it is, or goes
 pub will_kept : (Q : Option Will → Type 0) (birth : ℕ) → Q None → IsKept birth (WillIn Q birth)
 will_kept Q birth nothing = record {
   changed = λ k f slight ss its q.
@@ -208,6 +212,7 @@ is_its : (o : Option ℕ) (birth : ℕ) → is_of o birth ≡ true → o ≡ Som
 is_its None birth e = absurd cc
 is_its (Some x) birth e = ap Some (eqb-true x birth e)
 
+-- the line found for a session has it
 pub line_is_of : (birth : ℕ) (l : Line) (b : Broker) → line_of birth b ≡ Some l → l.session ≡ Some birth
 line_is_of birth l b found = is_its l.session birth (found_passes (λ (x : Line). is_of x.session birth) l b.lines found)
 

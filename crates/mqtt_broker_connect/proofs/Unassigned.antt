@@ -35,6 +35,7 @@ alike c r q same =
     ∷ case (has_bad_topic c.will) topic_name_invalid
     ∷ [])) same
 
+-- whether a CONNECT is refused depends on the records only by whether the client's name is known
 pub refused_by : (c : Connect) (r : Records) (known : Bool) (o : Option ℕ) → known ≡ (not (starts_with nat_eq c.client_identifier auto) || is_some (session_named c.client_identifier r))
     → ((q : Records) → is_some (session_named c.client_identifier q) ≡ known → o ≡ refusal c q) → o ≡ refusal c r
 refused_by c r known o is by =

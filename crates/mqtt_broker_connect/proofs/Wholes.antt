@@ -18,10 +18,12 @@ use Rattle.mqtt_broker_connect.specs.Connecting.{begins_greeted, begun_told, res
 use Rattle.mqtt_broker_connect.proofs.Parts.{AreWhole}
 use Rattle.mqtt_records.specs.Session.{auto}
 
+-- a refusal is told, and then the line goes
 pub refused_whole : (l : Line) (line code : ℕ) (c : Connect) (s : Stepping) → l.number ≡ line
     → AreWhole (always (refusal_told line c code)) (always (Gone line ∷ [])) (always (refused l c code)) s
 refused_whole l line code c s number = ap (λ n. refusal_told n c code ++ Gone n ∷ []) (sym number)
 
+-- a session begins, and then its line is greeted
 pub greeted_whole : (l : Line) (birth : ℕ) (client : List ℕ) (c : Connect) (s : Stepping) → birth ≡ suc s.broker.records.births
     → AreWhole (begins client (expiry_of c) (will_of c)) (always (greet l c birth ∷ [])) (begins_greeted l c client) s
 greeted_whole l birth client c s is =
@@ -33,11 +35,13 @@ begins_as l c is_assigned client b = begin l c is_assigned client (suc b.records
 abbrev pub begins_named : Bool → Line → Connect → Act
 begins_named is_assigned l c b = begin_named is_assigned l c b.records
 
+-- then its client is told
 pub begun_whole : (l : Line) (line : ℕ) (is_assigned : Bool) (client : List ℕ) (c : Connect) (s : Stepping) → l.number ≡ line
     → AreWhole (begins_greeted l c client) (always (begun_told line is_assigned client)) (begins_as l c is_assigned client) s
 begun_whole l line is_assigned client c s number =
     ap (λ n. begins_greeted l c client s.broker ++ begun_told n is_assigned client) (sym number)
 
+-- a name is assigned first, if the client has none
 pub named_whole : (l : Line) (n : ℕ) (c : Connect) (s : Stepping) → n ≡ suc s.broker.records.autos
     → AreWhole names (begins_as l c true (auto ++ decimal n)) (begins_named true l c) s
 named_whole l n c s number =
@@ -52,12 +56,14 @@ resumes_it : (birth : ℕ) (c : Connect) (x : Session) (s : Stepping) → sessio
 resumes_it birth c x s found =
     ap (λ o. with_session o (λ y. always (At (whose y) (Resume (expiry_of c) (will_of c)) ∷ [])) s.broker) found
 
+-- a session is resumed, and then its line is greeted
 pub regreeted_whole : (l : Line) (birth : ℕ) (c : Connect) (x : Session) (s : Stepping) → session_at birth s.broker.records ≡ Some x
     → AreWhole (to_session birth (Resume (expiry_of c) (will_of c))) (always (greet l c birth ∷ [])) (always (resumed_greeted l c x)) s
 regreeted_whole l birth c x s found =
     ap (λ ds. ds ++ greet l c birth ∷ []) (resumes_it birth c x s found)
     ∙ ap (λ n. At (whose x) (Resume (expiry_of c) (will_of c)) ∷ greet l c n ∷ []) (sym (found_birth birth s.broker.records.sessions x found))
 
+-- then its client is told
 pub retold_whole : (l : Line) (line : ℕ) (c : Connect) (x : Session) (s : Stepping) → l.number ≡ line
     → AreWhole (always (resumed_greeted l c x)) (always (resumption_told line)) (always (resumed_told l c x)) s
 retold_whole l line c x s number =
@@ -70,6 +76,7 @@ repeats_are now line s id [] = refl
 repeats_are now line s id (x ∷ xs) =
     ap (λ ds. repeats line (Repeat (id x) ∷ []) ++ ds) (repeats_are now line s id xs)
 
+-- then its released copies are asked for again
 pub resumed_whole : (l : Line) (line now : ℕ) (c : Connect) (x : Session) (turns : List Turn) → l.number ≡ line → turns ≡ resumed_with (queue_on [] x)
     → resumed_told l c x ++ repeats line turns ≡ resume l c now x
 resumed_whole l line now c x turns number are =

@@ -42,11 +42,13 @@ found_is name (q ∷ ps) p e = elim (cases_Bool (is_named name q)) [
       found_is name ps p rest
 ]
 
+-- a property that is found has the kind of its name
 pub kind_found : (name : PropName) (ps : List Prop) (p : Prop) → find (is_named name) ps ≡ Some p → IsProp p → kind_of p.value ≡ (property_row name).kind
 kind_found name ps p e is =
     let id = eqb-true (property_row p.name).id (property_row name).id (found_is name ps p e) in
     is.kind ∙ ap (λ (n : PropName). (property_row n).kind) (id_is p.name name id)
 
+-- a value of two bytes is a number
 pub is_u16 : (v : ValueRef) → kind_of (value_of v) ≡ kinds.U16 → (n : ℕ) × (v ≡ refs.U16 n)
 is_u16 (refs.Byte n) e = absurd cc
 is_u16 (refs.U16 n) e = (n, refl)
@@ -58,6 +60,7 @@ is_u16 (refs.Pair k t) e = absurd cc
 
 -- ---- the copies that wait and have expired
 
+-- copies have lapsed if one expires
 pub lapsed_some : (now : ℕ) (rows : List CopyRow) → list_any (is_lapsed now) rows ≡ are_some (expired now (map (entry_on []) rows))
 lapsed_some now [] = refl
 lapsed_some now (row ∷ rows) = elim (cases_Bool (is_lapsed now row)) [
@@ -75,12 +78,14 @@ never topic table None fits h = named_fits topic fits h
 never [] table (Some alias) fits h = h.1
 never (c ∷ cs) table (Some alias) fits h = named_fits (c ∷ cs) fits h.1
 
+-- a PUBLISH whose topic is refused has no meaning, but a code
 pub refused_by : (p : Publish) (table : AliasTable) (fault : TopicFault) (alias : Option ℕ) → has SubscriptionIdentifier p.properties ≡ false → FitsText p.topic → (fault ≡ Memory → ⊥) → alias ≡ number_at TopicAlias p.properties → RefusesAlias table p.topic alias fault → meaning p table ≡ Wrong (topic_code fault)
 refused_by p table fault alias none fits room is refuses =
     let found = subst (λ (a : Option ℕ). RefusesAlias table p.topic a fault) is refuses in
     unless_identified (has SubscriptionIdentifier p.properties) (resolved table p.topic (number_at TopicAlias p.properties)) none
     ∙ resolved_refused table p.topic (number_at TopicAlias p.properties) fault room (λ e. never p.topic table (number_at TopicAlias p.properties) fits (subst (RefusesAlias table p.topic (number_at TopicAlias p.properties)) e found)) found
 
+-- and it is that of the fault
 pub refused_as : (p : Publish) (table : AliasTable) (fault : TopicFault) (alias : Option ℕ) → has SubscriptionIdentifier p.properties ≡ false → FitsText p.topic → alias ≡ number_at TopicAlias p.properties → RefusesAlias table p.topic alias fault → RefusesMeaning p table (unmeant_by fault)
 refused_as p table Memory alias none fits is h = tt
 refused_as p table Empty alias none fits is h = refused_by p table Empty alias none fits (λ e. absurd (cc e)) is h

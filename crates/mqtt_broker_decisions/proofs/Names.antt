@@ -30,6 +30,7 @@ more n ds many none = list_any-append is_null ds ((48 + n % 10) ∷ []) ∙ rw (
 decimal_plain : (n : ℕ) → n < 2 ^ 64 → list_any is_null (decimal n) ≡ false
 decimal_plain n small = decimal_by_steps HasNoNull one more n small
 
+-- an assigned name fits its field
 pub assigned_fits : (n : ℕ) (text : List ℕ) → n < 2 ^ 64 → text ≡ auto ++ decimal n → IsUtf8 text → FitsText text
 assigned_fits n text small is utf8 =
     let few = length-decimal-le 20 n (omega arith) (omega (arith, small)) small in

@@ -18,14 +18,17 @@ use Rattle.mqtt_rules.proofs.contents.CopySizes.{all_aged}
 
 -- ---- sums
 
+-- properties take the bytes of the first and of those behind it
 pub props-cons : (p : Prop) (ps : List Prop) → length (props (p ∷ ps)) ≡ length (prop p) + length (props ps)
 props-cons p ps = ap length (flat_map-cons prop p ps) ∙ length-append (prop p) (props ps)
 
+-- three lists take the bytes of all three
 pub props-three : (a b c : List Prop) → length (props (a ++ b ++ c)) ≡ length (props a) + length (props b) + length (props c)
 props-three a b c = let first = props_append (a ++ b) c in let second = props_append a b in omega (arith, first, second)
 
 -- ---- ageing changes no size
 
+-- what is sent is as long however long a copy waited
 pub sent-length : (waited : ℕ) (ids : List ℕ) (ps : List Prop) → length (props (sent_after waited ids ps)) ≡ length (props (sent_after 0 ids ps))
 sent-length waited ids ps =
     let here = props-three (map (aged waited) (without UserProperty ps)) (map identified ids) (only UserProperty ps) in
@@ -67,6 +70,7 @@ parts-length (p ∷ ps) each = elim (cases_Bool (is_named UserProperty p)) [
       rw other (omega (arith, here, one, all, rest))
 ]
 
+-- what is first sent is as long as what came and its identifiers
 pub first-length : (ids : List ℕ) (ps : List Prop) → AllByRecursion IsProp ps → length (props (sent_after 0 ids ps)) ≡ length (props ps) + length (props (map identified ids))
 first-length ids ps each =
     let three = props-three (map (aged 0) (without UserProperty ps)) (map identified ids) (only UserProperty ps) in
@@ -117,12 +121,14 @@ each-only (p ∷ ps) each = elim (cases_Bool (is_named UserProperty p)) [
   | inr other ↦ rw other (each-only ps each.1)
 ]
 
+-- what is sent are properties if what came is, and its identifiers are
 pub each-sent : (ids : List ℕ) (ps : List Prop) → AllByRecursion IsProp ps → AllByRecursion IsProp (map identified ids) → AllByRecursion IsProp (sent_after 0 ids ps)
 each-sent ids ps each own =
     each-append (map (aged 0) (without UserProperty ps) ++ map identified ids) (only UserProperty ps)
     (each-append (map (aged 0) (without UserProperty ps)) (map identified ids) (each-aged ps each) own)
     (each-only ps each)
 
+-- and its identifiers are if what is sent is
 pub own-each : (ids : List ℕ) (ps : List Prop) → AllByRecursion IsProp (sent_after 0 ids ps) → AllByRecursion IsProp (map identified ids)
 own-each ids ps each =
     each-rest (map (aged 0) (without UserProperty ps)) (map identified ids)
@@ -135,6 +141,7 @@ own-fits ids ps each fits =
     let short = fits.short in
     record { each = own-each ids ps fits.each; short = omega (arith, sum, short) }
 
+-- what is sent fits a block if there is room for the identifiers
 pub sent-fits : (ids : List ℕ) (ps : List Prop) → AllByRecursion IsProp ps → FitsBlock (map identified ids) → length (props ps) + length (props (map identified ids)) < 2 ^ 28 → FitsBlock (sent_after 0 ids ps)
 sent-fits ids ps each own few =
     let sum = first-length ids ps each in
@@ -149,6 +156,7 @@ pub record IsPairsOf (n b : ℕ) : Type 0 where
   pub third : 16386 ≤ b → b ≤ 2097154 → n + 3 ≡ b
   pub fourth : 2097155 ≤ b → n + 4 ≡ b
 
+-- a block is its length and its pairs
 pub pairs_of_block : (n b : ℕ) → b ≡ length (varint n) + n → IsPairsOf n b
 pairs_of_block n b e = elim (cases_lt n (2 ^ 7)) [
   | inl a ↦

@@ -40,6 +40,7 @@ block-length now copy =
     let head : length (varint (length (props (properties_sent now copy)))) ≡ length (varint (length (props (first_sent copy)))) = ap (λ (n : ℕ). length (varint n)) same in
     omega (arith, here, there, head, same)
 
+-- a copy's body is as long as its Remaining Length says
 pub body-length : (now id : ℕ) (copy : MessageCopy) → length (sent_body now id copy) ≡ remaining copy
 body-length now id copy =
     let field = identifier_bytes copy.qos id in
@@ -51,15 +52,18 @@ body-length now id copy =
     let same = block-length now copy in
     omega (arith, first, second, third, few, same)
 
+-- a copy's PUBLISH is spelled by its head and body
 pub spelled_by : (now id : ℕ) (dup : Bool) (copy : MessageCopy) → shortest_of (publish_of now dup id copy) ≡ frame (first (delivery_head (delivery_by copy.qos dup id) copy.retain)) (sent_body now id copy)
 spelled_by now id dup copy =
     let rest = block (properties_sent now copy) ++ copy.content.payload in
     let head = first (delivery_head (delivery_by copy.qos dup id) copy.retain) in
     ap (λ (f : List ℕ). frame head (blob copy.content.topic ++ (f ++ rest))) (field_is copy.qos dup id)
 
+-- a frame is its first byte, its length and its body
 pub frame-length : (head : ℕ) (body : List ℕ) → length (frame head body) ≡ 1 + length (varint (length body)) + length body
 frame-length head body = let sum = length-append (varint (length body)) body in omega (arith, sum)
 
+-- a copy has the size of its PUBLISH
 pub size_stays : (copy : MessageCopy) → IsSizeOf copy (publish_size copy)
 size_stays copy now id dup =
     let head = first (delivery_head (delivery_by copy.qos dup id) copy.retain) in
@@ -70,9 +74,11 @@ size_stays copy now id dup =
     let whole : publish_size copy ≡ length (frame head body) = omega (arith, long, prefix, sum) in
     whole ∙ sym (ap length (spelled_by now id dup copy))
 
+-- that size is made of the Remaining Length
 pub publish_size_is : (len size : ℕ) (copy : MessageCopy) → len ≡ remaining copy → size ≡ 1 + length (varint len) + len → IsSizeOf copy size
 publish_size_is len size copy is sum = subst (IsSizeOf copy) (sym (sum ∙ ap (λ (n : ℕ). 1 + length (varint n) + n) is)) (size_stays copy)
 
+-- what was written is the copy's PUBLISH
 pub publish_spelled : (now id : ℕ) (dup : Bool) (copy : MessageCopy) (head len : ℕ) (bytes : List ℕ) → head ≡ first (delivery_head (delivery_by copy.qos dup id) copy.retain) → len ≡ remaining copy → bytes ≡ (head ∷ varint len) ++ sent_body now id copy → bytes ≡ shortest_of (publish_of now dup id copy)
 publish_spelled now id dup copy head len bytes first_is len_is is =
     let long : length (sent_body now id copy) ≡ len = body-length now id copy ∙ sym len_is in
@@ -82,17 +88,20 @@ publish_spelled now id dup copy head len bytes first_is len_is is =
 
 -- ---- the properties
 
+-- the identifiers of a copy with a spelling have one
 pub own_spelled : (copy : MessageCopy) (ids : List ℕ) → ids ≡ copy.identifiers → IsSpelled copy → AllByRecursion IsProp (map identified ids)
 own_spelled copy ids same spelled =
     subst (λ (xs : List ℕ). AllByRecursion IsProp (map identified xs)) (sym same)
     (own-each copy.identifiers copy.content.properties spelled.properties.each)
 
+-- what was written is the block of what is sent
 pub block_written : (now pairs waited : ℕ) (ids : List ℕ) (ps : List Prop) (copy : MessageCopy) (old mid new : List ℕ) → pairs ≡ length (props (first_sent copy)) → waited ≡ seconds_waited now copy.content → ids ≡ copy.identifiers → ps ≡ copy.content.properties → mid ≡ old ++ varint pairs → new ≡ mid ++ props (sent_after waited ids ps) → new ≡ old ++ block (properties_sent now copy)
 block_written now pairs waited ids ps copy old mid new few wait same own first is =
     let all = properties_sent now copy in
     let long : pairs ≡ length (props all) = few ∙ sym (sent-length (seconds_waited now copy.content) copy.identifiers copy.content.properties) in
     is ∙ rw (first, wait, same, own, append_assoc) (ap (λ (n : ℕ). old ++ (varint n ++ props all)) long)
 
+-- what follows behind an Ok follows behind this one
 pub on_ok : {T E A B : Type 0} (r : Result T E) → (A → B) → OnOk r A → OnOk r B
 on_ok (Ok x) f h = f h
 on_ok (Err e) f h = tt
@@ -109,9 +118,11 @@ codes-length head id codes =
     let few : length (two_bytes id ++ 0 ∷ codes) ≡ 3 + length codes = omega arith in
     same ∙ frame-length head (two_bytes id ++ 0 ∷ codes) ∙ rw few refl
 
+-- a SUBACK's size is made of its codes
 pub suback-size : (n len id : ℕ) (codes : List ℕ) → length codes ≡ n → len ≡ length (varint (3 + n)) → 1 + len + (3 + n) ≡ size_of (suback id codes)
 suback-size n len id codes few size = rw (size, ← few) (sym (codes-length 0x90 id codes))
 
+-- so is an UNSUBACK's
 pub unsuback-size : (n len id : ℕ) (codes : List ℕ) → length codes ≡ n → len ≡ length (varint (3 + n)) → 1 + len + (3 + n) ≡ size_of (unsuback id codes)
 unsuback-size n len id codes few size = rw (size, ← few) (sym (codes-length 0xb0 id codes))
 
@@ -120,6 +131,7 @@ unsuback-size n len id codes few size = rw (size, ← few) (sym (codes-length 0x
 assigned_is : (client : List ℕ) → props (connack_properties true client) ≡ (0x12 ∷ blob client) ++ props (connack_properties false [])
 assigned_is client = flat_map-cons prop (property AssignedClientIdentifier (Text client)) (connack_properties false [])
 
+-- what was written is the CONNACK of an assigned name
 pub named_written : (client old a b c d e new : List ℕ) (pairs : ℕ) → pairs ≡ length (props (connack_properties true client)) → a ≡ old ++ 0 ∷ [] → b ≡ a ++ 0 ∷ [] → c ≡ b ++ varint pairs → d ≡ c ++ 0x12 ∷ [] → e ≡ d ++ blob client → new ≡ e ++ props (connack_properties false []) → new ≡ old ++ 0 ∷ 0 ∷ block (connack_properties true client)
 named_written client old a b c d e new pairs few a_is b_is c_is d_is e_is is =
     let granted = props (connack_properties false []) in

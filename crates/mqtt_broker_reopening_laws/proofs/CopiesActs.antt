@@ -106,6 +106,7 @@ still_new d (x ∷ xs) old new stays apart h = (
   still_new d xs old new stays apart.1 h.1,
 )
 
+-- deliveries of new copies lead from copies that differ to such
 pub leads_deliveries : (env : Env) (ds : List CopyTo) (b : Broker) → Keeps b → AllByRecursion (IsNewTo b.records) ds → AllDiffer (ids_to ds) → Led (series (map (deliver env) ds) b) b
 leads_deliveries env [] b k new differ = (tt, k)
 leads_deliveries env (d ∷ ds) b k new differ =
@@ -221,6 +222,7 @@ retained_same false empty number m b = (refl, refl)
 retained_same true true number m b = forgotten_same (retained_of m.topic b.records) b
 retained_same true false number m b = (refl, refl)
 
+-- so does a publication
 pub leads_publish : (env : Env) (origin : Origin) (m : Message) (ds : List CopyTo) (b : Broker) → Keeps b → accepted_copies env m b ≡ Some ds → Led (publish env origin m ds b) b
 leads_publish env origin m ds b k e =
     let r = b.records in
@@ -277,6 +279,7 @@ granted_new s w now r c t h publications subscribes absent =
       absent (sub.retained_copy s.birth number w k).id (subscribe_absent r.publications r.subscribes number k.publication s.birth r.sessions (omega arith) h.sessions),
     )) r.retained h.retained)
 
+-- so does a subscription
 pub leads_grants : (env : Env) (w : sub.Wish) (s : Session) (b : Broker) → Keeps b → Led (sub.granted_filter env (sub.next_number b.records) s w (brought_to w s b) b).deeds b
 leads_grants env w s b k =
     let r = b.records in
@@ -338,9 +341,11 @@ keeping env = record {
 
 -- ---- a step and an opening
 
+-- and each deed of a call
 pub call_good : (env : Env) (call : Call) (b : Broker) → HaveIdentities b.records → AreGood Good (deeds_of env call b) b
 call_good env call b h = (leads_all env HaveIdentities Good (keeping env) call b h).0
 
+-- and of an opening
 pub opening_good : (env : Env) (b : Broker) → HaveIdentities b.records → AreGood Good (opening env b) b
 opening_good env b h = (leads_open env HaveIdentities Good (keeping env) b h).0
 
@@ -348,6 +353,7 @@ moment_has : (rows : List Change) (b : Broker) → HaveIdentities b.records → 
 moment_has [] b h = h
 moment_has (row ∷ rows) b h = record { ordered = record { sessions = h.ordered.sessions; each = h.ordered.each; retained = h.ordered.retained }; sessions = h.sessions; retained = h.retained; differ = h.differ }
 
+-- behind a step all copies in a queue differ
 pub step_identities : (limits : Limits) (choice : MemberChoice) (now : ℕ) (call : Call) (b : Broker) → HaveIdentities (stored b) → HaveIdentities (stored (stepped limits choice now call b))
 step_identities limits choice now call b h =
     let c = at_moment now b in
@@ -355,6 +361,7 @@ step_identities limits choice now call b h =
     let ds = deeds limits choice now call b in
     moment_has (rows_of_all ds c.records) (after_all ds c) (leads_all env HaveIdentities Good (keeping env) call c h).1
 
+-- so they do behind an opening
 pub opening_identities : (limits : Limits) (choice : MemberChoice) (now : ℕ) (r : Records) → HaveIdentities r → HaveIdentities (stored (opened limits choice now r))
 opening_identities limits choice now r h =
     let b = unopened now r in

@@ -241,6 +241,7 @@ retained_deed (Gone k) b g h = record { given = h.retained; differ = h.differ }
 abbrev pub Keeps : Broker → Type 0
 Keeps b = HaveIdentities b.records
 
+-- a good deed keeps what the walk asks for
 pub kept : (d : Deed) (b : Broker) → Keeps b → Good d b → Keeps (after d b)
 kept d b h g =
     let new = (after d b).records in
@@ -256,9 +257,11 @@ kept d b h g =
 abbrev pub Led : List Deed → Broker → Type 0
 Led = Leads Keeps Good
 
+-- one good deed leads on
 pub one : (d : Deed) (b : Broker) → Keeps b → Good d b → Led (d ∷ []) b
 one d b k g = ((g, tt), kept d b k g)
 
+-- and so do those behind it
 pub more : (d : Deed) (ds : List Deed) (b : Broker) → Keeps b → Good d b → (Keeps (after d b) → Led ds (after d b)) → Led (d ∷ ds) b
 more d ds b k g h = leads_append Keeps Good (d ∷ []) ds b (one d b k g) h
 
@@ -327,6 +330,7 @@ quiet_deed Q (Link n) b quiet = absurd quiet
 quiet_deed Q (On n part) b quiet = absurd quiet
 quiet_deed Q (Gone n) b quiet = absurd quiet
 
+-- quiet deeds leave the copies, and add those that are asked for alone
 pub quiet_deeds : (Q : CopyId → Type 0) (ds : List Deed) (b : Broker) → AreGood (IsQuiet Q) ds b → Stays Q b.records (after_all ds b).records
 quiet_deeds Q [] b quiet = record { publications = refl; subscribes = refl; filters = refl; absent = λ id apart h. h }
 quiet_deeds Q (d ∷ ds) b quiet =
@@ -348,6 +352,7 @@ quiet_leave Q s (turns.Outgrow place id order) b = tt
 quiet_leave Q s (turns.Repeat id) b = tt
 quiet_leave Q s (turns.Unknown id) b = tt
 
+-- copies that leave are quiet
 pub quiet_leaves : (Q : CopyId → Type 0) (s : Session) (ts : List Turn) (b : Broker) → AreGood (IsQuiet Q) (flat_map (leave_deeds s) ts) b
 quiet_leaves Q s ts b = good_flat (IsQuiet Q) (leave_deeds s) (quiet_leave Q s) ts b
 
@@ -364,5 +369,6 @@ quiet_by : (Q : CopyId → Type 0) (t : Bool) (env : Env) (d : CopyTo) (b : Brok
 quiet_by Q true env d b q = good_with_session (IsQuiet Q) (session_at d.birth b.records) (λ s. always (enter_deeds env d.copy s)) b (λ s e. quiet_enter Q env d.copy s b q)
 quiet_by Q false env d b q = quiet_offer Q (line_of d.birth b) (publish_of b.now false 0 d.copy) b
 
+-- so is the delivery of a copy that is asked for
 pub quiet_deliver : (Q : CopyId → Type 0) (env : Env) (d : CopyTo) (b : Broker) → Q d.copy.id → AreGood (IsQuiet Q) (deliver env d b) b
 quiet_deliver Q env d b q = quiet_by Q (is_queued d) env d b q

@@ -10,38 +10,46 @@ use Rattle.mqtt_world_acceptance_laws.proofs.copies.Differ.{AreApart, differ_joi
 use Rattle.mqtt_rules.proofs.numbers.Copies.{each_append, each_filter, each_more}
 use Rattle.mqtt_rules.proofs.fit.FitLaw.{all_among}
 
+-- what holds of each that is among them holds of all
 pub each_among : {X : Type 0} (P : X → Type 0) (xs : List X) → ((x : X) → IsAmong x xs → P x) → AllByRecursion P xs
 each_among P [] h = tt
 each_among P (x ∷ xs) h = (h x (inl refl), each_among P xs (λ y among. h y (inr among)))
 
 -- ---- two lists, one behind the other
 
+-- what holds of two lists holds of the first
 pub each_first : {X : Type 0} (P : X → Type 0) (xs ys : List X) → AllByRecursion P (xs ++ ys) → AllByRecursion P xs
 each_first P [] ys h = tt
 each_first P (x ∷ xs) ys h = (h.0, each_first P xs ys h.1)
 
+-- and of the last
 pub each_last : {X : Type 0} (P : X → Type 0) (xs ys : List X) → AllByRecursion P (xs ++ ys) → AllByRecursion P ys
 each_last P [] ys h = h
 each_last P (x ∷ xs) ys h = each_last P xs ys h.1
 
+-- if the items of two lists differ, so do those of the first
 pub differ_first : {X : Type 0} (xs ys : List X) → AllDiffer (xs ++ ys) → AllDiffer xs
 differ_first [] ys h = tt
 differ_first (x ∷ xs) ys h = (each_first (λ y. x ≢ y) xs ys h.0, differ_first xs ys h.1)
 
+-- and of the last
 pub differ_last : {X : Type 0} (xs ys : List X) → AllDiffer (xs ++ ys) → AllDiffer ys
 differ_last [] ys h = h
 differ_last (x ∷ xs) ys h = differ_last xs ys h.1
 
+-- and the two are apart
 pub differ_apart : {X : Type 0} (xs ys : List X) → AllDiffer (xs ++ ys) → AreApart xs ys
 differ_apart [] ys h = tt
 differ_apart (x ∷ xs) ys h = (each_last (λ y. x ≢ y) xs ys h.0, differ_apart xs ys h.1)
 
 -- ---- keys of rows
 
+-- what is below all keys differs from each
 pub above_differ : {X : Type 0} (key : X → ℕ) (n : ℕ) (xs : List X) → IsAbove key n xs → AllByRecursion (λ m. n ≢ m) (map key xs)
 above_differ key n [] h = tt
 above_differ key n (x ∷ xs) h = let less = h.0 in ((λ e. omega (arith, e, less)), above_differ key n xs h.1)
 
+-- keys that rise differ
 pub ascending_differ : {X : Type 0} (key : X → ℕ) (xs : List X) → IsAscending key xs → AllDiffer (map key xs)
 ascending_differ key [] h = tt
 ascending_differ key (x ∷ xs) h = (above_differ key (key x) xs h.0, ascending_differ key xs h.1)

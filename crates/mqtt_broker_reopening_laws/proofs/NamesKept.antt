@@ -256,6 +256,7 @@ moment_named : (rows : List Change) (b : Broker) → AreNamed b.records → AreN
 moment_named [] b h = h
 moment_named (row ∷ rows) b h = record { assigned = h.assigned; short = h.short }
 
+-- behind a step each session has a name of its own
 pub step_names : (limits : Limits) (choice : MemberChoice) (now : ℕ) (call : Call) (b : Broker) → AreNamed (stored b) → AreNamed (stored (stepped limits choice now call b))
 step_names limits choice now call b h =
     let c = at_moment now b in
@@ -263,6 +264,7 @@ step_names limits choice now call b h =
     let ds = deeds limits choice now call b in
     moment_named (rows_of_all ds c.records) (after_all ds c) (leads_call env named Keeps Brings (the_law env) call c h (call_of_named call c)).1
 
+-- so it has behind an opening
 pub opening_names : (limits : Limits) (choice : MemberChoice) (now : ℕ) (r : Records) → AreNamed r → AreNamed (stored (opened limits choice now r))
 opening_names limits choice now r h =
     let b = unopened now r in

@@ -26,6 +26,7 @@ also_is : (o : Option ℕ) (e : CopyRow) (es : List CopyRow) → order_in e.phas
 also_is None e es is = rw is refl
 also_is (Some n) e es is = rw is refl
 
+-- the orders of release of a queue are those of its phases
 pub orders_are : (es : List CopyRow) → filter_map (λ (row : CopyRow). order_in row.phase) es ≡ orders es
 orders_are [] = refl
 orders_are (e ∷ es) = also_is (order_in e.phase) e es refl ∙ ap (also (order_in e.phase)) (orders_are es)
@@ -76,6 +77,7 @@ each_left P keep (e ∷ es) h = elim (cases_Bool (keep e)) [
   | inr goes ↦ rw goes (each_left P keep es (rest_also P (order_in e.phase) (orders es) h))
 ]
 
+-- copies that leave leave orders that differ
 pub left_differ : (keep : CopyRow → Bool) (es : List CopyRow) → AllDiffer (orders es) → AllDiffer (orders (filter keep es))
 left_differ keep [] h = tt
 left_differ keep (e ∷ es) h = elim (cases_Bool (keep e)) [
@@ -107,6 +109,7 @@ entered_differ x (e ∷ es) none h = elim (cases_Bool (nat_lt x.place e.place)) 
   ]
 ]
 
+-- a copy without an order may come
 pub put_differ : (limit : ℕ) (x : CopyRow) (es : List CopyRow) → order_in x.phase ≡ None → AllDiffer (orders es) → AllDiffer (orders (put_row copy_place limit x es))
 put_differ limit x es none h = elim (cases_Bool (has_row copy_place x.place es || nat_lt (length es) limit)) [
   | inl room ↦ rw room (entered_differ x es none h)
@@ -132,6 +135,7 @@ fresh_rest : (o p : Option ℕ) (ns : List ℕ) → IsFresh o (also p ns) → Is
 fresh_rest None p ns h = tt
 fresh_rest (Some n) p ns h = rest_also (λ m. n ≢ m) p ns h
 
+-- a copy may get an order that is fresh
 pub marked_differ : (place : ℕ) (phase : Phase) (es : List CopyRow) → IsFresh (order_in phase) (orders es) → AllDiffer (orders es) → AllDiffer (orders (change_row copy_place place (in_phase phase) es))
 marked_differ place phase [] new h = tt
 marked_differ place phase (e ∷ es) new h = elim (cases_Bool (nat_eq e.place place)) [
@@ -166,6 +170,7 @@ phase_fresh n phase es above h = by (order_in phase) above
     by None up = tt
     by (Some m) up = above_fresh n m es (up m refl) h
 
+-- no order is above the greatest
 pub orders_known : (went : List ℕ) (es : List CopyRow) → HasOrdersUpTo (greatest_order (map (entry_on went) es)) es
 orders_known went [] = tt
 orders_known went (e ∷ es) =

@@ -42,6 +42,7 @@ IsFrom d = ⊤
 abbrev pub From : List Deed → Type 0
 From ds = AllByRecursion IsFrom ds
 
+-- deeds that bring lawful contents are good
 pub from_good : (ds : List Deed) (b : Broker) → From ds → AreGood (λ d c. IsFrom d) ds b
 from_good [] b h = tt
 from_good (d ∷ ds) b h = (h.0, from_good ds _ h.1)
@@ -141,8 +142,10 @@ from_says env = record {
   grants = λ w s b fits valid e. from_granted env w s b fits valid;
 }
 
+-- those of a call are such
 pub from_call : (env : Env) (call : Call) (b : Broker) → TakesLawful call → From (deeds_of env call b)
 from_call env call b taken = call_says env lawful any_state Comes (from_says env) call (λ n packet is. subst TakesLawful is taken) b tt
 
+-- so are those of an opening
 pub from_opening : (env : Env) (b : Broker) → From (opening env b)
 from_opening env b = opening_says env lawful any_state Comes (from_says env) b tt

@@ -552,6 +552,7 @@ moment_phased : (rows : List Change) (b : Broker) → HavePhases b.records → H
 moment_phased [] b h = h
 moment_phased (row ∷ rows) b h = h
 
+-- behind a step phases fit their copies, and orders differ
 pub step_phases : (limits : Limits) (choice : MemberChoice) (now : ℕ) (call : Call) (b : Broker) → IsOrdered (stored b) → HavePhases (stored b) → HavePhases (stored (stepped limits choice now call b))
 step_phases limits choice now call b ordered h =
     let c = at_moment now b in
@@ -559,6 +560,7 @@ step_phases limits choice now call b ordered h =
     let ds = deeds limits choice now call b in
     moment_phased (rows_of_all ds c.records) (after_all ds c) (leads_call env anyone Kept (λ d x. ⊤) (the_law env) call c (ordered, h) (call_of_anyone call c)).1.1
 
+-- so it is behind an opening
 pub opening_phases : (limits : Limits) (choice : MemberChoice) (now : ℕ) (r : Records) → IsOrdered r → HavePhases r → HavePhases (stored (opened limits choice now r))
 opening_phases limits choice now r ordered h =
     let b = unopened now r in

@@ -294,17 +294,20 @@ moment_apart (row ∷ rows) b h = record { ordered = record { sessions = h.order
 places_done : (ds : List Deed) (b : Broker) → Keeps (after_all ds b) → HavePlacesApart (done ds b).records
 places_done ds b h = moment_apart (rows_of_all ds b.records) (after_all ds b) h
 
+-- behind a step no two retained messages have one place
 pub step_places : (limits : Limits) (choice : MemberChoice) (now : ℕ) (call : Call) (b : Broker) → HavePlacesApart (stored b) → HavePlacesApart (stored (stepped limits choice now call b))
 step_places limits choice now call b h =
     let c = at_moment now b in
     let env = env_of limits choice b in
     places_done (deeds limits choice now call b) c ((leads_deeds env Keeps Brings (places_law env) places_mark call c h).1)
 
+-- so it is behind an opening
 pub opening_places : (limits : Limits) (choice : MemberChoice) (now : ℕ) (r : Records) → HavePlacesApart r → HavePlacesApart (stored (opened limits choice now r))
 opening_places limits choice now r h =
     let b = unopened now r in
     let env = env_of limits choice b in
     places_done (opening env b) b ((leads_opened env Keeps Brings (places_law env) places_mark b h).1)
 
+-- and of nothing
 pub nothing_places : HavePlacesApart nothing
 nothing_places = record { ordered = record { sessions = record { ascending = tt; within = omega arith }; each = tt; retained = record { ascending = tt; within = omega arith } }; given = tt; differ = tt }

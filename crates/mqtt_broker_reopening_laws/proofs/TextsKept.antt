@@ -162,6 +162,7 @@ moment_texts : (rows : List Change) (b : Broker) → HaveTexts b.records → Hav
 moment_texts [] b h = h
 moment_texts (row ∷ rows) b h = h
 
+-- behind a step all texts are such as may be stored
 pub step_texts : (limits : Limits) (choice : MemberChoice) (now : ℕ) (call : Call) (b : Broker) → TakesLawful call → HaveIdentities (stored b) → HaveTexts (stored b) → HaveTexts (stored (stepped limits choice now call b))
 step_texts limits choice now call b taken known h =
     let c = at_moment now b in
@@ -169,6 +170,7 @@ step_texts limits choice now call b taken known h =
     let ds = deeds limits choice now call b in
     moment_texts (rows_of_all ds c.records) (after_all ds c) (texts_all ds c (from_good ds c (from_call env call c taken)) (call_good env call c known) h)
 
+-- so they are behind an opening
 pub opening_texts : (limits : Limits) (choice : MemberChoice) (now : ℕ) (r : Records) → HaveIdentities r → HaveTexts r → HaveTexts (stored (opened limits choice now r))
 opening_texts limits choice now r known h =
     let b = unopened now r in

@@ -209,6 +209,7 @@ been_later : (m n : ℕ) (o : Option ℕ) → m ≤ n → HasBeen m o → HasBee
 been_later m n None le h = tt
 been_later m n (Some x) le h = omega (arith, le, h)
 
+-- what is timely stays so later
 pub timely_later : (m n : ℕ) (r : Records) → m ≤ n → AreTimely m r → AreTimely n r
 timely_later m n r le h = record {
   sessions = each_more (IsTimely m) (IsTimely n)
@@ -230,6 +231,7 @@ by_rows (row ∷ rows) old b same h g = record { sessions = g.sessions; retained
 timely_done : (ds : List Deed) (b : Broker) → AreTimely b.records.moment b.records → Timely (after_all ds b) → AreTimely (done ds b).records.moment (done ds b).records
 timely_done ds b h g = by_rows (rows_of_all ds b.records) b.records (after_all ds b) (stored_after_all ds b) h g
 
+-- behind a step nothing is stored as of a later moment
 pub step_timely : (limits : Limits) (choice : MemberChoice) (now : ℕ) (call : Call) (b : Broker) → IsTimed b → AreTimely (stored b).moment (stored b)
     → AreTimely (stored (stepped limits choice now call b)).moment (stored (stepped limits choice now call b))
 step_timely limits choice now call b timed h =
@@ -239,6 +241,7 @@ step_timely limits choice now call b timed h =
     timely_done (deeds limits choice now call b) c h
     ((leads_deeds env Timely Brings (timely_law env) timely_mark call c (timely_later b.records.moment c.now b.records (omega (arith, timed, more)) h)).1)
 
+-- nor is it behind an opening
 pub opening_timely : (limits : Limits) (choice : MemberChoice) (now : ℕ) (r : Records) → IsNumber r.moment → AreTimely r.moment r
     → AreTimely (stored (opened limits choice now r)).moment (stored (opened limits choice now r))
 opening_timely limits choice now r last h =

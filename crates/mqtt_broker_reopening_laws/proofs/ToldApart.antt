@@ -83,6 +83,7 @@ module _ (c : CopyId) where
       let rest = none_to_come p q ss ahead h.1 in
       omega (arith, all, first, rest)
 
+-- with copies that differ and numbers within bounds, a publication is told from others
 pub tells_apart : (r : Records) → HaveIdentities r → HaveBounds r → TellsApart r
 tells_apart r h bounds = record {
   once = λ c. one_at_most c r.publications r.subscribes r.sessions h.ordered.sessions.ascending h.sessions bounds.sessions;

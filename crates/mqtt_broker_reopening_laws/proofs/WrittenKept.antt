@@ -91,16 +91,19 @@ opening_writing limits choice now r within unspent w = record {
   last = opened_last limits choice now r;
 }
 
+-- a step of a sound broker leaves what a broker writes
 pub step_written : (limits : Limits) (choice : MemberChoice) (now : ℕ) (call : Call) (b : Broker) → is_step_spent limits choice now call b ≡ false → TakesLawful call → IsSound limits b
     → IsWritten (stored b) → IsWritten (stored (stepped limits choice now call b))
 step_written limits choice now call b unspent taken sound w =
     (step_writing limits choice now call b sound.limited taken unspent (record { written = w; topics = sound.contents.lines; timed = sound.timed; last = sound.last })).written
 
+-- so does an opening
 pub opening_written : (limits : Limits) (choice : MemberChoice) (now : ℕ) (r : Records) → AreWithin limits → is_opening_spent limits choice now r ≡ false → IsWritten r → IsWritten (stored (opened limits choice now r))
 opening_written limits choice now r within unspent w = (opening_writing limits choice now r within unspent w).written
 
 -- ---- from an empty store
 
+-- nothing is what a broker may have written
 pub nothing_written : IsWritten nothing
 nothing_written = record {
   lawful = record {
@@ -124,6 +127,7 @@ events_writing : (es : List Event) (b : Broker) → AreFair es b → IsWriting b
 events_writing [] b fair h = h
 events_writing (e ∷ es) b fair h = events_writing es (after_event e b) fair.1 (event_writing e b fair.0 h)
 
+-- so is what any fair events leave
 pub run_written : (es : List Event) → AreFair es blank → IsWritten (stored (after_events es blank))
 run_written es fair = (events_writing es blank fair blank_writing).written
 

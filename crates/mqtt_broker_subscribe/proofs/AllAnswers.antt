@@ -45,21 +45,25 @@ none_is : (env : Env) (b : Broker) (o : Option Session) → filter_answer_of env
 none_is env b None = refl
 none_is env b (Some s) = refl
 
+-- options that are none get 0x8f and nothing else
 pub unread_is : (birth : ℕ) (identifier : Option ℕ) (text : List ℕ) (byte : ℕ) (env : Env) (b : Broker) → options_of byte ≡ None → answer_to birth identifier (asking text byte) env b ≡ refused_filter topic_filter_invalid
 unread_is birth identifier text byte env b none =
     ap (λ o. filter_answer_of env (wish_by text identifier o) b (session_at birth b.records)) none
     ∙ none_is env b (session_at birth b.records)
 
+-- that is done by doing nothing
 pub unread_does : (birth : ℕ) (identifier : Option ℕ) (text : List ℕ) (byte : ℕ) (s : Stepping) → options_of byte ≡ None → Does (answers_to birth identifier (asking text byte)) s s
 unread_does birth identifier text byte s none = λ choice. record {
   is = sym (did_none s) ∙ ap (λ (a : FilterAnswer). did a.deeds s) (sym (unread_is birth identifier text byte (env_in choice s) s.broker none));
 }
 
+-- its code is added
 pub unread_code : (birth : ℕ) (identifier : Option ℕ) (text : List ℕ) (byte : ℕ) (codes codes2 : List ℕ) (env : Env) (b : Broker) → options_of byte ≡ None → codes2 ≡ codes ++ topic_filter_invalid ∷ []
     → codes2 ≡ codes ++ (answer_to birth identifier (asking text byte) env b).code ∷ []
 unread_code birth identifier text byte codes codes2 env b none pushed =
     pushed ∙ ap (λ (a : FilterAnswer). codes ++ a.code ∷ []) (sym (unread_is birth identifier text byte env b none))
 
+-- and no copy
 pub unread_late : (birth : ℕ) (identifier : Option ℕ) (text : List ℕ) (byte : ℕ) (late : List CopyTo) (env : Env) (b : Broker) → options_of byte ≡ None
     → late ≡ late ++ (answer_to birth identifier (asking text byte) env b).late
 unread_late birth identifier text byte late env b none =
@@ -72,6 +76,7 @@ read_is birth identifier text byte options env b is =
     let said : Some options ≡ options_of byte = sym (ap options_of is ∙ options_again options) in
     ap (λ o. filter_answer_of env (wish_by text identifier o) b (session_at birth b.records)) said
 
+-- options that are read are answered as they are asked for
 pub read_does : (birth : ℕ) (identifier : Option ℕ) (text given : List ℕ) (byte : ℕ) (options : SubscriptionOptions) (s new : Stepping) → byte ≡ options_byte options → given ≡ text
     → Does (answers birth (asked_for given options identifier)) s new → Does (answers_to birth identifier (asking text byte)) s new
 read_does birth identifier text given byte options s new is same done = λ choice.
@@ -80,6 +85,7 @@ read_does birth identifier text given byte options s new is same done = λ choic
     ∙ ap (λ (a : FilterAnswer). a.deeds) (read_is birth identifier text byte options (env_in choice s) s.broker is))
     (done choice)
 
+-- or that is refused
 pub read_left : (birth : ℕ) (identifier : Option ℕ) (text given : List ℕ) (byte : ℕ) (options : SubscriptionOptions) (fault : StepFault) (s new : Stepping) → byte ≡ options_byte options → given ≡ text
     → Leaves (answers birth (asked_for given options identifier)) fault s new → Leaves (answers_to birth identifier (asking text byte)) fault s new
 read_left birth identifier text given byte options fault s new is same left = λ choice.
@@ -88,6 +94,7 @@ read_left birth identifier text given byte options fault s new is same left = λ
     ∙ ap (λ (a : FilterAnswer). a.deeds) (read_is birth identifier text byte options (env_in choice s) s.broker is))
     (left choice)
 
+-- the code of the answer is added
 pub read_code : (birth : ℕ) (identifier : Option ℕ) (text given : List ℕ) (byte : ℕ) (options : SubscriptionOptions) (codes codes2 : List ℕ) (env : Env) (b : Broker) → byte ≡ options_byte options → given ≡ text
     → codes2 ≡ codes ++ (answer_at birth (asked_for given options identifier) env b).code ∷ [] → codes2 ≡ codes ++ (answer_to birth identifier (asking text byte) env b).code ∷ []
 read_code birth identifier text given byte options codes codes2 env b is same pushed =
@@ -95,6 +102,7 @@ read_code birth identifier text given byte options codes codes2 env b is same pu
     ∙ (ap (λ t. codes ++ (answer_at birth (asked_for t options identifier) env b).code ∷ []) same
     ∙ ap (λ (a : FilterAnswer). codes ++ a.code ∷ []) (read_is birth identifier text byte options env b is))
 
+-- and the copies that it brings
 pub read_late : (birth : ℕ) (identifier : Option ℕ) (text given : List ℕ) (byte : ℕ) (options : SubscriptionOptions) (late late2 : List CopyTo) (env : Env) (b : Broker) → byte ≡ options_byte options → given ≡ text
     → late2 ≡ late ++ (answer_at birth (asked_for given options identifier) env b).late → late2 ≡ late ++ (answer_to birth identifier (asking text byte) env b).late
 read_late birth identifier text given byte options late late2 env b is same pushed =
@@ -113,6 +121,7 @@ deeds_are birth identifier (a ∷ rest) env b =
     let ds : List Deed = answers_to birth identifier a env b in
     ap (λ es. ds ++ es) (deeds_are birth identifier rest env (after_all ds b))
 
+-- each filter has one answer
 pub length_answers : (birth : ℕ) (identifier : Option ℕ) (filters : List Asked) (env : Env) (b : Broker) → length (all_answers birth identifier filters env b).codes ≡ length filters
 length_answers birth identifier [] env b = refl
 length_answers birth identifier (a ∷ rest) env b = ap suc (length_answers birth identifier rest env (after_all (answers_to birth identifier a env b) b))
@@ -127,6 +136,7 @@ pub record Answering (birth : ℕ) (identifier : Option ℕ) (rest all : List As
   pub fit : AllByRecursion IsSubscription rest
   pub spelled : AllByRecursion IsSpelled late
 
+-- at first all filters are still to be answered
 pub answers_first : (birth : ℕ) (identifier : Option ℕ) (all : List Asked) (codes : List ℕ) (late : List MessageCopy) (first : Stepping) → codes ≡ [] → late ≡ [] → HaveFiltersOnce first.broker.records
     → AllByRecursion (λ (k : RetainedMessage). IsPublished k.content) first.broker.records.retained → AllByRecursion IsSubscription all → Answering birth identifier all all codes late first first
 answers_first birth identifier all codes late first no_codes no_late once lawful fit = record {
@@ -148,6 +158,7 @@ pub answers_fit : (birth : ℕ) (identifier : Option ℕ) (a : Asked) (rest xs a
     → Answering birth identifier xs all codes late first s → FitsText a.filter
 answers_fit birth identifier a rest xs all codes late first s is w = (at_front birth identifier a rest xs all codes late first s is w).fit.0.0
 
+-- an answer leaves those behind it
 pub answers_step : (birth : ℕ) (identifier : Option ℕ) (a : Asked) (rest xs all : List Asked) (codes codes2 : List ℕ) (late late2 : List MessageCopy) (first s s2 : Stepping) → xs ≡ a ∷ rest
     → Answering birth identifier xs all codes late first s
     → Does (answers_to birth identifier a) s s2
@@ -186,6 +197,7 @@ answers_step birth identifier a rest xs all codes codes2 late late2 first s s2 i
       spelled = spelled here.spelled;
     }
 
+-- the answers may be refused at one
 pub answers_left : (birth : ℕ) (identifier : Option ℕ) (a : Asked) (rest xs all : List Asked) (codes : List ℕ) (late : List MessageCopy) (fault : StepFault) (first s new : Stepping) → xs ≡ a ∷ rest
     → Answering birth identifier xs all codes late first s → Leaves (answers_to birth identifier a) fault s new → Leaves (answers_all birth identifier all) fault first new
 answers_left birth identifier a rest xs all codes late fault first s new is w left = λ choice.
@@ -198,6 +210,7 @@ at_end : (birth : ℕ) (identifier : Option ℕ) (rest all : List Asked) (codes 
     → Answering birth identifier rest all codes late first s → Answering birth identifier [] all codes late first s
 at_end birth identifier rest all codes late first s none w = subst (λ (ys : List Asked). Answering birth identifier ys all codes late first s) none w
 
+-- behind the last all are answered
 pub answers_done : (birth : ℕ) (identifier : Option ℕ) (rest all : List Asked) (codes : List ℕ) (late : List MessageCopy) (first s : Stepping) → rest ≡ []
     → Answering birth identifier rest all codes late first s → Does (answers_all birth identifier all) first s
 answers_done birth identifier rest all codes late first s none w = λ choice.
@@ -206,11 +219,13 @@ answers_done birth identifier rest all codes late first s none w = λ choice.
     (deeds_are birth identifier all (env_in choice first) first.broker)
     (leads_last (each_answer birth identifier all) first s here.leads choice)
 
+-- and the codes are theirs
 pub answers_codes : (birth : ℕ) (identifier : Option ℕ) (rest all : List Asked) (codes : List ℕ) (late : List MessageCopy) (first s : Stepping) (choice : MemberChoice) → rest ≡ []
     → Answering birth identifier rest all codes late first s → codes ≡ (all_answers birth identifier all (env_in choice first) first.broker).codes
 answers_codes birth identifier rest all codes late first s choice none w =
     sym (append-nil codes) ∙ (at_end birth identifier rest all codes late first s none w).coded choice
 
+-- and so are the copies that go out behind the SUBACK
 pub answers_late : (birth : ℕ) (identifier : Option ℕ) (rest all : List Asked) (codes : List ℕ) (late : List MessageCopy) (first s : Stepping) (choice : MemberChoice) → rest ≡ []
     → Answering birth identifier rest all codes late first s → addressed_all late ≡ (all_answers birth identifier all (env_in choice first) first.broker).late
 answers_late birth identifier rest all codes late first s choice none w =

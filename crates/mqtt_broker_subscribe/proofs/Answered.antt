@@ -33,6 +33,7 @@ all_filter p (k ∷ ks) all = elim (cases_Bool (p k)) [
   | inr isnt ↦ rw isnt (all_filter p ks all.1)
 ]
 
+-- retained messages that are brought are lawful if all are
 pub messages_lawful : (now : ℕ) (x : Session) (w : Wish) (ks kept : List RetainedMessage) → kept ≡ messages now x w ks → AllByRecursion (λ (k : RetainedMessage). IsPublished k.content) ks
     → AllByRecursion (λ (k : RetainedMessage). IsPublished k.content) kept
 messages_lawful now x w ks kept is all =
@@ -50,6 +51,7 @@ pub record Looked (birth : ℕ) (x : Session) (w : Wish) (kept : List RetainedMe
   pub held : kept ≡ messages (moment_of s.broker) x w s.broker.records.retained
   pub may : (choice : MemberChoice) → t ≡ has_room (room (env_in choice s) x) x w (chosen true birth (next_number s.broker.records) w kept)
 
+-- a look at a filter finds what it brings, and whether there is room for it
 pub looked : (birth left : ℕ) (x : Session) (w : Wish) (kept kept2 : List RetainedMessage) (t t2 : Bool) (s : Stepping) → session_at birth s.broker.records ≡ Some x → is_filter w.filter ≡ true
     → ((choice : MemberChoice) → left ≡ room (env_in choice s) x) → kept ≡ messages (moment_of s.broker) x w s.broker.records.retained
     → t ≡ has_room left x w (chosen true birth (next_number s.broker.records) w kept) → kept2 ≡ kept → t2 ≡ t → Looked birth x w kept2 t2 s
@@ -71,6 +73,7 @@ look_is : (birth : ℕ) (x : Session) (w : Wish) (kept : List RetainedMessage) (
     → by_look birth x w kept t s choice ≡ answer_at birth w (env_in choice s) s.broker
 look_is birth x w kept t s choice l = answer_is birth x w kept t (env_in choice s) s.broker l.found l.valid l.held (l.may choice)
 
+-- if there is, the copies find room
 pub look_room : (birth : ℕ) (x : Session) (w : Wish) (kept : List RetainedMessage) (s : Stepping) → Looked birth x w kept true s → FindsRoom birth w kept s
 look_room birth x w kept s l = record {
   session = x;
@@ -80,10 +83,12 @@ look_room birth x w kept s l = record {
 
 -- ---- granted
 
+-- then the subscription is granted, and that is the answer
 pub look_ok : (birth : ℕ) (x : Session) (w : Wish) (kept : List RetainedMessage) (s new : Stepping) → Looked birth x w kept true s → Does (grants x w kept) s new → Does (answers birth w) s new
 look_ok birth x w kept s new l done = λ choice.
     same_act (grants x w kept (env_in choice s)) (answers birth w (env_in choice s)) s new (ap (λ (a : FilterAnswer). a.deeds) (look_is birth x w kept true s choice l)) (done choice)
 
+-- or that is refused
 pub look_left : (birth : ℕ) (x : Session) (w : Wish) (kept : List RetainedMessage) (fault : StepFault) (s new : Stepping) → Looked birth x w kept true s → Leaves (grants x w kept) fault s new → Leaves (answers birth w) fault s new
 look_left birth x w kept fault s new l left = λ choice.
     same_left (grants x w kept (env_in choice s)) (answers birth w (env_in choice s)) fault s new (ap (λ (a : FilterAnswer). a.deeds) (look_is birth x w kept true s choice l)) (left choice)
@@ -92,6 +97,7 @@ addressed_more : (xs ys : List MessageCopy) → addressed_all (xs ++ ys) ≡ add
 addressed_more [] ys = refl
 addressed_more (x ∷ xs) ys = ap (λ (ds : List CopyTo). addressed x ∷ ds) (addressed_more xs ys)
 
+-- its copies of QoS 0 are those that the answer has
 pub look_late : (birth : ℕ) (x : Session) (w : Wish) (kept : List RetainedMessage) (late late2 : List MessageCopy) (s : Stepping) (choice : MemberChoice) → Looked birth x w kept true s
     → late2 ≡ late ++ chosen false birth (next_number s.broker.records) w kept
     → addressed_all late2 ≡ addressed_all late ++ (answer_at birth w (env_in choice s) s.broker).late
@@ -106,6 +112,7 @@ look_late birth x w kept late late2 s choice l more =
 
 -- ---- its code
 
+-- and so is its code
 pub look_code : (birth : ℕ) (x : Session) (w : Wish) (kept : List RetainedMessage) (t : Bool) (codes codes2 : List ℕ) (code : ℕ) (s : Stepping) (choice : MemberChoice) → Looked birth x w kept t s
     → codes2 ≡ codes ++ code ∷ [] → code ≡ (by_look birth x w kept t s choice).code
     → codes2 ≡ codes ++ (answer_at birth w (env_in choice s) s.broker).code ∷ []
@@ -114,11 +121,13 @@ look_code birth x w kept t codes codes2 code s choice l pushed is =
 
 -- ---- refused
 
+-- a filter that is refused is answered by doing nothing
 pub refused_does : (birth : ℕ) (x : Session) (w : Wish) (kept : List RetainedMessage) (s : Stepping) → Looked birth x w kept false s → Does (answers birth w) s s
 refused_does birth x w kept s l = λ choice. record {
   is = sym (did_none s) ∙ ap (λ (a : FilterAnswer). did a.deeds s) (look_is birth x w kept false s choice l);
 }
 
+-- and brings no copy
 pub refused_late : (birth : ℕ) (x : Session) (w : Wish) (kept : List RetainedMessage) (late : List MessageCopy) (s : Stepping) (choice : MemberChoice) → Looked birth x w kept false s
     → addressed_all late ≡ addressed_all late ++ (answer_at birth w (env_in choice s) s.broker).late
 refused_late birth x w kept late s choice l =

@@ -12,6 +12,7 @@ use Rattle.mqtt_rules.specs.Contents.{IsPublished}
 use Rattle.mqtt_rules.specs.Subscribe.{Wish, is_brought, kept_of, message_in}
 use Rattle.mqtt_broker_subscribe.specs.Bringing.{brings}
 
+-- what the walk brings is what the definition brings
 pub brings_is : (now : ℕ) (s : Session) (w : Wish) (ks : List RetainedMessage)
     → filter (brings now s w) ks ≡ filter (is_brought now s w) (map message_in (kept_for w.filter (map kept_of ks)))
 brings_is now s w [] = refl
@@ -34,6 +35,7 @@ one_more now s w k rest = elim (cases_Bool (brings now s w k)) [
   | inr other ↦ rw other refl
 ]
 
+-- a message that is looked at is brought if the definition brings it
 pub brings_next : (now : ℕ) (s : Session) (text : List ℕ) (options : SubscriptionOptions) (k : RetainedMessage) (rest xs all done done2 : List RetainedMessage) → xs ≡ k ∷ rest → Bringing now s text options xs all done
     → ((w : Wish) → w.filter ≡ text → w.options ≡ options → done2 ≡ done ++ filter (brings now s w) (k ∷ [])) → Bringing now s text options rest all done2
 brings_next now s text options k rest xs all done done2 is b more = record {
@@ -45,10 +47,12 @@ brings_next now s text options k rest xs all done done2 is b more = record {
   lawful = (subst (λ (ys : List RetainedMessage). AllByRecursion (λ (k : RetainedMessage). IsPublished k.content) ys) is b.lawful).1;
 }
 
+-- it is lawful
 pub brings_lawful : (now : ℕ) (s : Session) (text : List ℕ) (options : SubscriptionOptions) (k : RetainedMessage) (rest xs all done : List RetainedMessage) → xs ≡ k ∷ rest → Bringing now s text options xs all done → IsPublished k.content
 brings_lawful now s text options k rest xs all done is b =
     (subst (λ (ys : List RetainedMessage). AllByRecursion (λ (k : RetainedMessage). IsPublished k.content) ys) is b.lawful).0
 
+-- behind the last all are brought that the definition brings
 pub brings_last : (now : ℕ) (s : Session) (text : List ℕ) (options : SubscriptionOptions) (rest all done : List RetainedMessage) (w : Wish) → length rest ≡ 0 → Bringing now s text options rest all done → w.filter ≡ text → w.options ≡ options
     → done ≡ filter (is_brought now s w) (map message_in (kept_for w.filter (map kept_of all)))
 brings_last now s text options [] all done w none b f o = sym (append-nil done) ∙ (b.same w f o ∙ brings_is now s w all)

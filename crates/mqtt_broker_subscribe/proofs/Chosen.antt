@@ -32,6 +32,7 @@ next_le n left false = refl
 pub record Fitting (o : SubscriptionOptions) (rest all : List RetainedMessage) (room room0 : ℕ) : Type 0 where
   pub same : (birth number : ℕ) (w : Wish) → w.options ≡ o → nat_le (length (chosen true birth number w rest)) room ≡ nat_le (length (chosen true birth number w all)) room0
 
+-- a message that takes room leaves one less
 pub fits_next : (o : SubscriptionOptions) (k : RetainedMessage) (rest xs all : List RetainedMessage) (left room room0 : ℕ) → xs ≡ k ∷ rest → Fitting o xs all room room0
     → room ≡ cond (queues o k) (suc left) left → Fitting o rest all left room0
 fits_next o k rest xs all left room room0 is w less = record {
@@ -43,6 +44,7 @@ fits_next o k rest xs all left room room0 is w less = record {
       ∙ (ap (λ (ys : List RetainedMessage). nat_le (length (chosen true birth number v ys)) room) (sym is) ∙ w.same birth number v same)));
 }
 
+-- where none is left the copies do not fit
 pub fits_full : (o : SubscriptionOptions) (k : RetainedMessage) (rest xs all : List RetainedMessage) (room room0 birth number : ℕ) (v : Wish) → xs ≡ k ∷ rest → Fitting o xs all room room0
     → queues o k ≡ true → room ≡ 0 → v.options ≡ o → false ≡ nat_le (length (chosen true birth number v all)) room0
 fits_full o k rest xs all room room0 birth number v is w queued none same =
@@ -52,6 +54,7 @@ fits_full o k rest xs all room room0 birth number v is w queued none same =
     ∙ (ap (λ r. nat_le (length (chosen true birth number v (k ∷ rest))) r) (sym none)
     ∙ (ap (λ (ys : List RetainedMessage). nat_le (length (chosen true birth number v ys)) room) (sym is) ∙ w.same birth number v same)))
 
+-- behind the last they do
 pub fits_last : (o : SubscriptionOptions) (rest all : List RetainedMessage) (room room0 birth number : ℕ) (v : Wish) → length rest ≡ 0 → Fitting o rest all room room0
     → v.options ≡ o → true ≡ nat_le (length (chosen true birth number v all)) room0
 fits_last o [] all room room0 birth number v none w same = sym (leb-zero room) ∙ w.same birth number v same
@@ -69,6 +72,7 @@ kept_one queued c cs = elim (cases_Bool (is_chosen queued c)) [
   | inr other ↦ rw other refl
 ]
 
+-- a message is copied if it is of the kind that is wanted
 pub pushes_next : (queued : Bool) (birth number : ℕ) (o : SubscriptionOptions) (identifier : Option ℕ) (k : RetainedMessage) (rest xs all : List RetainedMessage) (done done2 old : List MessageCopy)
     → xs ≡ k ∷ rest → Pushing queued birth number o identifier xs all done old
     → ((w : Wish) → w.options ≡ o → w.identifier ≡ identifier → done2 ≡ done ++ chosen queued birth number w (k ∷ [])) → Pushing queued birth number o identifier rest all done2 old
@@ -82,6 +86,7 @@ pushes_next queued birth number o identifier k rest xs all done done2 old is b m
       ∙ (ap (λ (ys : List RetainedMessage). done ++ chosen queued birth number w ys) (sym is) ∙ b.same w f i)));
 }
 
+-- behind the last all of that kind are copied
 pub pushes_last : (queued : Bool) (birth number : ℕ) (o : SubscriptionOptions) (identifier : Option ℕ) (rest all : List RetainedMessage) (done old : List MessageCopy) (w : Wish)
     → length rest ≡ 0 → Pushing queued birth number o identifier rest all done old → w.options ≡ o → w.identifier ≡ identifier → done ≡ old ++ chosen queued birth number w all
 pushes_last queued birth number o identifier [] all done old w none b f i = sym (append-nil done) ∙ b.same w f i

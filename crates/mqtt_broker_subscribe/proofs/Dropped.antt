@@ -19,17 +19,21 @@ any_some f (x ∷ xs) = elim (cases_Bool (bytes_eq x.filter f)) [
   | inr other ↦ rw other (any_some f xs)
 ]
 
+-- a filter that is found is had
 pub found_has : (f : List ℕ) (x : Subscription) (s : Session) → find (is_to f) s.subscriptions ≡ Some x → has_filter f s ≡ true
 found_has f x s found = sym (any_some f s.subscriptions) ∙ ap is_some found
 
+-- one that is not found is not
 pub none_has : (f : List ℕ) (s : Session) → find (is_to f) s.subscriptions ≡ None → has_filter f s ≡ false
 none_has f s none = sym (any_some f s.subscriptions) ∙ ap is_some none
 
 -- ---- what is gone
 
+-- what is not had is not left to be dropped
 pub not_held_left : (f : List ℕ) (gone : List (List ℕ)) (s : Session) → find (is_to f) s.subscriptions ≡ None → is_left f gone s ≡ false
 not_held_left f gone s none = ap (λ b. b && not (list_any (bytes_eq f) gone)) (none_has f s none)
 
+-- nor is what was dropped before
 pub gone_left : (f : List ℕ) (gone : List (List ℕ)) (s : Session) → list_any (bytes_eq f) gone ≡ true → is_left f gone s ≡ false
 gone_left f gone s is = ap (λ b. has_filter f s && not b) is ∙ and_false (has_filter f s)
   where
@@ -37,12 +41,15 @@ gone_left f gone s is = ap (λ b. has_filter f s && not b) is ∙ and_false (has
     and_false true = refl
     and_false false = refl
 
+-- what is had and was not dropped is
 pub held_left : (f : List ℕ) (x : Subscription) (gone : List (List ℕ)) (s : Session) → find (is_to f) s.subscriptions ≡ Some x → list_any (bytes_eq f) gone ≡ false → is_left f gone s ≡ true
 held_left f x gone s found isnt = ap (λ b. b && not (list_any (bytes_eq f) gone)) (found_has f x s found) ∙ ap not isnt
 
+-- dropping what is not left drops nothing
 pub not_left_after : (f : List ℕ) (gone : List (List ℕ)) (s : Session) → is_left f gone s ≡ false → gone ≡ gone_after f gone s
 not_left_after f gone s isnt = ap (λ (b : Bool). cond b (gone ++ f ∷ []) gone) (sym isnt)
 
+-- dropping what is left drops that one
 pub left_after : (f : List ℕ) (gone : List (List ℕ)) (s : Session) → is_left f gone s ≡ true → gone ++ f ∷ [] ≡ gone_after f gone s
 left_after f gone s is = ap (λ (b : Bool). cond b (gone ++ f ∷ []) gone) (sym is)
 
@@ -82,6 +89,7 @@ still f g gone seen s are isnt has = elim (cases_Bool (bytes_eq f g)) [
     not_false true e = refl
     not_false false e = absurd cc
 
+-- what was dropped is what was had of the filters seen
 pub gone_next : (g : List ℕ) (gone seen : List (List ℕ)) (s : Session) → AreGone gone seen s → AreGone (gone_after g gone s) (g ∷ seen) s
 gone_next g gone seen s are f has = elim (cases_Bool (is_left g gone s)) [
   | inl left ↦
@@ -107,6 +115,7 @@ pub record Coding (rest all : List (List ℕ)) (codes : List ℕ) (gone : List (
   pub are : AreGone gone seen s
   pub same : codes ++ drop_codes s seen rest ≡ drop_codes s [] all
 
+-- at first no filter has a code
 pub codes_first : (all : List (List ℕ)) (codes : List ℕ) (gone : List (List ℕ)) (s : Session) → codes ≡ [] → gone ≡ [] → Coding all all codes gone s
 codes_first all codes gone s none empty = record {
   seen = [];
@@ -114,6 +123,7 @@ codes_first all codes gone s none empty = record {
   same = ap (λ cs. cs ++ drop_codes s [] all) none;
 }
 
+-- a filter gets its code
 pub codes_next : (f : List ℕ) (rest xs all : List (List ℕ)) (codes codes2 : List ℕ) (code : ℕ) (gone gone2 : List (List ℕ)) (s : Session) → xs ≡ f ∷ rest → Coding xs all codes gone s
     → code ≡ drop_code (is_filter f) (is_left f gone s) → gone2 ≡ gone_after f gone s → codes2 ≡ codes ++ code ∷ [] → Coding rest all codes2 gone2 s
 codes_next f rest xs all codes codes2 code gone gone2 s is w code_of gone_of pushed =
@@ -127,15 +137,18 @@ codes_next f rest xs all codes codes2 code gone gone2 s is w code_of gone_of pus
           ∙ (ap (λ ys. codes ++ drop_codes s w.seen ys) (sym is) ∙ w.same)));
     }
 
+-- behind the last all have theirs
 pub codes_last : (rest all : List (List ℕ)) (codes : List ℕ) (gone : List (List ℕ)) (s : Session) → rest ≡ [] → Coding rest all codes gone s → codes ≡ drop_codes s [] all
 codes_last rest all codes gone s none w = sym (append-nil codes) ∙ (ap (λ ys. codes ++ drop_codes s w.seen ys) (sym none) ∙ w.same)
 
 -- ---- those that are held
 
+-- a filter that is had is one to be dropped
 pub held_one : (f : List ℕ) (x : Subscription) (s : Session) → find (is_to f) s.subscriptions ≡ Some x → x.filter ∷ [] ≡ held (f ∷ []) s
 held_one f x s found =
     ap (λ t. t ∷ []) (found_filter f x s.subscriptions found) ∙ sym (rw (found_has f x s found) refl)
 
+-- one that is not had is none
 pub held_none : (f : List ℕ) (s : Session) → find (is_to f) s.subscriptions ≡ None → [] ≡ held (f ∷ []) s
 held_none f s none = sym (rw (none_has f s none) refl)
 
@@ -145,6 +158,7 @@ held_cons f rest s = elim (cases_Bool (has_filter f s)) [
   | inr none ↦ rw none refl
 ]
 
+-- the filters that are had are gathered one by one
 pub held_next : (f : List ℕ) (rest xs all done done2 : List (List ℕ)) (s : Session) → xs ≡ f ∷ rest → done ++ held xs s ≡ held all s
     → done2 ≡ done ++ held (f ∷ []) s → done2 ++ held rest s ≡ held all s
 held_next f rest xs all done done2 s is w more =
@@ -152,5 +166,6 @@ held_next f rest xs all done done2 s is w more =
     ∙ (append_assoc done (held (f ∷ []) s) (held rest s)
     ∙ (ap (λ ys. done ++ ys) (held_cons f rest s) ∙ (ap (λ ys. done ++ held ys s) (sym is) ∙ w)))
 
+-- behind the last all are gathered
 pub held_last : (rest all done : List (List ℕ)) (s : Session) → rest ≡ [] → done ++ held rest s ≡ held all s → done ≡ held all s
 held_last rest all done s none w = sym (append-nil done) ∙ (ap (λ ys. done ++ held ys s) (sym none) ∙ w)

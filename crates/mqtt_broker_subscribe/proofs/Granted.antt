@@ -42,6 +42,7 @@ queued_are birth number w (k ∷ ks) = elim (cases_Bool (is_chosen true (retaine
   | inr other ↦ rw other (queued_are birth number w ks)
 ]
 
+-- copies of QoS 0 are those that go out behind the SUBACK
 pub late_are : (birth number : ℕ) (w : Wish) (ks : List RetainedMessage) → addressed_all (chosen false birth number w ks) ≡ filter (λ d. not (is_queued d)) (map (retained_copy_to birth number w) ks)
 late_are birth number w [] = refl
 late_are birth number w (k ∷ ks) = elim (cases_Bool (is_chosen true (retained_copy birth number w k))) [
@@ -65,6 +66,7 @@ chosen_spelled queued birth number w (k ∷ ks) lawful h =
       | inr other ↦ rw other more
     ]
 
+-- two lists of copies with a spelling have one together
 pub all_spelled : (xs ys : List MessageCopy) → AllByRecursion IsSpelled xs → AllByRecursion IsSpelled ys → AllByRecursion IsSpelled (xs ++ ys)
 all_spelled [] ys before more = more
 all_spelled (x ∷ xs) ys before more = (before.0, all_spelled xs ys before.1 more)
@@ -154,6 +156,7 @@ granted_ok birth x w ks copies s s1 s2 found made first second = λ choice.
     (granted_is birth x w ks copies env s.broker found made)
     (did_then (enrolls x w) (delivers_all (addressed_all copies) env) s s1 s2 first then_s)
 
+-- a grant may be refused at the subscription
 pub enroll_left : (birth : ℕ) (x : Session) (w : Wish) (ks : List RetainedMessage) (fault : StepFault) (s new : Stepping) → session_at birth s.broker.records ≡ Some x
     → IsLeft (enrolls x w) fault s new → Leaves (grants x w ks) fault s new
 enroll_left birth x w ks fault s new found left = λ choice.
@@ -163,6 +166,7 @@ enroll_left birth x w ks fault s new found left = λ choice.
     (granted_is birth x w ks copies env s.broker found refl)
     (left_first (enrolls x w) (delivers_all (addressed_all copies) env) fault s new left)
 
+-- or at the copies
 pub deliver_left : (birth : ℕ) (x : Session) (w : Wish) (ks : List RetainedMessage) (copies : List MessageCopy) (fault : StepFault) (s s1 new : Stepping) → session_at birth s.broker.records ≡ Some x
     → copies ≡ chosen true birth (next_number s.broker.records) w ks → Did (enrolls x w) s s1 → Leaves (delivers_all (addressed_all copies)) fault s1 new → Leaves (grants x w ks) fault s new
 deliver_left birth x w ks copies fault s s1 new found made first second = λ choice.
@@ -186,6 +190,7 @@ memory_after f act fault s new is memory = λ choice. record {
 
 -- ---- what becomes of the filter
 
+-- what a subscription brings is what the definition has
 pub messages_are : (now : ℕ) (x : Session) (w : Wish) (ks found : List RetainedMessage) → begins_share w.filter ≡ false → wants_retained w.options.retain_handling (has_filter w.filter x) ≡ true
     → found ≡ filter (is_brought now x w) (map message_in (kept_for w.filter (map kept_of ks))) → found ≡ messages now x w ks
 messages_are now x w ks found plain wants is =

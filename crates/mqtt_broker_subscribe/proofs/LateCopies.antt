@@ -30,12 +30,15 @@ pub record Sending (line : ℕ) (largest : Option ℕ) (now : ℕ) (rest all : L
   pub leads : LeadsOn (λ env. each_late line largest now rest) (λ env. each_late line largest now all) first s
   pub spelled : AllByRecursion IsSpelled rest
 
+-- at first all copies are still to be sent
 pub sends_first : (line : ℕ) (largest : Option ℕ) (now : ℕ) (all : List MessageCopy) (first : Stepping) → AllByRecursion IsSpelled all → Sending line largest now all all first first
 sends_first line largest now all first spelled = record { leads = leads_first (λ env. each_late line largest now all) first; spelled = spelled }
 
+-- each of them has a spelling
 pub sends_spelled : (line : ℕ) (largest : Option ℕ) (now : ℕ) (copy : MessageCopy) (rest xs all : List MessageCopy) (first s : Stepping) → xs ≡ copy ∷ rest → Sending line largest now xs all first s → IsSpelled copy
 sends_spelled line largest now copy rest xs all first s is w = (subst (λ (cs : List MessageCopy). AllByRecursion IsSpelled cs) is w.spelled).0
 
+-- one that is sent leaves those behind it
 pub sends_step : (line : ℕ) (largest : Option ℕ) (now : ℕ) (copy : MessageCopy) (rest xs all : List MessageCopy) (first s s2 : Stepping) → xs ≡ copy ∷ rest → Sending line largest now xs all first s
     → Did (one_late line largest now copy) s s2 → Sending line largest now rest all first s2
 sends_step line largest now copy rest xs all first s s2 is w done =
@@ -45,6 +48,7 @@ sends_step line largest now copy rest xs all first s s2 is w done =
       spelled = here.spelled.1;
     }
 
+-- sending may be refused at one
 pub sends_left : (line : ℕ) (largest : Option ℕ) (now : ℕ) (copy : MessageCopy) (rest xs all : List MessageCopy) (fault : StepFault) (first s new : Stepping) → xs ≡ copy ∷ rest → Sending line largest now xs all first s
     → IsLeft (one_late line largest now copy) fault s new → IsLeft (always (late_within line largest now all)) fault first new
 sends_left line largest now copy rest xs all fault first s new is w left =
@@ -52,6 +56,7 @@ sends_left line largest now copy rest xs all fault first s new is w left =
     same_left (each_late line largest now all) (always (late_within line largest now all)) fault first new (late_is line largest now all first.broker)
     (leads_left (λ env. one_late line largest now copy) (λ env. map (one_late line largest now) rest) (λ env. each_late line largest now all) fault first s new here.leads (λ choice. left) (λ n client. []))
 
+-- behind the last all are sent
 pub sends_last : (line : ℕ) (largest : Option ℕ) (now : ℕ) (rest all : List MessageCopy) (first s : Stepping) → length rest ≡ 0 → Sending line largest now rest all first s → Did (always (late_within line largest now all)) first s
 sends_last line largest now [] all first s none w =
     same_act (each_late line largest now all) (always (late_within line largest now all)) first s (late_is line largest now all first.broker)

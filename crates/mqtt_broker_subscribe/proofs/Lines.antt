@@ -17,6 +17,7 @@ found_is n (l ∷ ls) = elim (cases_Bool (nat_eq l.number n)) [
   | inr later ↦ rw later (found_is n ls)
 ]
 
+-- a line found by its key is the line of its number
 pub line_is : (n : ℕ) (b : Broker) → row_at line_number n b.lines ≡ line_at n b
 line_is n b = found_is n b.lines
 

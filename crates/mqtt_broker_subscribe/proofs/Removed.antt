@@ -28,9 +28,11 @@ pub record Removing (birth : ℕ) (rest all : List (List ℕ)) (first s : Steppi
   pub leads : LeadsOn (λ env. removes_all birth rest) (λ env. removes_all birth all) first s
   pub once : HaveFiltersOnce s.broker.records
 
+-- at first all filters are still to be removed
 pub removes_first : (birth : ℕ) (all : List (List ℕ)) (first : Stepping) → HaveFiltersOnce first.broker.records → Removing birth all all first first
 removes_first birth all first once = record { leads = leads_first (λ env. removes_all birth all) first; once = once }
 
+-- one that is removed leaves those behind it
 pub removes_step : (birth : ℕ) (f : List ℕ) (rest xs all : List (List ℕ)) (first s s2 : Stepping) → xs ≡ f ∷ rest → Removing birth xs all first s
     → Did (to_session birth (Unsubscribe f)) s s2 → Removing birth rest all first s2
 removes_step birth f rest xs all first s s2 is w done =
@@ -40,12 +42,14 @@ removes_step birth f rest xs all first s s2 is w done =
       once = once_kept (to_session birth (Unsubscribe f)) s s2 done here.once;
     }
 
+-- removing may be refused at one
 pub removes_left : (birth : ℕ) (f : List ℕ) (rest xs all : List (List ℕ)) (fault : StepFault) (first s new : Stepping) → xs ≡ f ∷ rest → Removing birth xs all first s
     → IsLeft (to_session birth (Unsubscribe f)) fault s new → IsLeft (removes_all birth all) fault first new
 removes_left birth f rest xs all fault first s new is w left =
     let here : Removing birth (f ∷ rest) all first s = subst (λ (ys : List (List ℕ)). Removing birth ys all first s) is w in
     leads_left (λ env. to_session birth (Unsubscribe f)) (λ env. map (λ g. to_session birth (Unsubscribe g)) rest) (λ env. removes_all birth all) fault first s new here.leads (λ choice. left) (λ n client. [])
 
+-- behind the last all are removed
 pub removes_last : (birth : ℕ) (rest all : List (List ℕ)) (first s : Stepping) → length rest ≡ 0 → Removing birth rest all first s → Did (removes_all birth all) first s
 removes_last birth [] all first s none w = leads_last (λ env. removes_all birth all) first s w.leads (λ n client. [])
 removes_last birth (f ∷ rest) all first s none w = absurd cc
@@ -67,6 +71,7 @@ all_are x (f ∷ fs) b found =
     ap (λ ds. ds ++ series acts (after_all ds b)) (one_is x.birth (Unsubscribe f) x b found)
     ∙ ap (λ ds. d ∷ ds) (all_are (without_subscription f x) fs (after d b) (stays_whose x f b found))
 
+-- removing those that are had is dropping those that are named
 pub drops_is : (birth : ℕ) (x : Session) (filters : List (List ℕ)) (b : Broker) → session_at birth b.records ≡ Some x → removes_all birth (held filters x) b ≡ drops birth filters b
 drops_is birth x filters b found =
     let own : x.birth ≡ birth = found_birth birth b.records.sessions x found in

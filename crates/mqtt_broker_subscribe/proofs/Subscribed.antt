@@ -44,6 +44,7 @@ many_bytes (a ∷ rest) =
     let one = length-append (blob a.filter) (a.options ∷ []) in
     omega (arith, more, both, one)
 
+-- a SUBSCRIBE that may come has few filters
 pub few_filters : (p : Subscribe) → IsTaken (packets.Subscribe p) → length p.subscriptions + 3 < 2 ^ 28
 few_filters p taken =
     let short = taken.short in
@@ -54,6 +55,7 @@ few_filters p taken =
     let many = many_bytes p.subscriptions in
     omega (arith, short, framing, first, second, many)
 
+-- and each fits a field
 pub texts_fit : (p : Subscribe) → IsTaken (packets.Subscribe p) → AllByRecursion IsSubscription p.subscriptions
 texts_fit p taken = taken.spelled.0.2
 
@@ -66,11 +68,13 @@ refused_is line x p largest codes env b is told =
     ∙ (ap (λ cs. offer_within line (largest_on line b) (suback p.identifier cs)) told
     ∙ offer_is line (suback p.identifier (map (λ (a : Asked). identifier_in_use) p.subscriptions)) b)
 
+-- an identifier in use is answered by 0x91 for each filter
 pub refused_ok : (line : ℕ) (x : Session) (p : Subscribe) (largest : Option ℕ) (codes : List ℕ) (s new : Stepping) → largest ≡ largest_on line s.broker
     → codes ≡ map (λ (a : Asked). identifier_in_use) p.subscriptions → Did (always (offer_within line largest (suback p.identifier codes))) s new → Does (λ env. subscribe_by true env line x p) s new
 refused_ok line x p largest codes s new is told done = λ choice.
     same_act (always (offer_within line largest (suback p.identifier codes))) (subscribe_by true (env_in choice s) line x p) s new (refused_is line x p largest codes (env_in choice s) s.broker is told) done
 
+-- or that is refused
 pub refused_left : (line : ℕ) (x : Session) (p : Subscribe) (largest : Option ℕ) (codes : List ℕ) (fault : StepFault) (s new : Stepping) → largest ≡ largest_on line s.broker
     → codes ≡ map (λ (a : Asked). identifier_in_use) p.subscriptions → IsLeft (always (offer_within line largest (suback p.identifier codes))) fault s new → Leaves (λ env. subscribe_by true env line x p) fault s new
 refused_left line x p largest codes fault s new is told left = λ choice.
@@ -78,16 +82,19 @@ refused_left line x p largest codes fault s new is told left = λ choice.
 
 -- ---- what is told
 
+-- the SUBACK, and the copies behind it: that is what is told
 pub told_ok : (line : ℕ) (largest : Option ℕ) (now identifier : ℕ) (codes : List ℕ) (late : List MessageCopy) (s s1 s2 : Stepping) → Did (always (offer_within line largest (suback identifier codes))) s s1
     → Did (always (late_within line largest now late)) s1 s2 → Did (always (tells line largest now identifier codes late)) s s2
 told_ok line largest now identifier codes late s s1 s2 first second =
     did_then (always (offer_within line largest (suback identifier codes))) (always (late_within line largest now late)) s s1 s2 first second
 
+-- telling may be refused at the SUBACK
 pub told_first : (line : ℕ) (largest : Option ℕ) (now identifier : ℕ) (codes : List ℕ) (late : List MessageCopy) (fault : StepFault) (s new : Stepping)
     → IsLeft (always (offer_within line largest (suback identifier codes))) fault s new → IsLeft (always (tells line largest now identifier codes late)) fault s new
 told_first line largest now identifier codes late fault s new left =
     left_first (always (offer_within line largest (suback identifier codes))) (always (late_within line largest now late)) fault s new left
 
+-- or at the copies
 pub told_then : (line : ℕ) (largest : Option ℕ) (now identifier : ℕ) (codes : List ℕ) (late : List MessageCopy) (fault : StepFault) (s s1 new : Stepping) → Did (always (offer_within line largest (suback identifier codes))) s s1
     → IsLeft (always (late_within line largest now late)) fault s1 new → IsLeft (always (tells line largest now identifier codes late)) fault s new
 told_then line largest now identifier codes late fault s s1 new first left =
@@ -146,6 +153,7 @@ packet_is line birth identifier x p largest now codes late s choice w =
     ∙ (ap (λ i. (by x.birth i).deeds ++ told_by line p (by x.birth i) s.broker) w.number
     ∙ by_rules line x p (env_in choice s) s.broker))
 
+-- answers to all filters, and what is told: that is the SUBSCRIBE
 pub packet_ok : (line birth : ℕ) (identifier : Option ℕ) (x : Session) (p : Subscribe) (largest : Option ℕ) (now : ℕ) (codes : List ℕ) (late : List MessageCopy) (s s1 s2 : Stepping)
     → Answered line birth identifier x p largest now codes late s → Does (answers_all birth identifier p.subscriptions) s s1
     → Did (always (tells line largest now p.identifier codes late)) s1 s2 → Does (λ env. subscribe_by false env line x p) s s2
@@ -155,6 +163,7 @@ packet_ok line birth identifier x p largest now codes late s s1 s2 w first secon
     (packet_is line birth identifier x p largest now codes late s choice w)
     (did_then act (always (tells line largest now p.identifier codes late)) s s1 s2 (first choice) second)
 
+-- it may be refused at what is told
 pub told_left : (line birth : ℕ) (identifier : Option ℕ) (x : Session) (p : Subscribe) (largest : Option ℕ) (now : ℕ) (codes : List ℕ) (late : List MessageCopy) (fault : StepFault) (s s1 new : Stepping)
     → Answered line birth identifier x p largest now codes late s → Does (answers_all birth identifier p.subscriptions) s s1
     → IsLeft (always (tells line largest now p.identifier codes late)) fault s1 new → Leaves (λ env. subscribe_by false env line x p) fault s new
@@ -183,11 +192,13 @@ whole_is : (line birth : ℕ) (x : Session) (p : Subscribe) (t : Bool) (env : En
 whole_is line birth x p t env b found is =
     ap (λ u. subscribe_by u env line x p b) (sym is) ∙ with_found birth (λ y. on_subscribe env line y p) x b found
 
+-- a SUBSCRIBE is taken as its identifier is free or in use
 pub whole_ok : (line birth : ℕ) (x : Session) (p : Subscribe) (t : Bool) (s new : Stepping) → session_at birth s.broker.records ≡ Some x → is_among p.identifier x.inbound ≡ t
     → Does (λ env. subscribe_by t env line x p) s new → Does (λ env. of_session birth (λ y. on_subscribe env line y p)) s new
 whole_ok line birth x p t s new found is done = λ choice.
     same_act (subscribe_by t (env_in choice s) line x p) (of_session birth (λ y. on_subscribe (env_in choice s) line y p)) s new (whole_is line birth x p t (env_in choice s) s.broker found is) (done choice)
 
+-- or that is refused
 pub whole_left : (line birth : ℕ) (x : Session) (p : Subscribe) (t : Bool) (fault : StepFault) (s new : Stepping) → session_at birth s.broker.records ≡ Some x → is_among p.identifier x.inbound ≡ t
     → Leaves (λ env. subscribe_by t env line x p) fault s new → Leaves (λ env. of_session birth (λ y. on_subscribe env line y p)) fault s new
 whole_left line birth x p t fault s new found is left = λ choice.

@@ -124,6 +124,7 @@ no_server listen db turns limits asks = cc asks.db_is
 pub no_server-listen : (rows : Option (List Row)) → value_in (codes "listen") rows ≡ None → AsksNoServer rows
 no_server-listen rows none listen db turns limits asks = cc (sym none ∙ asks.listen_is)
 
+-- an address that is none asks for no server
 pub no_server-address : (rows : Option (List Row)) (text : Text) → value_in (codes "listen") rows ≡ Some text
     → ((address : SocketAddrV4) → ¬ (IsAddress text address)) → AsksNoServer rows
 no_server-address rows text is none listen db turns limits asks =
@@ -137,6 +138,7 @@ no_server-db rows none listen db turns limits asks = cc (sym none ∙ asks.db_is
 pub no_server-turns : (rows : Option (List Row)) → value_in (codes "turns") rows ≡ None → AsksNoServer rows
 no_server-turns rows none listen db turns limits asks = cc (sym none ∙ asks.turns_is)
 
+-- nor does a count that is none
 pub no_server-count : (rows : Option (List Row)) (text : Text) → value_in (codes "turns") rows ≡ Some text
     → ((count : ℕ) → ¬ (IsCount text count)) → AsksNoServer rows
 no_server-count rows text is none listen db turns limits asks =
@@ -154,6 +156,7 @@ no_replay file limits asks = cc asks.file_is
 pub no_replay-file : (rows : Option (List Row)) → file_in rows ≡ None → AsksNoReplay rows
 no_replay-file rows none file limits asks = cc (sym none ∙ asks.file_is)
 
+-- limits that are none ask for no replay
 pub no_replay-limits : (rows : Option (List Row)) → ((limits : Limits) → ¬ (AsksForLimits rows limits)) → AsksNoReplay rows
 no_replay-limits rows none file limits asks = none limits asks.limits_are
 

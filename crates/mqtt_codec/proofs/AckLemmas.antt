@@ -32,5 +32,6 @@ unfolding ack_at
 ack_again kind place a body fits (rest, is, t) =
     rw (is, number_again w16 (2 ^ 16) wide16 a.identifier rest fits.0, tail_again place a.reason.0 a.properties rest fits.2 t, fits.1) refl
 
+-- PUBACK, PUBREC, PUBREL and PUBCOMP are read as they are written
 pub ack_reads : (kind : Kind) (place : Place) → IsReader (ack_at kind place) (FitsAck kind place) IsAckBody
 ack_reads kind place = record { takes = ack_takes kind place; again = ack_again kind place }

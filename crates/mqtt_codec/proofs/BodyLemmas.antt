@@ -47,6 +47,7 @@ unfolding empty_at
 empty_ok [] u e = refl
 empty_ok (b ∷ body) u e = absurd cc
 
+-- a body that was read is one of its packet
 pub body_takes : (h : Head) (body : List ℕ) (p : Packet) → IsBytes body → body_at h body ≡ Ok p → Bodies h body p
 unfolding body_at
 body_takes heads.Connect body p fits e =
@@ -126,6 +127,7 @@ empty_again : (body : List ℕ) → body ≡ [] → empty_at body ≡ Ok tt
 unfolding empty_at
 empty_again body e = rw e refl
 
+-- a body that was written is read back
 pub body_again : (p : Packet) (body : List ℕ) → Fits p → IsBody p body → body_at (head p) body ≡ Ok p
 unfolding body_at
 body_again (Connect c) body fits is = ap (made_by Connect) (connect_reads.again c body fits is)

@@ -49,5 +49,6 @@ connack_again : (c : Connack) (body : List ℕ) → FitsConnack c → body ≡ c
 unfolding connack_at
 connack_again c body fits is = rw (is, flag_again c.session_present, block_again_end places.Connack c.properties (block c.properties) fits.1 refl, fits.0) refl
 
+-- a CONNACK is read as it is written
 pub connack_reads : IsReader connack_at FitsConnack (λ c body. body ≡ connack_body c)
 connack_reads = record { takes = connack_takes; again = connack_again }

@@ -142,6 +142,7 @@ version_refused bytes h body f frame e =
 
 -- ---- packets
 
+-- a packet that was read is spelled by its bytes
 pub packet_takes : (bytes : List ℕ) (p : Packet) → IsBytes bytes → packet_at bytes ≡ Ok p → Spells p bytes
 unfolding packet_at lawful_at
 packet_takes bytes p fits e =
@@ -180,6 +181,7 @@ version_again Pingresp body fits is = refl
 version_again (Disconnect n) body fits is = refl
 version_again (Auth n) body fits is = refl
 
+-- bytes that spell a packet are read as it
 pub packet_again : (bytes : List ℕ) (p : Packet) → Spells p bytes → packet_at bytes ≡ Ok p
 unfolding packet_at lawful_at
 packet_again bytes p s =
@@ -229,13 +231,16 @@ frame_refused bytes f (Err g) fits e r =
 
 -- ---- what a function found
 
+-- what the reader finds is spelled by the bytes
 pub packet_found : {X : Type 0} (view : X → Packet) (bytes : List ℕ) (r : Result X Fault) → IsBytes bytes → Gives view r (packet_at bytes) → IfOk r (λ x. Spells (view x) bytes)
 packet_found {X} view bytes (Ok x) fits given = packet_takes bytes (view x) fits given
 packet_found {X} view bytes (Err f) fits given = tt
 
+-- and nothing else is
 pub packet_only : {X : Type 0} (view : X → Packet) (bytes : List ℕ) (r : Result X Fault) → Gives view r (packet_at bytes) → (p : Packet) → Spells p bytes → Gives view r (Ok p)
 packet_only {X} view bytes r given p s = subst (λ (read : Result Packet Fault). Gives view r read) (packet_again bytes p s) given
 
+-- what it refuses is refused for what the standard says
 pub packet_refused : {X : Type 0} (view : X → Packet) (bytes : List ℕ) (r : Result X Fault) → IsBytes bytes → Gives view r (packet_at bytes) → IfErr r (λ f. Refusal f bytes)
 unfolding packet_at
 packet_refused {X} view bytes (Ok x) fits given = tt

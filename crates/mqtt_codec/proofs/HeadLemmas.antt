@@ -23,6 +23,7 @@ headed_is b (g ∷ hs) h e =
       | inr t ↦ headed_is b hs h t.1
     ]
 
+-- a first byte that has a meaning is the one of that meaning
 pub head_is : (b : ℕ) (h : Head) → head_of b ≡ Some h → first h ≡ b
 head_is b h e = headed_is b all_heads h e
 
@@ -30,6 +31,7 @@ head_is b h e = headed_is b all_heads h e
 abbrev pub IsHead : Head → Type 0
 IsHead h = head_of (first h) ≡ Some h
 
+-- a delivery has a first byte
 pub delivery_is_head : (d : Delivery) (retain : Bool) → IsHead (delivery_head d retain)
 delivery_is_head AtMostOnce true = refl
 delivery_is_head AtMostOnce false = refl
@@ -42,6 +44,7 @@ delivery_is_head (ExactlyOnce true id) false = refl
 delivery_is_head (ExactlyOnce false id) true = refl
 delivery_is_head (ExactlyOnce false id) false = refl
 
+-- so has each packet
 pub is_head : (p : Packet) → IsHead (head p)
 is_head (Connect c) = refl
 is_head (Connack c) = refl

@@ -28,6 +28,7 @@ disconnect_again : (n : Notice) (body : List ℕ) → FitsNotice kinds.Disconnec
 unfolding disconnect_at
 disconnect_again n body fits is = rw (tail_again places.Disconnect n.reason.0 n.properties body fits.1 is, fits.0) refl
 
+-- a DISCONNECT is read as it is written
 pub disconnect_reads : IsReader disconnect_at (FitsNotice kinds.Disconnect places.Disconnect) (λ n body. IsTail n.reason.0 n.properties body)
 disconnect_reads = record { takes = disconnect_takes; again = disconnect_again }
 
@@ -53,6 +54,7 @@ auth_again n [] fits is =
     sym (ap (λ (code : ℕ). Ok (made code n.properties)) is.0 ∙ ap (λ (ps : List Prop). Ok (made 0 ps)) is.1)
 auth_again n (c ∷ rest) fits is = rw (block_again_end places.Auth n.properties rest fits.1 is.1, is.0, fits.0) refl
 
+-- an AUTH is read as it is written
 pub auth_reads : IsReader auth_at (FitsNotice kinds.Auth places.Auth) IsAuthBody
 auth_reads = record { takes = auth_takes; again = auth_again }
 
@@ -71,6 +73,7 @@ auth_at_most (suc c) [] =
     rw t (omega arith)
 auth_at_most code (p ∷ ps) = omega arith
 
+-- the writer's AUTH is the shortest
 pub auth_is_least : (n : Notice) (body : List ℕ) → IsAuthBody n body → length (auth_body n) ≤ length body
 auth_is_least n [] is = omega (arith, ap length (ap (auth_body_of n.reason.0) is.1 ∙ ap (λ (k : ℕ). auth_body_of k []) is.0))
 auth_is_least n (c ∷ rest) is = omega (arith, auth_at_most n.reason.0 n.properties, ap length is.1)

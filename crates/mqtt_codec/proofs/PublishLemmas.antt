@@ -47,6 +47,7 @@ pub record Published (dup : Bool) (q : Qos) (retain : Bool) (body : List ℕ) (p
   pub is : body ≡ publish_body p
   pub head : IsHead (heads.Publish dup q retain) → delivery_head p.delivery p.retain ≡ heads.Publish dup q retain
 
+-- a PUBLISH that was read is spelled by its bytes
 pub publish_takes : (dup : Bool) (q : Qos) (retain : Bool) (body : List ℕ) (p : Publish) → IsBytes body → publish_at dup q retain body ≡ Ok p → Published dup q retain body p
 unfolding publish_at
 publish_takes dup q retain body p fits e =
@@ -72,6 +73,7 @@ delivery_again dup qos.ExactlyOnce (ExactlyOnce dup2 id) retain rest fits e =
     rw (number_again w16 (2 ^ 16) wide16 id rest fits, same) refl
 delivery_again dup q d retain rest fits e = absurd cc
 
+-- one that was written is read back
 pub publish_again : (dup : Bool) (q : Qos) (p : Publish) (body : List ℕ) → FitsPublish p → body ≡ publish_body p → delivery_head p.delivery p.retain ≡ heads.Publish dup q p.retain → publish_at dup q p.retain body ≡ Ok p
 unfolding publish_at
 publish_again dup q p body fits is e =

@@ -63,12 +63,14 @@ framed_size p small body le =
 least : (p : Packet) (other : List ℕ) → HasLayout p other → length (shortest_of p) ≤ length other
 least p other (fits, (body, is, lt, e)) = omega (arith, ap length e, framed_size p (shortest_body p) body (shortest_is_least p body is))
 
+-- a packet with a spelling has a shortest one
 pub shortest_is : (p : Packet) → HasSpelling p → IsShortest p (shortest_of p)
 shortest_is p h = (
   ((h.0, (shortest_body p, shortest_is_body p, h.1, refl)), h.2),
   λ other s. least p other s.0,
 )
 
+-- and that is what the writer writes
 pub shortest_found : {X E : Type 0} (items : X → List ℕ) (p : Packet) (r : Result X E) → HasSpelling p → IfOk r (λ x. items x ≡ shortest_of p) → IfOk r (λ x. IsShortest p (items x))
 shortest_found {X} {E} items p (Ok x) h e = subst (λ (b : List ℕ). IsShortest p b) (sym e) (shortest_is p h)
 shortest_found {X} {E} items p (Err d) h e = tt

@@ -34,5 +34,6 @@ unfolding suback_at
 suback_again kind place s body fits is =
     rw (is, number_again w16 (2 ^ 16) wide16 s.identifier (block s.properties ++ s.codes) fits.0, layout_again place s.properties s.codes fits.1.0 fits.1.1, fits.2) refl
 
+-- a SUBACK or UNSUBACK is read as it is written
 pub suback_reads : (kind : Kind) (place : Place) → IsReader (suback_at kind place) (FitsSuback kind place) (λ s body. body ≡ suback_body s)
 suback_reads kind place = record { takes = suback_takes kind place; again = suback_again kind place }

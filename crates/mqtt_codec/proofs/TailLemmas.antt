@@ -26,9 +26,11 @@ block_ends place bytes ps fits e end =
     let nothing : ps.1 ≡ [] = nil_from_length ps.1 (eqb-true _ _ end) in
     (l.0.parts ∙ ap (λ (w : List ℕ). block ps.0 ++ w) nothing ∙ append-nil (block ps.0), (l.1, l.2))
 
+-- a block at the end is read back
 pub block_again_end : (place : Place) (ps : List Prop) (bytes : List ℕ) → Stands place ps → bytes ≡ block ps → layout_at place bytes ≡ Ok (ps, [])
 block_again_end place ps bytes stands e = ap (layout_at place) (e ∙ sym (append-nil (block ps))) ∙ layout_again place ps [] stands.0 stands.1
 
+-- a code and properties that were read are the bytes
 pub tail_takes : (place : Place) (bytes : List ℕ) (t : ℕ × List Prop) → IsBytes bytes → tail_at place bytes ≡ Ok t → IsTail t.0 t.1 bytes × Stands place t.1
 unfolding tail_at
 tail_takes place [] t fits e = subst (λ (y : ℕ × List Prop). IsTail y.0 y.1 [] × Stands place y.1) (ok_is (0, []) t e) ((refl, refl), none_stand place)
@@ -40,6 +42,7 @@ tail_takes place (c ∷ (b ∷ bytes)) t fits e =
     let l = block_ends place (b ∷ bytes) ps (IsBytes-rest c (b ∷ bytes) fits) (malformed_ok (layout_at place (b ∷ bytes)) ps a.1) g.0 in
     subst (λ (y : ℕ × List Prop). IsTail y.0 y.1 (c ∷ (b ∷ bytes)) × Stands place y.1) (ok_is (c, ps.0) t g.1) ((refl, l.0), l.1)
 
+-- those that were written are read back
 pub tail_again : (place : Place) (code : ℕ) (ps : List Prop) (bytes : List ℕ) → Stands place ps → IsTail code ps bytes → tail_at place bytes ≡ Ok (code, ps)
 unfolding tail_at
 tail_again place code ps [] stands is = rw (is.0, is.1) refl
@@ -48,6 +51,7 @@ tail_again place code ps (c ∷ (b ∷ bytes)) stands is = rw (block_again_end p
 
 -- ---- the shortest
 
+-- a block has at least a byte
 pub some_block : (ps : List Prop) → 1 ≤ length (block ps)
 some_block ps = omega (arith, length-append (varint (length (props ps))) (props ps), varint_size (length (props ps)))
 
@@ -55,6 +59,7 @@ full_tail : (code : ℕ) (ps : List Prop) (rest : List ℕ) → rest ≡ block p
 full_tail code ps [] e = absurd (omega (arith, some_block ps, ap length e))
 full_tail code ps (b ∷ bytes) e = (refl, e)
 
+-- the writer writes a code and properties
 pub tail_is_tail : (code : ℕ) (ps : List Prop) → IsTail code ps (tail code ps)
 tail_is_tail zero [] = (refl, refl)
 tail_is_tail (suc c) [] =
@@ -68,6 +73,7 @@ one_at_most (suc c) =
     let t : eqb (suc c) 0 ≡ false = grind arith in
     rw t (omega arith)
 
+-- in the shortest way
 pub tail_is_least : (code : ℕ) (ps : List Prop) (bytes : List ℕ) → IsTail code ps bytes → length (tail code ps) ≤ length bytes
 tail_is_least code ps [] is = omega (arith, ap length (ap (tail code) is.1 ∙ ap (λ (k : ℕ). tail k []) is.0))
 tail_is_least code ps (c ∷ []) is = omega (arith, one_at_most code, ap length (ap (tail code) is.1))

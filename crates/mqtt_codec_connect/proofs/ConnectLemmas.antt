@@ -231,6 +231,7 @@ connect_takes body c fits e =
     let after : p.0.1 ≡ 5 ∷ rest = t1.0.parts ∙ ap (λ (r : List ℕ). v.0.0 ∷ r) t2.1 ∙ ap (λ (n : ℕ). n ∷ rest) is.1 in
     (t2.0, t0.0.parts ∙ ap (λ (r : List ℕ). blob p.0.0 ++ r) after ∙ ap (λ (t : List ℕ). blob t ++ (5 ∷ rest)) is.0)
 
+-- the protocol's name is a text
 pub mqtt_is_text : is_text mqtt ≡ true
 unfolding is_utf8 chars encode
 mqtt_is_text = refl
@@ -241,5 +242,6 @@ connect_again c body fits is =
     let rest = flags_byte (flags_of_connect c) ∷ connect_fields c in
     rw (is, text_again mqtt (5 ∷ rest) (omega arith) mqtt_is_text, flags_again (flags_of_connect c), fields_again c fits) refl
 
+-- a CONNECT is read as it is written
 pub connect_reads : IsReader connect_at FitsConnect (λ c body. body ≡ connect_body c)
 connect_reads = record { takes = connect_takes; again = connect_again }

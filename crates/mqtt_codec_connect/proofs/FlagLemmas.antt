@@ -34,6 +34,7 @@ agrees_below (suc k) n all lt =
           subst (λ (m : ℕ). agrees m ≡ true) same both.0
     ]
 
+-- flags that are read are those of the byte
 pub flags_is : (n : ℕ) (f : Flags) → n < 256 → flags_of n ≡ Some f → n ≡ flags_byte f
 flags_is n f lt e =
     let t : agree n (flags_of n) ≡ true = agrees_below 256 n all_bytes_agree lt in
@@ -105,5 +106,6 @@ flags_made false None false true = refl
 flags_made false None false false = refl
 flags_made clean (Some w) user password = flags_willed clean w.qos w.retain user password
 
+-- flags that were written are read back
 pub flags_again : (f : Flags) → flags_of (flags_byte f) ≡ Some f
 flags_again f = flags_made f.clean_start f.will f.user_name f.password

@@ -20,6 +20,7 @@ filter_again : (f rest : List ℕ) → FitsText f → filter_at (blob f ++ rest)
 unfolding filter_at
 filter_again f rest h = ap malformed (text_again f rest h.0 h.1)
 
+-- a filter is read as it is written
 pub filter_reads : Reads filter_at blob FitsText
 filter_reads = record {
   takes = filter_takes;

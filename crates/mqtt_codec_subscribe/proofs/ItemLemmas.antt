@@ -8,10 +8,12 @@ use Rattle.mqtt_base.specs.Items.{items_in, items_at, items_of, or_none, IsOk, A
 use Rattle.mqtt_base.proofs.Items.{Reads, items_are, items_at_again}
 use Rattle.mqtt_base.proofs.Steps.{IsBytes}
 
+-- no bytes are no items
 pub no_items : {A E : Type 0} (bad : E) (at : List ℕ → Result (A × List ℕ) E) → AreItems bad at []
 unfolding items_at items_in
 no_items bad at = record { each = λ i. omega arith; read = tt }
 
+-- of which there are none
 pub none_of : {A E : Type 0} (bad : E) (at : List ℕ → Result (A × List ℕ) E) → items_of bad at [] ≡ []
 unfolding items_of items_at items_in
 none_of bad at = refl

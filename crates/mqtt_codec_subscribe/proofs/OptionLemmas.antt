@@ -35,6 +35,7 @@ agrees_below (suc k) n all lt =
           subst (λ (m : ℕ). agrees m ≡ true) same both.0
     ]
 
+-- options that are read are those of the byte
 pub options_is : (n : ℕ) (o : SubscriptionOptions) → n < 256 → options_of n ≡ Some o → n ≡ options_byte o
 options_is n o lt e =
     let t : agree n (options_of n) ≡ true = agrees_below 256 n all_bytes_agree lt in
@@ -82,5 +83,6 @@ options_made qos.ExactlyOnce false false SendAlways = refl
 options_made qos.ExactlyOnce false false SendIfNew = refl
 options_made qos.ExactlyOnce false false DoNotSend = refl
 
+-- options that were written are read back
 pub options_again : (o : SubscriptionOptions) → options_of (options_byte o) ≡ Some o
 options_again o = options_made o.qos o.no_local o.retain_as_published o.retain_handling

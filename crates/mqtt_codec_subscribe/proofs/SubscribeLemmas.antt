@@ -44,5 +44,6 @@ subscribe_again s body fits is =
       items_at_again Malformed subscription_at subscription IsSubscription subscription_reads s.subscriptions fits.2,
     ) refl
 
+-- a SUBSCRIBE is read as it is written
 pub subscribe_reads : IsReader subscribe_at FitsSubscribe (λ s body. body ≡ subscribe_body s)
 subscribe_reads = record { takes = subscribe_takes; again = subscribe_again }

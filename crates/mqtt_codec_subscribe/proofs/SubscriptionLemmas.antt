@@ -30,6 +30,7 @@ unfolding subscription_at
 subscription_again f rest h =
     ap subscription_at (append_assoc (blob f.filter) (f.options ∷ []) rest) ∙ rw (text_again f.filter (f.options ∷ rest) h.0.0 h.0.1, lt-ltb f.options 64 h.1) refl
 
+-- a subscription is read as it is written
 pub subscription_reads : Reads subscription_at subscription IsSubscription
 subscription_reads = record {
   takes = subscription_takes;

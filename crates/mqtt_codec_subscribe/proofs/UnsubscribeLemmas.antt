@@ -44,5 +44,6 @@ unsubscribe_again s body fits is =
       items_at_again Malformed filter_at blob FitsText filter_reads s.filters fits.2,
     ) refl
 
+-- an UNSUBSCRIBE is read as it is written
 pub unsubscribe_reads : IsReader unsubscribe_at FitsUnsubscribe (λ s body. body ≡ unsubscribe_body s)
 unsubscribe_reads = record { takes = unsubscribe_takes; again = unsubscribe_again }

@@ -40,6 +40,7 @@ cut_join place stream [] ys end far rest left c d = subst (λ (p : ℕ). IsCut p
 cut_join place stream (i ∷ xs) ys end far rest left c d =
     (c.0, c.1, cut_join (place_after place i.size) (drop i.size stream) xs ys end far rest left c.2 d)
 
+-- items of one place, size and packet are one
 pub same_item : (x y : Item) → x.place ≡ y.place → x.size ≡ y.size → x.packet ≡ y.packet → x ≡ y
 same_item x y p s c =
     let by_place : ℕ → Item = λ k. record { place = k; size = x.size; packet = x.packet } in
@@ -103,6 +104,7 @@ cut_by (suc k) place stream (Ok (Some x)) l e =
     let more = cut_by k (place_after place x.1) rest (first_of rest) shorter refl in
     (record { place = place; size = x.1; packet = x.0 } ∷ more.0, more.1, more.2, more.3, (refl, e, more.4), more.5)
 
+-- every stream is items and an ending
 pub stream_exists : (stream : List ℕ) → (items : List Item) × (ending : Ending) × IsStream stream items ending
 stream_exists stream =
     let c = cut_by (length stream) 0 stream (first_of stream) (omega arith) refl in

@@ -61,6 +61,7 @@ groups_more (suc k) (a ∷ bytes) t =
     step_more (eqb a 0) (ltb a 128) a bytes t (next_group a (groups_at k bytes)) (next_group a (groups_at k (bytes ++ t)))
     (group_more a t (groups_at k bytes) (groups_at k (bytes ++ t)) (groups_more k bytes t))
 
+-- more bytes change nothing of a length that is whole
 pub varint_more : (bytes t : List ℕ) → LeavesMore t (varint_at bytes) (varint_at (bytes ++ t))
 unfolding varint_at
 varint_more [] t = inl refl
@@ -85,6 +86,7 @@ step_within : (n : ℕ) (c : Bool) (r : Read) → Within n r → Within n (cond 
 step_within n true r h = tt
 step_within n false r h = h
 
+-- its groups are within the bytes
 pub groups_within : (k : ℕ) (bytes : List ℕ) → Within (length bytes) (groups_at k bytes)
 unfolding groups_at
 groups_within zero [] = tt
@@ -94,6 +96,7 @@ groups_within (suc k) (a ∷ bytes) =
     step_within (suc (length bytes)) (eqb a 0) (cond (ltb a 128) (Ok (a, bytes)) (next_group a (groups_at k bytes)))
     (either_within (ltb a 128) a bytes (next_group a (groups_at k bytes)) (group_within (length bytes) a (groups_at k bytes) (groups_within k bytes)))
 
+-- so is a length
 pub varint_within : (bytes : List ℕ) → Within (length bytes) (varint_at bytes)
 unfolding varint_at
 varint_within [] = tt
@@ -126,6 +129,7 @@ groups_wants (suc k) (a ∷ bytes) =
     step_wants (suc k) (suc (length bytes)) (eqb a 0) (cond (ltb a 128) (Ok (a, bytes)) (next_group a (groups_at k bytes)))
     (either_wants (suc k) (suc (length bytes)) (ltb a 128) (a, bytes) (next_group a (groups_at k bytes)) (group_wants k (length bytes) a (groups_at k bytes) (groups_wants k bytes)))
 
+-- one that is not whole has three bytes at most
 pub varint_wants : (bytes : List ℕ) → varint_at bytes ≡ Err Short → length bytes ≤ 3
 unfolding varint_at
 varint_wants [] = λ e. omega arith
@@ -172,6 +176,7 @@ behind_stays : (head : Option Head) (bytes t : List ℕ) → Stays Waiting (size
 behind_stays None bytes t = inr refl
 behind_stays (Some h) bytes t = size_stays_by bytes t (varint_more bytes t)
 
+-- more bytes change nothing of a size that is known
 pub size_stays : (h t : List ℕ) → Stays Waiting (size_at h) (size_at (h ++ t))
 unfolding size_at
 size_stays [] t = inl refl
@@ -241,6 +246,7 @@ first_by_within h p n (Err f) s e = absurd cc
 first_by_within h p n (Ok None) s e = absurd cc
 first_by_within h p n (Ok (Some m)) s e = sized_within h p n m (packet_at (take m h)) s e
 
+-- a first packet is within the bytes, and is not empty
 pub first_within : (h : List ℕ) (p : Packet) (n : ℕ) → first_of h ≡ Ok (Some (p, n)) → (n ≤ length h) × (0 < n)
 unfolding first_of
 first_within h p n e = first_by_within h p n (size_at h) refl e

@@ -30,12 +30,15 @@ run_from taken items f (gave i ∷ calls) g c r =
     let more = run_from taken (items ++ i ∷ []) (after i.size f) calls g same r.2 in
     subst (λ (xs : List Item). IsCut 0 (taken_after taken calls) xs g.place g.held) (append_assoc items (i ∷ []) (given_of calls)) more
 
+-- what a framer gives is a cut of what it took
 pub run_cut : (calls : List Call) (f : Framing) → IsRun empty calls f → IsCut 0 (taken_of calls) (given_of calls) f.place f.held
 run_cut calls f r = run_from [] [] empty calls f (refl, refl) r
 
+-- a framer that waits has given the whole stream but for what it holds
 pub run_waits : (calls : List Call) (f : Framing) → IsRun empty calls f → first_of f.held ≡ Ok None → IsStream (taken_of calls) (given_of calls) (short_at f.place f.held)
 run_waits calls f r e = (f.place, f.held, run_cut calls f r, (refl, refl, e))
 
+-- one that meets a fault has given all before it
 pub run_fault : (calls : List Call) (f : Framing) (fault : Fault) (more : List ℕ) → IsRun empty calls f → first_of f.held ≡ Err fault
     → IsStream (taken_of calls ++ more) (given_of calls) (fault_at f.place fault)
 run_fault calls f fault more r e =
@@ -43,15 +46,18 @@ run_fault calls f fault more r e =
 
 -- ---- the moments at which a fault stands
 
+-- a first byte without a meaning is a fault at once
 pub at_first_byte : (b : ℕ) → head_of b ≡ None → first_of (b ∷ []) ≡ Err Malformed
 unfolding first_of size_at
 at_first_byte b e = rw e refl
 
+-- so is a length of more than four bytes
 pub at_overlong : (b : ℕ) (head : Head) (length : List ℕ) → head_of b ≡ Some head → varint_at length ≡ Err Overlong
     → first_of (b ∷ length) ≡ Err Malformed
 unfolding first_of size_at
 at_overlong b head length e o = rw (e, o) refl
 
+-- and one above the limit
 pub at_length : (b n : ℕ) (head : Head) (bytes : List ℕ) → head_of b ≡ Some head → varint_at bytes ≡ Ok (n, [])
     → PACKET_LIMIT < 1 + length bytes + n → first_of (b ∷ bytes) ≡ Err TooLarge
 unfolding first_of size_at

@@ -125,6 +125,7 @@ first_by_less h p n k (Err f) s e l = absurd cc
 first_by_less h p n k (Ok None) s e l = absurd cc
 first_by_less h p n k (Ok (Some m)) s e l = sized_less h p n m k (packet_at (take m h)) s refl e l
 
+-- a first packet needs no bytes behind it
 pub first_less : (h : List ℕ) (p : Packet) (n k : ℕ) → first_of h ≡ Ok (Some (p, n)) → n ≤ k → first_of (take k h) ≡ Ok (Some (p, n))
 unfolding first_of
 first_less h p n k e l = first_by_less h p n k (size_at h) refl e l

@@ -49,6 +49,7 @@ framed_whole p body more lt small read =
     let bytes = framed (head p) body in
     rw (size_whole (head p) body more (is_head p) lt small, take_at bytes more (length bytes) refl, read) refl
 
+-- bytes that spell a packet begin with it, whatever is behind them
 pub first_whole : (p : Packet) (bytes more : List ℕ) → Spells p bytes → length bytes ≤ PACKET_LIMIT → first_of (bytes ++ more) ≡ Ok (Some (p, length bytes))
 first_whole p bytes more s small =
     let body = s.0.1.0 in
@@ -98,6 +99,7 @@ first_by_spells bytes p n (Err f) fits s e = absurd cc
 first_by_spells bytes p n (Ok None) fits s e = absurd cc
 first_by_spells bytes p n (Ok (Some m)) fits s e = sized_spells bytes p n m (packet_at (take m bytes)) fits s refl e
 
+-- a first packet is spelled by its bytes
 pub first_spells : (bytes : List ℕ) (p : Packet) (n : ℕ) → IsBytes bytes → first_of bytes ≡ Ok (Some (p, n)) → Spells p (take n bytes) × (n ≤ PACKET_LIMIT)
 unfolding first_of
 first_spells bytes p n fits e = first_by_spells bytes p n (size_at bytes) fits refl e
@@ -122,6 +124,7 @@ publish_end p bytes (fits, (body, is, lt, e)) =
     e ∙ ap (λ (b : List ℕ). top ∷ (v ++ b)) split ∙ ap (λ (b : List ℕ). top ∷ b) (sym (append_assoc v fields p.payload)) in
     end_of bytes (top ∷ (v ++ fields)) p.payload parts
 
+-- and ends with its payload
 pub first_ends : (bytes : List ℕ) (p : Packet) (n : ℕ) → IsBytes bytes → first_of bytes ≡ Ok (Some (p, n)) → EndsWithPayload p n bytes
 first_ends bytes (packets.Publish p) n fits e =
     let s = first_spells bytes (packets.Publish p) n fits e in
@@ -144,6 +147,7 @@ first_ends bytes packets.Pingresp n fits e = tt
 first_ends bytes (packets.Disconnect m) n fits e = tt
 first_ends bytes (packets.Auth m) n fits e = tt
 
+-- so does the one that is found
 pub found_ends : {X : Type 0} (view : X → Packet) (bytes : List ℕ) (r : Result (Option (X × ℕ)) Fault) → IsBytes bytes → GivesFirst view r (first_of bytes)
     → IfOk r (λ found. IfSome found (λ x. EndsWithPayload (view x.0) x.1 bytes))
 found_ends {X} view bytes (Ok None) fits given = tt
@@ -170,6 +174,7 @@ first_none : first_of [] ≡ Ok None
 unfolding first_of size_at
 first_none = refl
 
+-- packets one behind the other are a stream of them
 pub joined_stream : (packets : List (Packet × List ℕ)) → AreSpelled packets → IsStream (joined_bytes packets) (items_from 0 packets) (short_at (end_from 0 packets) [])
 joined_stream packets s = (end_from 0 packets, [], joined_from 0 packets s, (refl, refl, first_none))
 

@@ -21,6 +21,7 @@ are_pairs all items ps same e fits each =
 
 -- ---- one list behind another
 
+-- bytes behind bytes are bytes
 pub IsBytes-append : (a b : List ℕ) → IsBytes a → IsBytes b → IsBytes (a ++ b)
 IsBytes-append [] b f g i = g i
 IsBytes-append (x ∷ a) b f g zero = f 0
@@ -35,6 +36,7 @@ pub record AreJoined (old more : List ℕ) (ps qs : List Prop) : Type 0 where
   pub is : old ++ more ≡ props (ps ++ qs)
   pub fits : length old + length more < 2 ^ 28 → FitsBlock (ps ++ qs)
 
+-- pairs behind pairs are the pairs of both
 pub joined : (old more : List ℕ) (ps qs : List Prop) → ArePairs old → props_of old ≡ ps → more ≡ props qs → AllByRecursion IsProp qs → AreJoined old more ps qs
 joined old more ps qs h e parts each =
     let is : old ++ more ≡ props (ps ++ qs) = ap (λ (w : List ℕ). w ++ more) (pairs_of old ps h e) ∙ ap (λ (w : List ℕ). props ps ++ w) parts ∙ sym (flat_map-append prop ps qs) in
@@ -50,6 +52,7 @@ add_refused old more ps qs Twice h long = long
 add_refused old more ps qs BadValue h long = long
 add_refused old more ps qs Memory h long = tt
 
+-- one property is spelled as itself
 pub props-one : (p : Prop) → props (p ∷ []) ≡ prop p
 props-one p = flat_map-cons prop p [] ∙ append-nil (prop p)
 
@@ -71,5 +74,6 @@ filter-each test (p ∷ ps) h =
       | true ↦ (h.0, filter-each test ps h.1)
     ]
 
+-- a part of what fits a block fits
 pub FitsBlock-filter : (test : Prop → Bool) (ps : List Prop) → FitsBlock ps → FitsBlock (filter test ps)
 FitsBlock-filter test ps h = record { each = filter-each test ps h.each; short = omega (arith, h.short, filter-short test ps) }

@@ -59,6 +59,7 @@ block_is ps bytes h =
       h.parts ∙ ap (λ (w : List ℕ). w ++ h.pairs) (v.0 ∙ ap varint size) ∙ ap (λ (w : List ℕ). varint (length (props ps)) ++ w) r.0,
     )
 
+-- the writer's block is a block of the standard
 pub block_of : (ps : List Prop) → FitsBlock ps → IsBlock ps (block ps)
 block_of ps fits = record {
   len = varint (length (props ps));
@@ -68,6 +69,7 @@ block_of ps fits = record {
   parts = refl;
 }
 
+-- and there is no other
 pub IsBlock-block : (ps : List Prop) (bytes : List ℕ) → IsBlock ps bytes ↔ (FitsBlock ps × (bytes ≡ block ps))
 IsBlock-block ps bytes = (block_is ps bytes, λ h. subst (λ (b : List ℕ). IsBlock ps b) (sym h.1) (block_of ps h.0))
 
@@ -118,5 +120,6 @@ pairs_once place (p ∷ ps) h =
     h 0 (suc k) q (omega arith) (omega (arith, lt)) (id_is p.name (slice_index_or ps k q).name (sym (eqb-true _ _ named) ∙ ap (λ (r : Prop). (property_row r.name).id) (sym is))) in
     rw rest (unless_found (may_repeat place p.name) (has p.name ps) may)
 
+-- the test for properties that stand twice is the definition's
 pub none_repeats-NoneRepeats : (place : Place) (ps : List Prop) → IsTrue (none_repeats place ps) ↔ NoneRepeats place ps
 none_repeats-NoneRepeats place ps = (once_pairs place ps, pairs_once place ps)

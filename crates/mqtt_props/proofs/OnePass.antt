@@ -140,6 +140,7 @@ none_yet place (p ∷ ps) = rw (bit_at-zero (property_row p.name).id, none_yet p
 pub once_first : (place : Place) (ps : List Prop) → none_repeats place ps ≡ once_left place 0 ps
 once_first place ps = sym (once_split place 0 ps ∙ rw (none_yet place ps) (and-true (none_repeats place ps)))
 
+-- three tests in another order
 pub has_swap : (s n h : Bool) → ((n || h) || s) ≡ (h || (s || n))
 has_swap true true true = refl
 has_swap true true false = refl
@@ -150,6 +151,7 @@ has_swap false true false = refl
 has_swap false false true = refl
 has_swap false false false = refl
 
+-- three tests in another order
 pub good_swap : (v r g : Bool) → ((v && r) && g) ≡ (r && (v && g))
 good_swap true true true = refl
 good_swap true true false = refl
@@ -171,10 +173,12 @@ eq_turned i k = elim (cases (i == k)) [
   ]
 ]
 
+-- one property more: is each there once
 pub once_step : (place : Place) (p : Prop) (rest after : List Prop) (seen : ℕ) (whole : Bool) → rest ≡ p ∷ after → (not (is_seen p.name seen) || may_repeat place p.name) ≡ true
     → whole ≡ once_left place seen rest → whole ≡ once_left place (see p.name seen) after
 once_step place p rest after seen whole e may h = h ∙ ap (once_left place seen) e ∙ ap (λ (b : Bool). b && once_left place (see p.name seen) after) may
 
+-- one property more: is there one of this name
 pub has_step : (a : PropName) (p : Prop) (rest after : List Prop) (seen : ℕ) (whole : Bool) → rest ≡ p ∷ after
     → whole ≡ (has a rest || is_seen a seen) → whole ≡ (has a after || is_seen a (see p.name seen))
 has_step a p rest after seen whole e h =
@@ -185,6 +189,7 @@ has_step a p rest after seen whole e h =
 abbrev all_lawful : List Prop → Bool
 all_lawful ps = list_all (λ p. is_lawful_value p.name p.value) ps
 
+-- one property more: is each lawful
 pub good_step : (p : Prop) (rest after : List Prop) (good lawful next whole : Bool) → rest ≡ p ∷ after → lawful ≡ is_lawful_value p.name p.value → next ≡ (lawful && good)
     → whole ≡ (all_lawful rest && good) → whole ≡ (all_lawful after && next)
 good_step p rest after good lawful next whole e l n h =

@@ -95,6 +95,7 @@ no_layout place (Ok ps) rest h =
 
 -- ---- blocks
 
+-- a length and so many bytes of properties that may stand there are a layout
 pub layout_is : (place : Place) (bytes rest : List ℕ) (len taken : ℕ) → rest ≡ drop taken bytes → varint_at bytes ≡ Ok (len, drop taken bytes) → len ≤ length rest → IsOk (items_at Malformed (placed_at place) (take len rest))
     → layout_at place bytes ≡ Ok (props_of (take len rest), drop (taken + len) bytes)
 unfolding layout_at
@@ -102,6 +103,7 @@ layout_is place bytes rest len taken e read le ok =
     let found = placed_found place (take len rest) ok in
     rw (block_found bytes rest len taken e read le found.0, found.1) refl
 
+-- if one of them may not, they are none
 pub layout_is_none : (place : Place) (bytes rest : List ℕ) (len taken : ℕ) (e : PropFault) → rest ≡ drop taken bytes → varint_at bytes ≡ Ok (len, drop taken bytes) → len ≤ length rest → items_at Malformed (placed_at place) (take len rest) ≡ Err e
     → layout_at place bytes ≡ Err Malformed
 unfolding layout_at block_at
@@ -136,6 +138,7 @@ by_layout place (Ok y) =
     ap (λ (j : Result (List Prop) PropFault). j >>= λ ps. Ok (ps, y.1)) (judge_is (all_may_stand place y.0) (none_repeats place y.0) (values_are_lawful y.0) y.0)
     ∙ by_choice place (all_may_stand place y.0) y (laws_of place y.0) refl
 
+-- a block is lawful by its layout and by the laws of its place
 pub lawful_by_layout : (place : Place) (bytes : List ℕ) → lawful_at place bytes ≡ (layout_at place bytes >>= λ x. laws_of place x.0 >>= λ u. Ok x)
 unfolding lawful_at layout_at
 lawful_by_layout place bytes = by_layout place (block_at bytes)

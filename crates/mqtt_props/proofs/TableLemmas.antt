@@ -14,6 +14,7 @@ pub name_again : (n : PropName) → name_of (property_row n).id ≡ Some n
 name_again PayloadFormatIndicator = refl
 name_again n = refl
 
+-- a property that is found by its identifier has it
 pub named_is : (id : ℕ) (ns : List PropName) (n : PropName) → named id ns ≡ Some n → (property_row n).id ≡ id
 named_is id [] n e = absurd cc
 named_is id (m ∷ ns) n e =
@@ -76,6 +77,7 @@ stands_found : (id : ℕ) (place : Place) (o : Option PropName) → name_of id �
 stands_found id place None e may = absurd (cc may)
 stands_found id place (Some n) e may = allows_found id place property_names n e may
 
+-- what the table allows may stand there
 pub is_allowed-stands : (id : ℕ) (place : Place) → is_allowed id place ≡ stands place (name_of id)
 is_allowed-stands id place =
     not_both (is_allowed id place) (stands place (name_of id)) (λ e. was_named id place (allows_was id place property_names e)) (stands_found id place (name_of id) refl)

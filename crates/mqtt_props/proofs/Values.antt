@@ -64,10 +64,12 @@ known_ok : (o : Option PropName) (n : PropName) → known o ≡ Ok n → o ≡ S
 known_ok None n e = absurd cc
 known_ok (Some m) n e = ap (λ (k : PropName). Some k) (ok_is m n e)
 
+-- what went well went well before its fault was named
 pub malformed_ok : {A E : Type 0} (r : Result A E) (x : A) → malformed r ≡ Ok x → r ≡ Ok x
 malformed_ok {A} {E} (Ok y) x e = ap (λ (z : A). Ok z) (ok_is y x e)
 malformed_ok {A} {E} (Err d) x e = absurd cc
 
+-- a property that was read is the bytes that were taken
 pub prop_takes : (bytes : List ℕ) (x : Prop × List ℕ) → IsBytes bytes → prop_at bytes ≡ Ok x → Takes bytes (prop x.0) x.1 × IsProp x.0
 unfolding prop_at
 prop_takes [] x fits e = absurd cc
@@ -81,6 +83,7 @@ prop_takes (id ∷ bytes) x fits e =
     subst (λ (y : Prop × List ℕ). Takes (id ∷ bytes) (prop y.0) y.1 × IsProp y.0) (ok_is made x b.2)
     (record { parts = parts; rest_fits = v.taken.rest_fits }, record { kind = v.kind_is; fits = v.fits })
 
+-- a property that was written is read back
 pub prop_again : (p : Prop) (rest : List ℕ) → IsProp p → prop_at (prop p ++ rest) ≡ Ok (p, rest)
 unfolding prop_at
 prop_again p rest h =

@@ -62,6 +62,7 @@ counter_of-changed counter (RemoveCopy birth place) r fits = counter_of-rows cou
 counter_of-changed counter (PutRetained kept) r fits = counter_of-rows counter r _ _
 counter_of-changed counter (RemoveRetained place) r fits = counter_of-rows counter r _ _
 
+-- changes that fit lower no counter
 pub counter_of-changed_all : (counter : Counter) (changes : List Change) (r : Records) → FitAll changes r → counter_of counter r ≤ counter_of counter (changed_all changes r)
 counter_of-changed_all counter [] r fits = omega arith
 counter_of-changed_all counter (change ∷ changes) r fits =

@@ -25,6 +25,7 @@ pub shortest_says : (number : ℕ) (text digits shortest : List ℕ) (b : Bool) 
 shortest_says number text digits shortest b same is test so =
     sym same ∙ sym ((bytes_eq-Decides shortest digits).0 (sym test ∙ so)) ∙ is
 
+-- a numeral is the shortest if it is the one that is written
 pub numeral_is_shortest : (last number : ℕ) (text digits shortest : List ℕ) (b : Bool) → digits ≡ text → shortest ≡ decimal number → b ≡ bytes_eq shortest digits → (h : IsNumeralUpTo last text) → h.0 ≡ number → b ≡ true
 numeral_is_shortest last number text digits shortest b same is test h n =
     test ∙ (bytes_eq-Decides shortest digits).1 (is ∙ ap decimal (sym n) ∙ sym h.2 ∙ sym same)

@@ -56,6 +56,7 @@ rises-only name k n (p ∷ ps) rest is le goes r = elim (cases_Bool (is_named na
   | inr other ↦ rw other (rises-only name k n ps rest is le goes r)
 ]
 
+-- what is passed on is in the order that it is kept in
 pub passed_on-rises : (ps : List Prop) → rises_from 0 (passed_on ps) ≡ true
 passed_on-rises ps =
     let last : rises_from 9 (only UserProperty ps ++ []) ≡ true = rises-only UserProperty 38 9 ps [] refl refl refl refl in
@@ -73,6 +74,7 @@ front-each : (xs ys : List Prop) → AllByRecursion IsProp (xs ++ ys) → AllByR
 front-each [] ys h = tt
 front-each (x ∷ xs) ys h = (h.0, front-each xs ys h.1)
 
+-- a front of what fits a block fits
 pub front-fits : (xs ys : List Prop) → FitsBlock (xs ++ ys) → FitsBlock xs
 front-fits xs ys h =
     let parts = ap length (flat_map-append prop xs ys) in
@@ -94,10 +96,12 @@ next-refuses : (list rest all : List Prop) (x : Prop) (left : List Prop) (fault 
 next-refuses list rest all x left fault is whole h =
     front-refuses (list ++ x ∷ []) rest all fault (append_assoc list (x ∷ []) rest ∙ ap (λ (ys : List Prop). list ++ ys) (sym is) ∙ whole) h
 
+-- a list that refuses an aged property refuses the whole
 pub aged-refuses : (waited : ℕ) (list rest after all : List Prop) (p x : Prop) (fault : PropFault) → rest ≡ p ∷ after → is_named UserProperty p ≡ false → x ≡ aged waited p → list ++ map (aged waited) (without UserProperty rest) ≡ all → AddRefuses (list ++ x ∷ []) fault → AddRefuses all fault
 aged-refuses waited list rest after all p x fault found other is whole h =
     next-refuses list (map (aged waited) (without UserProperty after)) all x (map (aged waited) (without UserProperty rest)) fault (rw (found, other, is) refl) whole h
 
+-- one that refuses an identifier does too
 pub identified-refuses : (list all : List Prop) (id : ℕ) (rest after : List ℕ) (fault : PropFault) → rest ≡ id ∷ after → list ++ map identified rest ≡ all → AddRefuses (list ++ identified id ∷ []) fault → AddRefuses all fault
 identified-refuses list all id rest after fault found whole h =
     next-refuses list (map identified after) all (identified id) (map identified rest) fault (ap (map identified) found) whole h
@@ -116,6 +120,7 @@ first-refuses list a b c fault none h =
     let is : a ++ (b ++ c) ≡ a ++ b ++ c = sym (append_assoc a b c) in
     front-refuses (list ++ a) (b ++ c) (a ++ b ++ c) fault (ap (λ (xs : List Prop). (xs ++ a) ++ (b ++ c)) none ∙ is) h
 
+-- so does one that refuses what is behind the first part
 pub second-refuses : (list new a b c : List Prop) (fault : PropFault) → list ≡ [] → new ≡ list ++ a → AddRefuses (new ++ b) fault → AddRefuses (a ++ b ++ c) fault
 second-refuses list new a b c fault none made h =
     front-refuses (new ++ b) c (a ++ b ++ c) fault (ap (λ (xs : List Prop). (xs ++ b) ++ c) (made ∙ ap (λ (xs : List Prop). xs ++ a) none)) h

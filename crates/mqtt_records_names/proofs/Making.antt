@@ -29,6 +29,7 @@ one_more i d [] less = absurd (omega (arith, less))
 one_more zero d (s ∷ ss) less = refl
 one_more (suc i) d (s ∷ ss) less = ap (λ (rows : List DigestRow). digest_row s ∷ rows) (one_more i d ss (omega (arith, less)))
 
+-- the digest of one session more
 pub digest_more : (i : ℕ) (d : Session) (ss : List Session) → IsAscending birth_of ss → length ss ≤ SESSION_LIMIT → i < length ss
     → put_row digest_birth SESSION_LIMIT (digest_row (get_or ss i d)) (digest_rows (take i ss)) ≡ digest_rows (take (suc i) ss)
 digest_more i d ss up within less =

@@ -12,6 +12,7 @@ use Rattle.std.specs.Prelude.{Some, None}
 use Rattle.mqtt_records_names.specs.Digests.{digest_rows}
 use Rattle.mqtt_records_names.proofs.Digested.{same_digest}
 
+-- a change of no session's row leaves the digests
 pub other_digests : (change : Change) (r : Records) → ((row : SessionRow) → change ≡ PutSession row → ⊥) → ((row : Columns) → change ≡ SetSession row → ⊥) → ((birth : ℕ) → change ≡ RemoveSession birth → ⊥)
     → digest_rows (changed change r).sessions ≡ digest_rows r.sessions
 other_digests (SetCounter Births value) r put set gone = refl

@@ -45,16 +45,20 @@ module _ {K V : Type 0} (eq : K → K → Bool) (value : K → V) (same : (x y :
 equal : (x y : ℕ) → x ≡ y → nat_eq x y ≡ true
 equal x y e = grind (arith, nat_tests)
 
+-- comparing numbers decides whether they are equal
 pub number_decides : (x y : ℕ) → Decides (eq_by_cmp nat_cmp x y) (x ≡ y)
 number_decides x y =
     let tied = unsigned_tied x y in
     (λ e. let yes : nat_eq x y ≡ true = sym tied ∙ e in grind (arith, nat_tests), λ e. tied ∙ equal x y e)
 
+-- so does comparing names
 pub name_decides : (x y : Bor (List ℕ)) → Decides (eq_by_cmp (λ a b. slice_cmp nat_cmp a.now b.now) x y) (x.now ≡ y.now)
 name_decides x y = subst (λ b. Decides b (x.now ≡ y.now)) (sym (is_eq-slice_cmp x.now y.now)) (bytes_eq-Decides x.now y.now)
 
+-- numbers that are distinct differ
 pub numbers_differ : (ns : List ℕ) → IsDistinct (eq_by_cmp nat_cmp) ns ↔ AllDiffer ns
 numbers_differ ns = subst (λ ms. IsDistinct (eq_by_cmp nat_cmp) ns ↔ AllDiffer ms) (map-id ns) (differ-distinct (eq_by_cmp nat_cmp) (λ n. n) number_decides ns)
 
+-- so do names
 pub names_differ : (ks : List (Bor (List ℕ))) (names : List (List ℕ)) → map (λ k. k.now) ks ≡ names → IsDistinct (eq_by_cmp (λ a b. slice_cmp nat_cmp a.now b.now)) ks ↔ AllDiffer names
 names_differ ks names are = subst (λ ns. IsDistinct (eq_by_cmp (λ a b. slice_cmp nat_cmp a.now b.now)) ks ↔ AllDiffer ns) are (differ-distinct _ (λ k. k.now) name_decides ks)

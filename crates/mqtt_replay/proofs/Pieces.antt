@@ -19,9 +19,11 @@ line_ends held more plain = slice_split_at (λ (b : ℕ). b == line_feed) held l
 pub line_alone_of : (held : List ℕ) → IsPlain held → lines_of held ≡ held ∷ []
 line_alone_of held plain = slice_split_none (λ (b : ℕ). b == line_feed) held plain
 
+-- nothing has no line feed
 pub plain_none : IsPlain []
 plain_none = All-nil (λ (b : ℕ). (b == line_feed) ≡ false)
 
+-- nor with a byte that is none
 pub plain_more : (held : List ℕ) (byte : ℕ) → IsPlain held → (byte == line_feed) ≡ false → IsPlain (held ++ byte ∷ [])
 plain_more held byte plain other =
     let P = λ (b : ℕ). (b == line_feed) ≡ false in
@@ -95,18 +97,21 @@ one_more : (piece taken rest after : List ℕ) (byte : ℕ) → piece ≡ taken 
 one_more piece taken rest after byte all first =
     all ∙ ap (λ (l : List ℕ). taken ++ l) first ∙ sym (append_assoc taken (byte ∷ []) after)
 
+-- a byte of a line is held
 pub step_byte : {W : Type 0} (p : Play W) (held piece taken rest after left : List ℕ) (byte : ℕ) (s end : Standing W) (before now : Option (List ℕ))
     → piece ≡ taken ++ rest → rest ≡ byte ∷ after → (byte == line_feed) ≡ false → Feeds p held taken left s end before now
     → (x : List ℕ) × (piece ≡ x ++ after) × Feeds p held x (left ++ byte ∷ []) s end before now
 step_byte p held piece taken rest after left byte s end before now all first other f =
     (taken ++ byte ∷ [], one_more piece taken rest after byte all first, feeds_byte p held taken left byte s end before now f other)
 
+-- a line feed plays the line
 pub step_line : {W : Type 0} (p : Play W) (held piece taken rest after left : List ℕ) (byte : ℕ) (s mid end : Standing W) (before now later : Option (List ℕ))
     → piece ≡ taken ++ rest → rest ≡ byte ∷ after → byte ≡ line_feed → Feeds p held taken left s mid before now → LineShows p left mid end now later Whole
     → (x : List ℕ) × (piece ≡ x ++ after) × Feeds p held x [] s end before later
 step_line p held piece taken rest after left byte s mid end before now later all first is f shows =
     (taken ++ line_feed ∷ [], one_more piece taken rest after line_feed all (first ∙ ap (λ (b : ℕ). b ∷ after) is), feeds_line p held taken left s mid end before now later f shows)
 
+-- or ends the replay, if it is bad
 pub step_bad : {W : Type 0} (p : Play W) (held piece taken rest after left : List ℕ) (byte : ℕ) (s mid end : Standing W) (before now later : Option (List ℕ))
     → piece ≡ taken ++ rest → rest ≡ byte ∷ after → byte ≡ line_feed → Feeds p held taken left s mid before now → LineShows p left mid end now later Bad
     → (more : List ℕ) → Shows p (lines_of (held ++ (piece ++ more))) s before later Bad
@@ -115,6 +120,7 @@ step_bad p held piece taken rest after left byte s mid end before now later all 
     subst (λ (l : List ℕ). Shows p (lines_of (held ++ (l ++ more))) s before later Bad) (sym (all ∙ ends))
     (feeds_bad p held taken left after s mid end before now later f shows more)
 
+-- what was played of a piece was played of all
 pub step_front : {W : Type 0} (p : Play W) (held piece taken rest left : List ℕ) (s mid : Standing W) (before now later : Option (List ℕ))
     → piece ≡ taken ++ rest → Feeds p held taken left s mid before now → Keeps now later
     → (more : List ℕ) → ShowsFront p (lines_of (held ++ (piece ++ more))) s before later
@@ -149,6 +155,7 @@ pub record FedSoFar {W : Type 0} (p : Play W) (held : List ℕ) (input left : Op
   pub read : Consumes input left fed
   pub feeds : Feeds p [] fed held s end before after
 
+-- at first nothing was fed
 pub fed_start : {W : Type 0} (p : Play W) (held : List ℕ) (input : Option (List ℕ)) (s : Standing W) (before : Option (List ℕ))
     → held ≡ [] → FedSoFar p held input input s s before before
 fed_start p held input s before none =
@@ -158,6 +165,7 @@ fed_start p held input s before none =
       feeds = subst (λ (h : List ℕ). Feeds p [] [] h s s before before) (sym none) (feeds_none p [] s before plain_none);
     }
 
+-- a piece more is fed
 pub fed_next : {W : Type 0} (p : Play W) (held piece next : List ℕ) (input left less : Option (List ℕ)) (s mid end : Standing W) (before now after : Option (List ℕ))
     → FedSoFar p held input left s mid before now → Consumes left less piece → Feeds p held piece next mid end now after → FedSoFar p next input less s end before after
 fed_next p held piece next input left less s mid end before now after so took f =
@@ -178,6 +186,7 @@ shows_fed p held (Some xs) (Some ys) s mid before now after played so shows =
     subst (λ (l : List (List ℕ)). Shows p l s before after played) (sym (ap lines_of so.read ∙ f.cut ys))
     (shows_behind p f.lines (lines_of (held ++ ys)) s mid before now after f.text played f.play f.wrote shows)
 
+-- what was fed is a front of the script
 pub front_fed : {W : Type 0} (p : Play W) (held : List ℕ) (input left : Option (List ℕ)) (s mid : Standing W) (before now after : Option (List ℕ))
     → FedSoFar p held input left s mid before now → IfSome left (λ ys. ShowsFront p (lines_of (held ++ ys)) mid now after)
     → IfSome input (λ xs. ShowsFront p (lines_of xs) s before after)
@@ -205,12 +214,14 @@ came P None less piece took all = tt
 came P (Some ys) None piece took all = absurd took
 came P (Some ys) (Some zs) piece took all = subst P (sym took) (all zs)
 
+-- a bad line in a piece ends the script
 pub bad_piece : {W : Type 0} (p : Play W) (held piece : List ℕ) (input left less : Option (List ℕ)) (s mid : Standing W) (before now after : Option (List ℕ))
     → FedSoFar p held input left s mid before now → Consumes left less piece → ((more : List ℕ) → Shows p (lines_of (held ++ (piece ++ more))) mid now after Bad)
     → IfSome input (λ xs. Shows p (lines_of xs) s before after Bad)
 bad_piece p held piece input left less s mid before now after so took all =
     shows_fed p held input left s mid before now after Bad so (came (λ (ys : List ℕ). Shows p (lines_of (held ++ ys)) mid now after Bad) left less piece took all)
 
+-- what was played of a piece is a front of the script
 pub front_piece : {W : Type 0} (p : Play W) (held piece : List ℕ) (input left less : Option (List ℕ)) (s mid : Standing W) (before now after : Option (List ℕ))
     → FedSoFar p held input left s mid before now → Consumes left less piece → ((more : List ℕ) → ShowsFront p (lines_of (held ++ (piece ++ more))) mid now after)
     → IfSome input (λ xs. ShowsFront p (lines_of xs) s before after)
@@ -225,6 +236,7 @@ left_none P held (Some ys) None plain took end at = absurd took
 left_none P held (Some ys) (Some zs) plain took end at =
     subst P (sym (ap (λ (l : List ℕ). lines_of (held ++ l)) (took ∙ end) ∙ ap lines_of (append-nil held) ∙ line_alone_of held plain)) at
 
+-- the end shows how all stand
 pub shows_end : {W : Type 0} (p : Play W) (held : List ℕ) (input left less : Option (List ℕ)) (s mid : Standing W) (before now after : Option (List ℕ)) (played : Played)
     → FedSoFar p held input left s mid before now → Consumes left less [] → IsAtEnd less → Shows p (held ∷ []) mid now after played
     → IfSome input (λ xs. Shows p (lines_of xs) s before after played)
@@ -232,6 +244,7 @@ shows_end p held input left less s mid before now after played so took end shows
     shows_fed p held input left s mid before now after played so
     (left_none (λ (l : List (List ℕ)). Shows p l mid now after played) held left less so.feeds.plain took end shows)
 
+-- what was shown of it is a front
 pub front_end : {W : Type 0} (p : Play W) (held : List ℕ) (input left less : Option (List ℕ)) (s mid : Standing W) (before now after : Option (List ℕ))
     → FedSoFar p held input left s mid before now → Consumes left less [] → IsAtEnd less → ShowsFront p (held ∷ []) mid now after
     → IfSome input (λ xs. ShowsFront p (lines_of xs) s before after)

@@ -26,6 +26,7 @@ lines_join p (x ∷ xs) ys s mid end t u a b =
     let (first, rest, next, line, lines, is) = a in
     (first, rest ++ u, next, line, lines_join p xs ys next mid end rest u lines b, ap (λ (l : List ℕ). l ++ u) is ∙ append_assoc first rest u)
 
+-- one line plays alone
 pub line_alone : {W : Type 0} (p : Play W) (line : List ℕ) (s end : Standing W) (t : List ℕ) → LinePlays p line s t end → LinesPlay p (line ∷ []) s t end
 line_alone p line s end t plays = (t, [], end, plays, (refl, refl), sym (append-nil t))
 
@@ -52,6 +53,7 @@ shows_behind p lines more s mid before now after text Bad plays wrote shows =
       subst (Appends before after) (sym (append_assoc text behind (bad_text (end.number + 1)))) (Appends-trans before now after text (behind ++ bad_text (end.number + 1)) wrote last),
     )
 
+-- a front of what is behind lines is a front of all
 pub front_behind : {W : Type 0} (p : Play W) (lines more : List (List ℕ)) (s mid : Standing W) (before now after : Option (List ℕ)) (text : List ℕ)
     → LinesPlay p lines s text mid → Appends before now text → ShowsFront p more mid now after → ShowsFront p (lines ++ more) s before after
 front_behind p lines more s mid before now after text plays wrote shows =

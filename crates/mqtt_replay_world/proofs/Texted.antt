@@ -275,6 +275,7 @@ nothing_runs limits w within = record {
   delivers = λ begins clean. delivers_once limits [] [] w w within begins clean (refl, refl);
 }
 
+-- where nothing was written a front of the text was
 pub front_none : (limits : Limits) (lines : List (List ℕ)) (before after : Option (List ℕ)) → AreWithin limits → Keeps before after
     → Wrote (λ text. FrontText limits start_world lines text) before after
 front_none limits lines before after within kept =
@@ -309,11 +310,13 @@ module _ {K : Type 0} (g : Ghosts K) (sound : AlwaysSound g) (limits : Limits) (
 
 -- nothing was written, whatever a reader would give
 
+-- where nothing was written over a store, too
 pub kept_seen : {K : Type 0} (g : Ghosts K) (limits : Limits) (keep : K) (input before : Option (List ℕ))
     → IfSome input (λ bytes. Keeps before before ⊎ FrontOver g limits keep (lines_of bytes) before before)
 kept_seen g limits keep None before = tt
 kept_seen g limits keep (Some bytes) before = inl (Keeps-refl before)
 
+-- a front of the text over a store is one from its records
 pub front_kept : (limits : Limits) (input before : Option (List ℕ)) → AreWithin limits
     → IfSome input (λ bytes. Wrote (λ text. FrontText limits start_world (lines_of bytes) text) before before)
 front_kept limits None before within = tt

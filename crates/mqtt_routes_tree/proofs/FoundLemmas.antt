@@ -15,13 +15,16 @@ use Rattle.mqtt_routes_tree.specs.Tree.{is_within, begins_with, once, rest_of, f
 
 -- ---- levels of names are no wildcards
 
+-- what cannot be true is false
 pub false_by : (b : Bool) → (b ≡ true → ⊥) → b ≡ false
 false_by true h = absurd (h refl)
 false_by false h = refl
 
+-- a level without wildcards is no plus sign
 pub no_plus : (l : List ℕ) → has_wildcard l ≡ false → is_plus l ≡ false
 no_plus l plain = false_by (is_plus l) (λ is. let w : has_wildcard l ≡ true = ap has_wildcard ((bytes_eq-Decides l (plus ∷ [])).0 is) in cc)
 
+-- nor a number sign
 pub no_hash : (l : List ℕ) → has_wildcard l ≡ false → is_hash l ≡ false
 no_hash l plain = false_by (is_hash l) (λ is. let w : has_wildcard l ≡ true = ap has_wildcard ((bytes_eq-Decides l (hash ∷ [])).0 is) in cc)
 
@@ -34,6 +37,7 @@ hash_is_no_plus f h = ap is_plus ((bytes_eq-Decides f (hash ∷ [])).0 h)
 
 -- ---- numbers that are added
 
+-- one more at the end is counted if it is the one
 pub count_push : (i n : ℕ) (ns : List ℕ) → count_by (nat_eq i) (ns ++ n ∷ []) ≡ count_by (nat_eq i) ns + once (nat_eq i n)
 count_push i n ns =
     let all = sum_by-append (λ m. once (nat_eq i m)) ns (n ∷ []) in
@@ -54,11 +58,13 @@ lt_more_by i n true c l e = grind (arith, nat_tests)
 lt_more_by i n false true l e = grind (arith, nat_tests)
 lt_more_by i n false false l e = grind (arith, nat_tests)
 
+-- a run that is one longer has one more
 pub one_longer : (from n i : ℕ) → from ≤ n → once (nat_le from i && nat_lt i n) + once (nat_eq i n) ≡ once (nat_le from i && nat_lt i (n + 1))
 one_longer from n i l =
     longer_by (nat_le from i) (nat_lt i n) (nat_eq i n) (nat_lt i (n + 1))
     (λ e. grind (arith, nat_tests)) (lt_more_by i n (nat_lt i n) (nat_eq i n) refl refl) (λ e. grind (arith, nat_tests))
 
+-- an empty run has none
 pub none_yet : (from i : ℕ) → once (nat_le from i && nat_lt i from) ≡ 0
 none_yet from i = ⊎_elim
     (λ below. let no : nat_le from i ≡ false = grind (arith, nat_tests) in ap (λ b. once (b && nat_lt i from)) no)
@@ -84,6 +90,7 @@ both_by false false false m k sum same = omega arith
 same_number : (i n : ℕ) → nat_eq i n ≡ true → i ≡ n
 same_number i n e = grind (arith, nat_tests)
 
+-- one more that was tried is found if it passes
 pub one_tried : (test : ℕ → Bool) (from n i : ℕ) → from ≤ n → once ((nat_le from i && nat_lt i n) && test i) + once (nat_eq i n && test n) ≡ once ((nat_le from i && nat_lt i (n + 1)) && test i)
 one_tried test from n i l = both_by (nat_le from i && nat_lt i n) (nat_eq i n) (nat_le from i && nat_lt i (n + 1)) (test i) (test n) (one_longer from n i l) (λ e. ap test (same_number i n e))
 
@@ -91,6 +98,7 @@ none_by : (a m : Bool) → once a ≡ 0 → once (a && m) ≡ 0
 none_by true m h = omega (arith, h)
 none_by false m h = refl
 
+-- of none nothing is found
 pub none_tried : (test : ℕ → Bool) (from i : ℕ) → once ((nat_le from i && nat_lt i from) && test i) ≡ 0
 none_tried test from i = none_by (nat_le from i && nat_lt i from) (test i) (none_yet from i)
 
@@ -133,6 +141,7 @@ one_by false true e m hash wild = rw (wild refl) (by m)
     by false = omega arith
 one_by false false e m hash wild = omega arith
 
+-- at a level a filter goes on by a number sign, by a plus sign or by the level itself
 pub one_level : (l : List ℕ) (ls s : List (List ℕ)) → has_wildcard l ≡ false →
     once (begins_with (hash ∷ []) s) + (part (plus ∷ []) ls s + part l ls s) ≡ once (matches_levels s (l ∷ ls))
 one_level l ls [] plain = omega arith

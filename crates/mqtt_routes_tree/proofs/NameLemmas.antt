@@ -24,6 +24,7 @@ plain_by : (b : Bool) (c : ℕ) (ls : List (List ℕ)) → is_wildcard c ≡ fal
 plain_by true c ls free plain = (refl, plain)
 plain_by false c ls free plain = onto_plain c ls free plain
 
+-- the levels of a text without wildcards have none
 pub plain_levels : (text : List ℕ) → has_wildcard text ≡ false → ArePlain (levels text)
 plain_levels [] free = (refl, tt)
 plain_levels (c ∷ cs) free = let parts = or_parts (is_wildcard c) (has_wildcard cs) free in plain_by (is_slash c) c (levels cs) parts.0 (plain_levels cs parts.1)
@@ -77,6 +78,7 @@ own_level l ls (f ∷ fs) plain =
     (λ h. ap (is_first is_wildcard) ((bytes_eq-Decides f (hash ∷ [])).0 h))
     (λ p. ap (is_first is_wildcard) ((bytes_eq-Decides f (plus ∷ [])).0 p))
 
+-- a name that begins with a dollar sign is met by its own first level alone
 pub by_own : (filter name l : List ℕ) (ls : List (List ℕ)) → is_first (nat_eq dollar) name ≡ true → levels name ≡ l ∷ ls → has_wildcard l ≡ false → part l ls (levels filter) ≡ once (is_match filter name)
 by_own filter name l ls begins is plain =
     own_level l ls (levels filter) plain

@@ -53,10 +53,12 @@ not_behind_by Less h = refl
 not_behind_by Equal h = refl
 not_behind_by Greater h = cc
 
+-- filters that begin with a level are not before it
 pub begins_not_before : (l : List ℕ) (fs : List (List ℕ)) → begins_with l fs ≡ true → is_before false l fs ≡ false
 begins_not_before l [] h = cc
 begins_not_before l (f ∷ fs) h = not_before_by (levels_cmp f l) (sym (texts_ties f l) ∙ h)
 
+-- nor behind it
 pub begins_not_behind : (l : List ℕ) (fs : List (List ℕ)) → begins_with l fs ≡ true → is_before true l fs ≡ true
 begins_not_behind l [] h = refl
 begins_not_behind l (f ∷ fs) h = not_behind_by (levels_cmp f l) (sym (texts_ties f l) ∙ h)
@@ -66,12 +68,14 @@ none_by : (f : List ℕ) (fs : List (List ℕ)) → by_first (levels_cmp f []) f
 none_by [] fs = refl
 none_by (c ∷ cs) fs = refl
 
+-- before all there is only the end
 pub none_before : (fs : List (List ℕ)) → is_before false [] fs ≡ is_none_left fs
 none_before [] = refl
 none_before (f ∷ fs) = none_by f fs
 
 -- ---- levels behind the same one
 
+-- behind a common level the rest decides the order
 pub order_tails : (l : List ℕ) (fs gs : List (List ℕ)) → in_order (l ∷ fs) (l ∷ gs) ≡ in_order fs gs
 order_tails l fs gs = ap (λ (o : Ordering). by_first o (in_order fs gs)) (tied_itself nat_list_cmp_total l)
 
@@ -81,6 +85,7 @@ before_by Less rest h = refl
 before_by Equal rest h = cc
 before_by Greater rest h = cc
 
+-- what is before a level is before all that begins with it
 pub order_before : (l : List ℕ) (fs gs : List (List ℕ)) → is_before false l fs ≡ true → in_order fs (l ∷ gs) ≡ true
 order_before l [] gs h = refl
 order_before l (f ∷ fs) gs h = before_by (levels_cmp f l) (in_order fs gs) h
@@ -90,6 +95,7 @@ behind_by Less rest h = cc
 behind_by Equal rest h = cc
 behind_by Greater rest h = refl
 
+-- what is behind it is behind all of them
 pub order_behind : (l : List ℕ) (fs gs : List (List ℕ)) → is_before true l fs ≡ false → in_order (l ∷ gs) fs ≡ true
 order_behind l [] gs h = cc
 order_behind l (f ∷ fs) gs h = ap (λ (o : Ordering). by_first o (in_order gs fs)) (nat_list_cmp_total.antisymm l f) ∙ behind_by (levels_cmp f l) (in_order gs fs) h

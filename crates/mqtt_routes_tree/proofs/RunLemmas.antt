@@ -20,6 +20,7 @@ above_by false = refl
 within_above : (lo hi i : ℕ) → hi ≤ i → (nat_le lo i && nat_lt i hi) ≡ false
 within_above lo hi i a = let no : nat_lt i hi ≡ false = grind (arith, nat_tests) in ap (λ b. nat_le lo i && b) no ∙ above_by (nat_le lo i)
 
+-- within a run is from its begin and before its end
 pub within_parts : (lo hi i : ℕ) → (nat_le lo i && nat_lt i hi) ≡ true → (lo ≤ i) × (i < hi)
 within_parts lo hi i h = ⊎_elim (λ below. let no = within_below lo hi i below in cc) (λ from. ⊎_elim (λ to. (from, to)) (λ above. let no = within_above lo hi i above in cc) (cases_lt i hi)) (cases_lt i lo)
 

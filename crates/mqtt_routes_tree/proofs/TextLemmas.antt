@@ -17,6 +17,7 @@ first_of (l ∷ ls) = l
 test_moved : (k n len left : ℕ) → k ≤ len → left + k ≡ len → nat_lt n left ≡ nat_lt (k + n) len
 test_moved k n len left l e = grind (arith, nat_tests)
 
+-- levels behind a cut are those of the whole text
 pub behind_dropped : (k n : ℕ) (text : List ℕ) → k ≤ length text → levels_behind (Some n) (drop k text) ≡ levels_behind (Some (k + n)) text
 behind_dropped k n text l =
     let left : length (drop k text) + k ≡ length text = let d = length-drop k text in omega (arith, l, d) in
@@ -40,6 +41,7 @@ first_by : (b : Bool) (c : ℕ) (cs : List ℕ) → levels cs ≡ first_of (leve
 first_by true c cs e = ap (λ (b : Bool). [] ∷ cond b (levels cs) []) (sym (some_left (length cs)))
 first_by false c cs e = onto c cs (levels cs) e
 
+-- a text is its first level and those behind it
 pub first_and_others : (text : List ℕ) → levels text ≡ first_of (levels text) ∷ levels_behind (Some (length (first_of (levels text)))) text
 first_and_others [] = refl
 first_and_others (c ∷ cs) = first_by (is_slash c) c cs (first_and_others cs)
@@ -53,6 +55,7 @@ short_by : (b : Bool) (c n : ℕ) (ls : List (List ℕ)) → length (first_of ls
 short_by true c n ls h = omega arith
 short_by false c n ls h = onto_short c n ls h
 
+-- its first level is no longer than it
 pub first_short : (text : List ℕ) → length (first_of (levels text)) ≤ length text
 first_short [] = omega arith
 first_short (c ∷ cs) = short_by (is_slash c) c (length cs) (levels cs) (first_short cs)
@@ -99,14 +102,17 @@ next_begins at l text old new is next = subst (λ ls. begins_with l ls ≡ true)
 same_tail : (l : List ℕ) (xs ys : List (List ℕ)) → l ∷ xs ≡ l ∷ ys → xs ≡ ys
 same_tail l xs ys e = cc
 
+-- behind a level stands the next
 pub next_behind : (at : Option ℕ) (l text : List ℕ) (old new : List (List ℕ)) → old ≡ levels_behind at text → old ≡ l ∷ new → new ≡ levels_behind (Some (end_of at l)) text
 next_behind at l text old new is next = same_tail l new (levels_behind (Some (end_of at l)) text) (sym next ∙ is ∙ begins_more at l text (next_begins at l text old new is next))
 
 -- ---- the first level as it is found
 
+-- a byte that is no slash goes on with its level
 pub no_slash_more : (text : List ℕ) (i : ℕ) → i < length text → All (λ c. eqb c 47 ≡ false) (take i text) → eqb (get_or text i 0) 47 ≡ false → All (λ c. eqb c 47 ≡ false) (take (i + 1) text)
 no_slash_more text i l none other = subst (All (λ c. eqb c 47 ≡ false)) (sym (take_more text i 0 l)) (All-push (λ c. eqb c 47 ≡ false) (take i text) (get_or text i 0) none other)
 
+-- a slash ends the first level
 pub first_found : (text : List ℕ) (i : ℕ) → i < length text → All (λ c. eqb c 47 ≡ false) (take i text) → get_or text i 0 ≡ 47 → levels text ≡ take i text ∷ levels_behind (Some (length (take i text))) text
 first_found text i l none slash =
     let long : length (take i text) ≡ i = length-take-le i text (omega (arith, l)) in
@@ -115,6 +121,7 @@ first_found text i l none slash =
     ∙ slice_split_at (λ c. eqb c 47) (take i text) (get_or text i 0) (drop (i + 1) text) none (ap (λ c. eqb c 47) slash)
     ∙ sym (ap (λ (n : ℕ). take i text ∷ levels_behind (Some n) text) long ∙ ap (λ (b : Bool). take i text ∷ cond b (levels (drop (i + 1) text)) []) more)
 
+-- without a slash the text is one level
 pub all_first : (text : List ℕ) → All (λ c. eqb c 47 ≡ false) text → levels text ≡ text ∷ levels_behind (Some (length text)) text
 all_first text none =
     let ends : nat_lt (length text) (length text) ≡ false = grind (arith, nat_tests) in

@@ -28,10 +28,12 @@ other_words_are_alike = record {
   };
 }
 
+-- a waiting copy goes out with its content
 pub the_first_says_its_own : (tells (at 0 (Pump 1)) (waits (codes "hi"))).outputs ≡ (1, publishes (delivery.ExactlyOnce false 1) false [] (codes "hi")) ∷ []
 unfolding varint
 the_first_says_its_own = refl
 
+-- and an alike one with its own
 pub the_other_says_its_own : (tells (at 0 (Pump 1)) (waits (codes "ho"))).outputs ≡ (1, publishes (delivery.ExactlyOnce false 1) false [] (codes "ho")) ∷ []
 unfolding varint
 the_other_says_its_own = refl
@@ -52,9 +54,11 @@ pub any_split_is_alike : AlikeCopies (says false (codes "a/b") (codes "hi")) (sa
 unfolding varint
 any_split_is_alike = record { seen = refl; retain = refl }
 
+-- a copy of another size is not alike
 pub a_longer_copy_is_not_alike : AlikeCopies (says false topic (codes "hi")) (says false topic (codes "hello")) → ⊥
 unfolding varint
 a_longer_copy_is_not_alike h = let e : 12 ≡ 15 = ap (λ (c : QueuedCopy). c.size) h.seen in omega (arith, e)
 
+-- nor is one with another RETAIN
 pub a_retained_copy_is_not_alike : AlikeCopies (says false topic (codes "hi")) (says true topic (codes "hi")) → ⊥
 a_retained_copy_is_not_alike h = let e : false ≡ true = h.retain in absurd cc

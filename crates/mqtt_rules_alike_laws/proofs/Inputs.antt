@@ -32,6 +32,7 @@ use Rattle.mqtt_rules_alike_laws.proofs.Closing.{accepted_same, wanted_same, pub
 
 -- ---- a pump has the same turns
 
+-- a pump of an alike queue takes the same turns
 pub pump_same : (l : Line) (now : ℕ) (s : Session) (q : List CopyRow) → Each AlikeRows s.queue q → pump_turns l now s ≡ pump_turns l now (with_queue q s)
 pump_same l now s q h = ap (pump (way_of l now)) (queue_same l.went s q h)
 

@@ -12,12 +12,14 @@ Both R None (Some y) = ⊥
 Both R (Some x) None = ⊥
 Both R (Some x) (Some y) = R x y
 
+-- two choices by one test are alike if their sides are
 pub by_cond : {A B : Type 0} (Q : A → B → Type 0) (s t : Bool) → s ≡ t → (a c : A) (b d : B) → Q a b → Q c d → Q (cond s a c) (cond t b d)
 by_cond Q true true e a c b d p q = p
 by_cond Q true false e a c b d p q = absurd cc
 by_cond Q false true e a c b d p q = absurd cc
 by_cond Q false false e a c b d p q = q
 
+-- what is made of two that are alike is alike
 pub both_map : {X Y V W : Type 0} (R : X → Y → Type 0) (S : V → W → Type 0) (f : X → V) (g : Y → W) → ((x : X) (y : Y) → R x y → S (f x) (g y))
     → (o : Option X) (p : Option Y) → Both R o p → Both S (option_map f o) (option_map g p)
 both_map R S f g k None None h = tt
@@ -25,12 +27,14 @@ both_map R S f g k None (Some y) h = absurd h
 both_map R S f g k (Some x) None h = absurd h
 both_map R S f g k (Some x) (Some y) h = k x y h
 
+-- both are some
 pub both_some : {X Y : Type 0} (R : X → Y → Type 0) (o : Option X) (p : Option Y) → Both R o p → is_some o ≡ is_some p
 both_some R None None h = refl
 both_some R None (Some y) h = absurd h
 both_some R (Some x) None h = absurd h
 both_some R (Some x) (Some y) h = refl
 
+-- or both are none
 pub both_none : {X Y : Type 0} (R : X → Y → Type 0) → (o : Option X) (p : Option Y) → Both R o p → is_none o ≡ is_none p
 both_none R None None h = refl
 both_none R None (Some y) h = absurd h

@@ -31,6 +31,7 @@ use Rattle.mqtt_rules_alike_laws.proofs.Acts.{same_deeds, flat_alike}
 entry_same : (went : List ℕ) (x y : CopyRow) → AlikeRows x y → entry_on went x ≡ entry_on went y
 entry_same went x y h = λ i. record { place = h.place i; copy = h.copy.seen i; phase = h.phase i; here = is_among (h.place i) went }
 
+-- the session rules see the same of alike queues
 pub queue_same : (went : List ℕ) (s : Session) (q : List CopyRow) → Each AlikeRows s.queue q → queue_on went s ≡ queue_on went (with_queue q s)
 queue_same went s q h = map_same AlikeRows (entry_on went) (entry_on went) (entry_same went) s.queue q h
 

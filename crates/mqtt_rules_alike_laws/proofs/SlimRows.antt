@@ -104,6 +104,7 @@ slim_seen copy = sym (
     ap (λ (n : ℕ). seen_with copy n (number_at MessageExpiryInterval (only MessageExpiryInterval copy.content.properties))) (size_same copy)
     ∙ ap (λ (o : Option Prop). seen_with copy (size_of (publish_of copy.content.arrived false 1 copy)) (option_map (λ p. number_in p.value) o)) (found_same copy.content.properties))
 
+-- a row without its content is alike
 pub slim_row : (e : CopyRow) → AlikeRows e (slim e)
 slim_row e = record { place = refl; phase = refl; copy = record { seen = slim_seen e.copy; retain = refl } }
 
@@ -115,5 +116,6 @@ slim_sessions : (ss : List Session) → Each AlikeSessions ss (map slim_session 
 slim_sessions [] = tt
 slim_sessions (s ∷ ss) = (record { rest = refl; queue = slim_rows s.queue }, slim_sessions ss)
 
+-- so is a broker of such rows
 pub slim_alike : (b : Broker) → AlikeBrokers b (slim_broker b)
 slim_alike b = record { rest = refl; records = record { rest = refl; sessions = slim_sessions b.records.sessions } }

@@ -22,20 +22,25 @@ use Rattle.mqtt_rules_alike_laws.proofs.Pairs.{Both, by_cond, each_refl, map_sam
 
 -- ---- what is alike to itself
 
+-- a row is like itself
 pub row_alike : (e : CopyRow) → AlikeRows e e
 row_alike e = record { place = refl; phase = refl; copy = record { seen = refl; retain = refl } }
 
+-- so is a session
 pub session_alike : (s : Session) → AlikeSessions s s
 session_alike s = record { rest = refl; queue = each_refl AlikeRows row_alike s.queue }
 
+-- and a deed
 pub deed_alike : (P : Type 0) (d : Deed) → AlikeDeeds P d d
 deed_alike P d = same refl
 
 -- ---- what is alike to a session, to records, to a broker: the same with other rows
 
+-- a session with an alike queue is alike
 pub queue_put : (s : Session) (q : List CopyRow) → Each AlikeRows s.queue q → AlikeSessions s (with_queue q s)
 queue_put s q h = record { rest = refl; queue = h }
 
+-- and an alike session is one with an alike queue
 pub session_is : (s t : Session) → AlikeSessions s t → with_queue t.queue s ≡ t
 session_is s t h = ap (with_queue t.queue) h.rest
 
@@ -46,32 +51,40 @@ by_queue P s k t h = subst P (session_is s t h) (k t.queue h.queue)
 pub records_put : (r : Records) (ss : List Session) → Each AlikeSessions r.sessions ss → AlikeRecords r (with_sessions ss r)
 records_put r ss h = record { rest = refl; sessions = h }
 
+-- what holds of records with alike sessions holds of alike records
 pub by_sessions : (P : Records → Type 0) (r : Records) → ((ss : List Session) → Each AlikeSessions r.sessions ss → P (with_sessions ss r)) → (o : Records) → AlikeRecords r o → P o
 by_sessions P r k o h = subst P (ap (with_sessions o.sessions) h.rest) (k o.sessions h.sessions)
 
 abbrev pub like : List Session → Broker → Broker
 like ss b = with_records (with_sessions ss b.records) b
 
+-- a broker with alike sessions is alike
 pub broker_put : (b : Broker) (ss : List Session) → Each AlikeSessions b.records.sessions ss → AlikeBrokers b (like ss b)
 broker_put b ss h = record { rest = refl; records = records_put b.records ss h }
 
+-- and an alike broker is one with alike sessions
 pub broker_is : (b c : Broker) → AlikeBrokers b c → like c.records.sessions b ≡ c
 broker_is b c h = ap (λ (r : Records). with_records r b) (ap (with_sessions c.records.sessions) h.records.rest) ∙ h.rest
 
+-- what holds of a broker with alike sessions holds of alike brokers
 pub by_broker : (P : Broker → Type 0) (b : Broker) → ((ss : List Session) → Each AlikeSessions b.records.sessions ss → P (like ss b)) → (c : Broker) → AlikeBrokers b c → P c
 by_broker P b k c h = subst P (broker_is b c h) (k c.records.sessions h.records.sessions)
 
 -- ---- what is found
 
+-- alike sessions have one birth
 pub birth_same : (s t : Session) → AlikeSessions s t → s.birth ≡ t.birth
 birth_same s t h = ap (λ (x : Session). x.birth) h.rest
 
+-- alike queues have the same places
 pub places_same : (q p : List CopyRow) → Each AlikeRows q p → map copy_place q ≡ map copy_place p
 places_same q p h = map_same AlikeRows copy_place copy_place (λ x y k. k.place) q p h
 
+-- a birth finds alike sessions in both
 pub session_found : (birth : ℕ) (r : Records) (ss : List Session) → Each AlikeSessions r.sessions ss → Both AlikeSessions (session_at birth r) (session_at birth (with_sessions ss r))
 session_found birth r ss h = both_at AlikeSessions birth_of birth_same birth r.sessions ss h
 
+-- alike rows have one place
 pub place_same : (x y : CopyRow) → AlikeRows x y → copy_place x ≡ copy_place y
 place_same x y h = h.place
 
@@ -102,6 +115,7 @@ put_session_alike row ss ts h =
     (each_changed AlikeSessions birth_of birth_same row.birth (with_columns row) (with_columns row) (edited (with_columns row) (columns_keep row)) ss ts h)
     (each_put AlikeSessions birth_of birth_same SESSION_LIMIT (fresh row) (session_alike (fresh row)) ss ts h)
 
+-- a change leaves alike records alike
 pub changed_alike : (c : Change) (r : Records) (ss : List Session) → Each AlikeSessions r.sessions ss → AlikeRecords (changed c r) (changed c (with_sessions ss r))
 changed_alike (change.SetCounter Births n) r ss h = record { rest = refl; sessions = h }
 changed_alike (change.SetCounter Publications n) r ss h = record { rest = refl; sessions = h }
@@ -126,6 +140,7 @@ changed_alike (change.RemoveCopy birth place) r ss h =
 changed_alike (change.PutRetained kept) r ss h = record { rest = refl; sessions = h }
 changed_alike (change.RemoveRetained place) r ss h = record { rest = refl; sessions = h }
 
+-- so do many
 pub changed_all_alike : (cs : List Change) (r o : Records) → AlikeRecords r o → AlikeRecords (changed_all cs r) (changed_all cs o)
 changed_all_alike [] r o h = h
 changed_all_alike (c ∷ cs) r o h =

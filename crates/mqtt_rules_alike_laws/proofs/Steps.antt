@@ -147,14 +147,17 @@ event_alike : (e : Event) (b c : Broker) → AlikeBrokers b c → AlikeBrokers (
 event_alike (Asked limits choice now call) b c h = step_alike limits choice now call b c h
 event_alike (Reopened limits choice now) b c h = opened_alike limits choice now b.records c.records h.records
 
+-- all events leave alike brokers alike
 pub run_alike : (es : List Event) (b c : Broker) → AlikeBrokers b c → AlikeBrokers (after_events es b) (after_events es c)
 run_alike [] b c h = h
 run_alike (e ∷ es) b c h = run_alike es (after_event e b) (after_event e c) (event_alike e b c h)
 
 -- ---- pumps
 
+-- a pump takes the same turns in both
 pub turns_same : (l : Line) (now : ℕ) (s t : Session) → AlikeSessions s t → pump_turns l now s ≡ pump_turns l now t
 turns_same l now s t h = by_queue (λ (x : Session). pump_turns l now s ≡ pump_turns l now x) s (pump_same l now s) t h
 
+-- and each does them with its own contents
 pub own_turns : (l : Line) (now : ℕ) (s t : Session) → AlikeSessions s t → pump_deeds l now t ≡ all_turn_deeds now l.number t (pump_turns l now s)
 own_turns l now s t h = ap (all_turn_deeds now l.number t) (sym (turns_same l now s t h))

@@ -112,6 +112,7 @@ wish_identified : (o : Option ℕ) → IsIdentifier o → AreIdentifiersOf of_ro
 wish_identified None q = record { each = tt; few = omega arith }
 wish_identified (Some n) q = record { each = (q, tt); few = omega arith }
 
+-- what a subscription brings are copies of retained messages
 pub brought_copied : (t : Bool) (now number : ℕ) (s : Session) (w : sub.Wish) (ks : List RetainedMessage) → IsIdentifier w.identifier → AllByRecursion Retains ks
     → AllByRecursion IsCopiedTo (sub.brought_if t now number s w ks)
 brought_copied false now number s w ks q h = tt
@@ -124,6 +125,7 @@ brought_copied true now number s w ks q h =
     each_map IsCopiedTo (sub.retained_copy_to s.birth number w) all
     (each_more Retains (λ k. IsCopiedTo (sub.retained_copy_to s.birth number w k)) (λ k p. record { content = p; identifiers = wish_identified w.identifier q }) all fit)
 
+-- those that go out behind the SUBACK are of QoS 0
 pub late_copies : (ds : List CopyTo) → AllByRecursion IsCopiedTo ds → AllByRecursion IsLate (filter (λ d. not (is_queued d)) ds)
 late_copies [] h = tt
 late_copies (d ∷ ds) h = elim (cases_Bool (is_queued d)) [
@@ -138,6 +140,7 @@ at_once qos.AtMostOnce id h = tt
 at_once qos.AtLeastOnce id h = absurd cc
 at_once qos.ExactlyOnce id h = absurd cc
 
+-- an offer of a packet with a spelling says such packets
 pub said_offer : (o : Option Line) (packet : Packet) → HasSpelling packet → AreSaid (offer o packet)
 said_offer None packet q = tt
 said_offer (Some l) packet q = by _
@@ -146,6 +149,7 @@ said_offer (Some l) packet q = by _
     by true = (q, tt)
     by false = tt
 
+-- so does that of a copy behind the SUBACK
 pub said_late : (o : Option Line) (now : ℕ) (d : CopyTo) → IsLate d → AreSaid (offer o (publish_of now false 0 d.copy))
 said_late o now d h = said_offer o (publish_of now false 0 d.copy) (publish_spelled now false 0 d.copy h.0 (at_once d.copy.qos 0 h.1))
 
@@ -153,6 +157,7 @@ said_entry : (o : Option CopyRow) (f : CopyRow → List Deed) → ((e : CopyRow)
 said_entry None f h = tt
 said_entry (Some e) f h = h e
 
+-- a copy's leaving says nothing
 pub said_leave : (s : Session) (t : Turn) → AreSaid (leave_deeds s t)
 said_leave s (turns.Leave place ending) = said_entry (row_at copy_place place s.queue) (λ e. At (whose s) (Leave e ending) ∷ []) (λ e. (tt, tt))
 said_leave s (turns.Send place id) = tt
@@ -162,6 +167,7 @@ said_leave s (turns.Outgrow place id order) = tt
 said_leave s (turns.Repeat id) = tt
 said_leave s (turns.Unknown id) = tt
 
+-- nor does that of many
 pub said_leaves : (s : Session) (ts : List Turn) → AreSaid (flat_map (leave_deeds s) ts)
 said_leaves s ts = each_flat IsSaid (leave_deeds s) (said_leave s) ts
 
@@ -178,6 +184,7 @@ said_deliver true env d b is q = by (session_at d.birth b.records)
     by (Some s) = said_enter env d.copy s
 said_deliver false env d b is q = said_late (line_of d.birth b) b.now d (q, is)
 
+-- deliveries say packets with a spelling
 pub said_deliveries : (env : Env) (ds : List CopyTo) (b : Broker) → AllByRecursion IsCopiedTo ds → AreSaid (series (map (deliver env) ds) b)
 said_deliveries env [] b h = tt
 said_deliveries env (d ∷ ds) b h =
@@ -194,6 +201,7 @@ said_retain false empty number m b = tt
 said_retain true true number m b = said_forgets (retained_of m.topic b.records)
 said_retain true false number m b = (tt, tt)
 
+-- so does a publication
 pub said_publish : (env : Env) (origin : Origin) (m : Message) (ds : List CopyTo) (b : Broker) → AllByRecursion IsCopiedTo ds → AreSaid (publish env origin m ds b)
 said_publish env origin m ds b h =
     let number = next_publication b.records in

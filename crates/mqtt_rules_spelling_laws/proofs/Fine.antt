@@ -193,6 +193,7 @@ deed_phased (Link n) r q = tt
 deed_phased (Send n packet) r q = tt
 deed_phased (Gone n) r q = tt
 
+-- what writes and says well leaves fine records
 pub fine_all : (ds : List Deed) (b : Broker) → IsFine b.records → Writes ds b → AreSaid ds → IsFine (after_all ds b).records
 fine_all [] b h rows said = h
 fine_all (d ∷ ds) b h rows said =

@@ -70,15 +70,19 @@ ack_spelled kind place id code q is =
     let few = tail_short code in
     ((q.fits, is, (no_properties, refl)), omega (arith, whole, few), positive id q)
 
+-- a PUBACK has a spelling
 pub puback_spelled : (id code : ℕ) → IsPacketIdentifier id → is_code kinds.Puback code ≡ true → HasSpelling (puback id code)
 puback_spelled id code q is = ack_spelled kinds.Puback places.Puback id code q is
 
+-- a PUBREC
 pub pubrec_spelled : (id code : ℕ) → IsPacketIdentifier id → is_code kinds.Pubrec code ≡ true → HasSpelling (pubrec id code)
 pubrec_spelled id code q is = ack_spelled kinds.Pubrec places.Pubrec id code q is
 
+-- a PUBREL
 pub pubrel_spelled : (id code : ℕ) → IsPacketIdentifier id → is_code kinds.Pubrel code ≡ true → HasSpelling (pubrel id code)
 pubrel_spelled id code q is = ack_spelled kinds.Pubrel places.Pubrel id code q is
 
+-- a PUBCOMP
 pub pubcomp_spelled : (id code : ℕ) → IsPacketIdentifier id → is_code kinds.Pubcomp code ≡ true → HasSpelling (pubcomp id code)
 pubcomp_spelled id code q is = ack_spelled kinds.Pubcomp places.Pubcomp id code q is
 
@@ -98,14 +102,17 @@ codes_spelled kind place id codes q are some few =
     let none = block_empty in
     ((q.fits, (no_properties, refl), are), omega (arith, whole, rest, none, few), both (nat_lt 0 id) (not (length codes == 0)) (positive id q) some)
 
+-- a SUBACK
 pub suback_spelled : (id : ℕ) (codes : List ℕ) → IsPacketIdentifier id → are_codes kinds.Suback codes ≡ true → not (length codes == 0) ≡ true → length codes < 2 ^ 27 → HasSpelling (suback id codes)
 suback_spelled id codes q are some few = codes_spelled kinds.Suback places.Suback id codes q are some few
 
+-- an UNSUBACK
 pub unsuback_spelled : (id : ℕ) (codes : List ℕ) → IsPacketIdentifier id → are_codes kinds.Unsuback codes ≡ true → not (length codes == 0) ≡ true → length codes < 2 ^ 27 → HasSpelling (unsuback id codes)
 unsuback_spelled id codes q are some few = codes_spelled kinds.Unsuback places.Unsuback id codes q are some few
 
 -- ---- DISCONNECT and CONNACK
 
+-- a DISCONNECT
 pub disconnect_spelled : (code : ℕ) → is_code kinds.Disconnect code ≡ true → HasSpelling (disconnect code)
 disconnect_spelled code is = let few = tail_short code in ((is, (no_properties, refl)), omega (arith, few), refl)
 
@@ -116,6 +123,7 @@ block_length ps n le below =
     let top = longest in
     omega (arith, parts, four, top, le)
 
+-- and a CONNACK that refuses
 pub refusal_spelled : (code : ℕ) → is_code kinds.Connack code ≡ true → HasSpelling (connack false code [])
 refusal_spelled code is =
     let few = block_length [] 0 (omega arith) (omega arith) in
@@ -173,6 +181,7 @@ IsIdentifierAt qos.AtMostOnce id = ⊤
 IsIdentifierAt qos.AtLeastOnce id = IsPacketIdentifier id
 IsIdentifierAt qos.ExactlyOnce id = IsPacketIdentifier id
 
+-- a packet identifier may stand in a PUBLISH of QoS 1 or 2
 pub identifier_at : (q : Qos) (id : ℕ) → IsPacketIdentifier id → IsIdentifierAt q id
 identifier_at qos.AtMostOnce id h = tt
 identifier_at qos.AtLeastOnce id h = h
@@ -187,6 +196,7 @@ some_topic : (topic : List ℕ) (x : Bool) → IsTopicName topic → (nat_lt 0 (
 some_topic [] x h = absurd (h.some refl)
 some_topic (c ∷ cs) x h = let some : nat_lt 0 (length (c ∷ cs)) ≡ true = lt-ltb 0 (length (c ∷ cs)) (omega arith) in rw some refl
 
+-- a copy's PUBLISH has a spelling
 pub publish_spelled : (now : ℕ) (dup : Bool) (id : ℕ) (copy : MessageCopy) → IsCopiedOf of_rows copy → IsIdentifierAt copy.qos id → HasSpelling (publish_of now dup id copy)
 publish_spelled now dup id copy h q =
     let waited = seconds_waited now copy.content in

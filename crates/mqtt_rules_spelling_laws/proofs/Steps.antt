@@ -53,6 +53,7 @@ step_spoken limits choice now call b unspent taken tells contents ordered phases
     let rows : Writes ds c = rows_good c.now (rows_of_all ds c.records) (step_brings of_rows rows_are limits choice now call b taken contents) unspent in
     (call_said (env_of limits choice b) call c taken tells contents.lines ordered (record { contents = contents.stored; phases = phases }) rows, rows)
 
+-- all that a step tells has a spelling
 pub step_spelled : (limits : Limits) (choice : MemberChoice) (now : ℕ) (call : Call) (b : Broker) → is_step_spent limits choice now call b ≡ false → TakesLawful call → TellsFault call → AreContentsLawful b → IsOrdered (stored b) → HaveSentPhases (stored b)
     → AllByRecursion (λ (x : ℕ × Packet). HasSpelling x.1) (told limits choice now call b).outputs
 step_spelled limits choice now call b unspent taken tells contents ordered phases =
@@ -62,6 +63,7 @@ moment_phases : (rows : List Change) (b : Broker) → HaveSentPhases b.records �
 moment_phases [] b h = h
 moment_phases (row ∷ rows) b h = h
 
+-- behind a step copies in flight have packet identifiers
 pub step_phases : (limits : Limits) (choice : MemberChoice) (now : ℕ) (call : Call) (b : Broker) → is_step_spent limits choice now call b ≡ false → TakesLawful call → TellsFault call → AreContentsLawful b → IsOrdered (stored b) → HaveSentPhases (stored b)
     → HaveSentPhases (stored (stepped limits choice now call b))
 step_phases limits choice now call b unspent taken tells contents ordered phases =
@@ -70,6 +72,7 @@ step_phases limits choice now call b unspent taken tells contents ordered phases
     let its = step_spoken limits choice now call b unspent taken tells contents ordered phases in
     moment_phases (rows_of_all ds c.records) (after_all ds c) (fine_all ds c (record { contents = contents.stored; phases = phases }) its.1 its.0).phases
 
+-- so they have behind an opening
 pub opening_phases : (limits : Limits) (choice : MemberChoice) (now : ℕ) (r : Records) → is_opening_spent limits choice now r ≡ false → HasLawfulContents r → HaveSentPhases r → HaveSentPhases (stored (opened limits choice now r))
 opening_phases limits choice now r unspent contents phases =
     let c = unopened now r in
@@ -84,6 +87,7 @@ tells_by line bytes (Ok None) call e = absurd cc
 tells_by line bytes (Ok (Some x)) call e = let it : Input line x.0 ≡ call = cc in subst TellsFault it tt
 tells_by line bytes (Err fault) call e = let it : BadInput line (begins_connect bytes) (code_of (answer_to fault)) ≡ call = cc in subst TellsFault it (fault, refl)
 
+-- what bytes ask for tells a fault by a code of DISCONNECT or CONNACK
 pub bytes_tell : (line : ℕ) (bytes : List ℕ) (call : Call) → first_call line bytes ≡ Some call → TellsFault call
 bytes_tell line bytes call e = tells_by line bytes (first_of bytes) call e
 
@@ -99,12 +103,15 @@ well_opened limits choice now r unspent contents ordered phases = record {
   phases = opening_phases limits choice now r unspent contents phases;
 }
 
+-- a broker that opens over what a store may hold sends well
 pub well_begun : (limits : Limits) (choice : MemberChoice) (now : ℕ) (r : Records) → OpensOf limits choice now r → IsLawful r → HaveSentPhases r → SendsWell (opened limits choice now r)
 well_begun limits choice now r unspent lawful phases = well_opened limits choice now r unspent (lawful_contents r lawful) (lawful_coherent r lawful).ordered phases
 
+-- so does one that opens again
 pub well_reopened : (limits : Limits) (choice : MemberChoice) (now : ℕ) (b : Broker) → OpensOf limits choice now (stored b) → SendsWell b → SendsWell (opened limits choice now (stored b))
 well_reopened limits choice now b unspent h = well_opened limits choice now (stored b) unspent h.contents.stored h.ordered h.phases
 
+-- and one behind a step
 pub well_stepped : (limits : Limits) (choice : MemberChoice) (now : ℕ) (call : Call) (b : Broker) → IsAsked limits choice now call b → SendsWell b → SendsWell (stepped limits choice now call b)
 well_stepped limits choice now call b a h = record {
   contents = step_contents of_rows rows_are limits choice now call b a.taken h.contents;
@@ -112,6 +119,7 @@ well_stepped limits choice now call b a h = record {
   phases = step_phases limits choice now call b a.unspent a.taken a.tells h.contents h.ordered h.phases;
 }
 
+-- who sends well tells packets with a spelling alone
 pub well_spelled : (limits : Limits) (choice : MemberChoice) (now : ℕ) (call : Call) (b : Broker) → IsAsked limits choice now call b → SendsWell b
     → AllByRecursion (λ (x : ℕ × Packet). HasSpelling x.1) (told limits choice now call b).outputs
 well_spelled limits choice now call b a h = step_spelled limits choice now call b a.unspent a.taken a.tells h.contents h.ordered h.phases

@@ -57,6 +57,7 @@ said_entry s (Some e) f h = h e refl
 its_copy : (place : ℕ) (s : Session) (e : CopyRow) → HasContentsOf of_rows s → row_at copy_place place s.queue ≡ Some e → IsCopiedOf of_rows e.copy
 its_copy place s e h there = all_at copy_place (λ (x : CopyRow). IsCopiedOf of_rows x.copy) place e s.queue h.queue there
 
+-- a turn says a packet with a spelling
 pub said_turn : (now line : ℕ) (s : Session) (t : Turn) → HasContentsOf of_rows s → IsTurn t → AreSaid (turn_deeds now line s t)
 said_turn now line s (turns.Send place id) h q =
     said_entry s (row_at copy_place place s.queue) (λ e. At (whose s) (Mark place (Sent id)) ∷ On line (Went place) ∷ Send line (publish_of now false id e.copy) ∷ [])
@@ -70,6 +71,7 @@ said_turn now line s (turns.Repeat id) h q = (pubrel_spelled id success q refl, 
 said_turn now line s (turns.Unknown id) h q = (pubrel_spelled id identifier_not_found q refl, tt)
 said_turn now line s (turns.Leave place ending) h q = said_leave s (turns.Leave place ending)
 
+-- so do many
 pub said_turns : (now line : ℕ) (s : Session) (ts : List Turn) → HasContentsOf of_rows s → AllByRecursion IsTurn ts → AreSaid (all_turn_deeds now line s ts)
 said_turns now line s [] h q = tt
 said_turns now line s (t ∷ ts) h q = each_append IsSaid (turn_deeds now line s t) (all_turn_deeds now line s ts) (said_turn now line s t h q.0) (said_turns now line s ts h q.1)
@@ -104,6 +106,7 @@ puback_entry : (code : ℕ) (o : Option Entry) → IsAnswer (puback_at code o)
 puback_entry code None = tt
 puback_entry code (Some e) = puback_phase e.phase e.copy.qos code e.place
 
+-- what a PUBACK asks for is such a turn
 pub puback_turn : (id code : ℕ) (queue : List Entry) → IsAnswer (rules.puback id code queue)
 puback_turn id code queue = puback_entry code (holder id queue)
 
@@ -133,6 +136,7 @@ pubrec_entry id code order queue (Some x) e q h = pubrec_phase x.phase x.copy.qo
       | inr other ↦ found test x ys h.1 (rw other at e)
     ]
 
+-- so is what a PUBREC asks for
 pub pubrec_turn : (id code : ℕ) (went : List ℕ) (s : Session) → IsPacketIdentifier id → HasSentPhases s → IsAnswer (rules.pubrec id code (queue_on went s))
 pubrec_turn id code went s q h = let queue = queue_on went s in pubrec_entry id code (next_order queue) queue (holder id queue) refl q (entries went s h)
 
@@ -146,6 +150,7 @@ pubcomp_entry : (o : Option Entry) → IsAnswer (pubcomp_at o)
 pubcomp_entry None = tt
 pubcomp_entry (Some e) = pubcomp_phase e.phase e.place
 
+-- and a PUBCOMP
 pub pubcomp_turn : (id : ℕ) (queue : List Entry) → IsAnswer (rules.pubcomp id queue)
 pubcomp_turn id queue = pubcomp_entry (holder id queue)
 
@@ -175,6 +180,7 @@ repeats : {X : Type 0} (xs : List X) (number : X → ℕ) → AreDue xs number �
 repeats [] number h = tt
 repeats (x ∷ xs) number h = (h.0, repeats xs number h.1)
 
+-- the turns of a resumption are such
 pub resumed_turns : (s : Session) → HasSentPhases s → AllByRecursion IsTurn (resumed_with (queue_on [] s))
 resumed_turns s h = repeats (due_from [] (queue_on [] s)) (λ d. d.identifier) (due_all (queue_on [] s) [] (entries [] s h) tt)
 
@@ -272,6 +278,7 @@ used_few (e ∷ es) = let rest = used_few es in by (identifier_of e.phase) rest
     by None le = omega (arith, le)
     by (Some i) le = omega (arith, le)
 
+-- and those of a pump
 pub pumped_turns : (way : Way) (went : List ℕ) (s : Session) → HasSentPhases s → length s.queue ≤ QUEUE_LIMIT → AllByRecursion IsTurn (pump way (queue_on went s))
 pumped_turns way went s h few =
     let queue = queue_on went s in

@@ -10,6 +10,7 @@ use Rattle.mqtt_script.proofs.Meanings.{name_says, name_is_read, bytes_say, byte
 
 -- ---- a single name
 
+-- words that are read as one name say that name
 pub one_name_says : (words : List (List ℕ)) (client : List ℕ) → one_name_in words ≡ Some client → IsOneName client words
 unfolding one_name_in
 one_name_says [] client e = cc
@@ -17,6 +18,7 @@ one_name_says (word ∷ []) client e =
     let is = name_says word client e in (ap (λ (w : List ℕ). w ∷ []) is.0, is.1)
 one_name_says (word ∷ next ∷ more) client e = cc
 
+-- words that say one name are read so
 pub one_name_is_read : (words : List (List ℕ)) (client : List ℕ) → IsOneName client words
     → one_name_in words ≡ Some client
 unfolding one_name_in
@@ -75,6 +77,7 @@ unfolding tick_in
 tick_says [] a e = subst (λ (a : Asking). Says (codes "tick") [] a) (same_some Tick a e) (refl, refl)
 tick_says (word ∷ more) a e = cc
 
+-- words behind a question's word that are read say that question
 pub asking_named_says : (first : List ℕ) (more : List (List ℕ)) (a : Asking) → asking_named first more ≡ Some a
     → Says first more a
 unfolding asking_named
@@ -88,6 +91,7 @@ asking_named_says first more a e =
     named (λ w. Says w more a) first (codes "stranger") _ _ a e (stranger_says more a) (λ e.
     nothing (Says first more a) a e)))))
 
+-- words that are read as a question say it
 pub asking_says : (words : List (List ℕ)) (a : Asking) → asking_in words ≡ Some a → IsAsking a words
 unfolding asking_in
 asking_says [] a e = cc
@@ -96,6 +100,7 @@ asking_says (first ∷ more) a e =
 
 -- ---- what can be read
 
+-- words behind a question's word that say it are read so
 pub asking_named_is_read : (a : Asking) (more : List (List ℕ)) → AskingFollows a more
     → asking_named (asking_word a) more ≡ Some a
 unfolding asking_named to_broker_in late_in stranger_in tick_in
@@ -107,6 +112,7 @@ asking_named_is_read Tick more is = rw is
 asking_named_is_read (Stranger name bytes) more (hex, is, is_name, is_hex) =
     rw (is, name_is_read name is_name, bytes_are_read hex bytes is_hex)
 
+-- words that say a question are read so
 pub asking_is_read : (a : Asking) (words : List (List ℕ)) → IsAsking a words → asking_in words ≡ Some a
 unfolding asking_in
 asking_is_read a words (more, is, follows) = rw is (asking_named_is_read a more follows)

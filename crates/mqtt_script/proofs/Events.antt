@@ -185,6 +185,7 @@ words_say [] e is = cc
 words_say (first ∷ more) e is =
     let said = event_named_says first more e is in (more, ap (λ (w : List ℕ). w ∷ more) said.0, said.1)
 
+-- a line that is read as an event says it
 pub line_says : (line : List ℕ) (e : Event) → IsAscii line → event_in (words_of line) ≡ Some e → IsLineOf e line
 line_says line e ascii is =
     let said = words_say (words_of line) e is in
@@ -238,6 +239,7 @@ event_named_is_read (StopAfter a) more is = rw (asking_is_read a more is)
 event_named_is_read (Stranger name bytes) more is = asked_is_read (asking.Stranger name bytes) more is
 event_named_is_read (Drain client) more is = rw (one_name_is_read more client is)
 
+-- a line that says an event is read so
 pub line_is_read : (line : List ℕ) (e : Event) → IsLineOf e line → event_in (words_of line) ≡ Some e
 unfolding event_in
 line_is_read line e is = rw is.first (event_named_is_read e is.more is.follows)
@@ -246,6 +248,7 @@ line_is_read line e is = rw is.first (event_named_is_read e is.more is.follows)
 no_line : (line : List ℕ) → event_in (words_of line) ≡ None → IsNoLine line
 no_line line none e is = cc (sym none ∙ line_is_read line e is)
 
+-- a line that is no ASCII says none
 pub not_ascii : (line text : List ℕ) (ascii : Bool) → text ≡ line → ascii ≡ false → MatchBool ascii (IsAscii text) (IsNotAscii text)
     → IsNoLine line
 not_ascii line text false same is (place, above) e said =
@@ -271,6 +274,7 @@ module _ (line text : List ℕ) (same : text ≡ line) where
 
 -- ---- one event
 
+-- a line says one event at most
 pub one_line_one_event : (line : List ℕ) (event other : Event) → IsLineOf event line → IsLineOf other line → event ≡ other
 one_line_one_event line event other is also =
     same_some event other (sym (line_is_read line event is) ∙ line_is_read line other also)

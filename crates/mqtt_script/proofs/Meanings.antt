@@ -26,6 +26,7 @@ name_decides word =
     Decides-and _ _ (Decides-ltb 0 (length word))
     (Decides-and _ _ (Decides-ltb (length word) (2 ^ 16)) (λ is. is, λ is. is))
 
+-- a word that is read as a name is one
 pub name_says : (word name : List ℕ) → name_at word ≡ Some name → (word ≡ name) × IsName name
 unfolding name_at
 name_says word name e =
@@ -33,6 +34,7 @@ name_says word name e =
     let same = same_some word name found.1 in
     (same, subst IsName same found.0)
 
+-- a name is read so
 pub name_is_read : (word : List ℕ) → IsName word → name_at word ≡ Some word
 unfolding name_at
 name_is_read word is = granted _ (name_decides word) (Some word) is
@@ -82,17 +84,20 @@ module _ (word : List ℕ) where
       go false false true a b c e = subst (λ h. word ≡ handling_word h) (same_some DoNotSend handling e) (c refl)
       go false false false a b c e = cc
 
+-- a flag's word is read as that flag
 pub flag_is_read : (flag : Bool) → flag_at (flag_word flag) ≡ Some flag
 unfolding flag_at
 flag_is_read false = refl
 flag_is_read true = refl
 
+-- a quality of service is
 pub qos_is_read : (qos : Qos) → qos_at (qos_word qos) ≡ Some qos
 unfolding qos_at
 qos_is_read AtMostOnce = refl
 qos_is_read AtLeastOnce = refl
 qos_is_read ExactlyOnce = refl
 
+-- a Retain Handling is
 pub handling_is_read : (handling : RetainHandling) → handling_at (handling_word handling) ≡ Some handling
 unfolding handling_at
 handling_is_read SendAlways = refl
@@ -113,10 +118,12 @@ number_by_says word m n e =
     let found = decided _ (number_decides word m) (Some m) n e in
     subst (λ k. IsNumber k word) (same_some m n found.1) found.0
 
+-- a word that is read as a number says it
 pub number_says : (word : List ℕ) (n : ℕ) → number_at word ≡ Some n → IsNumber n word
 unfolding number_at
 number_says word n e = number_by_says word (digits_value 10 word) n e
 
+-- a word that says a number is read so
 pub number_is_read : (word : List ℕ) (n : ℕ) → IsNumber n word → number_at word ≡ Some n
 unfolding number_at
 number_is_read word n is =
@@ -126,6 +133,7 @@ number_is_read word n is =
 window_decides : (n : ℕ) → Decides (nat_lt 0 n && nat_lt n (2 ^ 16)) ((0 < n) × (n < 2 ^ 16))
 window_decides n = Decides-and _ _ (Decides-ltb 0 n) (Decides-ltb n (2 ^ 16))
 
+-- a word that is read as a Receive Maximum says it
 pub window_says : (word : List ℕ) (n : ℕ) → window_at word ≡ Some n → IsWindow n word
 unfolding window_at
 window_says word n e =
@@ -134,6 +142,7 @@ window_says word n e =
     let same = same_some step.0 n found.1 in
     subst (λ k. IsWindow k word) same (found.0.0, found.0.1, (number_says word step.0 step.1).1)
 
+-- a word that says one is read so
 pub window_is_read : (word : List ℕ) (n : ℕ) → IsWindow n word → window_at word ≡ Some n
 unfolding window_at
 window_is_read word n is =
@@ -148,6 +157,7 @@ identifier_chosen word n false positive small is i e =
     let none : n ≡ 0 = none_below n (λ above. true≢false (sym (positive.1 above))) in
     subst (λ j. IsIdentifier j word) (same_some None i e) (is ∙ ap decimal none ∙ decimal_digit 0 (omega arith))
 
+-- a word that is read as a Subscription Identifier, or as none, says so
 pub identifier_says : (word : List ℕ) (i : Option ℕ) → identifier_at word ≡ Some i → IsIdentifier i word
 unfolding identifier_at
 identifier_says word i e =
@@ -168,6 +178,7 @@ identifier_by_is n positive small =
     chosen true is = refl
     chosen false is = cc
 
+-- a word that says one, or none, is read so
 pub identifier_is_read : (word : List ℕ) (i : Option ℕ) → IsIdentifier i word → identifier_at word ≡ Some i
 unfolding identifier_at
 identifier_is_read word None is =
@@ -179,17 +190,20 @@ identifier_is_read word (Some n) is =
 
 -- ---- bytes
 
+-- a word that is read as bytes says them
 pub bytes_say : (word bytes : List ℕ) → bytes_at word ≡ Some bytes → IsHex bytes word
 unfolding bytes_at
 bytes_say word bytes e =
     let found = decided _ (Decides-ltb 0 (length word)) (result_ok (decode_of word)) bytes e in
     (found.0, was_ok (decode_of word) bytes found.1)
 
+-- a word that says bytes is read so
 pub bytes_are_read : (word bytes : List ℕ) → IsHex bytes word → bytes_at word ≡ Some bytes
 unfolding bytes_at
 bytes_are_read word bytes is =
     granted _ (Decides-ltb 0 (length word)) (result_ok (decode_of word)) is.0 ∙ ap result_ok is.1
 
+-- a word that is read as a payload says it
 pub payload_says : (word payload : List ℕ) → payload_at word ≡ Some payload → IsPayload payload word
 unfolding payload_at
 payload_says word payload e = go _ (bytes_eq-Decides word (codes "-")).0 e
@@ -205,6 +219,7 @@ no_digits word payload is same =
     let none : decode_of (codes "-") ≡ Ok payload = subst (λ w. decode_of w ≡ Ok payload) same is.1 in
     cc none
 
+-- a word that says a payload is read so
 pub payload_is_read : (word payload : List ℕ) → IsPayload payload word → payload_at word ≡ Some payload
 unfolding payload_at
 payload_is_read word payload (inl is) =

@@ -31,6 +31,7 @@ not_led n fits = go (nat_lt n 10) (Decides-ltb n 10)
 
 -- ---- what is refused
 
+-- a word with a sign or a leading zero is no number
 pub led_is_none : (word : List ℕ) → is_led word ≡ true → number_at word ≡ None
 led_is_none word led = none_of (number_at word) never
   where
@@ -40,6 +41,7 @@ led_is_none word led = none_of (number_at word) never
         let plain : is_led word ≡ false = ap is_led said.1 ∙ not_led n said.0 in
         cc
 
+-- a word that does not parse is no number
 pub not_parsed : {E : Type 0} (word : List ℕ) (r : Result ℕ E) (e : E) → ParsesUnsigned 64 10 word r → r ≡ Err e
     → number_at word ≡ None
 not_parsed word r e parsed is = none_of (number_at word) never
@@ -78,6 +80,7 @@ decimal_form : (word : List ℕ) → is_led word ≡ false → IsNumeral 10 word
 decimal_form word led numeral fits =
     decimal-digits_value own word numeral.1 numeral.0 (zero_alone word led numeral.0) fits
 
+-- a word that parses is read as its value
 pub parsed_is_read : (word : List ℕ) (n : ℕ) → is_led word ≡ false
     → IsNumeral 10 (without_leading_plus word) × (digits_value 10 (without_leading_plus word) < 2 ^ 64)
     → n ≡ digits_value 10 (without_leading_plus word) → number_at word ≡ Some n

@@ -29,6 +29,7 @@ use Rattle.mqtt_script_laws.proofs.Repeated.{IsReady, IsSame, answers_same, pump
 
 -- ---- ends, by two choices
 
+-- what holds of two lists holds of each
 pub parts : {X : Type 0} (P : X → Type 0) (xs ys : List X) → AllByRecursion P (xs ++ ys) → AllByRecursion P xs × AllByRecursion P ys
 parts P [] ys h = (tt, h)
 parts P (x ∷ xs) ys h = let more = parts P xs ys h.1 in ((h.0, more.0), more.1)

@@ -97,6 +97,7 @@ by_broker (Some (publisher client)) w v same h = ap (λ (b : Broker). session_na
 by_broker (Some (receiver client window)) w v same h = ap (λ (b : Broker). session_named client b.records) same ∙ h
 by_broker (Some e) w v same h = tt
 
+-- a script that makes its ends first, over records without sessions of theirs, makes each anew
 pub made_first : (limits : Limits) (es : List Line) (w : World) → makes_ends_first es ≡ true → HaveNoSession es w → AreMadeAnew limits es w
 made_first limits [] w h none = tt
 made_first limits (e ∷ es) w h none = elim (cases_Bool (makes_end (event_of e))) [
@@ -125,5 +126,6 @@ none_stored : (es : List Line) → HaveNoSession es start
 none_stored [] = tt
 none_stored (e ∷ es) = (no_sessions (event_of e), none_stored es)
 
+-- a script that makes its ends first, from nothing, makes each anew
 pub made_from_nothing : (limits : Limits) (es : List Line) → makes_ends_first es ≡ true → AreMadeAnew limits es start
 made_from_nothing limits es h = made_first limits es start h (none_stored es)

@@ -21,14 +21,17 @@ use Rattle.mqtt_world_model.proofs.examples.Scripts.{p1, r1, turns}
 abbrev taken : World
 taken = after usual (turns (ask (stranger (codes "s1") (bytes "10 14 00 04 4d 51 54 54 05 00 00 00 05 11 ff ff ff ff 00 02 72 31")) ∷ []))
 
+-- an end whose name has a session may be made
 pub an_end_is_made_all_the_same : is_bad (receiver r1 10) taken ≡ false
 unfolding varint first_of size_at packet_at frame_at versioned_at lawful_at body_at connect_at fields_at will_at user_name_at password_at layout_at block_at items_at items_in text_at blob_at is_utf8 chars encode varint_at groups_at prop_at value_at
 an_end_is_made_all_the_same = refl
 
+-- but it does not begin clean
 pub its_beginning_is_not_clean : begins_clean (receiver r1 10) taken ≡ false
 unfolding varint first_of size_at packet_at frame_at versioned_at lawful_at body_at connect_at fields_at will_at user_name_at password_at layout_at block_at items_at items_in text_at blob_at is_utf8 chars encode varint_at groups_at prop_at value_at
 its_beginning_is_not_clean = refl
 
+-- one of another name does
 pub one_of_another_name_begins_clean : begins_clean (publisher p1) taken ≡ true
 unfolding varint first_of size_at packet_at frame_at versioned_at lawful_at body_at connect_at fields_at will_at user_name_at password_at layout_at block_at items_at items_in text_at blob_at is_utf8 chars encode varint_at groups_at prop_at value_at
 one_of_another_name_begins_clean = refl

@@ -89,6 +89,7 @@ turns_carry limits (t ∷ ts) names w known keeps made =
     let rest = turns_carry limits ts (named_after t.event names) (turned limits t w) (step_known (setting limits t) t.event names w known) both.1 (nobody_first (events_of ts) (turned limits t w) made.1) in
     (and_true (begins_clean t.event w) (are_beginnings_clean limits ts (turned limits t w)) (event_carries t.event names w known both.0 made.0) rest.0, rest.1)
 
+-- two runs of clean beginnings, one behind the other, are one
 pub carry_joined : (limits : Limits) (xs ys : List Turn) (w : World) → are_beginnings_clean limits xs w ≡ true → are_beginnings_clean limits ys (run limits xs w) ≡ true
     → are_beginnings_clean limits (xs ++ ys) w ≡ true
 carry_joined limits [] ys w h k = k
@@ -246,6 +247,7 @@ all_deliver limits es turns w within begins clean are unspent =
     let known = nobody_known [] w begins.untouched.new.publishers begins.untouched.new.receivers in
     run_delivers_all limits turns w begins (record { within = within; unspent = unspent; clean = script_carries limits es [] turns w known clean.starts clean.made are })
 
+-- a script that begins well delivers exactly once
 pub delivers_once : (limits : Limits) (es : List Line) (tells : List Telling) (w after : World) → AreWithin limits → BeginsWell limits w
     → BeginClean limits es w → RunsTo limits es tells w after → ScriptDelivers limits es w after
 delivers_once limits es tells w after within begins clean runs = record {
@@ -253,6 +255,7 @@ delivers_once limits es tells w after within begins clean runs = record {
   all = λ turns are unspent. all_deliver limits es turns w within begins clean are unspent;
 }
 
+-- so does each script from nothing
 pub start_delivers : (limits : Limits) (es : List Line) (tells : List Telling) (after : World) → AreWithin limits → BeginClean limits es start
     → RunsTo limits es tells start after → ScriptDelivers limits es start after
 start_delivers limits es tells after within clean runs =
@@ -269,11 +272,13 @@ run_waits limits [] w alike waits = waits
 run_waits limits (t ∷ ts) w alike waits =
     run_waits limits ts (turned limits t w) (step_alike (setting limits t) t.event w alike) (step_waits (setting limits t) t.event w alike waits)
 
+-- a script leaves strangers of one name holding the same
 pub script_alike : (limits : Limits) (es : List Line) (tells : List Telling) (w after : World) → RunsTo limits es tells w after → AreAllAlike w → AreAllAlike after
 script_alike limits es tells w after runs alike =
     let by : IsRunOf limits es w after = runs_by_turns limits es tells w after runs in
     subst AreAllAlike (sym by.is) (run_alike limits by.turns w alike)
 
+-- and none with a whole packet
 pub script_waits : (limits : Limits) (es : List Line) (tells : List Telling) (w after : World) → RunsTo limits es tells w after → AreAllAlike w → HoldNoPacket w → HoldNoPacket after
 script_waits limits es tells w after runs alike waits =
     let by : IsRunOf limits es w after = runs_by_turns limits es tells w after runs in

@@ -330,6 +330,7 @@ event_more : (e : Event) (names : List (List ℕ)) (w : World) → Known names w
 event_more (connect_end client clean) names w h = more_known clean client names w h
 event_more e names w h = h
 
+-- an event keeps who is known among those that were named
 pub step_known : (set : Setting) (e : Event) (names : List (List ℕ)) (w : World) → Known names w → Known (named_after e names) (step set e w)
 step_known set e names w h = by (is_bad e w)
   where
@@ -361,6 +362,7 @@ back_waits names client r (x ∷ rs) h is clean = by (λ e. back_waits names cli
         ap (λ (c : List ℕ). is_named c names) (sym (same_name x.client client same)) ∙ h.0 (ap (λ (y : Receiver). y.line.clean) x_is ∙ clean)
     by rest false other e = rest e
 
+-- who waits for a clean start was named
 pub waits_named : (names : List (List ℕ)) (client : List ℕ) (w : World) → Known names w → waits_clean client w ≡ true → is_named client names ≡ true
 waits_named names client w h waits = by (publisher_named client w) (receiver_named client w) refl refl waits
   where

@@ -34,6 +34,7 @@ deeds_there : (set : Setting) (o : Option Call) (w : World) (ss : List Stranger)
 deeds_there set None w ss = refl
 deeds_there set (Some call) w ss = refl
 
+-- a piece that comes for a stranger who stands is a turn
 pub piece_there : (limits : Limits) (choice : MemberChoice) (name piece : List ℕ) (s : Stranger) (t : Telling) (w after : World) → stranger_named name w ≡ Some s
     → AreAlike name w → first_of (held_after (bytes_come name piece w)) ≡ Ok None → is_bad (ask (stranger name piece)) w ≡ false
     → read_if spending (by_choice limits choice) (call_on s.number (s.held ++ piece)) w ≡ false
@@ -82,6 +83,7 @@ piece_there limits choice name piece s t w after there alike one good unspent is
 
 -- ---- one who comes first: as one would who was linked before, and had sent nothing
 
+-- so is the first piece of one who comes first
 pub piece_first : (limits : Limits) (choice : MemberChoice) (name piece : List ℕ) (t : Telling) (w after : World) → stranger_named name w ≡ None
     → is_bad (ask (stranger name piece)) w ≡ false → IsTurn limits (ask (stranger name piece)) t (welcomed (by_choice limits choice) name w) after
     → IsTurn limits (ask (stranger name piece)) t w after
@@ -135,6 +137,7 @@ old_forgotten set client w =
     its_own true r = refl
     its_own false r = refl
 
+-- what a stop before the commit loses is forgotten
 pub before_forgotten : (set : Setting) (a : Asking) (w : World) → IsPlain a → restarts set (before set a w) ≡ restarts set w
 before_forgotten set (to_broker client) w p = up_forgotten set client w
 before_forgotten set (old_to_broker client) w p = old_forgotten set client w
@@ -152,6 +155,7 @@ stored_before set (pump client) w p = (refl, refl)
 stored_before set tick w p = (refl, refl)
 stored_before set (stranger name bytes) w p = absurd p
 
+-- a stop before the commit of a plain question is a reopening
 pub stops_before_plain : (limits : Limits) (a : Asking) (w after : World) → IsPlain a → is_bad_asking a w ≡ false → IsReopened limits w after
     → Happens limits (stop_before a) silent w after
 stops_before_plain limits a w after p good opens =
@@ -170,6 +174,7 @@ held_forgotten name f ss = map_forgets (changed name f) unlinked ss (λ (s : Str
     by true s = refl
     by false s = refl
 
+-- so is one while a stranger who stands asks
 pub stops_before_there : (limits : Limits) (name bytes : List ℕ) (w after : World) → is_some (stranger_named name w) ≡ true
     → is_bad_asking (stranger name bytes) w ≡ false → IsReopened limits w after → Happens limits (stop_before (stranger name bytes)) silent w after
 stops_before_there limits name bytes w after there good opens =
@@ -214,6 +219,7 @@ link_closed : (can : Bool) (n : ℕ) → (outcome_of NewLine (cond can (Link n �
 link_closed true n = refl
 link_closed false n = refl
 
+-- a new line is a call of the broker's
 pub line_begins : (set : Setting) (w : World) → calls set NewLine w ≡ record w { broker = stepped set.limits set.choice w.now NewLine w.broker }
 line_begins set w =
     let b = stepped set.limits set.choice w.now NewLine w.broker in

@@ -9,6 +9,7 @@ or_none : {b c : Bool} (a : Bool) → (a || b) ≡ false → (b ≡ false → c 
 or_none true h k = h
 or_none false h k = k h
 
+-- two runs that spend nothing spend nothing one behind the other
 pub spent_joined : (limits : Limits) (xs ys : List Turn) (w : World) → run_spends limits xs w ≡ false → run_spends limits ys (run limits xs w) ≡ false → run_spends limits (xs ++ ys) w ≡ false
 spent_joined limits [] ys w h k = k
 spent_joined limits (t ∷ xs) ys w h k = or_none (read_at spending (setting limits t) t.event w) h (λ e. spent_joined limits xs ys (turned limits t w) e k)

@@ -54,6 +54,7 @@ round_by_turns limits client t w after x =
       lead_joined limits sends (two.0 ++ three.0) w x.sent after one (lead_joined limits two.0 three.0 x.sent x.read after two.2 three.2),
     )
 
+-- the rounds of a drain that ends are turns
 pub rounds_by_turns : (limits : Limits) (client : List ℕ) (rounds : ℕ) (t : Telling) (w after : World) → MakesRounds limits client rounds t w after → is_over client after ≡ true
     → (ts : List Turn) × AreTurnsOfRounds limits client rounds ts w × Leads limits ts w after
 rounds_by_turns limits client zero t w after h over = ([], (sym (ap (is_over client) h.1) ∙ over, refl), record { is = h.1; unspent = refl })

@@ -141,6 +141,7 @@ module _ (client : List ℕ) (limits : Limits) (choice : MemberChoice) where
 
 -- ---- one round more
 
+-- one round more behind rounds is rounds
 pub a_round_more : (limits : Limits) (client : List ℕ) (rounds : ℕ) (t u : Telling) (w mid after : World) → MakesRounds limits client rounds t w mid → is_over client mid ≡ false → IsRound limits client u mid after
     → MakesRounds limits client (suc rounds) (both_tell t u) w after
 a_round_more limits client zero t u w mid after h on x =

@@ -15,6 +15,7 @@ nothing_more : (b : Bool) → (b || false) ≡ false → b ≡ false
 nothing_more true h = h
 nothing_more false h = refl
 
+-- a turn that spends nothing costs nothing where it is read
 pub turn_costs : (limits : Limits) (choice : MemberChoice) (e : Event) (w : World) → is_bad e w ≡ false → run_spends limits (turn choice e ∷ []) w ≡ false → read_in spending (by_choice limits choice) e w ≡ false
 turn_costs limits choice e w good unspent =
     let spends = read_in spending (by_choice limits choice) e w in
@@ -40,11 +41,14 @@ one_turn limits e t w after (x ∷ []) are heard good unspent is told =
           ∙ ap telling (turn_deeds limits x.choice e w good)));
     }
 
+-- a pump is one turn
 pub sends_once : (limits : Limits) (client : List ℕ) (t : Telling) (w after : World) → Happens limits (ask (pump client)) t w after → IsTurn limits (ask (pump client)) t w after
 sends_once limits client t w after h = one_turn limits (ask (pump client)) t w after h.turns h.unrolls refl h.good h.unspent h.is h.told
 
+-- an end's reading is one turn
 pub reads_once : (limits : Limits) (client : List ℕ) (t : Telling) (w after : World) → Happens limits (to_end client) t w after → IsTurn limits (to_end client) t w after
 reads_once limits client t w after h = one_turn limits (to_end client) t w after h.turns h.unrolls refl h.good h.unspent h.is h.told
 
+-- the broker's reading of an answer is one turn
 pub answers_once : (limits : Limits) (client : List ℕ) (t : Telling) (w after : World) → Happens limits (ask (to_broker client)) t w after → IsTurn limits (ask (to_broker client)) t w after
 answers_once limits client t w after h = one_turn limits (ask (to_broker client)) t w after h.turns h.unrolls refl h.good h.unspent h.is h.told

@@ -23,6 +23,7 @@ use Rattle.mqtt_script_laws.proofs.Single.{stops, turn_happens, turn_is, turn_un
 
 -- ---- one piece
 
+-- a piece behind which no packet is whole is the last
 pub last_piece : (limits : Limits) (name piece : List ℕ) (t : Telling) (w after : World) → first_of (held_after (bytes_come name piece w)) ≡ Ok None
     → IsTurn limits (ask (stranger name piece)) t w after → Happens limits (ask (stranger name piece)) t w after
 last_piece limits name piece t w after one does =
@@ -32,6 +33,7 @@ last_piece limits name piece t w after one does =
 length_joined : {X : Type 0} (xs ys : List X) → length (xs ++ ys) ≡ length xs + length ys
 length_joined xs ys = length-append xs ys
 
+-- two lists of deeds tell what both tell
 pub told_joined : (xs ys : List Deed) → telling (xs ++ ys) ≡ both_tell (telling xs) (telling ys)
 told_joined xs ys =
     ap (λ (rs : List _). record { reports = rs; out = length (filter_map output (xs ++ ys)) }) (filter_map-append report xs ys)
@@ -91,6 +93,7 @@ piece_and_more limits name piece more t u w mid after alike good whole does rest
 
 -- ---- a stop at a stranger's bytes, of which those up to the first packet come
 
+-- a stop behind the first part of a stranger's bytes that is decided
 pub stops_after_piece : (limits : Limits) (name bytes part more : List ℕ) (t : Telling) (w mid after : World) → is_bad (ask (stranger name bytes)) w ≡ false
     → part ++ more ≡ bytes → (more ≡ []) ⊎ IsDecided (bytes_come name part w) → first_of (held_after (bytes_come name part w)) ≡ Ok None
     → IsTurn limits (ask (stranger name part)) t w mid → IsReopened limits mid after → Happens limits (stop_after (stranger name bytes)) silent w after
@@ -126,6 +129,7 @@ module _ {X : Type 0} (r : Reading X) (set : Setting) (twice : r.join r.nothing 
       let is = comes_holds set name piece w alike in
       one_read (held_count (stranger_named name c)) name (bytes_come name piece w) c is.0 (omega (arith, is.1)) none
 
+-- such a piece does what the next call of the stranger's does
 pub piece_does : (set : Setting) (name piece : List ℕ) (w : World) → AreAlike name w → first_of (held_after (bytes_come name piece w)) ≡ Ok None
     → asks set (stranger name piece) w ≡ next_world set name (comes set name piece w)
 piece_does set name bytes w alike none =

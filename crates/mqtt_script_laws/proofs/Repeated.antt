@@ -40,6 +40,7 @@ deeds_joined limits (t ∷ xs) ys w =
     ap (λ (es : List Deed). ds ++ es) (deeds_joined limits xs ys v)
     ∙ sym (append_assoc ds (deeds_over limits xs v) (deeds_over limits ys (run limits xs v)))
 
+-- two comings, one behind the other, are one
 pub come_joined : (limits : Limits) (xs ys : List Turn) (t u : Telling) (w mid after : World) → Comes limits xs t w mid → Comes limits ys u mid after → Comes limits (xs ++ ys) (both_tell t u) w after
 come_joined limits xs ys t u w mid after x y = record {
   is = y.is ∙ (ap (run limits ys) x.is ∙ sym (run_append limits xs ys w));
@@ -56,6 +57,7 @@ pub record IsReady (client : List ℕ) (limits : Limits) (w : World) : Type 0 wh
   pub kept : IsKept [] client limits w
   pub there : is_some (receiver_named client w) ≡ true
 
+-- an end that is there stays
 pub some_there : (client : List ℕ) (limits : Limits) (ts : List Turn) (w : World) → is_some (receiver_named client w) ≡ true → is_some (receiver_named client (run limits ts w)) ≡ true
 some_there client limits ts w there = by (receiver_named client w) refl there
   where
@@ -63,6 +65,7 @@ some_there client limits ts w there = by (receiver_named client w) refl there
     by None e h = absurd cc
     by (Some r) e h = ap is_some (run_remains client limits ts w r e).1
 
+-- an end that is ready stays ready
 pub ready_after : (client : List ℕ) (limits : Limits) (ts : List Turn) (t : Telling) (w after : World) → IsReady client limits w → Comes limits ts t w after → are_beginnings_clean limits ts w ≡ true → IsReady client limits after
 ready_after client limits ts t w after h x carried = record {
   kept = subst (IsKept [] client limits) (sym x.is) (run_kept [] client limits ts w h.kept x.unspent carried);
@@ -146,6 +149,7 @@ module _ (limits : Limits) (c d : MemberChoice) where
 
 -- ---- a turn by another choice than its own
 
+-- a turn may be made by another choice that comes to the same
 pub turn_by : (limits : Limits) (d : MemberChoice) (e : Event) (t : Telling) (w after : World) → (does : IsTurn limits e t w after) → IsSame limits does.choice d e w → Comes limits (turn_of d e ∷ []) t w after
 turn_by limits d e t w after does same = record {
   is = does.is ∙ (same.does ∙ sym (turn_is limits d e w does.good));
@@ -155,6 +159,7 @@ turn_by limits d e t w after does same = record {
 
 -- ---- some turns
 
+-- so may many
 pub repeats_by : (client : List ℕ) (limits : Limits) (d : MemberChoice) (e : Event) → ((w : World) → begins_clean e w ≡ true) → ((c : MemberChoice) (w : World) → IsReady client limits w → IsSame limits c d e w)
     → (n : ℕ) (t : Telling) (w after : World) → IsReady client limits w → Repeats limits n e t w after → Comes limits (times n (turn_of d e)) t w after × IsReady client limits after
 repeats_by client limits d e carries same zero t w after h k = (record { is = k.1; unspent = refl; told = k.0 }, subst (IsReady client limits) (sym k.1) h)
@@ -166,12 +171,15 @@ repeats_by client limits d e carries same (suc more) t w after h (first, rest, m
 
 -- ---- what is told, together
 
+-- telling nothing more tells the same
 pub tell_nothing_more : (t : Telling) → both_tell t silent ≡ t
 tell_nothing_more t = ap (λ (rs : List _). record { reports = rs; out = t.out + 0 }) (append-nil t.reports) ∙ ap (λ (n : ℕ). record t { out = n }) (omega arith)
 
+-- so does telling nothing first
 pub tell_nothing_first : (t : Telling) → both_tell silent t ≡ t
 tell_nothing_first t = ap (λ (n : ℕ). record t { out = n }) (omega arith)
 
+-- tellings may be put together in any order of brackets
 pub tell_together : (t u v : Telling) → both_tell (both_tell t u) v ≡ both_tell t (both_tell u v)
 tell_together t u v =
     ap (λ (rs : List _). record { reports = rs; out = (t.out + u.out) + v.out }) (append_assoc t.reports u.reports v.reports)

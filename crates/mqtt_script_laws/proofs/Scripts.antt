@@ -21,6 +21,7 @@ passed limits e t w after (as_drain client at does) =
     let x = rounds_by_turns limits client does.rounds t w after does.made does.over in
     (x.0, of_drain client at (record { good = does.good; rounds = does.rounds; are = x.1 }), x.2)
 
+-- what a script runs to is a run of its events
 pub runs_by_turns : (limits : Limits) (es : List Event) (tells : List Telling) (w after : World) → RunsTo limits es tells w after → IsRunOf limits es w after
 runs_by_turns limits [] tells w after h = record { turns = []; are = refl; unspent = refl; is = h.1 }
 runs_by_turns limits (e ∷ es) [] w after h = absurd h
@@ -34,6 +35,7 @@ runs_by_turns limits (e ∷ es) (t ∷ ts) w after (mid, does, more) =
       is = rest.is ∙ sym (run_append limits front.0 rest.turns w);
     }
 
+-- two scripts that run one behind the other are one
 pub runs_join : (limits : Limits) (es more : List Event) (tells others : List Telling) (w mid after : World) → RunsTo limits es tells w mid → RunsTo limits more others mid after → RunsTo limits (es ++ more) (tells ++ others) w after
 runs_join limits [] more tells others w mid after h k = subst (λ (ts : List Telling). RunsTo limits more (ts ++ others) w after) (sym h.0) (subst (λ (v : World). RunsTo limits more others v after) h.1 k)
 runs_join limits (e ∷ es) more [] others w mid after h k = absurd h
@@ -44,6 +46,7 @@ pub runs_further : (limits : Limits) (es : List Event) (tells : List Telling) (e
     → event_of e ≡ Some x → Happens limits x t mid after → RunsTo limits (es ++ e ∷ []) (tells ++ t ∷ []) w after
 runs_further limits es tells e x t w mid after runs at does = runs_join limits es (e ∷ []) tells (t ∷ []) w mid after runs (after, as_event x at does, (refl, refl))
 
+-- a drain behind a script is one event more
 pub runs_drained : (limits : Limits) (es : List Event) (tells : List Telling) (client : List ℕ) (t : Telling) (w mid after : World) → RunsTo limits es tells w mid
     → DrainHappens limits client t mid after → RunsTo limits (es ++ Drain client ∷ []) (tells ++ t ∷ []) w after
 runs_drained limits es tells client t w mid after runs does = runs_join limits es (Drain client ∷ []) tells (t ∷ []) w mid after runs (after, as_drain client refl does, (refl, refl))

@@ -21,20 +21,24 @@ use Rattle.mqtt_script_laws.proofs.Costs.{spent_joined}
 
 -- ---- one turn
 
+-- an event that costs nothing is a turn that spends nothing
 pub turn_unspent : (limits : Limits) (choice : MemberChoice) (e : Event) (w : World) → is_bad e w ≡ false → read_in spending (by_choice limits choice) e w ≡ false
     → run_spends limits (turn choice e ∷ []) w ≡ false
 turn_unspent limits choice e w good unspent =
     ap (λ (t : Bool). cond t false (read_in spending (by_choice limits choice) e w) || false) good ∙ ap (λ (t : Bool). t || false) unspent
 
+-- a turn is its event
 pub turn_is : (limits : Limits) (choice : MemberChoice) (e : Event) (w : World) → is_bad e w ≡ false → run limits (turn choice e ∷ []) w ≡ happens (by_choice limits choice) e w
 turn_is limits choice e w good = ap (λ (t : Bool). cond t w (happens (by_choice limits choice) e w)) good
 
+-- with its deeds
 pub turn_deeds : (limits : Limits) (choice : MemberChoice) (e : Event) (w : World) → is_bad e w ≡ false
     → deeds_over limits (turn choice e ∷ []) w ≡ read_in the_deeds (by_choice limits choice) e w
 turn_deeds limits choice e w good =
     let ds = read_in the_deeds (by_choice limits choice) e w in
     ap (λ (t : Bool). cond t [] ds ++ []) good ∙ append-nil ds
 
+-- an event of one step happens as its turn
 pub turn_happens : (limits : Limits) (e : Event) (t : Telling) (w after : World) → Unrolls e w (e ∷ []) → IsTurn limits e t w after
     → Happens limits e (tells_if (is_heard e) t) w after
 turn_happens limits e t w after unrolls does = record {
@@ -48,6 +52,7 @@ turn_happens limits e t w after unrolls does = record {
 
 -- ---- what ends do: the broker takes no part
 
+-- a quiet event happens without telling anything
 pub quiet : (limits : Limits) (choice : MemberChoice) (e : Event) (w after : World) → IsQuiet e → is_bad e w ≡ false → after ≡ happens (by_choice limits choice) e w → Happens limits e silent w after
 quiet limits choice (publisher client) w after q good is = turn_happens limits (publisher client) silent w after refl (record { choice = choice; good = good; unspent = refl; is = is; told = refl })
 quiet limits choice (receiver client window) w after q good is = turn_happens limits (receiver client window) silent w after refl (record { choice = choice; good = good; unspent = refl; is = is; told = refl })
@@ -67,6 +72,7 @@ link_tells : (can : Bool) (n : ℕ) → silent ≡ telling (cond can (Link n ∷
 link_tells true n = refl
 link_tells false n = refl
 
+-- an end that connects tells what the broker tells
 pub joins : (limits : Limits) (choice : MemberChoice) (client : List ℕ) (clean : Bool) (w after : World) → is_bad (connect_end client clean) w ≡ false
     → after ≡ links (by_choice limits choice) (next_line w.broker) client clean w → Happens limits (connect_end client clean) silent w after
 joins limits choice client clean w after good is =
@@ -139,11 +145,13 @@ one_event (pump client) w p = refl
 one_event tick w p = refl
 one_event (stranger name bytes) w p = absurd p
 
+-- a plain question is one turn
 pub plain_happens : (limits : Limits) (a : Asking) (t : Telling) (w after : World) → IsPlain a → IsTurn limits (ask a) t w after → Happens limits (ask a) t w after
 plain_happens limits a t w after p does = turn_happens limits (ask a) t w after (one_event a w p) does
 
 -- ---- the broker is opened again
 
+-- a restart is a reopening
 pub reopens : (limits : Limits) (w after : World) → IsReopened limits w after → Happens limits restart silent w after
 reopens limits w after does =
     turn_happens limits restart (telling (read_in the_deeds (by_choice limits does.choice) restart w)) w after refl
@@ -182,6 +190,7 @@ two_events (pump client) w p = refl
 two_events tick w p = refl
 two_events (stranger name bytes) w p = absurd p
 
+-- a stop behind a plain question is the question and a reopening
 pub stops_after : (limits : Limits) (a : Asking) (t : Telling) (w mid after : World) → IsPlain a → IsTurn limits (ask a) t w mid → IsReopened limits mid after
     → Happens limits (stop_after a) silent w after
 stops_after limits a t w mid after p does opens = stops limits a a t w mid after does.good (two_events a w p) does opens
@@ -195,6 +204,7 @@ nothing_read : (bad : Bool) → telling (cond bad [] [] ++ []) ≡ silent
 nothing_read true = refl
 nothing_read false = refl
 
+-- what a turn tells is what its event tells
 pub turn_tells : (limits : Limits) (choice : MemberChoice) (e : Event) (w : World) → tells_in limits e (turn choice e ∷ []) w ≡ tells (by_choice limits choice) e w
 turn_tells limits choice (publisher client) w = nothing_read (is_bad (publisher client) w)
 turn_tells limits choice (receiver client window) w = nothing_read (is_bad (receiver client window) w)

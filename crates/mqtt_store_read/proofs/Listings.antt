@@ -80,6 +80,7 @@ sorted_out table (o ∷ ordered) are sorted k d low high =
     let second = All-get_or (IsOut table) all (k + 1) o (omega (arith, high, long)) are in
     rw (here, next, ← out_order table (get_or all (k + 1) o) (get_or all k o) second first) (sorted k o low (omega (arith, high, long)))
 
+-- what a table's statement shows is the listing of its rows
 pub lists : (table : StoreTable) (old new : State) (rows : List Row) → old.now.schema ≡ keep_schema → Shown (select_text table) [] old new rows → IsListing table old.now.trees rows
 lists table old new rows has h =
     let r = reads_as (select_text table) [] old new keep_schema has _ (select_is table) (select_plain table) (select_unlisted table) rows h in

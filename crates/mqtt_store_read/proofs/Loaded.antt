@@ -83,6 +83,7 @@ nothing_lawful = record {
   retained = record { table = record { ascending = tt; within = omega arith }; topics = tt; each = tt };
 }
 
+-- a new store has no records
 pub new_store_has : (db : Database) → IsNewStore db → HasRecords db.trees nothing
 new_store_has db h = record {
   rows = new_rows;

@@ -7,6 +7,7 @@ use Rattle.sqlite.specs.State.{State, IsUnchanged, IsNotRun}
 use Rattle.mqtt_store_schema.specs.Settled.{IsSettled, Stays}
 use Rattle.mqtt_store_schema.proofs.Staying.{unchanged_stays, rolled_stays}
 
+-- a statement that did not run left the database
 pub not_run_stays : (text : List ℕ) (old new : State) (e : Error) → ((params : Row) → IsNotRun old new text params e) → Stays old new
 unfolding IsNotRun
 not_run_stays text old new e h = elim (h []) [ inl same ↦ unchanged_stays old new same.1 | inr back ↦ rolled_stays old new back.3 ]
@@ -21,9 +22,11 @@ stays_after old mid new same stays = record {
       (end.0 ∙ same.0.now_is, end.1 ∙ same.0.committed_is);
 }
 
+-- what stays behind an error stays behind what changed nothing before it
 pub err_after : {T : Type 0} {E : Type 0} (old mid new : State) (r : Result T E) → IsUnchanged old mid → OnErr r (Stays mid new) → OnErr r (Stays old new)
 err_after old mid new (Ok t) same stays = tt
 err_after old mid new (Err e) same stays = stays_after old mid new same stays
 
+-- what changed nothing left the schema
 pub schema_after : (old mid : State) → IsUnchanged old mid → mid.now.schema ≡ old.now.schema
 schema_after old mid same = ap (λ (db : Database). db.schema) same.0.now_is

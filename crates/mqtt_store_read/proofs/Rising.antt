@@ -36,6 +36,7 @@ first_less ats r s b c h k less = rw (h, k, less_number b c less) refl
 second_less : (at : ℕ) (r s : Row) (b p q : ℕ) → column r 0 ≡ number b → column s 0 ≡ number b → column r at ≡ number p → column s at ≡ number q → p < q → by_columns (0 ∷ at ∷ []) r s ≡ Less
 second_less at r s b p q h k i j less = rw (h, k, i, j, tied_itself value_cmp_total (number b), less_number p q less) refl
 
+-- rows with texts that rise are in order
 pub text_less : (r s : Row) (t u : List ℕ) → column r 0 ≡ Text t → column s 0 ≡ Text u → slice_cmp nat_cmp t u ≡ Less → by_columns (0 ∷ []) r s ≡ Less
 text_less r s t u h k less = rw (h, k, value_cmp-Text t u, less) refl
 
@@ -118,6 +119,7 @@ pub record PartsRise (n : ℕ) (parts : Parts) : Type 0 where
 none_rise : (n : ℕ) → PartsRise n no_parts
 none_rise n = record { wills = (tt, tt); subscriptions = (tt, tt); inbound = (tt, tt); copies = (tt, tt) }
 
+-- the parts of sessions rise as their tables do
 pub parts_rise : (n : ℕ) (rows : List Row) (parts : Parts) (ss : List Session) → AreSessions rows parts ss → IsAbove birth_of n ss → IsAscending birth_of ss → AllByRecursion IsWithin ss → PartsRise n parts
 parts_rise n [] parts [] are low up within = subst (PartsRise n) (sym are) (none_rise n)
 parts_rise n [] parts (s ∷ ss) are low up within = absurd are
@@ -151,10 +153,12 @@ columns_above r n [] parts ss here are up = tt
 columns_above r n (row ∷ rows) parts [] here are up = absurd are
 columns_above r n (row ∷ rows) parts (s ∷ ss) here are up = (first_less [] r row n s.birth here are.0.birth up.0, columns_above r n rows are.1.0 ss here are.1.2 up.1)
 
+-- rows of sessions rise by birth
 pub columns_rise : (rows : List Row) (parts : Parts) (ss : List Session) → AreSessions rows parts ss → IsAscending birth_of ss → Rise (0 ∷ []) rows
 columns_rise [] parts ss are up = tt
 columns_rise (row ∷ rows) parts [] are up = absurd are
 columns_rise (row ∷ rows) parts (s ∷ ss) are up = (columns_above row s.birth rows are.1.0 ss are.0.birth are.1.2 up.0, columns_rise rows are.1.0 ss are.1.2 up.1)
 
+-- rows of retained messages rise by place
 pub retained_rise : (rows : List Row) (all : List RetainedMessage) → AreRows SaysRetained rows all → IsAscending kept_place all → Rise (0 ∷ []) rows
 retained_rise = rows_rise SaysRetained kept_place (λ x r h. h.place)

@@ -46,6 +46,7 @@ names_of Copy =
     ∷ codes "payload" ∷ codes "arrived" ∷ []
 names_of Retained = codes "place" ∷ codes "topic" ∷ codes "sender" ∷ codes "pub" ∷ codes "qos" ∷ codes "props" ∷ codes "payload" ∷ codes "arrived" ∷ []
 
+-- a table's statement is its query
 pub select_is : (table : StoreTable) → command_of (understood keep_schema (select_text table)) ≡ Select (program (query_of table)) (names_of table)
 unfolding understood everything
 select_is Meta = refl
@@ -56,6 +57,7 @@ select_is Inbound = refl
 select_is Copy = refl
 select_is Retained = refl
 
+-- it is plain
 pub select_plain : (table : StoreTable) → IsPlain (understood keep_schema (select_text table))
 unfolding understood everything
 select_plain Meta = (refl, refl)
@@ -66,6 +68,7 @@ select_plain Inbound = (refl, refl)
 select_plain Copy = (refl, refl)
 select_plain Retained = (refl, refl)
 
+-- and reads no listing
 pub select_unlisted : (table : StoreTable) → reads_listing keep_schema (select_text table) ≡ false
 unfolding understood everything
 select_unlisted Meta = refl

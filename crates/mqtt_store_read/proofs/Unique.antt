@@ -20,6 +20,7 @@ use Rattle.mqtt_store_read.proofs.Rising.{Rise, text_less, all_counted, parts_ri
 
 -- ---- one listing
 
+-- the order by columns is total
 pub by_total : (ats : List ℕ) → IsTotalOrder (by_columns ats)
 by_total [] = record { antisymm = λ x y. refl; trans = λ x y z h k. absurd cc; congr = λ x y z h. refl }
 by_total (at ∷ ats) = then_total (on_total (λ (row : Row). column row at) value_cmp_total) (by_total ats)
@@ -31,6 +32,7 @@ one_listing table db xs ys h k up =
 
 -- ---- the rows of meta rise
 
+-- the rows of counters rise
 pub numbers_rise : (all : Counters) (rows : List Row) → SaysNumbers all rows → Rise (0 ∷ []) rows
 numbers_rise all [] h = absurd h
 numbers_rise all (a ∷ []) h = absurd h

@@ -12,6 +12,7 @@ within_each last [] all = tt
 within_each last (s ∷ ss) all =
     (record { subscriptions = all.0.subscriptions.table; inbound = all.0.inbound.table; queue = all.0.queue.table }, within_each last ss all.1)
 
+-- what a store may hold is within the limits of its columns
 pub lawful_within : (r : Records) → IsLawful r → AreWithin r
 lawful_within r lawful = record {
   sessions = lawful.sessions.table;

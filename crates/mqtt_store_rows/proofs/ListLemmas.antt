@@ -110,6 +110,7 @@ all_of_more birth n rows row lt is all here = rw (take_more rows n row lt, ← i
 pub begins_at : (birth n : ℕ) (rows : List Row) (row : Row) → n < length rows → row ≡ get_or rows n row → (IsOf birth row → ⊥) → BeginsOther birth (drop n rows)
 begins_at birth n rows row lt is other = subst (BeginsOther birth) (sym (drop-cons rows n row lt ∙ ap (λ (r : Row). r ∷ drop (suc n) rows) (sym is))) other
 
+-- behind the last row another session begins
 pub begins_end : (birth n : ℕ) (rows : List Row) → length rows ≤ n → BeginsOther birth (drop n rows)
 begins_end birth n rows le = subst (BeginsOther birth) (sym (drop_all n rows le)) tt
 

@@ -107,6 +107,7 @@ same_records : (a b : Counters) (c d : List Session) (e f : List RetainedMessage
 same_records a b c d e f p q r =
     ap (λ (x : Counters). records_of x c e) p ∙ (ap (λ (x : List Session). records_of b x e) q ∙ ap (λ (x : List RetainedMessage). records_of b d x) r)
 
+-- rows give one records and no other
 pub one_records : (rows : Rows) (r s : Records) → Gives rows r → AreWithin r → Gives rows s → AreWithin s → r ≡ s
 one_records rows r s gives within others as_well =
     same_records (counters_of r) (counters_of s) r.sessions s.sessions r.retained s.retained (one_numbers (counters_of r) (counters_of s) rows.meta gives.numbers others.numbers)

@@ -53,6 +53,7 @@ parts_of wills subscriptions inbound copies = record { wills = wills; subscripti
 four : (a b c d e f g h : List Row) → a ≡ b → c ≡ d → e ≡ f → g ≡ h → parts_of a c e g ≡ parts_of b d f h
 four a b c d e f g h p q r s = rw (p, q, r, s) refl
 
+-- sessions of one birth take the same parts
 pub same_rest : (s t : Session) (parts rest more : Parts) → s.birth ≡ t.birth → TakesParts s parts rest → EndsParts s.birth rest → TakesParts t parts more → EndsParts t.birth more → rest ≡ more
 same_rest s t parts rest more same x ends y stops =
     four rest.wills more.wills rest.subscriptions more.subscriptions rest.inbound more.inbound rest.copies more.copies
@@ -104,6 +105,7 @@ pub record Left (rows : List Row) (parts : Parts) (last : ℕ) : Type 0 where
   pub up : IsAscending birth_of those
   pub above : IsAbove birth_of last those
 
+-- the first row that is left takes its parts
 pub first_of_left : (row : Row) (rows : List Row) (parts : Parts) (last : ℕ) → Left (row ∷ rows) parts last → First row rows parts last
 first_of_left row rows parts last h = go h.those h.are h.all h.up h.above
   where
@@ -138,6 +140,7 @@ left_more row rows parts rest last s says takes ends h =
       above = subst (λ (n : ℕ). IsAbove birth_of n f.others) same f.later;
     }
 
+-- behind the last row no parts are left
 pub left_none : (parts : Parts) (last : ℕ) → Left [] parts last → parts ≡ no_parts
 left_none parts last h = go h.those h.are
   where
@@ -145,18 +148,21 @@ left_none parts last h = go h.those h.are
     go [] are = are
     go (d ∷ ds) are = absurd are
 
+-- all births are above none
 pub above_none : (rows : List Row) (parts : Parts) (ss : List Session) → AreSessions rows parts ss → IsAbove birth_of 0 ss
 above_none [] parts [] h = tt
 above_none [] parts (s ∷ ss) h = absurd h
 above_none (row ∷ rows) parts [] h = tt
 above_none (row ∷ rows) parts (s ∷ ss) h = (h.0.birth_range.0, above_none rows h.1.0 ss h.1.2)
 
+-- there are as many sessions as rows
 pub as_many : (rows : List Row) (parts : Parts) (ss : List Session) → AreSessions rows parts ss → length ss ≡ length rows
 as_many [] parts [] h = refl
 as_many [] parts (s ∷ ss) h = absurd h
 as_many (row ∷ rows) parts [] h = absurd h
 as_many (row ∷ rows) parts (s ∷ ss) h = let more = as_many rows h.1.0 ss h.1.2 in omega (arith, more)
 
+-- rows from one on are that one and those behind it
 pub drop_is : (rows : List Row) (i : ℕ) (row : Row) → i < length rows → row ≡ get_or rows i row → drop i rows ≡ row ∷ drop (i + 1) rows
 drop_is rows i row lt is =
     let next : suc i ≡ i + 1 = omega arith in
@@ -170,6 +176,7 @@ pub sound_more : (rows : List Row) (whole : Parts) (all : List Session) (now : L
 sound_more rows whole all now parts rest later row s is sound says takes ss h =
     subst (AreSessions rows whole) (sym (append_assoc all (s ∷ []) ss)) (sound (s ∷ ss) (subst (λ (l : List Row). AreSessions l parts (s ∷ ss)) (sym is) (says, (rest, takes, h))))
 
+-- what holds of each holds of one more
 pub all_push : {X : Type 0} (P : X → Type 0) (xs : List X) (x : X) → AllByRecursion P xs → P x → AllByRecursion P (xs ++ x ∷ [])
 all_push P [] x all here = (here, tt)
 all_push P (y ∷ ys) x all here = (all.0, all_push P ys x all.1 here)

@@ -12,6 +12,7 @@ pub topic_of-lookup : (alias : ℕ) (topics : List (ℕ × List ℕ)) → lookup
 topic_of-lookup alias [] = refl
 topic_of-lookup alias (e ∷ es) = ap (cond (nat_eq alias e.0) (Some e.1)) (topic_of-lookup alias es)
 
+-- the table's entry is the definition's
 pub with_topic-entry : (alias : ℕ) (topic : List ℕ) (topics : List (ℕ × List ℕ)) → insert_entry nat_eq topics alias topic ≡ with_topic alias topic topics
 with_topic-entry alias topic [] = refl
 with_topic-entry alias topic (e ∷ es) = ap (λ (rest : List (ℕ × List ℕ)). cond (nat_eq alias e.0) ((e.0, topic) ∷ es) (e ∷ rest)) (with_topic-entry alias topic es)
@@ -21,6 +22,7 @@ pub after_resolve-text : (table : AliasTable) (topic : List ℕ) (alias : ℕ) �
 after_resolve-text table [] alias e = cc
 after_resolve-text table (c ∷ cs) alias e = refl
 
+-- what holds behind an Ok holds behind this one
 pub fact_at_ok : {X E : Type 0} (P : Type 0) (r : Result X E) → is_ok r ≡ true → OnOk r P → P
 fact_at_ok P (Ok x) e h = h
 fact_at_ok P (Err x) e h = cc
@@ -30,6 +32,7 @@ pub copy_is_known : (o : Option (List ℕ)) (known : List ℕ) (r : Result (List
 copy_is_known o known (Ok name) e h = e ∙ ap Some (sym h)
 copy_is_known o known (Err fault) e h = tt
 
+-- an alias that is known is refused for want of memory alone
 pub refuses_copy : (table : AliasTable) (alias : ℕ) (known : List ℕ) (r : Result (List ℕ) TopicFault) → topic_of alias table.topics ≡ Some known → IfErr r (λ fault. fault ≡ Memory) → IfErr r (RefusesTopic table [] alias)
 refuses_copy table alias known (Ok name) e h = tt
 refuses_copy table alias known (Err fault) e h = subst (RefusesTopic table [] alias) (sym h) (known, e)

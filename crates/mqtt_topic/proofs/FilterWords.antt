@@ -53,6 +53,7 @@ ends_test : (l : List ℕ) → (IsPlainLevel l ⊎ (l ≡ hash ∷ [])) → is_f
 ends_test l (inl h) = plain_test true l h
 ends_test l (inr h) = ap (is_filter_level true) h
 
+-- levels that pass the test are those of a filter
 pub FillsLevels-from_test : (ls : List (List ℕ)) → is_none_left ls ≡ false → are_filter_levels ls ≡ true → FillsLevels ls
 FillsLevels-from_test [] some e = cc
 FillsLevels-from_test (l ∷ []) some e = record { front = []; last = l; are = refl; plain = tt; ends = ends_from l (and_left (is_filter_level true l) true e) }
@@ -132,6 +133,7 @@ from_step false text h e more =
     unshared text (not_nil text (not_true (is_empty text) (and_left (not (is_empty text)) (are_filter_levels (levels text)) both))) h
     (FillsLevels-from_test (levels text) (is_none_left-levels text) (and_right (not (is_empty text)) (are_filter_levels (levels text)) both))
 
+-- a text that passes the test is a filter
 pub IsFilter-from_test : (n : ℕ) (text : List ℕ) → length text ≤ n → is_filter text ≡ true → IsFilter text
 IsFilter-from_test zero text small e = from_step (begins_share text) text refl e (λ t l k. absurd (omega arith))
 IsFilter-from_test (suc n) text small e = from_step (begins_share text) text refl e (λ t l k. IsFilter-from_test n t (omega arith) k)
@@ -145,6 +147,7 @@ some_test (c ∷ cs) h = refl
 share_whole : All (λ c. is_slash c ≡ false) share
 share_whole = All-from_recursion (λ c. is_slash c ≡ false) share (refl, (refl, (refl, (refl, (refl, (refl, tt))))))
 
+-- and a filter passes it
 pub is_filter-from : (text : List ℕ) → IsFilter text → is_filter text ≡ true
 is_filter-from text (unshared _ some apart fills) =
     is_filter-unshared text apart ∙ and_both (not (is_empty text)) (are_filter_levels (levels text)) (some_test text some) (ap are_filter_levels fills.are ∙ front_test fills.front fills.last fills.plain fills.ends)

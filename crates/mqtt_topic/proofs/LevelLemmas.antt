@@ -28,12 +28,15 @@ some_by : (b : Bool) (c : ℕ) (ls : List (List ℕ)) → is_none_left (cond b (
 some_by true c ls = refl
 some_by false c ls = some_onto c ls
 
+-- a text has a level
 pub is_none_left-levels : (text : List ℕ) → is_none_left (levels text) ≡ false
 is_none_left-levels [] = refl
 is_none_left-levels (c ∷ cs) = some_by (eqb c 47) c (levels cs)
 
+-- a text with a slash is cut there
 pub levels_cut_some : (text : List ℕ) (r : Option (Bor (List ℕ) × Bor (List ℕ))) (level rest : Bor (List ℕ)) → r ≡ Some (level, rest) → IsSplitOnceResult 47 text r → levels text ≡ level.now ∷ levels rest.now
 levels_cut_some text r level rest e cut = subst (λ (o : Option (Bor (List ℕ) × Bor (List ℕ))). MatchOption o (levels text ≡ text ∷ []) (λ p. levels text ≡ p.0.now ∷ levels p.1.now)) e (levels_cut text r cut)
 
+-- one without is one level
 pub levels_cut_none : (text : List ℕ) (r : Option (Bor (List ℕ) × Bor (List ℕ))) → r ≡ None → IsSplitOnceResult 47 text r → levels text ≡ text ∷ []
 levels_cut_none text r e cut = subst (λ (o : Option (Bor (List ℕ) × Bor (List ℕ))). MatchOption o (levels text ≡ text ∷ []) (λ p. levels text ≡ p.0.now ∷ levels p.1.now)) e (levels_cut text r cut)

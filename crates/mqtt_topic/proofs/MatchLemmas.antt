@@ -8,14 +8,17 @@ use Rattle.mqtt_topic.specs.Filters.{share, is_plus, is_hash, begin_share, is_fi
 use Rattle.mqtt_topic.specs.Matching.{Takes, MatchesLevels, Matches, matches_levels, is_match, are_apart}
 use Rattle.mqtt_topic.specs.Matching.MatchesLevels.{whole, with_hash}
 
+-- the first part of an "and" that holds holds
 pub and_left : (a b : Bool) → (a && b) ≡ true → a ≡ true
 and_left true b e = refl
 and_left false b e = e
 
+-- so does the second
 pub and_right : (a b : Bool) → (a && b) ≡ true → b ≡ true
 and_right true b e = e
 and_right false b e = cc
 
+-- and both together are enough
 pub and_both : (a b : Bool) → a ≡ true → b ≡ true → (a && b) ≡ true
 and_both true b e h = h
 and_both false b e h = e
@@ -90,6 +93,7 @@ matches_levels-from fs ns (with_hash front taken rest ends is each) = ap (λ ls.
 level_plain : (last : Bool) (l : List ℕ) → has_wildcard l ≡ false → is_filter_level last l ≡ true
 level_plain last l e = ap (λ b. not b || (is_plus l || (last && is_hash l))) e
 
+-- what is not true is false
 pub not_true : (b : Bool) → not b ≡ true → b ≡ false
 not_true true e = sym e
 not_true false e = refl
@@ -101,6 +105,7 @@ are_filter_levels-of_front true l ls h more e =
     and_both (is_filter_level (is_none_left ls) l) (are_filter_levels ls) (level_plain (is_none_left ls) l (ap has_wildcard is)) (more e)
 are_filter_levels-of_front false l ls h more e = and_right (not (are_of_empty (l ∷ ls))) (are_filter_levels (l ∷ ls)) e
 
+-- levels of a filter pass the test
 pub are_filter_levels-of : (named : Bool) (ls : List (List ℕ)) → are_of_filter named ls ≡ true → are_filter_levels ls ≡ true
 are_filter_levels-of named [] e = refl
 are_filter_levels-of true (name ∷ ls) e =
@@ -109,12 +114,14 @@ are_filter_levels-of true (name ∷ ls) e =
     (are_filter_levels-of false ls (and_right (is_topic_name name) (are_of_filter false ls) e))
 are_filter_levels-of false (l ∷ ls) e = are_filter_levels-of_front (begin_share (l ∷ ls)) l ls refl (are_filter_levels-of true ls) e
 
+-- what the test matches the standard does
 pub Matches-from_test : (filter name : List ℕ) → is_filter filter ≡ true → is_match filter name ≡ true → Matches filter name
 Matches-from_test filter name lawful e = record {
   by_levels = MatchesLevels-from_test (levels filter) (levels name) (are_filter_levels-of false (levels filter) lawful) (and_left (matches_levels (levels filter) (levels name)) (not (are_apart filter name)) e);
   apart = not_true (are_apart filter name) (and_right (matches_levels (levels filter) (levels name)) (not (are_apart filter name)) e);
 }
 
+-- and what the standard matches the test does
 pub is_match-from : (filter name : List ℕ) → Matches filter name → is_match filter name ≡ true
 is_match-from filter name m = and_both (matches_levels (levels filter) (levels name)) (not (are_apart filter name)) (matches_levels-from (levels filter) (levels name) m.by_levels) (ap not m.apart)
 

@@ -22,6 +22,7 @@ entries n (t ∷ ts) = (n, t) ∷ entries (suc n) ts
 abbrev pub known : ℕ → ToldTopics → AliasTable
 known most told = record { max = most; topics = entries 1 told.topics }
 
+-- a smaller number differs
 pub differ : (a n : ℕ) → n < a → nat_eq a n ≡ false
 differ a n less = by (nat_eq a n) refl
   where
@@ -112,6 +113,7 @@ one most told topic form le few name among = by (alias_of topic told) refl among
 
 -- ---- one after the other
 
+-- what is allowed by what was told means its topics
 pub agree_on : (most : ℕ) (told : ToldTopics) (said : List Said) → told.max ≤ most → length told.topics ≤ told.max → AreNames said → AreAllowed told said → MeanTheirTopics (known most told) said
 agree_on most told [] le few names allowed = tt
 agree_on most told (x ∷ xs) le few names allowed =
@@ -121,5 +123,6 @@ agree_on most told (x ∷ xs) le few names allowed =
     let rest = agree_on most (told_in x.form x.topic told) xs (omega (arith, max_is, le)) (omega (arith, max_is, short_is)) names.1 allowed.1 in
     (a.means, subst (λ (t : AliasTable). MeanTheirTopics t xs) (sym a.after) rest)
 
+-- also from the first PUBLISH on
 pub agree : (max most : ℕ) (said : List Said) → max ≤ most → AreNames said → AreAllowed (none_told max) said → MeanTheirTopics (no_aliases most) said
 agree max most said le names allowed = agree_on most (none_told max) said le (omega arith) names allowed

@@ -40,6 +40,7 @@ said_is_allowed largest told (m ∷ ms) names =
         let rest = others (after_send (Some f) m.topic told) in
         ((names.0, rest.0), (h.0, rest.1))
 
+-- what goes out means what was meant
 pub what_goes_out : (max most largest : ℕ) (ms : List Meant) → max ≤ most → AreMeantNames ms → MeanTheirTopics (no_aliases most) (said largest (none_told max) ms)
 what_goes_out max most largest ms le names =
     let s = said_is_allowed largest (none_told max) ms names in

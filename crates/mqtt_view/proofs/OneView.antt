@@ -11,6 +11,7 @@ use Rattle.mqtt_view.specs.View.{line, last_line, view_text}
 use Rattle.mqtt_view.specs.Viewing.{Views, WritesFront, status_of}
 use Rattle.mqtt_view.specs.declared.viewer.Status.{Status}
 
+-- every input has a view
 pub some_view : (with_payload : Bool) (input before : List ℕ)
     → (after : List ℕ) × (status : Status) × Views with_payload input (Some before) (Some after) status
 some_view with_payload input before =
@@ -20,6 +21,7 @@ some_view with_payload input before =
       record { items = items; ending = ending; stream = stream; wrote = refl; status_is = refl },
     )
 
+-- and one alone
 pub only_view : (with_payload : Bool) (input before after other : List ℕ) (status another : Status)
     → Views with_payload input (Some before) (Some after) status → Views with_payload input (Some before) (Some other) another
     → (after ≡ other) × (status ≡ another)
@@ -53,6 +55,7 @@ text_begins with_payload xs more ending before =
     ∙ ap (λ (t : List ℕ). before ++ t) (append_assoc (flat_map f xs) (flat_map f more) last)
     ∙ sym (append_assoc before (flat_map f xs) (flat_map f more ++ last))
 
+-- what was written of it so far is its beginning
 pub early_begins : (with_payload : Bool) (input before after early : List ℕ) (status : Status)
     → Views with_payload input (Some before) (Some after) status → WritesFront with_payload input (Some before) (Some early)
     → (rest : List ℕ) × (after ≡ early ++ rest)

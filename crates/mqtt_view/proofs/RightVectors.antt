@@ -23,6 +23,7 @@ pub record WaitsFor (frame held rest : List ℕ) : Type 0 where
   pub waits : first_of held ≡ Ok None
   pub room : length held < PACKET_LIMIT
 
+-- at first a framer waits for the whole frame
 pub waits_first : (frame : List ℕ) (f : Framing) → f ≡ record { held = []; place = 0 } → WaitsFor frame f.held frame
 waits_first frame f e =
     let held : f.held ≡ [] = ap (λ (g : Framing). g.held) e in
@@ -51,6 +52,7 @@ packet_stands frame held rest packet n e f =
       | inr s ↦ sym (ap first_of e) ∙ s ∙ f
     ]
 
+-- a fault in what is held is one of the frame
 pub fault_stands : (frame held rest : List ℕ) (fault : Fault) → held ++ rest ≡ frame → first_of held ≡ Err fault → first_of frame ≡ Err fault
 fault_stands frame held rest fault e f = sym (ap first_of e) ∙ fault_stays held rest fault f
 
@@ -72,11 +74,13 @@ is_part frame held rest packet n e f more other = λ whole.
 
 -- what is found of the frame
 
+-- a packet that leaves nothing is the frame's
 pub whole_given : (frame rest : List ℕ) (f g : Framing) (x : Packet × ℕ) → f.held ++ rest ≡ frame → GivesNext f (Some x) g
     → length rest + length g.held ≡ 0 → first_of frame ≡ Ok (Some (x.0, length frame))
 whole_given frame rest f g x parts (n, first, place, gone) none =
     is_whole frame f.held rest x.0 n parts first (omega (arith, none)) (omega (arith, none, ap (λ (h : Framing). length h.held) gone))
 
+-- one that leaves something is not all of it
 pub part_given : (frame rest : List ℕ) (f g : Framing) (x : Packet × ℕ) → f.held ++ rest ≡ frame → GivesNext f (Some x) g
     → 0 < length rest + length g.held → FindsWhole frame (Ok None)
 part_given frame rest f g x parts (n, first, place, gone) more =
@@ -84,12 +88,14 @@ part_given frame rest f g x parts (n, first, place, gone) more =
     let left : 0 < length rest + length (drop n f.held) = omega (arith, more, ap (λ (h : Framing). length h.held) gone) in
     (is_part frame f.held rest x.0 n parts first left, λ fault bad. cc (sym stands ∙ bad))
 
+-- a fault that is met is the frame's
 pub fault_found : (frame held rest : List ℕ) (fault : Fault) → held ++ rest ≡ frame → (fault ≢ Memory → first_of held ≡ Err fault)
     → FindsWhole frame (Err fault)
 fault_found frame held rest fault e stands = λ due. fault_stands frame held rest fault e (stands due)
 
 -- ---- one vector
 
+-- a frame that is refused is right if that is what its vector says
 pub refused_right : (frame : List ℕ) (g : Gives) (fault : Fault) (right : Bool) → FindsWhole frame (Err fault) → fault ≢ Memory
     → (IsTrue right ↔ (g ≡ Refusal fault)) → (IsTrue right ↔ IsRight frame g)
 refused_right frame (Known line shortest) fault right found due is =
@@ -101,6 +107,7 @@ refused_right frame (Refusal known) fault right found due is =
       (λ r. is.1 (let same : known ≡ fault = cc (sym stands ∙ r) in ap (λ (f : Fault). Refusal f) same)),
     )
 
+-- one that is not whole is not
 pub none_right : (frame : List ℕ) (g : Gives) → FindsWhole frame (Ok None) → (IsTrue false ↔ IsRight frame g)
 none_right frame (Known line shortest) found = ((λ t. absurd cc), (λ r. let (packet, first, shown) = r in absurd (found.0 packet first)))
 none_right frame (Refusal known) found = ((λ t. absurd cc), (λ r. absurd (found.1 known r)))
@@ -113,6 +120,7 @@ shown_right_by frame (Known line shortest) packet right found is = (
 )
 shown_right_by frame (Refusal known) packet right found is = ((λ t. absurd (is.0 t)), (λ r. absurd (cc (sym found ∙ r))))
 
+-- one that is shown is right if it shows what its vector says
 pub shown_right : {E : Type 0} (frame : List ℕ) (g : Gives) (packet : Packet) (r : Result Bool E) → FindsWhole frame (Ok (Some packet))
     → IfOk r (λ right. IsTrue right ↔ IsShown g (length frame) packet) → IfOk r (λ right. IsTrue right ↔ IsRight frame g)
 shown_right frame g packet (Ok right) found is = shown_right_by frame g packet right found is
@@ -126,6 +134,7 @@ pub record JudgedSoFar (vectors : List Vector) (rights : List Bool) (rest : List
   pub parts : vectors ≡ done ++ rest
   pub judged : AreJudged done rights
 
+-- at first no vector is judged
 pub judged_first : (vectors : List Vector) → JudgedSoFar vectors [] vectors
 judged_first vectors = record { done = []; parts = refl; judged = tt }
 
@@ -136,6 +145,7 @@ judged_more [] (r ∷ rights) vector right a is = absurd a
 judged_more (v ∷ vectors) [] vector right a is = absurd a
 judged_more (v ∷ vectors) (r ∷ rights) vector right a is = (a.0, judged_more vectors rights vector right a.1 is)
 
+-- one that is judged leaves those behind it
 pub judged_next : (vectors : List Vector) (rights : List Bool) (vector : Vector) (rest : List Vector) (right : Bool)
     → JudgedSoFar vectors rights (vector ∷ rest) → (IsTrue right ↔ IsRight vector.frame.now vector.gives) → JudgedSoFar vectors (rights ++ right ∷ []) rest
 judged_next vectors rights vector rest right j is =
@@ -145,14 +155,17 @@ judged_next vectors rights vector rest right j is =
       judged = judged_more j.done rights vector right j.judged is;
     }
 
+-- behind the last all are judged
 pub judged_all : (vectors : List Vector) (rights : List Bool) → JudgedSoFar vectors rights [] → AreJudged vectors rights
 judged_all vectors rights j = subst (λ (vs : List Vector). AreJudged vs rights) (sym (j.parts ∙ append-nil j.done)) j.judged
 
+-- there is one answer a vector
 pub judged_count : (vectors : List Vector) (rights : List Bool) → AreJudged vectors rights → length rights ≡ length vectors
 judged_count [] [] a = refl
 judged_count [] (r ∷ rights) a = absurd a
 judged_count (v ∷ vectors) [] a = absurd a
 judged_count (v ∷ vectors) (r ∷ rights) a = ap (λ (k : ℕ). suc k) (judged_count vectors rights a.1)
 
+-- also at the end
 pub judged_end : (vectors : List Vector) (rights : List Bool) (rest : List Vector) → length rest ≡ 0 → JudgedSoFar vectors rights rest → length rights ≡ length vectors
 judged_end vectors rights rest none j = omega (arith, none, judged_count j.done rights j.judged, ap length j.parts, length-append j.done rest)

@@ -8,6 +8,7 @@ use Rattle.mqtt_base.specs.Escaped.{escaped, escaped_byte, hex_byte, is_plain, p
 abbrev pub PlainRun : List ℕ → ℕ → List ℕ → Type 0
 PlainRun bytes len rest = (len + length rest ≡ length bytes) × (escaped (take len bytes) ≡ take len bytes) × (drop len bytes ≡ rest)
 
+-- a run of plain characters begins empty
 pub run_first : (bytes : List ℕ) → PlainRun bytes 0 bytes
 run_first bytes = (omega arith, refl, refl)
 
@@ -15,6 +16,7 @@ run_first bytes = (omega arith, refl, refl)
 plain_byte : (b : ℕ) → is_plain b ≡ true → escaped_byte b ≡ b ∷ []
 plain_byte b plain = ap (λ (p : Bool). if p then b ∷ [] else percent ∷ hex_byte b) plain
 
+-- and goes on with a plain one
 pub run_more : (bytes : List ℕ) (len : ℕ) (b : ℕ) (rest : List ℕ) → PlainRun bytes len (b ∷ rest) → is_plain b ≡ true → PlainRun bytes (len + 1) rest
 run_more bytes len b rest run plain =
     let front = take len bytes in

@@ -205,5 +205,6 @@ counted (x ∷ xs) =
     map_both (ends_in x) (flat_map ends_in xs) ∙ ap (λ (es : List End). es ++ map end_of (flat_map ends_in xs)) (ends_counted x x.step.deeds x.step.broker)
     ∙ ap (λ (es : List End). filter_map ended_in x.step.deeds ++ es) (counted xs) ∙ sym (filter_map-append ended_in x.step.deeds (deeds_in xs))
 
+-- in every run each copy ends by its cause
 pub all_ends : (limits : Limits) (ts : List Turn) (w : World) → AreAllEnds limits ts w
 all_ends limits ts w = counted (asked_over limits ts w) ∙ ap (λ (ds : List Deed). filter_map ended_in ds) (sym (run_same limits ts w))

@@ -28,6 +28,7 @@ pub record Same (s : Session) (r : Records) : Type 0 where
   pub closed : session.closed ≡ s.closed
   pub expiry : session.expiry ≡ s.expiry
 
+-- a session that stands has the queue that it has
 pub same_now : (s : Session) (r : Records) → session_at s.birth r ≡ Some s → Same s r
 same_now s r e = record { session = s; there = e; its = refl; closed = refl; expiry = refl }
 
@@ -43,6 +44,7 @@ part_there birth part f r t kept there is =
     in
     ap (row_at birth_of birth) rows ∙ change_row-here birth_of birth f t r.sessions kept there
 
+-- a copy's leaving leaves its session the others
 pub left_there : (who : Whose) (e : CopyRow) (ending : Ending) (t : Session) (b : Broker) → session_at who.birth b.records ≡ Some t
     → session_at who.birth (after (At who (Leave e ending)) b).records ≡ Some (without_copy e.place t)
 left_there who e ending t b there = part_there who.birth (Leave e ending) (without_copy e.place) b.records t (λ x. refl) there refl
@@ -51,16 +53,19 @@ marked_there : (who : Whose) (place : ℕ) (phase : Phase) (t : Session) (b : Br
     → session_at who.birth (after (At who (Mark place phase)) b).records ≡ Some (with_phase place phase t)
 marked_there who place phase t b there = part_there who.birth (Mark place phase) (with_phase place phase) b.records t (λ x. refl) there refl
 
+-- of which each is the same
 pub same_left : (s : Session) (e : CopyRow) (ending : Ending) (b : Broker) → Same s b.records → Same s (after (At (whose s) (Leave e ending)) b).records
 same_left s e ending b h =
     record { session = without_copy e.place h.session; there = left_there (whose s) e ending h.session b h.there; its = h.its; closed = h.closed; expiry = h.expiry }
 
+-- so they are behind a mark
 pub same_marked : (s : Session) (place : ℕ) (phase : Phase) (b : Broker) → Same s b.records → Same s (after (At (whose s) (Mark place phase)) b).records
 same_marked s place phase b h =
     record { session = with_phase place phase h.session; there = marked_there (whose s) place phase h.session b h.there; its = h.its; closed = h.closed; expiry = h.expiry }
 
 -- ---- rows
 
+-- what is found twice in one look is the same
 pub some_is : {X : Type 0} (x y : X) → Some x ≡ Some y → x ≡ y
 some_is x y e = cc
 
@@ -70,6 +75,7 @@ pub record Row (went : List ℕ) (queue : List CopyRow) (x : FlowEntry) : Type 0
   pub there : row_at copy_place x.place queue ≡ Some row
   pub its : entry_on went row ≡ x
 
+-- what a look finds is a row of the queue
 pub find_row : (went : List ℕ) (test : FlowEntry → Bool) (queue : List CopyRow) (x : FlowEntry) → IsAscending copy_place queue → find test (map (entry_on went) queue) ≡ Some x → Row went queue x
 find_row went test [] x up h = absurd cc
 find_row went test (e ∷ es) x up h = elim (cases_Bool (test (entry_on went e))) [
@@ -90,6 +96,7 @@ above_stay k (x ∷ xs) up = elim (cases_Bool (nat_eq (copy_place x) k)) [
   | inr other ↦ rw other (ap suc (above_stay k xs up.1))
 ]
 
+-- one leaving takes one copy at most
 pub one_leaves : (k : ℕ) (xs : List CopyRow) → IsAscending copy_place xs → length xs ≤ suc (length (remove_row copy_place k xs))
 one_leaves k [] up = omega arith
 one_leaves k (x ∷ xs) up = elim (cases_Bool (nat_eq (copy_place x) k)) [
@@ -132,6 +139,7 @@ none_found test e (y ∷ ys) among h = elim (cases_Bool (test y)) [
   | inr other ↦ elim among [ inl mine ↦ sym (ap test mine) ∙ other | inr more ↦ none_found test e ys more (rw other at h) ]
 ]
 
+-- a copy before the first that is new is older
 pub is_older : (test : CopyRow → Bool) (e : CopyRow) (q : List CopyRow) → IsAscending copy_place q → IsAmong e q → e.place < first_given (find test q) q → test e ≡ false
 is_older test e q up among less = by (find test q) refl less
   where

@@ -92,6 +92,7 @@ module _ (set : Setting) where
 
 -- ---- a turn, and a run
 
+-- a turn keeps contents lawful
 pub turn_contents : (limits : Limits) (t : Turn) (w : World) → IsContentful w → All (read_at the_asked (setting limits t) t.event w) → IsContentful (turned limits t w)
 turn_contents limits t w h all = by (is_bad t.event w) all
   where
@@ -99,6 +100,7 @@ turn_contents limits t w h all = by (is_bad t.event w) all
     by true every = h
     by false every = happened (setting limits t) t.event w h every
 
+-- so does a run
 pub run_contents : (limits : Limits) (ts : List Turn) (w : World) → IsContentful w → AllReadLawful limits ts w → IsContentful (run limits ts w)
 run_contents limits [] w h all = h
 run_contents limits (t ∷ ts) w h all =

@@ -82,10 +82,12 @@ record IsReady (client : List ℕ) (limits : Limits) (K : World → Type 0) (mom
   at : moment_of w ≡ moment
   known : K w
 
+-- what holds of two lists of steps holds of each
 pub first_steps : (S : Asked → Type 0) (xs ys : List Asked) → AllByRecursion S (xs ++ ys) → AllByRecursion S xs × AllByRecursion S ys
 first_steps S [] ys h = (tt, h)
 first_steps S (x ∷ xs) ys h = let rest = first_steps S xs ys h.1 in ((h.0, rest.0), rest.1)
 
+-- two lists of turns ask what both ask
 pub asked_append : (limits : Limits) (xs ys : List Turn) (w : World) → asked_over limits (xs ++ ys) w ≡ asked_over limits xs w ++ asked_over limits ys (run limits xs w)
 asked_append limits [] ys w = refl
 asked_append limits (t ∷ xs) ys w =
@@ -93,6 +95,7 @@ asked_append limits (t ∷ xs) ys w =
     let v = turned limits t w in
     ap (λ (zs : List Asked). first ++ zs) (asked_append limits xs ys v) ∙ sym (append_assoc first (asked_over limits xs v) (asked_over limits ys (run limits xs v)))
 
+-- what holds of their steps holds of each one's
 pub steps_parts : (S : Asked → Type 0) (limits : Limits) (xs ys : List Turn) (w : World) → AllByRecursion S (asked_over limits (xs ++ ys) w) → AllByRecursion S (asked_over limits xs w) × AllByRecursion S (asked_over limits ys (run limits xs w))
 steps_parts S limits xs ys w h = first_steps S (asked_over limits xs w) (asked_over limits ys (run limits xs w)) (subst (AllByRecursion S) (asked_append limits xs ys w) h)
 
@@ -341,9 +344,11 @@ last_of : (xs ys : List EndAt) → AllByRecursion HasCause (xs ++ ys) → AllByR
 last_of [] ys h = h
 last_of (x ∷ xs) ys h = last_of xs ys h.1
 
+-- two lists of turns end the copies of both
 pub ends_append : (limits : Limits) (xs ys : List Turn) (w : World) → ends_over limits (xs ++ ys) w ≡ ends_over limits xs w ++ ends_over limits ys (run limits xs w)
 ends_append limits xs ys w = ap (flat_map ends_in) (asked_append limits xs ys w) ∙ flat_map-append ends_in (asked_over limits xs w) (asked_over limits ys (run limits xs w))
 
+-- steps of a drain end copies of the drained session
 pub joined_its : (large : Type 0) (client : List ℕ) (moment : ℕ) (xs : List Asked) → AreIts large client moment xs → AllByRecursion (IsIts large client moment) (flat_map ends_in xs)
 joined_its large client moment [] h = tt
 joined_its large client moment (x ∷ xs) h = each_append (IsIts large client moment) (ends_in x) (flat_map ends_in xs) h.0 (joined_its large client moment xs h.1)
@@ -352,6 +357,7 @@ with_causes : (client : List ℕ) (moment : ℕ) (xs : List EndAt) → AllByRecu
 with_causes client moment [] p q = tt
 with_causes client moment (x ∷ xs) p q = let y = p.0 in (record { its = y.its; by = ends_by ⊤ client x.asked.call x.ending y.by; at = y.at; cause = q.0 }, with_causes client moment xs p.1 q.1)
 
+-- in a drain copies end as the definition says
 pub drain_ends : (limits : Limits) (ts : List Turn) (choice : MemberChoice) (client : List ℕ) (most : ℕ) (w : World) → IsUntouched limits w → IsFair limits ts w
     → run_spends limits (drain_turns limits choice client most (run limits ts w)) (run limits ts w) ≡ false → EndOfDrain limits choice client most (run limits ts w)
 drain_ends limits ts choice client most w u fair unspent =
@@ -393,8 +399,10 @@ script_from limits ts (d ∷ ds) w u fair =
         by true h = tt
         by false h = drain_ends limits ts choice client most w u f h
 
+-- so in all drains of a script
 pub script_ends : (limits : Limits) (ds : List Doing) (w : World) → IsUntouched limits w → IsFair limits (all_turns limits ds w) w → AllDrainsEndSo limits ds w
 script_ends limits ds w u fair = script_from limits [] ds w u fair
 
+-- also from the start
 pub start_ends : (limits : Limits) (ds : List Doing) → IsFair limits (all_turns limits ds start) start → AllDrainsEndSo limits ds start
 start_ends limits ds fair = script_ends limits ds start (start_untouched limits fair.within) fair

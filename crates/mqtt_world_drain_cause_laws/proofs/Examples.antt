@@ -43,6 +43,7 @@ two_wait =
 abbrev ended : Ending → Bool → Seen
 ended by clean = record { client = r1; by = by; clean = clean }
 
+-- two copies that wait are taken
 pub they_are_taken : drain_after 5 two_wait ≡ ended Taken false ∷ ended Taken false ∷ []
 unfolding varint
 they_are_taken = refl

@@ -42,6 +42,7 @@ use Rattle.mqtt_world_drain_cause_laws.specs.Fitting.{ReadsLawful}
 
 -- ---- sizes: no packet has as many bytes as a receiver takes
 
+-- a copy of a lawful content is within the greatest size
 pub is_small : (copy : MessageCopy) → IsCopiedOf of_rows copy → nat_lt any_size (queued_copy copy).size ≡ true → ⊥
 is_small copy h above =
     let n = remaining copy in

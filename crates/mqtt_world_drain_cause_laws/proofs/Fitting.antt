@@ -34,6 +34,7 @@ fits_at limits choice c most v kept says contents unspent reads =
     none_of c (moment_of v) (ends_over limits turns v)
     (joined_its ⊥ c (moment_of v) (asked_over limits turns v) (drain_its ⊥ c limits IsContentful ReadsLawful (knows_fit c limits) choice (moment_of v) most v kept says refl contents unspent reads))
 
+-- in a drain no copy is too large
 pub drain_fits : (limits : Limits) (ts : List Turn) (choice : MemberChoice) (client : List ℕ) (most : ℕ) (w : World) → IsUntouched limits w → IsContentful w → IsFair limits ts w
     → run_spends limits (drain_turns limits choice client most (run limits ts w)) (run limits ts w) ≡ false → AllReadLawful limits (ts ++ drain_turns limits choice client most (run limits ts w)) w
     → NoneTooLarge limits (drain_turns limits choice client most (run limits ts w)) (run limits ts w)
@@ -66,8 +67,10 @@ all_fit limits (d ∷ ds) v k says contents unspent clean reads =
       all_fit limits ds z (λ c. run_kept [] c limits turns v (k c) costs.0 begins.0) (run_say limits turns v says) (run_contents limits turns v contents parts.0) costs.1 begins.1 parts.1,
     )
 
+-- so in all drains of a script
 pub script_fits : (limits : Limits) (ds : List Doing) (w : World) → IsUntouched limits w → IsContentful w → IsFair limits (all_turns limits ds w) w → AllReadLawful limits (all_turns limits ds w) w → AllDrainsFit limits ds w
 script_fits limits ds w u contents fair reads = all_fit limits ds w (λ c. untouched_kept c limits w fair.within u) (none_say w u.new.receivers) contents fair.unspent fair.clean reads
 
+-- also from the start
 pub start_fits : (limits : Limits) (ds : List Doing) → IsFair limits (all_turns limits ds start) start → AllReadLawful limits (all_turns limits ds start) start → AllDrainsFit limits ds start
 start_fits limits ds fair reads = script_fits limits ds start (start_untouched limits fair.within) (record { stored = record { sessions = tt; retained = tt }; lines = tt }) fair reads

@@ -38,6 +38,7 @@ Ends large client call TooLarge = large
 Ends large client call SessionEnded = StartsClean client call
 Ends large client call Dropped = Subscribes call
 
+-- a copy that ends so is ended by the call
 pub ends_by : (large : Type 0) (client : List ℕ) (call : Option Call) (ending : Ending) → Ends large client call ending → EndsBy client call ending
 ends_by large client call Taken h = tt
 ends_by large client call Refused h = h
@@ -240,6 +241,7 @@ one_its : (large : Type 0) (client : List ℕ) (m : Asked) (moment : ℕ) (b : B
 one_its large client m moment b ds (At who (Leave e ending)) xs at h more = (record { its = h.0; by = h.1; at = at }, more)
 one_its large client m moment b ds d xs at h more = more
 
+-- and all that a step ends are the session's
 pub all_its : (large : Type 0) (client : List ℕ) (m : Asked) (moment : ℕ) (ds : List Deed) (b : Broker) → b.now ≡ moment → AreOwn large client m.call ds → AllByRecursion (IsIts large client moment) (ends_of m ds b)
 all_its large client m moment [] b at h = tt
 all_its large client m moment (d ∷ ds) b at h = one_its large client m moment b ds d (ends_of m ds (after d b)) at h.0 (all_its large client m moment ds (after d b) at h.1)

@@ -184,6 +184,7 @@ module _ (large : Type 0) (client : List ℕ) (call : Option Call) (asks : Subsc
       let mild = filter_mild env identifier a.filter (options_of a.options) b (session_at birth b.records) refl owns in
       each_append IsMild g.deeds (sub.filter_answers env birth identifier rest (after_all g.deeds b)).deeds mild (filters_mild env identifier rest (after_all g.deeds b) (owns_all g.deeds b mild owns))
 
+-- a subscription ends no copy but by its own session
 pub subscribe_own : (large : Type 0) (client : List ℕ) (call : Option Call) → Subscribes call → (t : Bool) (env : Env) (line : ℕ) (s : Session) (p : Asking) (b : Broker) → session_at s.birth b.records ≡ Some s → s.client ≡ client
     → AreOwn large client call (sub.subscribe_by t env line s p b)
 subscribe_own large client call asks true env line s p b there its = own.own_offer large client call (line_at line b) (suback p.identifier (map (λ a. identifier_in_use) p.subscriptions))

@@ -148,6 +148,7 @@ happens_say restart set w h = restarts_say set w h
 happens_say (stop_before a) set w h = restarts_say set (before set a w) (before_say set a w h)
 happens_say (stop_after a) set w h = restarts_say set (first_step set a w) (first_say set a w h)
 
+-- behind a turn receivers have answered what they were sent
 pub turned_say : (limits : Limits) (t : Turn) (w : World) → AllSay w → AllSay (turned limits t w)
 turned_say limits t w h = by (is_bad t.event w)
   where
@@ -155,10 +156,12 @@ turned_say limits t w h = by (is_bad t.event w)
     by true = h
     by false = happens_say t.event (setting limits t) w h
 
+-- so they have behind a run
 pub run_say : (limits : Limits) (ts : List Turn) (w : World) → AllSay w → AllSay (run limits ts w)
 run_say limits [] w h = h
 run_say limits (t ∷ ts) w h = run_say limits ts (turned limits t w) (turned_say limits t w h)
 
+-- and if there are none
 pub none_say : (w : World) → w.receivers ≡ [] → AllSay w
 none_say w none = subst (AllByRecursion Says) (sym none) tt
 

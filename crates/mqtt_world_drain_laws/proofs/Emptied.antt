@@ -156,6 +156,7 @@ module _ (c : List ℕ) (limits : Limits) (choice : MemberChoice) where
 
 -- ---- in a run
 
+-- behind a fair run a drain empties the queue
 pub run_empties : (limits : Limits) (ts : List Turn) (choice : MemberChoice) (c : List ℕ) (most : ℕ) (w : World) → IsUntouched limits w → IsFair limits ts w
     → run_spends limits (round_turns limits choice c (run limits ts w)) (run limits ts w) ≡ false → is_bad_drain c (run limits ts w) ≡ false → EmptiesQueue limits choice c most (run limits ts w)
 run_empties limits ts choice c most w u fair unspent good = empties_if c limits choice most (run limits ts w) (fair_run_kept limits ts w u fair c) good (λ more is on. unspent)
@@ -181,6 +182,7 @@ all_empty limits (d ∷ ds) w k unspent carried =
     let clean = carried_append limits turns (all_turns limits ds v) w carried in
     (doing_empties limits d w k costs.0, all_empty limits ds v (λ c. run_kept [] c limits turns w (k c) costs.0 clean.0) costs.1 clean.1)
 
+-- so do all drains of a script
 pub script_empties : (limits : Limits) (ds : List Doing) (w : World) → IsUntouched limits w → IsFair limits (all_turns limits ds w) w → AllDrainsEmpty limits ds w
 script_empties limits ds w u fair = all_empty limits ds w (λ c. untouched_kept c limits w fair.within u) fair.unspent fair.clean
 

@@ -42,6 +42,7 @@ both_wait window =
     receiver r1 window ∷ publisher p1 ∷ joins r1 false ++ (subscribes r1 ++ (joins p1 false
     ++ (publish p1 draft ∷ publish p1 draft ∷ ask (to_broker p1) ∷ ask (to_broker p1) ∷ [])))
 
+-- two copies through a window of one
 pub through_a_window_of_one : drains_after (both_wait 1) ≡ record { enough = 5; rounds = 4; left = 0; bad = false; rounds_of_more = 4 }
 unfolding varint
 through_a_window_of_one = refl
@@ -51,6 +52,7 @@ through_a_window_of_one = refl
 abbrev comes_again : Bool → List Event
 comes_again clean = both_wait 10 ++ round r1 ++ give_up r1 ∷ connect_end r1 clean ∷ []
 
+-- a receiver that resumes
 pub resumed_it_is_emptied : drains_after (comes_again false) ≡ record { enough = 5; rounds = 3; left = 0; bad = false; rounds_of_more = 3 }
 unfolding varint
 resumed_it_is_emptied = refl
@@ -59,14 +61,17 @@ resumed_it_is_emptied = refl
 abbrev one_by_one : List Event
 one_by_one = both_wait 1 ++ give_up r1 ∷ connect_end r1 false ∷ []
 
+-- a queue that needs each round
 pub each_round_is_needed : drains_after one_by_one ≡ record { enough = 5; rounds = 5; left = 0; bad = false; rounds_of_more = 5 }
 unfolding varint
 each_round_is_needed = refl
 
+-- and is not empty before
 pub four_rounds_are_too_few : waiting_for r1 (drained usual first r1 4 (after usual (turns one_by_one))) ≡ 1
 unfolding varint
 four_rounds_are_too_few = refl
 
+-- a receiver that starts clean
 pub renewed_it_is_emptied : drains_after (comes_again true) ≡ record { enough = 5; rounds = 1; left = 0; bad = false; rounds_of_more = 1 }
 unfolding varint
 renewed_it_is_emptied = refl
@@ -84,6 +89,7 @@ asks_while_full =
     receiver r1 1 ∷ publisher p1 ∷ joins r1 false ++ (subscribes r1 ++ (joins p1 false
     ++ (publish p1 kept_draft ∷ publish p1 kept_draft ∷ ask (to_broker p1) ∷ ask (to_broker p1) ∷ subscribe r1 wish ∷ [])))
 
+-- a copy that a subscription brings meanwhile
 pub with_one_brought : drains_from dropping (after dropping (turns asks_while_full)) ≡ record { enough = 7; rounds = 4; left = 0; bad = false; rounds_of_more = 4 }
 unfolding varint
 with_one_brought = refl
@@ -96,6 +102,7 @@ full_house = record usual { sessions = 1 }
 abbrev no_place : List Event
 no_place = receiver r1 10 ∷ publisher p1 ∷ joins p1 false ++ connect_end r1 false ∷ []
 
+-- a receiver without a session
 pub without_a_session_nothing_is_read : drains_from full_house (after full_house (turns no_place)) ≡ record { enough = 1; rounds = 0; left = 0; bad = false; rounds_of_more = 0 }
 unfolding varint
 without_a_session_nothing_is_read = refl

@@ -25,6 +25,7 @@ fate_back (publisher.sent id) = refl
 fate_back (publisher.released id) = refl
 fate_back (publisher.ended by) = ap (λ (b : publisher.Finish). publisher.ended b) (finish_back by)
 
+-- what is heard comes to each message
 pub all_hear : (heard : Heard) (fates : List Fate)
     → fates_of (map (heard_by heard) fates) ≡ map (on_heard heard) (fates_of fates)
 all_hear heard [] = refl
@@ -79,6 +80,7 @@ in_flight_more fates i d within =
     ∙ ap in_flight (fates_of-append (take i fates) (get_or fates i d ∷ []))
     ∙ in_flight-append (fates_of (take i fates)) (fate_of (get_or fates i d) ∷ [])
 
+-- a message without an identifier adds none
 pub none_more : (fates : List Fate) (i : ℕ) (d : Fate) (ids : List ℕ) → i < length fates
     → ids ≡ in_flight (fates_of (take i fates)) → None ≡ identifier_of (fate_of (get_or fates i d))
     → ids ≡ in_flight (fates_of (take (i + 1) fates))
@@ -87,6 +89,7 @@ none_more fates i d ids within so_far is =
     let none = none_in_flight (fate_of (get_or fates i d)) is in
     so_far ∙ sym (more ∙ ap (λ (l : List ℕ). in_flight (fates_of (take i fates)) ++ l) none ∙ append-nil _)
 
+-- one with an identifier adds it
 pub one_more : (fates : List Fate) (i : ℕ) (d : Fate) (ids : List ℕ) (id : ℕ) → i < length fates
     → ids ≡ in_flight (fates_of (take i fates)) → Some id ≡ identifier_of (fate_of (get_or fates i d))
     → ids ++ id ∷ [] ≡ in_flight (fates_of (take (i + 1) fates))
@@ -145,6 +148,7 @@ resent_more fates i d within =
     ∙ (resent-append 0 (fates_of front) (fate_of (get_or fates i d) ∷ [])
     ∙ ap (λ (k : ℕ). resent_from 0 (fates_of front) ++ resent_from k (fate_of (get_or fates i d) ∷ [])) at))
 
+-- a message of which nothing is due is not sent again
 pub none_resent : (fates : List Fate) (i : ℕ) (d : Fate) (packets : List Shake) (found : Option Shake) → i < length fates
     → packets_of packets ≡ resent_from 0 (fates_of (take i fates)) → option_map packet_of found ≡ again i (fate_of (get_or fates i d))
     → found ≡ None → packets_of packets ≡ resent_from 0 (fates_of (take (i + 1) fates))
@@ -153,6 +157,7 @@ none_resent fates i d packets found within so_far is none =
     so_far ∙ sym (resent_more fates i d within
     ∙ (ap (λ (l : List publisher.FromPublisher). resent_from 0 (fates_of (take i fates)) ++ l) empty ∙ append-nil _))
 
+-- one of which something is due is
 pub one_resent : (fates : List Fate) (i : ℕ) (d : Fate) (packets : List Shake) (found : Option Shake) (packet : Shake) → i < length fates
     → packets_of packets ≡ resent_from 0 (fates_of (take i fates)) → option_map packet_of found ≡ again i (fate_of (get_or fates i d))
     → found ≡ Some packet → packets_of (packets ++ packet ∷ []) ≡ resent_from 0 (fates_of (take (i + 1) fates))
@@ -165,11 +170,13 @@ one_resent fates i d packets found packet within so_far is one =
 
 -- ---- what is awaited
 
+-- an identifier is awaited if a message awaits it
 pub all_await : (identifier : ℕ) (fates : List Fate) → list_any (awaits identifier) fates ≡ list_any (is_sent identifier) (fates_of fates)
 all_await identifier [] = refl
 all_await identifier (fate ∷ fates) = ap (λ (t : Bool). is_sent identifier (fate_of fate) || t) (all_await identifier fates)
 
 -- ---- what is done
 
+-- those that completed are counted
 pub all_completed : (fates : List Fate) → count_by has_completed fates ≡ count_by is_completed (fates_of fates)
 all_completed fates = sym (fold-map (λ (n : ℕ) (fate : publisher.Fate). n + cond (is_completed fate) 1 0) fate_of 0 fates)

@@ -84,6 +84,7 @@ module _ (limits : Limits) (ts : List Turn) (w : World) (m : BeginsWell limits w
 
 -- ---- a script
 
+-- a fair script that begins well delivers exactly once
 pub script_delivers : (limits : Limits) (ds : List Doing) (w : World) → BeginsWell limits w → IsFairScript limits ds w → DoingsDeliver limits ds w
 script_delivers limits ds w m fair = record {
   is_run = drains_are_runs limits ds w;
@@ -92,14 +93,17 @@ script_delivers limits ds w m fair = record {
   fit = λ sends say. drains_fit limits ds w m.untouched sends fair say;
 }
 
+-- so does one behind any lives of the broker
 pub lives_deliver : (limits : Limits) (ls : List BrokerLife) (ds : List Doing) → AreWithin limits → AreFairLives limits ls → IsFairScript limits ds (after_lives limits ls) → DoingsDeliver limits ds (after_lives limits ls)
 lives_deliver limits ls ds within h fair = script_delivers limits ds (after_lives limits ls) (lives_begin limits ls within h) fair
 
+-- and then no copy of a drain is too large, if all can be said
 pub lives_fit : (limits : Limits) (ls : List BrokerLife) (ds : List Doing) → AreWithin limits → AreFairLives limits ls → AreSayableLives ls → IsFairScript limits ds (after_lives limits ls) → AreSayableDoings ds → AllDrainsFit limits ds (after_lives limits ls)
 lives_fit limits ls ds within h said fair say = (lives_deliver limits ls ds within h fair).fit (lives_send limits ls within h said) say
 
 -- ---- from nothing stored
 
+-- in every fair run a message is accepted at most once
 pub accepted_once : (limits : Limits) (ts : List Turn) → IsFair limits ts start → AcceptedOnce limits ts
 accepted_once limits ts fair =
     let new = start_new in

@@ -70,6 +70,7 @@ doing_drains limits (drains choice c most) w p q = λ good.
       ends = subst (λ (bad : Bool). AreOfDrain c limits (cond bad [] (drain_turns limits choice c most w)) w) good q;
     }
 
+-- a drain that ends with its causes and an empty queue is one
 pub each_drains : (limits : Limits) (ds : List Doing) (w : World) → AllDrainsEmpty limits ds w → AllDrainsEndSo limits ds w → EachDrains limits ds w
 each_drains limits [] w p q = tt
 each_drains limits (d ∷ ds) w p q = (doing_drains limits d w p.0 q.0, each_drains limits ds (run limits (turns_of limits d w) w) p.1 q.1)

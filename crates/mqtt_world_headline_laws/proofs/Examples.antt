@@ -25,6 +25,7 @@ use Rattle.mqtt_world_headline_laws.specs.Lives.{BrokerLife, IsFairLife, IsFairS
 use Rattle.mqtt_world_headline_laws.proofs.Delivered.{lives_deliver, run_delivers_all}
 use Rattle.mqtt_world_headline_laws.proofs.Lives.{start_begins}
 
+-- the usual limits are within the tables
 pub usual_within : AreWithin usual
 usual_within = record { queue = omega arith; sessions = omega arith; retained = omega arith }
 
@@ -54,22 +55,27 @@ second_life = map happens (turns others) ++ drains first r2 5 ∷ []
 abbrev pub opened_then : World
 opened_then = after_lives usual (first_life ∷ [])
 
+-- one copy waits behind an opening
 pub one_is_stored : waiting_for r1 opened_then ≡ 1
 unfolding varint
 one_is_stored = refl
 
+-- another enters
 pub one_more_enters : waiting_for r1 (run usual (turns others) opened_then) ≡ 2
 unfolding varint
 one_more_enters = refl
 
+-- and its receiver is handed it
 pub the_other_is_handed_its_own : handed_by (receiver_named r2 (run usual (turns (others ++ round r2)) opened_then)) ≡ 2 ∷ []
 unfolding varint
 the_other_is_handed_its_own = refl
 
+-- the first life is fair
 pub the_first_is_fair : IsFairLife usual first_life start
 unfolding varint
 the_first_is_fair = record { fair = record { within = usual_within; unspent = refl; clean = refl }; unspent = refl }
 
+-- so is the second
 pub the_second_is_fair : IsFairScript usual second_life opened_then
 unfolding varint
 the_second_is_fair = record { within = usual_within; unspent = refl; clean = refl }
@@ -96,25 +102,31 @@ life_of_three = record {
 abbrev opened_lower : World
 opened_lower = after_lives lower (life_of_three ∷ [])
 
+-- three copies wait under a limit of two
 pub more_are_stored_than_may_wait : waiting_for r1 opened_lower ≡ 3
 unfolding varint
 more_are_stored_than_may_wait = refl
 
+-- two of them make way for one that enters
 pub two_make_way : waiting_for r1 (run lower (turns others) opened_lower) ≡ 2
 unfolding varint
 two_make_way = refl
 
+-- that limit is within the tables
 pub lower_within : AreWithin lower
 lower_within = record { queue = omega arith; sessions = omega arith; retained = omega arith }
 
+-- the life that left three is fair
 pub the_three_are_fair : IsFairLife lower life_of_three start
 unfolding varint
 the_three_are_fair = record { fair = record { within = usual_within; unspent = refl; clean = refl }; unspent = refl }
 
+-- so is the one under the lower limit
 pub the_lower_is_fair : IsFairScript lower second_life opened_lower
 unfolding varint
 the_lower_is_fair = record { within = lower_within; unspent = refl; clean = refl }
 
+-- which delivers exactly once
 pub the_lower_delivers : DoingsDeliver lower second_life opened_lower
 the_lower_delivers = lives_deliver lower (life_of_three ∷ []) second_life lower_within (tt, the_three_are_fair) the_lower_is_fair
 
@@ -126,18 +138,22 @@ draft_1 = record draft { qos = AtLeastOnce }
 abbrev puback_lost : List Event
 puback_lost = publisher p1 ∷ joins p1 false ++ (publish p1 draft_1 ∷ ask (to_broker p1) ∷ ask (break p1) ∷ joins p1 false ++ exchange p1)
 
+-- a PUBLISH of QoS 1 whose PUBACK is lost
 pub it_is_accepted_twice : times_accepted p1 0 usual (turns puback_lost) start ≡ 2
 unfolding varint
 it_is_accepted_twice = refl
 
+-- completes
 pub it_is_completed : fate_of p1 0 (after usual (turns puback_lost)) ≡ Some (ended_1 completed)
 unfolding varint
 it_is_completed = refl
 
+-- in a fair run
 pub its_loss_is_fair : IsFair usual (turns puback_lost) start
 unfolding varint
 its_loss_is_fair = record { within = usual_within; unspent = refl; clean = refl }
 
+-- that delivers exactly once, as QoS 1 has it
 pub its_run_delivers : DeliversExactlyOnce usual (turns puback_lost) start
 its_run_delivers = run_delivers_all usual (turns puback_lost) start (start_begins usual usual_within) its_loss_is_fair
 
@@ -149,14 +165,17 @@ answer_lost =
     ++ (publish p1 draft_1 ∷ ask (to_broker p1) ∷ ask (pump r1) ∷ to_end r1 ∷ ask (break r1)
     ∷ joins r1 false ++ (ask (pump r1) ∷ to_end r1 ∷ ask (to_broker r1) ∷ []))))
 
+-- a copy of QoS 1 whose answer is lost
 pub it_is_read_twice : option_map (λ (r : Receiver). read_count first_copy r) (receiver_named r1 (after usual (turns answer_lost))) ≡ Some 2
 unfolding varint
 it_is_read_twice = refl
 
+-- ends once
 pub it_is_taken_once : ended_from usual (turns answer_lost) start ≡ first_copy ∷ []
 unfolding varint
 it_is_taken_once = refl
 
+-- in a fair run
 pub its_answer_is_fair : IsFair usual (turns answer_lost) start
 unfolding varint
 its_answer_is_fair = record { within = usual_within; unspent = refl; clean = refl }

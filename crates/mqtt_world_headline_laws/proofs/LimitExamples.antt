@@ -34,6 +34,7 @@ after_opening es = sum_of (run small (turns es) crowded)
 abbrev comes : List Event
 comes = publisher p1 ∷ publish p1 draft ∷ joins p1 true
 
+-- with two sessions where one may be, none begins
 pub two_stand_and_none_begins : after_opening comes
     ≡ record { handed = []; queue = 0; messages = 1; done = 0; publications = 0; sessions = 2 }
 unfolding varint
@@ -43,6 +44,7 @@ two_stand_and_none_begins = refl
 abbrev comes_later : List Event
 comes_later = comes ++ clock 6000 ∷ ask tick ∷ ask tick ∷ joins p1 true ++ (exchange p1 ++ exchange p1)
 
+-- one whose session stands goes on
 pub its_session_begins : after_opening comes_later
     ≡ record { handed = []; queue = 0; messages = 1; done = 1; publications = 1; sessions = 1 }
 unfolding varint
@@ -52,6 +54,7 @@ its_session_begins = refl
 abbrev comes_anew : List Event
 comes_anew = comes_later ++ give_up p1 ∷ joins p1 true
 
+-- and another may begin in its place
 pub another_begins_instead : after_opening comes_anew
     ≡ record { handed = []; queue = 0; messages = 1; done = 1; publications = 1; sessions = 1 }
 unfolding varint

@@ -58,6 +58,7 @@ numbers_kept limits = record {
 
 -- ---- so it may begin
 
+-- the first life begins well
 pub start_begins : (limits : Limits) → AreWithin limits → BeginsWell limits start
 start_begins limits within = record { untouched = start_untouched limits within; apart = start_apart; numbers = (tt, tt) }
 
@@ -73,6 +74,7 @@ run_begins_under limits others ts choice now w m fair within unspent =
       numbers = opening_accepted others choice now r (run_keeps Accepted limits ts w (numbers_kept limits) m.untouched.new fair m.numbers);
     }
 
+-- so does one that opens over what a fair run left
 pub run_begins : (limits : Limits) (ts : List Turn) (choice : MemberChoice) (now : ℕ) (w : World) → BeginsWell limits w → IsFair limits ts w → is_opening_spent limits choice now (run limits ts w).broker.records ≡ false
     → BeginsWell limits (opened_world limits choice now (run limits ts w).broker.records)
 run_begins limits ts choice now w m fair unspent = run_begins_under limits limits ts choice now w m fair fair.within unspent
@@ -94,10 +96,12 @@ pub run_sends_under : (limits others : Limits) (ts : List Turn) (choice : Member
     → SendsWell (opened_world others choice now (run limits ts w).broker.records).broker
 run_sends_under limits others ts choice now w m sends fair say unspent = well_reopened others choice now (run limits ts w).broker unspent (sends_on limits ts w m.untouched.new sends fair say)
 
+-- and it sends well
 pub run_sends : (limits : Limits) (ts : List Turn) (choice : MemberChoice) (now : ℕ) (w : World) → BeginsWell limits w → SendsWell w.broker → IsFair limits ts w → AreSayable ts → is_opening_spent limits choice now (run limits ts w).broker.records ≡ false
     → SendsWell (opened_world limits choice now (run limits ts w).broker.records).broker
 run_sends limits ts choice now w m sends fair say unspent = run_sends_under limits limits ts choice now w m sends fair say unspent
 
+-- so it is behind any lives
 pub lives_send : (limits : Limits) (ls : List BrokerLife) → AreWithin limits → AreFairLives limits ls → AreSayableLives ls → SendsWell (after_lives limits ls).broker
 lives_send limits [] within h said = start_sends limits within
 lives_send limits (l ∷ ls) within h said =

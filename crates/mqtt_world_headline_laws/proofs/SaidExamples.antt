@@ -70,6 +70,7 @@ the_second_is_said : are_said second_life ≡ true
 unfolding is_utf8 chars encode
 the_second_is_said = refl
 
+-- no copy of the second life is too large
 pub none_is_too_large : AllDrainsFit usual second_life opened_then
 none_is_too_large =
     lives_fit usual (first_life ∷ []) second_life usual_within (tt, the_first_is_fair) (tt, doings_said first_life.doings the_first_is_said) the_second_is_fair

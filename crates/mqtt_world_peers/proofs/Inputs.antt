@@ -31,9 +31,11 @@ decided p true false h eq good = sym (input_of p (h.0 refl)) ∙ eq
 decided p false true h eq good = h.1 (good refl)
 decided p false false h eq good = refl
 
+-- a packet that fits is taken if the test says so
 pub fitting_is : (p : Packet) (b : Bool) → (IsTrue b ↔ IsTaken p) → Fits p → b ≡ is_input p
 fitting_is p b h fits = decided p b (is_input p) h refl (taken_of p fits)
 
+-- so is a message
 pub message_is : (d : Draft) (b : Bool) → (IsTrue b ↔ IsTaken (message_packet d)) → FitsText d.content.topic
     → b ≡ is_input (message_packet d)
 message_is d b h topic =

@@ -73,6 +73,7 @@ few_in_flight (d ∷ rest) p may = ltb-true (length (in_flight p.fates)) OPEN_LI
 
 -- ---- packets of handshakes
 
+-- one packet more is under way
 pub shakes_more : (packets : List Shake) (i : ℕ) (d : Shake) → i < length packets
     → map shake (packets_of (take (i + 1) packets)) ≡ map shake (packets_of (take i packets)) ++ shake (packet_of (get_or packets i d)) ∷ []
 shakes_more packets i d within =
@@ -108,5 +109,6 @@ done_of : (p : Publisher) (fs : List Fate) → done_by (Some (record p { fates =
 done_of p [] = refl
 done_of p (f ∷ fs) = done_more p f fs (done_of p fs)
 
+-- done are the messages that completed
 pub done_is : (p : Publisher) → done_by (Some p) ≡ count_by is_completed p.fates
 done_is p = done_of p p.fates

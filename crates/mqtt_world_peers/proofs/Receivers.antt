@@ -11,6 +11,7 @@ use Rattle.mqtt_world_model.specs.Ends.{Entry, Receiver, hears}
 use Rattle.mqtt_world_model.specs.Laws.{copies_in}
 use Rattle.mqtt_world_peers.specs.Receivers.{hears_control, IsControl, number_of, publication_of, publications_of}
 
+-- a packet that is no PUBLISH is heard as such
 pub control_heard : (stands : Bool) (copy : Option CopyId) (packet : Packet) (r : Receiver)
     → IsControl packet → hears stands copy packet r ≡ hears_control stands packet r
 control_heard stands copy (Connect a) r other = refl
@@ -53,6 +54,7 @@ entries_more es i d found within is =
     ∙ (sym (publications_of-append (take i es) (get_or es i d ∷ []))
     ∙ ap publications_of (sym (take_more es i d within))))
 
+-- an entry without a number adds none
 pub none_more : (es : List Entry) (i : ℕ) (d : Entry) (ns : List ℕ) (found : Option ℕ) → i < length es
     → ns ≡ publications_of (take i es) → found ≡ publication_of (get_or es i d) → found ≡ None
     → ns ≡ publications_of (take (i + 1) es)
@@ -61,6 +63,7 @@ none_more es i d ns found within so_far is none =
     ∙ (ap (λ (o : Option ℕ). publications_of (take i es) ++ option_to_list o) (sym none)
     ∙ entries_more es i d found within is))
 
+-- one with a number adds it
 pub one_more : (es : List Entry) (i : ℕ) (d : Entry) (ns : List ℕ) (found : Option ℕ) (n : ℕ) → i < length es
     → ns ≡ publications_of (take i es) → found ≡ publication_of (get_or es i d) → found ≡ Some n
     → ns ++ n ∷ [] ≡ publications_of (take (i + 1) es)

@@ -45,6 +45,7 @@ abbrev pub OnEnd : {X : Type 0} → (X → Type 0) → Option X → Type 0
 OnEnd P None = ⊤
 OnEnd P (Some x) = P x
 
+-- what holds of all ends holds of the one that is found
 pub found : {X : Type 0} (P : X → Type 0) (f : X → Bool) (xs : List X) → AllByRecursion P xs → OnEnd P (find f xs)
 found P f [] h = tt
 found P f (x ∷ xs) h = elim (cases_Bool (f x)) [
@@ -60,6 +61,7 @@ backs : (r : Receiver) (xs : List Back) → AllByRecursion (IsTakenBack r) xs �
 backs r [] h k = tt
 backs r (x ∷ xs) h k = (h.0 k.0, backs r xs h.1 k.1)
 
+-- what a view shows is taken, if both its ends' packets are
 pub view_taken : (p : Option Publisher) (r : Option Receiver) → OnEnd IsTakenFrom p → OnEnd IsBackTaken r → IsViewTaken (view_by p r)
 view_taken (Some p) r h k = record { up = on_wire (wire p.client p.contents) p.line.up h.up; old = on_wire (wire p.client p.contents) p.line.old h.old }
 view_taken None (Some r) h k = record {
@@ -68,27 +70,32 @@ view_taken None (Some r) h k = record {
 }
 view_taken None None h k = record { up = tt; old = tt }
 
+-- packets that are taken ask well
 pub input_well : (o : Option ℕ) (ps : List Packet) → AllByRecursion IsTaken ps → IsWellIf (input_on o ps)
 input_well None ps h = tt
 input_well (Some n) [] h = tt
 input_well (Some n) (p ∷ ps) h = record { taken = h.0; tells = tt }
 
+-- so does a lost line
 pub lost_well : (o : Option ℕ) → IsWellIf (lost_on o)
 lost_well None = tt
 lost_well (Some n) = record { taken = tt; tells = tt }
 
+-- and a pump
 pub pump_well : (o : Option ℕ) → IsWellIf (pump_on o)
 pump_well None = tt
 pump_well (Some n) = record { taken = tt; tells = tt }
 
 -- ---- of a stranger
 
+-- bytes behind bytes are bytes
 pub bytes_append : (xs ys : List ℕ) → AreBytes xs → AreBytes ys → AreBytes (xs ++ ys)
 bytes_append xs ys h k i = elim (cases_lt i (length xs)) [
   | inl lt ↦ rw (get_or_append_left xs ys 0 i lt) (h i)
   | inr ge ↦ rw (get_or-append_right xs ys (length xs) i 0 refl ge) (k (i - length xs))
 ]
 
+-- none are bytes
 pub no_bytes : AreBytes []
 no_bytes i = omega arith
 
@@ -97,6 +104,7 @@ held_bytes (Ok None) bytes h = h
 held_bytes (Ok (Some x)) bytes h = IsBytes-drop x.1 bytes h
 held_bytes (Err fault) bytes h = no_bytes
 
+-- what is left of bytes is bytes
 pub after_bytes : (bytes : List ℕ) → AreBytes bytes → AreBytes (held_after bytes)
 after_bytes bytes h = held_bytes (first_of bytes) bytes h
 
@@ -120,6 +128,7 @@ on_line_well (Some n) held each = first_well n held (first_of held) each refl
 abbrev pub HoldsBytes : Stranger → Type 0
 HoldsBytes s = AreBytes s.held
 
+-- a stranger's bytes ask well
 pub stranger_well : (o : Option Stranger) → OnEnd HoldsBytes o → IsWellIf (call_of_stranger o)
 stranger_well None h = tt
 stranger_well (Some s) h = on_line_well s.number s.held h

@@ -98,24 +98,30 @@ sent_spelled (Some n) b (x ∷ xs) h = by (nat_eq x.0 n) (sent_spelled (Some n) 
     by true rest = (h.0, rest)
     by false rest = rest
 
+-- what a broker tells with a spelling leaves a receiver fine
 pub told_fine : (b : Broker) (out : Outcome) (r : Receiver) → AreSpelled out.outputs → IsFine r → IsFine (receiver_told b out r)
 told_fine b out r spelled h = record {
   line = told_carries HasIdentifier b out r.line h.line;
   down = each_append IsSpelled r.line.down (sent_to r.line.number b out.outputs) h.down (sent_spelled r.line.number b out.outputs spelled);
 }
 
+-- so does a restart
 pub restarted_fine : (r : Receiver) → IsFine (receiver_restarted r)
 restarted_fine r = record { line = restarted_carries HasIdentifier r.line; down = tt }
 
+-- and a packet that was read
 pub up_fine : (r : Receiver) → IsFine r → IsFine (record r { line = taken_up r.line })
 up_fine r h = record { line = up_carries HasIdentifier r.line h.line; down = h.down }
 
+-- also from the old line
 pub old_fine : (r : Receiver) → IsFine r → IsFine (record r { line = taken_old r.line })
 old_fine r h = record { line = old_carries HasIdentifier r.line h.line; down = h.down }
 
+-- and a line that is left
 pub left_fine : (r : Receiver) → IsFine r → IsFine (record r { line = left r.line })
 left_fine r h = record { line = left_carries HasIdentifier r.line h.line; down = tt }
 
+-- or given up
 pub gives_fine : (r : Receiver) → IsFine r → IsFine (record r { line = gives_up r.line.link r.line })
 gives_fine r h = record { line = gives_carries HasIdentifier r.line h.line; down = by r.line.link }
   where
@@ -124,8 +130,10 @@ gives_fine r h = record { line = gives_carries HasIdentifier r.line h.line; down
     by asked = tt
     by live = tt
 
+-- or joined
 pub joined_fine : (n : ℕ) (clean : Bool) (r : Receiver) → IsFine r → IsFine (record r { line = joined (answers (connect clean)) n clean r.line })
 joined_fine n clean r h = record { line = joined_carries HasIdentifier (answers (connect clean)) n clean r.line tt h.line; down = tt }
 
+-- a new receiver is fine
 pub new_fine : (client : List ℕ) (window since : ℕ) → IsFine (new_receiver client window since)
 new_fine client window since = record { line = record { up = tt; old = tt }; down = tt }

@@ -255,6 +255,7 @@ module _ (limits : Limits) (w : World) (ps : w.publishers ≡ []) (rs : w.receiv
       let rest = goes_behind (xs ++ t ∷ []) ts u one here say.1 costs.1 first.going in
       record { lawful = each_append ReadsLawful (read_at the_asked (setting limits t) t.event v) (asked_over limits ts u) first.lawful rest.lawful; going = rest.going }
 
+-- a run of what can be said goes on sending well
 pub goes_on : (limits : Limits) (ts : List Turn) (w : World) → w.publishers ≡ [] → w.receivers ≡ [] → w.strangers ≡ [] → SendsWell w.broker → AreSayable ts → run_spends limits ts w ≡ false → GoesOn limits ts w
 goes_on limits ts w ps rs ss sends say unspent =
     goes_behind limits w ps rs [] ts w tt refl say unspent

@@ -54,6 +54,7 @@ doing_said limits (drains choice client most) w h = by (is_bad_drain client w)
     by true = tt
     by false = drain_said limits choice client most w
 
+-- the turns of a script that can be said can be said
 pub all_said : (limits : Limits) (ds : List Doing) (w : World) → AreSayableDoings ds → AreSayable (all_turns limits ds w)
 all_said limits [] w h = tt
 all_said limits (d ∷ ds) w h =
@@ -66,12 +67,15 @@ all_said limits (d ∷ ds) w h =
 run_goes : (limits : Limits) (ts : List Turn) (w : World) → IsNew w → SendsWell w.broker → IsFair limits ts w → AreSayable ts → GoesOn limits ts w
 run_goes limits ts w new sends fair say = goes_on limits ts w new.publishers new.receivers new.strangers sends say fair.unspent
 
+-- in a fair run of them all that is read is lawful
 pub reads_lawful : (limits : Limits) (ts : List Turn) (w : World) → IsNew w → SendsWell w.broker → IsFair limits ts w → AreSayable ts → AllReadLawful limits ts w
 reads_lawful limits ts w new sends fair say = (run_goes limits ts w new sends fair say).lawful
 
+-- and the broker goes on sending well
 pub sends_on : (limits : Limits) (ts : List Turn) (w : World) → IsNew w → SendsWell w.broker → IsFair limits ts w → AreSayable ts → SendsWell (run limits ts w).broker
 sends_on limits ts w new sends fair say = (run_goes limits ts w new sends fair say).going.sends
 
+-- at first it sends well
 pub start_sends : (limits : Limits) → AreWithin limits → SendsWell start.broker
 start_sends limits within = record {
   contents = record { stored = record { sessions = tt; retained = tt }; lines = tt };
@@ -79,11 +83,14 @@ start_sends limits within = record {
   phases = tt;
 }
 
+-- so in each run from the start all that is read is lawful
 pub start_reads : (limits : Limits) (ts : List Turn) → IsFair limits ts start → AreSayable ts → AllReadLawful limits ts start
 start_reads limits ts fair say = reads_lawful limits ts start (start_untouched limits fair.within).new (start_sends limits fair.within) fair say
 
+-- and the copies of each drain fit its line
 pub drains_fit : (limits : Limits) (ds : List Doing) (w : World) → IsUntouched limits w → SendsWell w.broker → IsFair limits (all_turns limits ds w) w → AreSayableDoings ds → AllDrainsFit limits ds w
 drains_fit limits ds w u sends fair say = script_fits limits ds w u sends.contents fair (reads_lawful limits (all_turns limits ds w) w u.new sends fair (all_said limits ds w say))
 
+-- also from the start
 pub start_drains_fit : (limits : Limits) (ds : List Doing) → IsFair limits (all_turns limits ds start) start → AreSayableDoings ds → AllDrainsFit limits ds start
 start_drains_fit limits ds fair say = drains_fit limits ds start (start_untouched limits fair.within) (start_sends limits fair.within) fair say

@@ -26,9 +26,11 @@ use Rattle.mqtt_broker_reopening_laws.specs.Written.{IsWritten}
 use Rattle.mqtt_broker_reopening_laws.proofs.Facts.{facts_of}
 use Rattle.mqtt_broker_reopening_laws.proofs.ToldApart.{tells_apart}
 
+-- what a broker wrote has each topic retained once
 pub retained_once : (r : Records) → IsWritten r → AreRetainedOnce r
 retained_once r w = w.publications
 
+-- a world may begin on what a broker wrote
 pub written_begins : (limits : Limits) (choice : MemberChoice) (now : ℕ) (r : Records) → AreWithin limits → IsWritten r → is_opening_spent limits choice now r ≡ false → BeginsWell limits (opened_world limits choice now r)
 written_begins limits choice now r within w unspent =
     let lawful = w.lawful in
@@ -40,12 +42,15 @@ written_begins limits choice now r within w unspent =
       numbers = opening_accepted limits choice now r (lawful_accepted r lawful);
     }
 
+-- its contents are lawful
 pub written_contents : (limits : Limits) (choice : MemberChoice) (now : ℕ) (r : Records) → IsWritten r → AreContentsLawful (opened_world limits choice now r).broker
 written_contents limits choice now r w = opening_contents of_rows rows_are limits choice now r (lawful_contents r w.lawful)
 
+-- it sends well, if identifiers of copies in flight have two bytes
 pub written_sends : (limits : Limits) (choice : MemberChoice) (now : ℕ) (r : Records) → IsWritten r → HaveSentPhases r → is_opening_spent limits choice now r ≡ false → SendsWell (opened_world limits choice now r).broker
 written_sends limits choice now r w phases unspent = well_begun limits choice now r unspent w.lawful phases
 
+-- and what is played in it is delivered exactly once
 pub written_delivers : (limits : Limits) (choice : MemberChoice) (now : ℕ) (r : Records) (ds : List Doing) → AreWithin limits → IsWritten r → is_opening_spent limits choice now r ≡ false → IsFairScript limits ds (opened_world limits choice now r)
     → DoingsDeliver limits ds (opened_world limits choice now r)
 written_delivers limits choice now r ds within w unspent fair = script_delivers limits ds (opened_world limits choice now r) (written_begins limits choice now r within w unspent) fair

@@ -74,9 +74,11 @@ direct_to (Some r) = map (λ c. c.birth) r.direct
 one_direct_copy_for_two_filters : direct_to (routed (at (λ birth. true)) to_topic [] sessions) ≡ 1 ∷ []
 one_direct_copy_for_two_filters = refl
 
+-- each group is served by one member
 pub each_group_gets_one : served_to (routed (at (λ birth. true)) to_topic [] sessions) ≡ (codes "g/a/b", 2 ∷ []) ∷ (codes "h/+/b", 4 ∷ []) ∷ []
 each_group_gets_one = refl
 
+-- a group without one who is connected by none at QoS 0
 pub nobody_connected_gets_none : served_to (routed (at (λ birth. nat_lt birth 4)) to_topic (1 ∷ []) sessions) ≡ (codes "g/a/b", 3 ∷ []) ∷ (codes "h/+/b", []) ∷ []
 nobody_connected_gets_none = refl
 
@@ -114,10 +116,12 @@ directly birth = record { publication = 1; birth = birth; cause = Direct }
 abbrev for_group : ℕ → CopyId
 for_group birth = record { publication = 1; birth = birth; cause = Share (codes "g/a/b") }
 
+-- a direct copy, and one for the group
 pub one_direct_and_one_for_the_group : entered_from usual (turns (grouped ExactlyOnce)) start ≡ directly 3 ∷ for_group 1 ∷ []
 unfolding varint
 one_direct_and_one_for_the_group = refl
 
+-- which is one
 pub one_entered_for_the_group : count_by (is_groups 1 (codes "g/a/b")) (entered_from usual (turns (grouped ExactlyOnce)) start) ≡ 1
 unfolding varint
 one_entered_for_the_group = refl
@@ -127,6 +131,7 @@ pub none_entered_for_the_group : entered_from usual (turns (grouped AtMostOnce))
 unfolding varint
 none_entered_for_the_group = refl
 
+-- of one publication
 pub it_was_accepted_once : map (λ (a : Acceptance). a.number) (acceptances_over usual (turns (grouped ExactlyOnce)) start) ≡ 1 ∷ []
 unfolding varint
 it_was_accepted_once = refl
@@ -138,10 +143,12 @@ kept =
     receiver r1 10 ∷ receiver r2 10
     ∷ (joins r1 false ++ (subscribes r1 ++ (says (record draft { content = record { retain = true; topic = topic; payload = hi } }) ++ (joins r2 false ++ subscribes r2))))
 
+-- and one that a later subscription brings
 pub one_is_brought_later : entered_from usual (turns kept) start ≡ directly 1 ∷ record { publication = 1; birth = 3; cause = Retained 2 } ∷ []
 unfolding varint
 one_is_brought_later = refl
 
+-- which the publication did not route
 pub that_one_is_not_of_the_routing : filter (is_own 1) (entered_from usual (turns kept) start) ≡ directly 1 ∷ []
 unfolding varint
 that_one_is_not_of_the_routing = refl
@@ -166,10 +173,12 @@ with_lines a (Some ds) = map (λ (d : CopyTo). (d.birth, is_some (line_of d.birt
 abbrev lines_over : List Event → List (List (ℕ × Bool))
 lines_over es = map (λ (a : Acceptance). with_lines a (accepted_copies a.env a.message a.broker)) (acceptances_over usual (turns es) start)
 
+-- a member that is connected
 pub its_member_stands_on_a_line : lines_over (willed ++ ask (stranger s1 (bytes "00 00")) ∷ []) ≡ ((2, true) ∷ []) ∷ []
 unfolding varint first_of size_at packet_at frame_at versioned_at lawful_at body_at connect_at fields_at will_at user_name_at password_at publish_at delivery_at layout_at block_at items_at items_in text_at blob_at is_utf8 chars encode varint_at groups_at prop_at value_at
 its_member_stands_on_a_line = refl
 
+-- and none behind a restart
 pub none_stands_while_it_is_opened : lines_over (willed ++ restart ∷ []) ≡ ((2, false) ∷ []) ∷ []
 unfolding varint first_of size_at packet_at frame_at versioned_at lawful_at body_at connect_at fields_at will_at user_name_at password_at publish_at delivery_at layout_at block_at items_at items_in text_at blob_at is_utf8 chars encode varint_at groups_at prop_at value_at
 none_stands_while_it_is_opened = refl

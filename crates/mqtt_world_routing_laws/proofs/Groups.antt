@@ -246,6 +246,7 @@ module _ (at : Answers) (p : Publication) (all : List Member) (direct : List Cop
 
 -- ---- groups of different filters have different names
 
+-- shared filters that differ have groups that do
 pub names_differ : (fs : List (List ℕ)) → AllDiffer fs → AllByRecursion (λ f. begins_share f ≡ true) fs → AllDiffer (map group_of fs)
 names_differ [] h s = tt
 names_differ (f ∷ fs) h s = (others fs h.0 s.1, names_differ fs h.1 s.1)

@@ -138,6 +138,7 @@ module _ (limits : Limits) (ts : List Turn) (w : World) (new : IsNew w) (fair : 
 
 -- ---- from nothing stored
 
+-- in every fair run the copies of a publication are those that were meant
 pub copies_once : (limits : Limits) (ts : List Turn) → IsFair limits ts start → CopiesOnce limits ts
 copies_once limits ts fair = record {
   entered = All-from_recursion (EnteredOnce limits ts) (acceptances_over limits ts start)

@@ -257,6 +257,7 @@ stamped_autos : (rows : List Change) (b : Broker) → (with_moment rows b).recor
 stamped_autos [] b = refl
 stamped_autos (x ∷ rows) b = refl
 
+-- a call leaves each session on one line
 pub call_unique : (limits : Limits) (choice : MemberChoice) (now : ℕ) (call : Call) (b : Broker) → AreWithin limits → IsSteady b → is_step_spent limits choice now call b ≡ false
     → AllByRecursion IsUnique (acceptances_of (env_of limits choice b) (deeds limits choice now call b) (at_moment now b))
 call_unique limits choice now call b within s unspent =
@@ -302,5 +303,6 @@ none_stand env [] b h none = tt
 none_stand env (Accept number origin m ∷ ds) b h none = (none, none_stand env ds (after (Accept number origin m) b) h.1 (no_line (Accept number origin m) b h.0 none))
 none_stand env (d ∷ ds) b h none = none_stand env ds (after d b) h.1 (no_line d b h.0 none)
 
+-- while a broker opens there are no lines
 pub opening_lineless : (env : Env) (b : Broker) → b.lines ≡ [] → AllByRecursion HasNoLine (acceptances_of env (opening env b) b)
 opening_lineless env b none = none_stand env (opening env b) b (still_opening env b.records.sessions b) none

@@ -94,5 +94,6 @@ all_find limits ts w (a ∷ rest) p q = (
   all_find limits ts w rest p.1 q.1,
 )
 
+-- in every fair run the members that are asked for stand as they were found
 pub all_find_lines : (limits : Limits) (ts : List Turn) (w : World) → IsNew w → IsFair limits ts w → AllFindLines limits ts w
 all_find_lines limits ts w new fair = all_find limits ts w (acceptances_over limits ts w) (all_enter limits ts w new fair) (run_accepts limits ts w new fair).lined

@@ -39,6 +39,7 @@ above n m (x ∷ xs) h =
     let next = h.0 in
     (omega (arith, next), each_more (λ y. x < y) (λ y. n < y) (λ y more. omega (arith, next, more)) xs (above x m xs h.1))
 
+-- numbers that count on differ
 pub counts_differ : (n m : ℕ) (xs : List ℕ) → CountsOn n xs m → AllDiffer xs
 counts_differ n m [] h = tt
 counts_differ n m (x ∷ xs) h = (each_more (λ y. x < y) (λ y. x ≢ y) (λ y more e. omega (arith, more, e)) xs (above x m xs h.1), counts_differ x m xs h.1)
@@ -58,6 +59,7 @@ among_numbers P a (x ∷ xs) h among = elim among [
   | inr behind ↦ among_numbers P a xs h.1 behind
 ]
 
+-- what is of one publication is of no other
 pub only_own : (a : Acceptance) (accepted : List Acceptance) → AllDiffer (map number_of accepted) → IsAmong a accepted → flat_map (own_ids a.number) accepted ≡ its_ids a
 only_own a [] differ among = absurd among
 only_own a (x ∷ xs) differ among = by among (only_own a xs differ.1)
@@ -140,6 +142,7 @@ intended_is c (d ∷ ds) = elim (cases_Bool (is_queued d)) [
   | inr goes ↦ rw goes (intended_is c ds)
 ]
 
+-- a copy that is meant is queued once
 pub intended_once : (c : CopyId) (ds : List CopyTo) → AllDiffer (queued_ids ds) → count_of c (queued_ids ds) ≡ cond (is_intended c ds) 1 0
 intended_once c ds h = counted_once c (queued_ids ds) h ∙ ap (λ (t : Bool). cond t 1 0) (intended_is c ds)
 
@@ -148,6 +151,7 @@ intended_once c ds h = counted_once c (queued_ids ds) h ∙ ap (λ (t : Bool). c
 queued_append : (xs ys : List CopyTo) → queued_ids (xs ++ ys) ≡ queued_ids xs ++ queued_ids ys
 queued_append xs ys = ap (map id_of) (filter-append is_queued xs ys) ∙ map-append id_of (filter is_queued xs) (filter is_queued ys)
 
+-- copies of QoS 1 and 2 are queued
 pub queued_quality : (n : ℕ) → is_queued_at (quality n) ≡ nat_lt 0 n
 queued_quality zero = refl
 queued_quality (suc zero) = refl

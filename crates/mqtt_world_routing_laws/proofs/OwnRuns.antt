@@ -163,5 +163,6 @@ all_accept limits (t ∷ ts) w within s unspent =
     both_accept (deeds_at (setting limits t) t.event w) (deeds_over limits ts v) (read_at the_steps (setting limits t) t.event w) (steps_over limits ts v)
     (read_at the_acceptances (setting limits t) t.event w) (acceptances_over limits ts v) (turn_accepts limits t w within s costs.0) (all_accept limits ts v within next.steady costs.1)
 
+-- in every fair run what entered is what acceptances meant
 pub run_accepts : (limits : Limits) (ts : List Turn) (w : World) → IsNew w → IsFair limits ts w → Accepts (deeds_over limits ts w) (steps_over limits ts w) (acceptances_over limits ts w)
 run_accepts limits ts w new fair = all_accept limits ts w fair.within new.steady fair.unspent

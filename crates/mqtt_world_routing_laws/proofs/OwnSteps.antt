@@ -54,6 +54,7 @@ plains_other : (ds : List Deed) → ArePlain ds → AreOther ds
 plains_other [] h = tt
 plains_other (d ∷ ds) h = (plain_other d h.0, plains_other ds h.1)
 
+-- a copy's leaving is no acceptance
 pub leave_other : (s : Session) (t : Turn) → AreOther (leave_deeds s t)
 leave_other s t = plains_other (leave_deeds s t) (plain_leave s t)
 
@@ -158,6 +159,7 @@ module _ (env : Env) where
 
 -- ---- the numbers of what is accepted are those that the deeds give
 
+-- the numbers that are given are those of acceptances
 pub numbers_are : (env : Env) (ds : List Deed) (b : Broker) → filter_map publication_given ds ≡ map (λ (a : Acceptance). a.number) (acceptances_of env ds b)
 numbers_are env [] b = refl
 numbers_are env (Accept number origin m ∷ ds) b = ap (λ (ns : List ℕ). number ∷ ns) (numbers_are env ds (after (Accept number origin m) b))
@@ -237,6 +239,7 @@ retained_own n b x (Some s) =
     let w = wish_in x in
     no_own_if n (not (begins_share w.filter) && sub.wants_retained w.options.retain_handling (sub.has_filter w.filter s)) b.now b.records.subscribes s w b.records.retained
 
+-- what an acceptance brings is its own
 pub own_brought : (n : ℕ) (env : Env) (ds : List Deed) (b : Broker) → Next env ds b → filter (is_own n) (brought_by env ds b) ≡ flat_map (own_ids n) (acceptances_of env ds b)
 own_brought n env [] b h = refl
 own_brought n env (Accept number origin m ∷ ds) b h =

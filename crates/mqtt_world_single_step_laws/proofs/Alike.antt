@@ -17,6 +17,7 @@ use Rattle.mqtt_world_single_step_laws.proofs.Answered.{Holds, alike_by, asks_al
 
 -- ---- bytes of another
 
+-- names that are the same byte by byte are equal
 pub same_name : (a b : List ℕ) → bytes_eq a b ≡ true → a ≡ b
 same_name a b is = (bytes_eq-Decides a b).0 is
 
@@ -36,6 +37,7 @@ one_more_held : (name held : List ℕ) (s : Stranger) (ss : List Stranger) → b
 one_more_held name held s [] differ h = (λ is. let clash : true ≡ false = sym is ∙ differ in absurd cc, tt)
 one_more_held name held s (x ∷ ss) differ h = (h.0, one_more_held name held s ss differ h.1)
 
+-- bytes that come for one stranger are held by him alone
 pub come_held : (set : Setting) (name other held bytes : List ℕ) (w : World) → bytes_eq other name ≡ false → Holds name held w
     → Holds name held (comes set other bytes w)
 come_held set name other held bytes w differ h = by (is_some (stranger_named other w))
@@ -44,6 +46,7 @@ come_held set name other held bytes w differ h = by (is_some (stranger_named oth
     by true = others_held name other held (λ (old : List ℕ). old ++ bytes) w.strangers differ h
     by false = one_more_held name held _ w.strangers differ h
 
+-- answers to what one stranger holds leave what the others hold
 pub rest_held : (set : Setting) (name other held : List ℕ) (more : ℕ) (w : World) → bytes_eq other name ≡ false → Holds name held w
     → Holds name held (answers_rest set more other w)
 rest_held set name other held zero w differ h = h
@@ -72,6 +75,7 @@ same_strangers : (v w : World) → v.strangers ≡ w.strangers → AreAllAlike w
 same_strangers v w is alike name =
     subst (λ (ss : List Stranger). AllByRecursion (HoldsThese name (bytes_held (find (its name) ss))) ss) (sym is) (alike name)
 
+-- behind a restart no stranger holds anything
 pub none_held : (name : List ℕ) (ss : List Stranger) → AllByRecursion (HoldsThese name []) (map unlinked ss)
 none_held name [] = tt
 none_held name (s ∷ ss) = (λ is. refl, none_held name ss)
@@ -109,6 +113,7 @@ happens_alike set restart w alike = restart_alike set w
 happens_alike set (stop_before a) w alike = restart_alike set (before set a w)
 happens_alike set (stop_after a) w alike = restart_alike set (first_step set a w)
 
+-- an event leaves strangers of one name holding the same
 pub step_alike : (set : Setting) (e : Event) (w : World) → AreAllAlike w → AreAllAlike (step set e w)
 step_alike set e w alike = by (is_bad e w)
   where

@@ -23,14 +23,17 @@ with_strangers w ss = record w { strangers = ss }
 abbrev pub Holds : List ℕ → List ℕ → World → Type 0
 Holds name held w = AllByRecursion (HoldsThese name held) w.strangers
 
+-- of nothing there is no first packet
 pub nothing_first : first_of [] ≡ Ok None
 unfolding first_of fronts.size_at
 nothing_first = refl
 
+-- a call that may be made leaves the strangers
 pub if_strangers : (set : Setting) (call : Option Call) (w : World) → (calls_if set call w).strangers ≡ w.strangers
 if_strangers set None w = refl
 if_strangers set (Some call) w = refl
 
+-- a call that may be made goes the same with other strangers
 pub if_with : (set : Setting) (call : Option Call) (w : World) (ss : List Stranger)
     → calls_if set call (with_strangers w ss) ≡ with_strangers (calls_if set call w) ss
 if_with set None w ss = refl
@@ -50,10 +53,12 @@ none_by (Some s) held is e = by s.number
     by None = refl
     by (Some n) = ap (λ (f : Front). call_by n s.held f) same
 
+-- where no packet is whole a stranger calls nothing
 pub nothing_asked : (name held : List ℕ) (w : World) → Holds name held w → first_of held ≡ Ok None
     → call_of_stranger (stranger_named name w) ≡ None
 nothing_asked name held w h e = none_by (stranger_named name w) held (λ s is. found_holds name held s w.strangers h is) e
 
+-- and nothing is taken from what he holds
 pub nothing_left : (name held : List ℕ) (w : World) → Holds name held w → held_after held ≡ held → next_held name w ≡ w
 nothing_left name held w h e = ap (with_strangers w) (same_held name held held_after w.strangers h e)
 
@@ -74,6 +79,7 @@ still set name held w (suc more) h e =
 abbrev pub next_world : Setting → List ℕ → World → World
 next_world set name w = calls_if set (call_of_stranger (stranger_named name w)) (next_held name w)
 
+-- behind an answer he holds what was behind the packet
 pub next_holds : (set : Setting) (name held : List ℕ) (w : World) → Holds name held w → Holds name (held_after held) (next_world set name w)
 next_holds set name held w h = by (call_of_stranger (stranger_named name w))
   where
@@ -94,15 +100,18 @@ less_by held (Err fault) more is within found =
     let left : length (held_after held) ≡ 0 = ap (λ (f : Front). length (held_behind f held)) is in
     omega (arith, left)
 
+-- where nothing is held there is no packet
 pub none_longer : (held : List ℕ) → length held ≤ 0 → first_of held ≡ Ok None
 none_longer [] e = nothing_first
 none_longer (b ∷ held) e = absurd (omega arith)
 
+-- either there is a first packet or a fault, or there is none
 pub is_none_first : (f : Front) → (f ≡ Ok None) ⊎ (f ≡ Ok None → ⊥)
 is_none_first (Ok None) = inl refl
 is_none_first (Ok (Some x)) = inr (λ e. absurd cc)
 is_none_first (Err fault) = inr (λ e. absurd cc)
 
+-- more looks than bytes change nothing
 pub enough : (set : Setting) (name held : List ℕ) (w : World) (m n : ℕ) → Holds name held w → length held ≤ m → length held ≤ n
     → answers_rest set m name w ≡ answers_rest set n name w
 enough set name held w zero n h a b = sym (still set name held w n h (none_longer held a))
@@ -120,13 +129,16 @@ enough set name held w (suc m) (suc n) h a b = elim (is_none_first (first_of hel
 abbrev pub come : List ℕ → List ℕ → World → World
 come name bytes w = with_strangers w (map (changed name (λ (held : List ℕ). held ++ bytes)) w.strangers)
 
+-- bytes that come for a stranger who stands are held by him
 pub comes_is : (set : Setting) (name bytes : List ℕ) (w : World) → is_some (stranger_named name w) ≡ true
     → comes set name bytes w ≡ come name bytes w
 comes_is set name bytes w there = ap (λ (t : Bool). linked_at set t name bytes w) there
 
+-- behind what he held
 pub come_holds : (name held bytes : List ℕ) (w : World) → Holds name held w → Holds name (held ++ bytes) (come name bytes w)
 come_holds name held bytes w h = holds_changed name held (λ (old : List ℕ). old ++ bytes) w.strangers h
 
+-- and that is how he is found
 pub come_found : (name bytes : List ℕ) (w : World)
     → stranger_named name (come name bytes w) ≡ option_map (held_by (λ (held : List ℕ). held ++ bytes)) (stranger_named name w)
 come_found name bytes w = find_changed name (λ (held : List ℕ). held ++ bytes) w.strangers
@@ -140,9 +152,11 @@ still_there : (f : List ℕ → List ℕ) (o : Option Stranger) → is_some o �
 still_there f None e = e
 still_there f (Some s) e = refl
 
+-- he still stands
 pub come_there : (name bytes : List ℕ) (w : World) → is_some (stranger_named name w) ≡ true → is_some (stranger_named name (come name bytes w)) ≡ true
 come_there name bytes w there = ap is_some (come_found name bytes w) ∙ still_there (λ (held : List ℕ). held ++ bytes) (stranger_named name w) there
 
+-- and he holds as many more
 pub come_count : (name held bytes : List ℕ) (w : World) → Holds name held w → is_some (stranger_named name w) ≡ true
     → held_count (stranger_named name (come name bytes w)) ≡ length (held ++ bytes)
 come_count name held bytes w h there =
@@ -221,6 +235,7 @@ answers_there set name held part packet w h there e =
     asks_is set name held part w h there
     ∙ answers_by set name held part packet w (length front) h e size.1 (drop_all (length front) front (omega arith))
 
+-- a packet is not there and missing
 pub not_both : (f : Front) (packet : Packet) (n : ℕ) → f ≡ Ok None → f ≡ Ok (Some (packet, n)) → ⊥
 not_both (Ok None) packet n none e = absurd cc
 not_both (Ok (Some x)) packet n none e = absurd cc
@@ -270,13 +285,16 @@ newcomer set name w = record { name = name; number = cond (can_link w.broker) (S
 abbrev pub welcomed : Setting → List ℕ → World → World
 welcomed set name w = with_strangers (calls set NewLine w) (w.strangers ++ newcomer set name w ∷ [])
 
+-- a stranger who comes first is found
 pub welcomed_found : (set : Setting) (name : List ℕ) (w : World) → stranger_named name w ≡ None
     → stranger_named name (welcomed set name w) ≡ Some (newcomer set name w)
 welcomed_found set name w none = find_one_more name (newcomer set name w) w.strangers refl none
 
+-- and holds nothing
 pub welcomed_holds : (set : Setting) (name : List ℕ) (w : World) → stranger_named name w ≡ None → Holds name [] (welcomed set name w)
 welcomed_holds set name w none = holds_one_more name [] (newcomer set name w) w.strangers (none_holds name [] w.strangers none) refl
 
+-- the first bytes of a stranger come behind his welcome
 pub comes_welcomed : (set : Setting) (name bytes : List ℕ) (w : World) → stranger_named name w ≡ None
     → comes set name bytes w ≡ come name bytes (welcomed set name w)
 comes_welcomed set name bytes w none =
@@ -289,12 +307,14 @@ pub comes_both : (set : Setting) (name bytes : List ℕ) (w : World) → strange
 comes_both set name bytes w none =
     comes_welcomed set name bytes w none ∙ sym (comes_is set name bytes (welcomed set name w) (ap is_some (welcomed_found set name w none)))
 
+-- what he asks first is asked behind his welcome
 pub asks_both : (set : Setting) (name bytes : List ℕ) (w : World) → stranger_named name w ≡ None
     → asks set (stranger name bytes) w ≡ asks set (stranger name bytes) (welcomed set name w)
 asks_both set name bytes w none = ap (λ (v : World). answers_rest set (held_count (stranger_named name v)) name v) (comes_both set name bytes w none)
 
 -- ---- in either case
 
+-- bytes that end with a whole packet may come in two parts
 pub splits : (set : Setting) (name part more : List ℕ) (w : World) → AreAlike name w → IsWhole (bytes_come name part w)
     → asks set (stranger name (part ++ more)) w ≡ asks set (stranger name more) (asks set (stranger name part) w)
 splits set name part more w alike whole = by (stranger_named name w) refl
@@ -319,6 +339,7 @@ holds_nothing name w h = by (stranger_named name w) refl
     by None is = refl
     by (Some s) is = found_holds name [] s w.strangers h is
 
+-- behind a whole packet he holds nothing
 pub none_behind : (set : Setting) (name part : List ℕ) (w : World) → AreAlike name w → IsWhole (bytes_come name part w)
     → bytes_held (stranger_named name (asks set (stranger name part) w)) ≡ []
 none_behind set name part w alike whole = by (stranger_named name w) refl
@@ -345,6 +366,7 @@ rest_alike : (set : Setting) (name held : List ℕ) (w : World) (more : ℕ) →
 rest_alike set name held w zero h = (held, h)
 rest_alike set name held w (suc more) h = rest_alike set name (held_after held) (next_world set name w) more (next_holds set name held w h)
 
+-- who holds something is alike with himself
 pub alike_by : (name held : List ℕ) (w : World) → Holds name held w → AreAlike name w
 alike_by name held w h = by (stranger_named name w) refl
   where
@@ -354,6 +376,7 @@ alike_by name held w h = by (stranger_named name w) refl
         let same : held ≡ bytes_held (stranger_named name w) = sym (ap bytes_held is ∙ found_holds name held s w.strangers h is) in
         subst (λ (bytes : List ℕ). Holds name bytes w) same h
 
+-- what a stranger asks leaves those of his name alike
 pub asks_alike : (set : Setting) (name bytes : List ℕ) (w : World) → AreAlike name w → AreAlike name (asks set (stranger name bytes) w)
 asks_alike set name bytes w alike = by (stranger_named name w) refl
   where

@@ -139,6 +139,7 @@ stop_comes (stranger name bytes) w h = by (first_of (bytes_come name bytes w)) r
         let nothing : held_after (bytes_come name bytes w) ≡ [] = ap (λ (f : Front). held_behind f (bytes_come name bytes w)) is in
         whole (ap first_of nothing ∙ nothing_first)
 
+-- each event comes to a list of events of one step each
 pub event_comes : (e : Event) (w : World) → HoldNoPacket w → (es : List Event) × Unrolls e w es
 event_comes (publisher client) w h = (publisher client ∷ [], refl)
 event_comes (receiver client window) w h = (receiver client window ∷ [], refl)

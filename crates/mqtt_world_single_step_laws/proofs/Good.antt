@@ -16,6 +16,7 @@ use Rattle.mqtt_world_model.specs.World.{linked_at, names_end, next_held, publis
 use Rattle.mqtt_world_model.specs.World.{stranger, stranger_named}
 use Rattle.mqtt_world_single_step_laws.proofs.Answered.{is_none_first, less_by, none_longer, not_both, nothing_first}
 
+-- where neither holds, both fail
 pub either_false : (a b : Bool) → (a || b) ≡ false → (a ≡ false) × (b ≡ false)
 either_false true b h = absurd cc
 either_false false b h = (refl, h)
@@ -58,6 +59,7 @@ same_rest set (suc more) name w client =
     let call = call_of_stranger (stranger_named name w) in
     same_rest set more name (calls_if set call (next_held name w)) client ∙ same_called set call (next_held name w) client
 
+-- what a stranger asks leaves the ends
 pub same_asked : (set : Setting) (name bytes : List ℕ) (w : World) → AreSameEnds (asks set (stranger name bytes) w) w
 same_asked set name bytes w client =
     let v = comes set name bytes w in
@@ -80,6 +82,7 @@ bytes_same (suc n) bytes v w same =
 
 -- ---- as many looks as there are bytes are enough
 
+-- where no packet is whole no end is named
 pub none_named : (n : ℕ) (bytes : List ℕ) (w : World) → first_of bytes ≡ Ok None → bytes_name n bytes w ≡ false
 none_named zero bytes w e = refl
 none_named (suc n) bytes w e =
@@ -87,6 +90,7 @@ none_named (suc n) bytes w e =
     ap (λ (f : Front). front_names f w || bytes_name n (held_after bytes) w) e
     ∙ (ap (λ (xs : List ℕ). bytes_name n xs w) left ∙ none_named n bytes w e)
 
+-- more looks than bytes name no more ends
 pub enough_looks : (m n : ℕ) (bytes : List ℕ) (w : World) → length bytes ≤ m → length bytes ≤ n → bytes_name m bytes w ≡ bytes_name n bytes w
 enough_looks zero n bytes w a b = sym (none_named n bytes w (none_longer bytes a))
 enough_looks (suc m) zero bytes w a b = none_named (suc m) bytes w (none_longer bytes b)
@@ -128,6 +132,7 @@ stays_whole : (front more : List ℕ) (packet : Packet) → first_of front ≡ O
 stays_whole front more packet e (inl none) = absurd (not_both (first_of front) packet (length front) none e)
 stays_whole front more packet e (inr same) = same ∙ e
 
+-- bytes that name no end name none in two parts
 pub good_parts : (held part more : List ℕ) (packet : Packet) (w : World) → first_of (held ++ part) ≡ Ok (Some (packet, length (held ++ part)))
     → bytes_name (length (held ++ (part ++ more))) (held ++ (part ++ more)) w ≡ false
     → (bytes_name (length (held ++ part)) (held ++ part) w ≡ false) × (bytes_name (length more) more w ≡ false)
@@ -140,5 +145,6 @@ good_parts held part more packet w e good =
     (stays_whole front more packet e (first_stays front more))
     (ap (λ (xs : List ℕ). bytes_name (length xs) xs w) joined ∙ good)
 
+-- nor in a world with the same ends
 pub good_after : (more : List ℕ) (v w : World) → AreSameEnds v w → bytes_name (length more) more w ≡ false → bytes_name (length more) more v ≡ false
 good_after more v w same good = bytes_same (length more) more v w same ∙ good

@@ -21,6 +21,7 @@ use Rattle.mqtt_world_single_step_laws.proofs.Stopped.{first_alone, good_part, r
 good_step : (set : Setting) (a : Asking) (w : World) → is_bad_asking a w ≡ false → step set (ask a) w ≡ asks set a w
 good_step set a w good = ap (λ (t : Bool). cond t w (asks set a w)) good
 
+-- what a stranger asks, as an event, leaves those of his name alike
 pub alike_step : (set : Setting) (name bytes : List ℕ) (w : World) → AreAlike name w → AreAlike name (step set (ask (stranger name bytes)) w)
 alike_step set name bytes w alike = by (is_bad_asking (stranger name bytes) w)
   where
@@ -54,6 +55,7 @@ parted set name part more w alike whole good =
       good = ap (is_bad_asking (stranger name more)) first ∙ later;
     }
 
+-- and it may come in two parts
 pub splits_step : (set : Setting) (name part more : List ℕ) (w : World) → AreAlike name w → IsWhole (bytes_come name part w)
     → is_bad (ask (stranger name (part ++ more))) w ≡ false
     → step set (ask (stranger name (part ++ more))) w ≡ step set (ask (stranger name more)) (step set (ask (stranger name part)) w)
@@ -64,12 +66,14 @@ splits_step set name part more w alike whole good = (parted set name part more w
 stops : (set : Setting) (a : Asking) (w : World) → is_bad_asking a w ≡ false → step set (stop_after a) w ≡ restarts set (first_step set a w)
 stops set a w good = ap (λ (t : Bool). cond t w (restarts set (first_step set a w))) good
 
+-- a stop behind one step is that step and a restart
 pub stop_is : (set : Setting) (a : Asking) (w : World) → IsOneStep a w → is_bad (stop_after a) w ≡ false
     → step set (stop_after a) w ≡ step set restart (step set (ask a) w)
 stop_is set a w one good =
     stops set a w good
     ∙ (restarts_behind set a w one ∙ sym (ap (λ (t : Bool). restarts set (cond t w (asks set a w))) good))
 
+-- a stop while a stranger asks is a stop behind the first part that is decided
 pub stop_first : (set : Setting) (name part more : List ℕ) (w : World) → AreAlike name w → IsDecided (bytes_come name part w)
     → is_bad (stop_after (stranger name (part ++ more))) w ≡ false
     → step set (stop_after (stranger name (part ++ more))) w ≡ step set (stop_after (stranger name part)) w
@@ -161,6 +165,7 @@ event_steps set restart es w alike good is = one_step set restart es w is
 event_steps set (stop_before a) es w alike good is = one_step set (stop_before a) es w is
 event_steps set (stop_after a) es w alike good is = stop_steps set a es w alike good is
 
+-- an event is the run of the events of one step that it comes to
 pub event_is : (limits : Limits) (choice : MemberChoice) (e : Event) (es : List Event) (w : World) → AreAllAlike w
     → is_bad e w ≡ false → Unrolls e w es → run limits (map (turn choice) es) w ≡ turned limits (turn choice e) w
 event_is limits choice e es w alike good is =

@@ -59,6 +59,7 @@ strangers_forgotten set (Some call) w ss ts e =
 
 -- ---- bytes of which one packet at most is whole
 
+-- a stranger holds the bytes that have come
 pub comes_holds : (set : Setting) (name bytes : List ℕ) (w : World) → AreAlike name w
     → Holds name (bytes_come name bytes w) (comes set name bytes w)
     × (held_count (stranger_named name (comes set name bytes w)) ≡ length (bytes_come name bytes w))
@@ -93,6 +94,7 @@ answered_once set name bytes w alike none =
 
 -- ---- a step, and a restart behind it
 
+-- a restart behind the first of one step is a restart behind all
 pub restarts_behind : (set : Setting) (a : Asking) (w : World) → IsOneStep a w → restarts set (first_step set a w) ≡ restarts set (asks set a w)
 restarts_behind set (to_broker client) w one = refl
 restarts_behind set (old_to_broker client) w one = refl
@@ -149,6 +151,7 @@ first_there set name held part more w h there found =
     (held_forgotten name longer w.strangers ∙ sym (held_forgotten name shorter w.strangers))
     ∙ sym (ap (λ (v : World). restarts set (calls_if set (call_of_stranger (stranger_named name v)) v)) (comes_is set name part w there))))
 
+-- the first step of a stranger's bytes is that of their first part
 pub first_alone : (set : Setting) (name part more : List ℕ) (w : World) → AreAlike name w → IsDecided (bytes_come name part w)
     → restarts set (first_step set (stranger name (part ++ more)) w) ≡ restarts set (first_step set (stranger name part) w)
 first_alone set name part more w alike found = by (stranger_named name w) refl
@@ -187,6 +190,7 @@ front_part (suc n) bytes more w good = elim (first_stays bytes more) [
         less (drop x.1 xs) ys v (sym (ap (λ (zs : List ℕ). bytes_name n zs v) (drop-append-le x.1 xs ys size.0)) ∙ e)
     behind_by less xs ys v (Err fault) is e = none_named n [] v nothing_first
 
+-- bytes that name no end name none in their first part
 pub good_part : (held part more : List ℕ) (w : World) → bytes_name (length (held ++ (part ++ more))) (held ++ (part ++ more)) w ≡ false
     → bytes_name (length (held ++ part)) (held ++ part) w ≡ false
 good_part held part more w good =

@@ -18,6 +18,7 @@ held_by f s = record s { held = f s.held }
 abbrev pub changed : List ℕ → (List ℕ → List ℕ) → Stranger → Stranger
 changed name f s = cond (bytes_eq s.name name) (held_by f s) s
 
+-- what changes what a stranger holds keeps his name
 pub name_stays : (name : List ℕ) (f : List ℕ → List ℕ) (s : Stranger) → (changed name f s).name ≡ s.name
 name_stays name f s = by (bytes_eq s.name name)
   where
@@ -25,6 +26,7 @@ name_stays name f s = by (bytes_eq s.name name)
     by true = refl
     by false = refl
 
+-- who is found holds what was made of it
 pub find_changed : (name : List ℕ) (f : List ℕ → List ℕ) (ss : List Stranger)
     → find (its name) (map (changed name f) ss) ≡ option_map (held_by f) (find (its name) ss)
 find_changed name f [] = refl
@@ -33,6 +35,7 @@ find_changed name f (s ∷ ss) = elim (cases_Bool (bytes_eq s.name name)) [
   | inr other ↦ rw (other, other) (find_changed name f ss)
 ]
 
+-- so do all of his name
 pub holds_changed : (name held : List ℕ) (f : List ℕ → List ℕ) (ss : List Stranger) → AllByRecursion (HoldsThese name held) ss
     → AllByRecursion (HoldsThese name (f held)) (map (changed name f) ss)
 holds_changed name held f [] h = tt
@@ -54,6 +57,7 @@ same_changes name held f g (s ∷ ss) h e =
     by true is = ap (λ (bytes : List ℕ). record s { held = bytes }) (ap f (h.0 is) ∙ (e ∙ sym (ap g (h.0 is))))
     by false is = refl
 
+-- two changes are one
 pub twice_changed : (name : List ℕ) (f g : List ℕ → List ℕ) (ss : List Stranger)
     → map (changed name g) (map (changed name f) ss) ≡ map (changed name (λ (bytes : List ℕ). g (f bytes))) ss
 twice_changed name f g [] = refl
@@ -65,6 +69,7 @@ twice_changed name f g (s ∷ ss) =
     by true is = rw is refl
     by false is = rw is refl
 
+-- no change leaves all as they were
 pub unchanged : (name : List ℕ) (ss : List Stranger) → map (changed name (λ (bytes : List ℕ). bytes)) ss ≡ ss
 unchanged name [] = refl
 unchanged name (s ∷ ss) =
@@ -75,6 +80,7 @@ unchanged name (s ∷ ss) =
     by true = refl
     by false = refl
 
+-- a change that gives the same leaves all as they were
 pub same_held : (name held : List ℕ) (f : List ℕ → List ℕ) (ss : List Stranger) → AllByRecursion (HoldsThese name held) ss
     → f held ≡ held → map (changed name f) ss ≡ ss
 same_held name held f ss h e = same_changes name held f (λ (bytes : List ℕ). bytes) ss h e ∙ unchanged name ss
@@ -102,11 +108,13 @@ none_holds name held (x ∷ ss) e = elim (cases_Bool (bytes_eq x.name name)) [
   )
 ]
 
+-- one more who holds the same holds the same
 pub holds_one_more : (name held : List ℕ) (s : Stranger) (ss : List Stranger) → AllByRecursion (HoldsThese name held) ss
     → s.held ≡ held → AllByRecursion (HoldsThese name held) (ss ++ s ∷ [])
 holds_one_more name held s [] h e = (λ is. e, tt)
 holds_one_more name held s (x ∷ ss) h e = (h.0, holds_one_more name held s ss h.1 e)
 
+-- one more of a new name is found by it
 pub find_one_more : (name : List ℕ) (s : Stranger) (ss : List Stranger) → s.name ≡ name → find (its name) ss ≡ None
     → find (its name) (ss ++ s ∷ []) ≡ Some s
 find_one_more name s [] is e =
@@ -117,6 +125,7 @@ find_one_more name s (x ∷ ss) is e = elim (cases_Bool (bytes_eq x.name name)) 
   | inr other ↦ rw other (find_one_more name s ss is (sym (ap (λ (t : Bool). cond t (Some x) (find (its name) ss)) other) ∙ e))
 ]
 
+-- and is changed by it alone
 pub change_one_more : (name : List ℕ) (f : List ℕ → List ℕ) (s : Stranger) (ss : List Stranger) → s.name ≡ name → find (its name) ss ≡ None
     → map (changed name f) (ss ++ s ∷ []) ≡ ss ++ held_by f s ∷ []
 change_one_more name f s [] is e =

@@ -190,8 +190,10 @@ run_sound limits (t ∷ ts) w texts h = run_sound limits ts (turned limits t w) 
 nobody : (w : World) → w.publishers ≡ [] → w.receivers ≡ [] → AreSound w
 nobody w ps rs = record { publishers = subst (AllByRecursion IsSound) (sym ps) tt; receivers = subst (AllByRecursion IsSoundReceiver) (sym rs) tt }
 
+-- in every run publishers have sent what a broker takes
 pub publishers_taken : (limits : Limits) (ts : List Turn) (w : World) → w.publishers ≡ [] → w.receivers ≡ [] → HaveTexts ts → AllByRecursion IsTakenFrom (run limits ts w).publishers
 publishers_taken limits ts w ps rs texts = let v = run limits ts w in all_more IsSound IsTakenFrom v.publishers sound_taken (run_sound limits ts w texts (nobody w ps rs)).publishers
 
+-- in every run receivers have sent what a broker takes
 pub receivers_taken : (limits : Limits) (ts : List Turn) (w : World) → w.publishers ≡ [] → w.receivers ≡ [] → HaveTexts ts → AllByRecursion IsTakenFromReceiver (run limits ts w).receivers
 receivers_taken limits ts w ps rs texts = let v = run limits ts w in all_more IsSoundReceiver IsTakenFromReceiver v.receivers sound_taken_back (run_sound limits ts w texts (nobody w ps rs)).receivers

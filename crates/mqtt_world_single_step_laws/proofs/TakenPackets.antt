@@ -78,6 +78,7 @@ topic_fits d c short text =
     let is = publish_length d c in
     (omega (arith, less, is), text)
 
+-- a PUBLISH that passes the test is taken
 pub publish_tested : (q : Quality) (c : Content) → is_input (publish_with (delivery_at q) c) ≡ true → is_text c.topic ≡ true → IsTaken (publish_with (delivery_at q) c)
 publish_tested q c input text =
     let p = publish_with (delivery_at q) c in
@@ -117,32 +118,41 @@ above id h = lt-ltb 0 id (omega (arith, h))
 fits_16 : (id : ℕ) → id < 65536 → id < 2 ^ 16
 fits_16 id h = omega (arith, h)
 
+-- a content that passed it is taken at QoS 1
 pub carried_once : (dup : Bool) (id : ℕ) (c : Content) → IsOne id → IsCarried c → IsTaken (publish_with (delivery.AtLeastOnce dup id) c)
 carried_once dup id c one h = resent (delivery.AtLeastOnce false 1) (delivery.AtLeastOnce dup id) c (fits_16 id one.1) (above id one.0) refl h
 
+-- and at QoS 2
 pub carried_twice : (dup : Bool) (id : ℕ) (c : Content) → IsOne id → IsCarried c → IsTaken (publish_with (delivery.ExactlyOnce dup id) c)
 carried_twice dup id c one h = resent (delivery.AtLeastOnce false 1) (delivery.ExactlyOnce dup id) c (fits_16 id one.1) (above id one.0) refl h
 
+-- what passes the test at QoS 1 can be carried
 pub once_tested : (c : Content) → is_input (publish_with (delivery_at AtLeastOnce) c) ≡ true → is_text c.topic ≡ true → IsCarried c
 once_tested c input text = publish_tested AtLeastOnce c input text
 
+-- what passes it at QoS 2 can be carried
 pub twice_tested : (c : Content) → is_input (publish_with (delivery_at ExactlyOnce) c) ≡ true → is_text c.topic ≡ true → IsCarried c
 twice_tested c input text = resent (delivery.ExactlyOnce false 1) (delivery.AtLeastOnce false 1) c (omega arith) refl refl (publish_tested ExactlyOnce c input text)
 
 -- ---- acks
 
+-- a PUBACK is taken
 pub puback_taken : (id : ℕ) → IsOne id → IsTaken (sent.puback id success)
 puback_taken id one = taken (sent.puback id success) (fits_16 id one.1, refl, none_stand places.Puback) (above id one.0) (few (sent.puback id success) (omega arith))
 
+-- a PUBREC is taken
 pub pubrec_taken : (id : ℕ) → IsOne id → IsTaken (sent.pubrec id success)
 pubrec_taken id one = taken (sent.pubrec id success) (fits_16 id one.1, refl, none_stand places.Pubrec) (above id one.0) (few (sent.pubrec id success) (omega arith))
 
+-- a PUBREL is taken
 pub pubrel_taken : (id : ℕ) → IsOne id → IsTaken (sent.pubrel id success)
 pubrel_taken id one = taken (sent.pubrel id success) (fits_16 id one.1, refl, none_stand places.Pubrel) (above id one.0) (few (sent.pubrel id success) (omega arith))
 
+-- a PUBCOMP is taken
 pub pubcomp_taken : (id : ℕ) → IsOne id → IsTaken (sent.pubcomp id success)
 pubcomp_taken id one = taken (sent.pubcomp id success) (fits_16 id one.1, refl, none_stand places.Pubcomp) (above id one.0) (few (sent.pubcomp id success) (omega arith))
 
+-- so is one of an identifier that was not found
 pub unknown_taken : (id : ℕ) → IsOne id → IsTaken (sent.pubcomp id identifier_not_found)
 unknown_taken id one = taken (sent.pubcomp id identifier_not_found) (fits_16 id one.1, refl, none_stand places.Pubcomp) (above id one.0) (few (sent.pubcomp id identifier_not_found) (omega arith))
 
@@ -170,6 +180,7 @@ name_fits client name = let short = name.short in (omega (arith, short), name.te
 expiry_stands : Stands places.Connect (property SessionExpiryInterval (U32 0xffffffff) ∷ [])
 expiry_stands = (record { each = (record { kind = refl; fits = omega arith }, tt); short = omega arith }, refl)
 
+-- a publisher's CONNECT is taken
 pub connect_taken : (client : List ℕ) (clean : Bool) → IsName client → IsTaken (connect_with client clean [])
 connect_taken client clean name =
     let p = connect_with client clean [] in
@@ -182,6 +193,7 @@ window_of window h = let both = two (nat_lt 0 window) (nat_lt window (2 ^ 16)) h
 window_stands : (window : ℕ) → window < 65536 → Stands places.Connect (property SessionExpiryInterval (U32 0xffffffff) ∷ property ReceiveMaximum (U16 window) ∷ [])
 window_stands window less = (record { each = (record { kind = refl; fits = omega arith }, (record { kind = refl; fits = omega (arith, less) }, tt)); short = omega arith }, refl)
 
+-- a receiver's CONNECT is taken
 pub connect_back_taken : (client : List ℕ) (window : ℕ) (clean : Bool) → IsName client → is_window window ≡ true → IsTaken (connect_with client clean (property ReceiveMaximum (U16 window) ∷ []))
 connect_back_taken client window clean name is =
     let p = connect_with client clean (property ReceiveMaximum (U16 window) ∷ []) in
@@ -229,6 +241,7 @@ wish_stands : (o : Option ℕ) → fits_number o ≡ true → length (props (ide
 wish_stands None fits less = none_stand places.Subscribe
 wish_stands (Some n) fits less = let small = ltb-true n (2 ^ 28) fits in (record { each = (record { kind = refl; fits = small }, tt); short = omega (arith, less) }, refl)
 
+-- a SUBSCRIBE that passes the test is taken
 pub wish_taken : (w : Wish) → is_wish w ≡ true → is_text w.filter ≡ true → IsTaken (subscribe_with w)
 wish_taken w is text =
     let p = subscribe_with w in

@@ -98,12 +98,14 @@ wire_taken p h (shake (PUBLISH_2 id n dup)) g =
 wire_taken p h (shake (PUBREL id)) g = pubrel_taken id g
 wire_taken p h (plain c) g = g
 
+-- a sound publisher has sent what a broker takes
 pub sound_taken : (p : Publisher) → IsSound p → IsTakenFrom p
 sound_taken p h = record {
   up = all_more (IsGoodSent (length p.fates)) (λ (s : Sent). IsTaken (wire p.client p.contents s)) p.line.up (wire_taken p h) h.line.up;
   old = all_more (IsGoodSent (length p.fates)) (λ (s : Sent). IsTaken (wire p.client p.contents s)) p.line.old (wire_taken p h) h.line.old;
 }
 
+-- a new publisher is sound
 pub new_sound : (client : List ℕ) → IsName client → IsSound (new_publisher client)
 new_sound client name = record { name = name; fates = tt; contents = tt; same = refl; unsent = tt; line = record { up = tt; old = tt } }
 
@@ -172,6 +174,7 @@ unsent_sound t away p h = h
 unsent_sound t asked p h = h
 unsent_sound t live p h = all_sound t p.unsent p h.unsent h
 
+-- a draft that passes the test is good
 pub draft_good : (d : Draft) → is_input (message_packet d) ≡ true → is_text d.content.topic ≡ true → IsGoodDraft d
 draft_good d input text = by d.qos input
   where
@@ -180,6 +183,7 @@ draft_good d input text = by d.qos input
     by AtLeastOnce i = once_tested d.content i text
     by ExactlyOnce i = twice_tested d.content i text
 
+-- publishing a good draft leaves a publisher sound
 pub published_sound : (t : Bool) (d : Draft) (p : Publisher) → IsGoodDraft d → IsSound p → IsSound (published t d p)
 published_sound t d p good h = unsent_sound t p.line.link (record p { unsent = p.unsent ++ d ∷ [] }) (record {
   name = h.name;
@@ -313,6 +317,7 @@ if_sound : (t : Bool) (x : Option ToPublisher) (p : Publisher) → IsSound p →
 if_sound t None p h = h
 if_sound t (Some packet) p h = reads_sound t packet p h
 
+-- so does his reading
 pub publisher_reads_sound : (t : Bool) (ds : List Down) (p : Publisher) → IsSound p → IsSound (publisher_reads t ds p)
 publisher_reads_sound t [] p h = h
 publisher_reads_sound t (d ∷ rest) p h = if_sound t (heard d.packet) (record p { line = record p.line { down = rest } }) (on_line_sound p (record p.line { down = rest }) h (record { up = h.line.up; old = h.line.old }))

@@ -45,12 +45,14 @@ back_taken r h (answers (pubcomp i code)) (inl g) = λ one. subst (λ (n : ℕ).
 back_taken r h (answers (pubcomp i code)) (inr g) = λ one. subst (λ (n : ℕ). IsTaken (sent.pubcomp i n)) (sym g) (unknown_taken i (one_of i one))
 back_taken r h (asks_for w) g = λ one. g
 
+-- a sound receiver has sent what a broker takes
 pub sound_taken_back : (r : Receiver) → IsSound r → IsTakenFromReceiver r
 sound_taken_back r h = record {
   up = all_more IsGoodBack (IsTakenBack r) r.line.up (back_taken r h) h.line.up;
   old = all_more IsGoodBack (IsTakenBack r) r.line.old (back_taken r h) h.line.old;
 }
 
+-- a new receiver is sound
 pub new_receiver_sound : (client : List ℕ) (window since : ℕ) → IsName client → is_window window ≡ true → IsSound (new_receiver client window since)
 new_receiver_sound client window since name is = record { name = name; window = is; line = record { up = tt; old = tt } }
 
@@ -92,6 +94,7 @@ hears_sound t copy (packets.Suback a) r h = alike_sound r (record r { asking = f
 hears_sound t copy (packets.Disconnect n) r h = alike_sound r (record r { line = left r.line }) refl refl h (left_carries IsGoodBack r.line h.line)
 hears_sound t copy packet r h = h
 
+-- reading leaves a receiver sound
 pub receiver_reads_sound : (t : Bool) (ds : List Down) (r : Receiver) → IsSound r → IsSound (receiver_reads t ds r)
 receiver_reads_sound t [] r h = h
 receiver_reads_sound t (d ∷ rest) r h =
@@ -100,5 +103,6 @@ receiver_reads_sound t (d ∷ rest) r h =
 
 -- ---- it asks for a subscription
 
+-- so does a subscription
 pub wish_sound : (t : Bool) (w : Wish) (r : Receiver) → IsTaken (subscribe_with w) → IsSound r → IsSound (asks_wish t w r)
 wish_sound t w r good h = alike_sound r (asks_wish t w r) refl refl h (goes_carries IsGoodBack t (asks_for w ∷ []) r.line (good, tt) h.line)

@@ -89,6 +89,7 @@ happens_wait set restart w alike h = restart_waits set w
 happens_wait set (stop_before a) w alike h = restart_waits set (before set a w)
 happens_wait set (stop_after a) w alike h = restart_waits set (first_step set a w)
 
+-- behind an event no stranger holds a whole packet
 pub step_waits : (set : Setting) (e : Event) (w : World) → AreAllAlike w → HoldNoPacket w → HoldNoPacket (step set e w)
 step_waits set e w alike h = by (is_bad e w)
   where

@@ -50,6 +50,7 @@ some_decide held bytes first some within = by (first_stays held (drop (length he
 
 -- ---- what they decide
 
+-- bytes that end a whole packet begin with so many of it
 pub whole_front : (held bytes : List ℕ) (packet : Packet) (n : ℕ) → Decides held bytes → first_of held ≡ Ok (Some (packet, n))
     → BeginsWhole bytes n
 whole_front held bytes packet n d e =
@@ -64,6 +65,7 @@ whole_front held bytes packet n d e =
       within = omega (arith, size.0, d.within);
     }
 
+-- bytes that end a faulty one begin with a fault
 pub faulty_front : (held bytes : List ℕ) (fault : Fault) → Decides held bytes → first_of held ≡ Err fault
     → BeginsFaulty bytes (length held)
 faulty_front held bytes fault d e = record {

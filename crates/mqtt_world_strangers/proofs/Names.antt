@@ -56,9 +56,11 @@ packet_names bytes packet n name e names =
 
 -- by the first of the bytes, which decide
 
+-- where no packet is whole none is named
 pub none_found : (held bytes : List ℕ) → Decides held bytes → first_of held ≡ Ok None → NamesFirst bytes None
 none_found held bytes d e = none_names bytes (d.same ∙ e)
 
+-- nor where one is faulty
 pub fault_found : (held bytes : List ℕ) → Decides held bytes → is_err (first_of held) ≡ true → NamesFirst bytes None
 fault_found held bytes d e = by (first_of held) refl
   where
@@ -66,11 +68,13 @@ fault_found held bytes d e = by (first_of held) refl
     by (Ok x) is = let clash : false ≡ true = sym (ap is_err is) ∙ e in absurd cc
     by (Err fault) is = fault_names bytes fault (d.same ∙ is)
 
+-- a whole packet names whom its CONNECT names
 pub packet_found : (held bytes : List ℕ) (packet : Packet) (n : ℕ) (name : Option (List ℕ)) → Decides held bytes
     → first_of held ≡ Ok (Some (packet, n)) → ((w : World) → names_end packet w ≡ is_end_among (option_to_list name) w)
     → NamesFirst bytes (Some (n, name))
 packet_found held bytes packet n name d e names = packet_names bytes packet n name (d.same ∙ e) names
 
+-- an end of one name is one of a list of one
 pub one_name : (name : List ℕ) (w : World) → is_end name w ≡ is_end_among (name ∷ []) w
 one_name name w = sym (either_none (is_end name w))
 
@@ -81,13 +85,16 @@ abbrev pub NamesSoFar : List ℕ → List (List ℕ) → List ℕ → Type 0
 NamesSoFar bytes names rest =
     (w : World) → bytes_name (length bytes) bytes w ≡ (is_end_among names w || bytes_name (length rest) rest w)
 
+-- at first nobody is named
 pub no_names_yet : (bytes : List ℕ) → NamesSoFar bytes [] bytes
 no_names_yet bytes w = refl
 
+-- behind the last packet all are named
 pub names_done : (bytes rest : List ℕ) (names : List (List ℕ)) → NamesSoFar bytes names rest → NamesFirst rest None → NamesThese bytes names
 names_done bytes rest names so_far none w =
     so_far w ∙ (ap (λ (t : Bool). is_end_among names w || t) (none w) ∙ either_none (is_end_among names w))
 
+-- a further packet names one more
 pub more_named : (bytes rest : List ℕ) (names : List (List ℕ)) (n : ℕ) (name : Option (List ℕ)) → NamesSoFar bytes names rest
     → NamesFirst rest (Some (n, name)) → NamesSoFar bytes (names ++ option_to_list name) (drop n rest)
 more_named bytes rest names n name so_far first w =

@@ -14,6 +14,7 @@ use Rattle.mqtt_world_strangers.specs.Fronts.{AsksFor, BeginsFaulty, BeginsWhole
 
 -- ---- nothing is whole
 
+-- what is not whole stays held
 pub none_left : (bytes : List ℕ) → first_of bytes ≡ Ok None → held_after bytes ≡ bytes
 none_left bytes e = ap (λ (f : Front). held_behind f bytes) e
 
@@ -27,6 +28,7 @@ all_taken held bytes one =
       one = ap (λ (piece : List ℕ). first_of (held_after (held ++ piece))) all ∙ one;
     }
 
+-- bytes that end no packet are the next piece
 pub partial_piece : (held bytes : List ℕ) → first_of (held ++ bytes) ≡ Ok None
     → IsNextPiece held (take (length bytes) bytes) (drop (length bytes) bytes)
 partial_piece held bytes e = all_taken held bytes (ap first_of (none_left (held ++ bytes) e) ∙ e)
@@ -44,6 +46,7 @@ ends_later held bytes n none b = by (cases_lt (length held) n)
         ap first_of (sym (take-append_seam held bytes)) ∙ first_less (held ++ bytes) b.packet n (length held) b.is short in
         absurd (not_both (first_of held) b.packet n none found)
 
+-- the bytes of the next piece end the packet
 pub whole_is : (held bytes : List ℕ) (n : ℕ) → length held < n → held ++ take (n - length held) bytes ≡ take n (held ++ bytes)
 whole_is held bytes n long =
     let sum : length held + (n - length held) ≡ n = omega arith in
@@ -54,6 +57,7 @@ whole_left bytes n b =
     ap (λ (f : Front). held_behind f (take n bytes)) b.alone
     ∙ drop_all n (take n bytes) (omega (arith, length-take-le n bytes b.inside))
 
+-- the bytes up to the end of a packet are the next piece
 pub whole_piece : (held bytes : List ℕ) (n : ℕ) → first_of held ≡ Ok None → BeginsWhole (held ++ bytes) n
     → IsNextPiece held (take (n - length held) bytes) (drop (n - length held) bytes)
 whole_piece held bytes n none b =
@@ -68,6 +72,7 @@ whole_piece held bytes n none b =
       one = ap (λ (xs : List ℕ). first_of (held_after xs)) is ∙ (ap first_of (whole_left (held ++ bytes) n b) ∙ nothing_first);
     }
 
+-- and ask for that packet
 pub whole_given : (held bytes : List ℕ) (n : ℕ) → first_of held ≡ Ok None → BeginsWhole (held ++ bytes) n
     → AsksFor (held ++ take (n - length held) bytes) (take n (held ++ bytes))
 whole_given held bytes n none b =
@@ -90,9 +95,11 @@ whole_held held bytes n none b =
 fault_left : (bytes : List ℕ) (fault : Fault) → first_of bytes ≡ Err fault → held_after bytes ≡ []
 fault_left bytes fault e = ap (λ (f : Front). held_behind f bytes) e
 
+-- of a faulty packet nothing stays held
 pub faulty_held : (held bytes : List ℕ) (n : ℕ) → BeginsFaulty (held ++ bytes) n → held_after (held ++ bytes) ≡ []
 faulty_held held bytes n b = fault_left (held ++ bytes) b.fault b.is
 
+-- all bytes are its piece
 pub faulty_piece : (held bytes : List ℕ) (n : ℕ) → BeginsFaulty (held ++ bytes) n
     → IsNextPiece held (take (length bytes) bytes) (drop (length bytes) bytes)
 faulty_piece held bytes n b = all_taken held bytes (ap first_of (faulty_held held bytes n b) ∙ nothing_first)
@@ -105,6 +112,7 @@ fault_asks line [] more fault e both =
 fault_asks line (b ∷ front) more fault e both =
     ap (call_by line (b ∷ front)) e ∙ sym (ap (call_by line (b ∷ front ++ more)) both)
 
+-- and ask for its refusal
 pub faulty_given : (bytes : List ℕ) (n : ℕ) → BeginsFaulty bytes n → AsksFor bytes (take n bytes)
 faulty_given bytes n b =
     let joined : take n bytes ++ drop n bytes ≡ bytes = take-append-drop n bytes in

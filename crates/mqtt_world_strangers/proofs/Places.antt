@@ -44,6 +44,7 @@ none_further name ss place other within none differs =
 
 -- ---- the one of a name changes
 
+-- a change of one who does not stand changes nobody
 pub none_changed : (name : List ℕ) (f : List ℕ → List ℕ) (ss : List Stranger) → named name ss ≡ None → map (if_named name f) ss ≡ ss
 none_changed name f [] none = refl
 none_changed name f (s ∷ ss) none =
@@ -54,6 +55,7 @@ none_changed name f (s ∷ ss) none =
 same_name : (a b : List ℕ) → bytes_eq a b ≡ true → a ≡ b
 same_name a b is = (bytes_eq-Decides a b).0 is
 
+-- setting one at his place is changing the one of his name
 pub set_is_change : (name : List ℕ) (f : List ℕ → List ℕ) (ss : List Stranger) (place : ℕ) (other : Stranger) → AreDistinct ss
     → IsPlace name ss place → set ss place (held_by f (get_or ss place other)) ≡ map (if_named name f) ss
 set_is_change name f ss place other distinct p = by ss place distinct p.within p.before (p.here other)
@@ -96,9 +98,11 @@ waits_named name (s ∷ ss) waiting = by (waits_named name ss waiting.1) (bytes_
     by rest true = waiting.0
     by rest false = rest
 
+-- strangers that are kept are alike
 pub all_alike : (ss : List Stranger) (w : World) → AreKept ss → AreAllAlike (in_world ss w)
 all_alike ss w kept name = distinct_hold name ss kept.distinct
 
+-- and hold no whole packet
 pub no_packet : (ss : List Stranger) (w : World) → AreKept ss → HoldNoPacket (in_world ss w)
 no_packet ss w kept name = waits_named name ss kept.waiting
 
@@ -127,6 +131,7 @@ waiting_held name left (s ∷ ss) none waiting = (by (bytes_eq s.name name), wai
     by true = none
     by false = waiting.0
 
+-- who holds no whole packet may be kept
 pub kept_held : (name left : List ℕ) (ss : List Stranger) → first_of left ≡ Ok None → AreKept ss → AreKept (map (if_named name (λ (x : List ℕ). left)) ss)
 kept_held name left ss none kept = record {
   distinct = distinct_renamed (if_named name (λ (x : List ℕ). left)) (name_stays name (λ (x : List ℕ). left)) ss kept.distinct;
@@ -137,6 +142,7 @@ unlinked_wait : (ss : List Stranger) → AreWaiting (map unlinked ss)
 unlinked_wait [] = tt
 unlinked_wait (s ∷ ss) = (nothing_first, unlinked_wait ss)
 
+-- so may all behind a restart
 pub kept_unlinked : (ss : List Stranger) → AreKept ss → AreKept (map unlinked ss)
 kept_unlinked ss kept = record {
   distinct = distinct_renamed unlinked (λ s. refl) ss kept.distinct;
@@ -169,17 +175,20 @@ waiting_more : (s : Stranger) (ss : List Stranger) → first_of s.held ≡ Ok No
 waiting_more s [] none waiting = (none, tt)
 waiting_more s (x ∷ ss) none waiting = (waiting.0, waiting_more s ss none waiting.1)
 
+-- and one more of a new name
 pub kept_more : (name : List ℕ) (line : Option ℕ) (ss : List Stranger) → named name ss ≡ None → AreKept ss → AreKept (ss ++ newcomer name line ∷ [])
 kept_more name line ss none kept = record {
   distinct = distinct_more (newcomer name line) ss none kept.distinct;
   waiting = waiting_more (newcomer name line) ss nothing_first kept.waiting;
 }
 
+-- and nobody
 pub kept_none : AreKept []
 kept_none = record { distinct = tt; waiting = tt }
 
 -- ---- a piece comes
 
+-- a piece that is taken leaves what is behind it
 pub piece_taken : (name piece left : List ℕ) (ss : List Stranger) → AreDistinct ss → held_after (held_of name ss ++ piece) ≡ left
     → Become (takes_piece name piece) ss (map (if_named name (λ (x : List ℕ). left)) ss)
 piece_taken name piece left ss distinct is w =
@@ -189,6 +198,7 @@ piece_taken name piece left ss distinct is w =
     ∙ same_changes name (held_of name ss) (λ (x : List ℕ). held_after (x ++ piece)) (λ (x : List ℕ). left) ss (distinct_hold name ss distinct) is) in
     ap (λ (xs : List Stranger). record w { strangers = xs }) same
 
+-- bytes that end no packet come and are held
 pub partial_comes : (name bytes : List ℕ) (ss : List Stranger) (all : List ℕ) → AreKept ss → all ≡ held_of name ss ++ bytes
     → first_of all ≡ Ok None → Comes name bytes ss (map (if_named name (λ (x : List ℕ). all)) ss) (length bytes) None
 partial_comes name bytes ss all kept is none =
@@ -211,6 +221,7 @@ size_past name bytes ss all n kept is b =
     let whole = subst (λ (xs : List ℕ). BeginsWhole xs n) is b in
     omega (arith, ends_later held bytes n (waits_named name ss kept.waiting) whole, ap length is, length-append held bytes)
 
+-- bytes that end one come and are asked
 pub whole_comes : (name bytes : List ℕ) (ss : List Stranger) (all : List ℕ) (n : ℕ) → AreKept ss → all ≡ held_of name ss ++ bytes
     → BeginsWhole all n
     → Comes name bytes ss (map (if_named name (λ (x : List ℕ). [])) ss) (n - (length all - length bytes)) (Some (take n all))
@@ -230,6 +241,7 @@ whole_comes name bytes ss all n kept is b =
       becomes = piece_taken name (take (n - length held) bytes) [] ss kept.distinct (whole_held held bytes n none whole);
     })
 
+-- bytes that end a faulty one come and are refused
 pub faulty_comes : (name bytes : List ℕ) (ss : List Stranger) (all : List ℕ) (n : ℕ) → AreKept ss → all ≡ held_of name ss ++ bytes
     → BeginsFaulty all n → Comes name bytes ss (map (if_named name (λ (x : List ℕ). [])) ss) (length bytes) (Some (take n all))
 faulty_comes name bytes ss all n kept is b =
@@ -255,6 +267,7 @@ came_by name bytes old new ss changed taken n given asked a b c d comes =
     (subst (λ (k : ℕ). Comes name bytes ss changed k given) (sym c)
     (subst (λ (o : Option (List ℕ)). Comes name bytes ss changed n o) (sym d) comes)))
 
+-- who is made to hold no whole packet is kept
 pub kept_by : (name left : List ℕ) (new ss : List Stranger) → new ≡ map (if_named name (λ (x : List ℕ). left)) ss
     → first_of left ≡ Ok None → AreKept ss → AreKept new
 kept_by name left new ss is none kept = subst AreKept (sym is) (kept_held name left ss none kept)

@@ -32,6 +32,7 @@ good_step : (set : Setting) (name piece : List ℕ) (w : World) → is_bad (ask 
     → step set (ask (stranger name piece)) w ≡ asks set (stranger name piece) w
 good_step set name piece w good = ap (λ (t : Bool). cond t w (asks set (stranger name piece) w)) good
 
+-- a piece of one step does what its call does
 pub piece_does : (set : Setting) (name piece : List ℕ) (w : World) → IsStep name piece w
     → step set (ask (stranger name piece)) w ≡ calls_if set (asks_piece name piece w) (takes_piece name piece w)
 piece_does set name piece w s =
@@ -88,6 +89,7 @@ read_piece r set name piece w unit s =
     ∙ (read_once r set name all c (length all) unit holds (omega arith) s.one
     ∙ ap (λ (call : Option Call). read_if r set call c) (call_come name piece w))))
 
+-- with its deeds
 pub piece_deeds : (set : Setting) (name piece : List ℕ) (w : World) → IsStep name piece w
     → deeds_at set (ask (stranger name piece)) w ≡ read_if the_deeds set (asks_piece name piece w) w
 piece_deeds set name piece w s =
@@ -99,6 +101,7 @@ piece_deeds set name piece w s =
 
 -- ---- one that comes for the first time
 
+-- a stranger who is welcomed is found
 pub first_found : (set : Setting) (name : List ℕ) (w : World) → stranger_named name w ≡ None
     → stranger_named name (welcomes set name w) ≡ Some (newcomer name (next_line w.broker))
 first_found set name w none = welcomed_found set name w none
@@ -121,6 +124,7 @@ same_ends set name w client =
     ∙ ap (λ (t : Bool). is_some (publisher_named client w) || t)
     (find_told (λ (r : Receiver). bytes_eq r.client client) _ w.receivers (λ r. refl))
 
+-- and may ask what he might
 pub first_good : (set : Setting) (name piece : List ℕ) (w : World) → stranger_named name w ≡ None
     → is_bad (ask (stranger name piece)) w ≡ false → is_bad (ask (stranger name piece)) (welcomes set name w) ≡ false
 first_good set name piece w none good =
@@ -129,6 +133,7 @@ first_good set name piece w none good =
     ∙ good_after piece v w (same_ends set name w)
     (sym (ap (λ (o : Option Stranger). bytes_name (length (bytes_held o ++ piece)) (bytes_held o ++ piece) w) none) ∙ good)
 
+-- a first piece does what it does behind the welcome
 pub first_does : (set : Setting) (name piece : List ℕ) (w : World) → stranger_named name w ≡ None
     → is_bad (ask (stranger name piece)) w ≡ false
     → step set (ask (stranger name piece)) w ≡ step set (ask (stranger name piece)) (welcomes set name w)
@@ -146,6 +151,7 @@ read_first_piece r set name piece w none good =
     ∙ (ap (λ (u : World). read_rest r set (held_count (stranger_named name u)) name u) (comes_both set name piece w none)
     ∙ sym (ap (λ (t : Bool). cond t r.nothing (read_asked r set (stranger name piece) v)) (first_good set name piece w none good)))
 
+-- with the deeds of that
 pub first_deeds : (set : Setting) (name piece : List ℕ) (w : World) → stranger_named name w ≡ None
     → is_bad (ask (stranger name piece)) w ≡ false
     → deeds_at set (ask (stranger name piece)) w ≡ deeds_at set (ask (stranger name piece)) (welcomes set name w)
@@ -153,10 +159,12 @@ first_deeds set name piece w none good = read_first_piece the_deeds set name pie
 
 -- ---- bytes in two parts, the first of which ends with a packet
 
+-- bytes that are good are good up to the end of a packet
 pub good_first : (name piece more : List ℕ) (w : World) → IsWhole (bytes_come name piece w)
     → is_bad (ask (stranger name (piece ++ more))) w ≡ false → is_bad (ask (stranger name piece)) w ≡ false
 good_first name piece more w whole good = (good_parts (bytes_held (stranger_named name w)) piece more whole.0 w whole.1 good).0
 
+-- behind it nothing is held
 pub nothing_held : (set : Setting) (name piece more : List ℕ) (w : World) → AreAlike name w → IsWhole (bytes_come name piece w)
     → is_bad (ask (stranger name (piece ++ more))) w ≡ false
     → bytes_held (stranger_named name (step set (ask (stranger name piece)) w)) ≡ []
@@ -164,6 +172,7 @@ nothing_held set name piece more w alike whole good =
     ap (λ (u : World). bytes_held (stranger_named name u)) (good_step set name piece w (good_first name piece more w whole good))
     ∙ none_behind set name piece w alike whole
 
+-- and what is behind it is good
 pub good_rest : (set : Setting) (name piece more : List ℕ) (w : World) → AreAlike name w → IsWhole (bytes_come name piece w)
     → is_bad (ask (stranger name (piece ++ more))) w ≡ false
     → is_bad (ask (stranger name more)) (step set (ask (stranger name piece)) w) ≡ false

@@ -60,6 +60,7 @@ late =
     receiver r1 10 ∷ publisher p1 ∷ joins r1 false ++ (subscribes r1 ++ (joins p1 false
     ++ (expires_soon ∷ clock 2000 ∷ publish p1 draft ∷ ask (to_broker p1) ∷ round r1 ++ (round r1 ++ round r1))))
 
+-- a copy that expires
 pub the_late_one_is_never_handed_over : came usual late ≡ ended 1 Expired 0 ∷ ended 2 Taken 1 ∷ []
 unfolding varint first_of size_at packet_at frame_at versioned_at lawful_at body_at connect_at fields_at will_at user_name_at password_at publish_at delivery_at layout_at block_at items_at items_in text_at blob_at is_utf8 chars encode varint_at groups_at prop_at value_at
 the_late_one_is_never_handed_over = refl
@@ -74,10 +75,12 @@ crowded =
     receiver r1 10 ∷ publisher p1 ∷ joins r1 false ++ (subscribes r1 ++ (joins p1 false
     ++ (publish p1 draft ∷ publish p1 draft ∷ ask (to_broker p1) ∷ ask (to_broker p1) ∷ round r1 ++ (round r1 ++ round r1))))
 
+-- one that makes way
 pub the_one_that_made_way_is_never_handed_over : came dropping crowded ≡ ended 1 Dropped 0 ∷ ended 2 Taken 1 ∷ []
 unfolding varint
 the_one_that_made_way_is_never_handed_over = refl
 
+-- in a fair run
 pub crowded_is_fair : IsFair dropping (turns crowded) start
 unfolding varint
 crowded_is_fair = record { within = record { queue = omega arith; sessions = omega arith; retained = omega arith }; unspent = refl; clean = refl }
@@ -91,6 +94,7 @@ the_law_holds = all_never_handed dropping (turns crowded) crowded_is_fair
 abbrev begun_anew : List Event
 begun_anew = pumped ++ ask (break r1) ∷ connect_end r1 true ∷ ask (to_broker r1) ∷ []
 
+-- one that was sent, and whose session ends
 pub one_that_was_sent_was_handed_over : came usual begun_anew ≡ ended 1 SessionEnded 1 ∷ []
 unfolding varint
 one_that_was_sent_was_handed_over = refl

@@ -20,6 +20,7 @@ pub told_acknowledged : (b : Bool) (o : List ℕ) (c : ℕ) → (b ≡ true → 
 told_acknowledged true o c h = h refl
 told_acknowledged false o c h = tt
 
+-- what is told of a message goes on being true behind its PUBACK
 pub told_puback : (i code c : ℕ) (o : List ℕ) (f : Option Fate) → (f ≡ Some (sent_1 i) → is_success code ≡ true → 1 ≤ c) → Told o c f → Told o c (option_map (on_puback i code) f)
 told_puback i code c o None h t = t
 told_puback i code c o (Some (sent_1 k)) h t = ⊎_elim
@@ -34,6 +35,7 @@ told_puback i code c o (Some (ended by)) h t = t
 abbrev pub after_puback : ℕ → ℕ → List ToPublisher → World → World
 after_puback i code rest w = record w { down = rest; fates = map (on_puback i code) w.fates }
 
+-- a PUBACK that is read leaves the hop in order
 pub puback_keeps : (i code : ℕ) (rest : List ToPublisher) (w : World) → w.down ≡ PUBACK i code ∷ rest → Norm w → Norm (after_puback i code rest w)
 puback_keeps i code rest w e inv =
     let each = down_each w (PUBACK i code ∷ rest) e inv in
@@ -67,6 +69,7 @@ pub told_received : (b : Bool) (o : List ℕ) (c k : ℕ) → is_among k o ≡ b
 told_received true o c k e t = rw e at t
 told_received false o c k e t = rw e at t
 
+-- what is told of a message goes on being true behind its PUBREC
 pub told_pubrec : (i code c : ℕ) (o : List ℕ) (f : Option Fate) → is_among i o ≡ is_success code → Told o c f → Told o c (option_map (on_pubrec i code) f)
 told_pubrec i code c o None h t = t
 told_pubrec i code c o (Some (sent_1 k)) h t = t
@@ -78,14 +81,17 @@ told_pubrec i code c o (Some (sent k)) h t = ⊎_elim
 told_pubrec i code c o (Some (released k)) h t = t
 told_pubrec i code c o (Some (ended by)) h t = t
 
+-- a PUBREL goes out at most once
 pub pubrel_same : (i : ℕ) (b : Bool) → AtMost (ups i (pubrel_if b i)) (PUBREL i ∷ [])
 pubrel_same i true = inr (rw (same_id i) refl)
 pubrel_same i false = inl refl
 
+-- none goes out if nothing is to be released
 pub pubrel_none : (i : ℕ) (b : Bool) → ups i (pubrel_if (b && false) i) ≡ []
 pubrel_none i true = refl
 pubrel_none i false = refl
 
+-- a PUBREL is of its own identifier alone
 pub pubrel_other : (i j : ℕ) (b : Bool) → nat_eq j i ≡ false → ups j (pubrel_if b i) ≡ []
 pubrel_other i j true e = rw e refl
 pubrel_other i j false e = refl
@@ -100,6 +106,7 @@ received_at false i n sent_here fates old up linked rest ids acc holds a u d o =
 abbrev pub after_pubrec : ℕ → ℕ → List ToPublisher → World → World
 after_pubrec i code rest w = record w { down = rest; fates = map (on_pubrec i code) w.fates; up = sent_on w.linked w.up (pubrel_for i code w.fates) }
 
+-- a PUBREC that is read leaves the hop in order
 pub pubrec_keeps : (i code : ℕ) (rest : List ToPublisher) (w : World) → w.down ≡ PUBREC i code ∷ rest → Norm w → Norm (after_pubrec i code rest w)
 pubrec_keeps i code rest w e inv =
     let each = down_each w (PUBREC i code ∷ rest) e inv in
@@ -133,6 +140,7 @@ told_pubcomp i c o (Some (ended by)) t = t
 abbrev pub after_pubcomp : ℕ → List ToPublisher → World → World
 after_pubcomp i rest w = record w { down = rest; fates = map (on_pubcomp i) w.fates }
 
+-- a PUBCOMP that is read leaves the hop in order
 pub pubcomp_keeps : (i code : ℕ) (rest : List ToPublisher) (w : World) → w.down ≡ PUBCOMP i code ∷ rest → Norm w → Norm (after_pubcomp i rest w)
 pubcomp_keeps i code rest w e inv =
     let each = down_each w (PUBCOMP i code ∷ rest) e inv in

@@ -23,6 +23,7 @@ pub late_ups : {old : List FromPublisher} (i : ℕ) → IsLate old → ups i old
 late_ups i (inl e) = rw e refl
 late_ups i (inr e) = rw e refl
 
+-- what is late on an old line is what an old line may have
 pub late_is_old : {old : List FromPublisher} → IsLate old → IsOld old
 late_is_old (inl e) = inl (rw e refl)
 late_is_old (inr e) = inr e
@@ -34,6 +35,7 @@ spared_ups i (PUBLISH_1 j n dup ∷ rest) = inl refl
 spared_ups i (PUBLISH_2 j n dup ∷ rest) = inl refl
 spared_ups i (PUBREL j ∷ rest) = inl refl
 
+-- what a takeover spares of an old line is late
 pub late_spared : (old : List FromPublisher) → IsOld old → IsLate (spared old)
 late_spared [] h = inl refl
 late_spared (CONNECT clean ∷ rest) (inl h) = absurd (cc)
@@ -42,13 +44,16 @@ late_spared (PUBLISH_1 j n dup ∷ rest) h = inl refl
 late_spared (PUBLISH_2 j n dup ∷ rest) h = inl refl
 late_spared (PUBREL j ∷ rest) h = inl refl
 
+-- a packet that is no CONNECT is none
 pub no_connect : {A : Type 0} (p : FromPublisher) (c : Bool) → p ≡ CONNECT c → is_connect p ≡ false → A
 no_connect p c e h = let r : is_connect (CONNECT c) ≡ false = subst (λ p. is_connect p ≡ false) e h in absurd (cc)
 
+-- an old line may have what is behind a packet of it
 pub old_rest : (p : FromPublisher) (rest : List FromPublisher) → is_connect p ≡ false → IsOld (p ∷ rest) → IsOld rest
 old_rest p rest e (inl h) = inl (rw e at h)
 old_rest p rest e (inr h) = let q : p ≡ CONNECT false = cc in no_connect p false q e
 
+-- behind a CONNECT an old line has nothing
 pub old_connect : (clean : Bool) (rest : List FromPublisher) → IsOld (CONNECT clean ∷ rest) → (clean ≡ false) × (rest ≡ [])
 old_connect clean rest (inl h) = absurd (cc)
 old_connect clean rest (inr h) = (cc, cc)
@@ -194,6 +199,7 @@ calm_connect (is_turned code l b u d) = absurd (cc)
 calm_connect (is_answered present rest l u d q late r t) = absurd (cc)
 calm_connect (is_live l n late t) = absurd (cc)
 
+-- what is told of a message may be told in part
 pub weaken : (o : List ℕ) (c : ℕ) (f : Option Fate) → Told o c f → Weak c f
 weaken o c None t = t
 weaken o c (Some (sent_1 i)) t = t
@@ -242,6 +248,7 @@ connects false clean refuses rest w t c l b r d inv = inl (record {
   olds = inv.olds;
 })
 
+-- the broker's reading of what the publisher sent leaves the hop in order
 pub reads_up : (choice : Choice) (up : List FromPublisher) (w : World) → w.up ≡ up → Norm w → Good (broker_reads choice up w)
 reads_up choice [] w u inv = inl inv
 reads_up choice (CONNECT clean ∷ rest) w u inv =

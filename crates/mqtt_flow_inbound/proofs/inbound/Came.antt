@@ -22,6 +22,7 @@ publish_1_at i n dup fates rest down (receiving m code) h e d = absurd (cc)
 publish_1_at i n dup fates rest down (releasing m o) h e d = absurd (cc)
 publish_1_at i n dup fates rest down (completing m code) h e d = absurd (cc)
 
+-- a PUBLISH of QoS 1 that comes is of a message that waits for its PUBACK, whose identifier is not open
 pub publish_1_came : {i n : ℕ} {dup : Bool} {fates : List Fate} {old rest : List FromPublisher} {down : List ToPublisher} {ids acc : List ℕ} (s : Stage) → At i fates old (PUBLISH_1 i n dup ∷ rest) down ids acc s → UpCame i n for_puback fates rest down × (is_among i ids ≡ false)
 publish_1_came {i} {n} {dup} {fates} {old} {rest} {down} s at =
     let k = same_id i in
@@ -37,6 +38,7 @@ publish_2_at i n dup fates rest down (receiving m code) h e d = absurd (cc)
 publish_2_at i n dup fates rest down (releasing m o) h e d = absurd (cc)
 publish_2_at i n dup fates rest down (completing m code) h e d = absurd (cc)
 
+-- a PUBLISH of QoS 2 that comes is of a message that waits for its PUBREC
 pub publish_2_came : {i n : ℕ} {dup : Bool} {fates : List Fate} {old rest : List FromPublisher} {down : List ToPublisher} {ids acc : List ℕ} (s : Stage) → At i fates old (PUBLISH_2 i n dup ∷ rest) down ids acc s → UpCame i n for_pubrec fates rest down
 publish_2_came {i} {n} {dup} {fates} {old} {rest} {down} s at =
     let k = same_id i in publish_2_at i n dup fates rest down s at.holds (at_head (rw k at at.of_up)) at.of_down
@@ -50,6 +52,7 @@ pubrel_at i fates rest down (receiving m code) h e d = absurd (cc)
 pubrel_at i fates rest down (releasing m o) h e d = (m, record { holds = h; of_rest = cc; of_down = at_most_none d })
 pubrel_at i fates rest down (completing m code) h e d = absurd (cc)
 
+-- a PUBREL that comes is of a message that waits for its PUBCOMP
 pub pubrel_came : {i : ℕ} {fates : List Fate} {old rest : List FromPublisher} {down : List ToPublisher} {ids acc : List ℕ} (s : Stage) → At i fates old (PUBREL i ∷ rest) down ids acc s → (n : ℕ) × UpCame i n for_pubcomp fates rest down
 pubrel_came {i} {fates} {old} {rest} {down} s at =
     let k = same_id i in pubrel_at i fates rest down s at.holds (at_head (rw k at at.of_up)) at.of_down
@@ -72,6 +75,7 @@ puback_at i code fates old up rest ids acc (receiving m c) h e a b o z = absurd 
 puback_at i code fates old up rest ids acc (releasing m p) h e a b o z = absurd (cc)
 puback_at i code fates old up rest ids acc (completing m c) h e a b o z = absurd (cc)
 
+-- a PUBACK that comes is of a message that waits for it, and that was accepted if the code says so
 pub puback_came : {i code : ℕ} {fates : List Fate} {old up : List FromPublisher} {rest : List ToPublisher} {ids acc : List ℕ} (s : Stage) → At i fates old up (PUBACK i code ∷ rest) ids acc s → (n : ℕ) × DownCame i n for_puback fates old up rest × (is_among i ids ≡ false) × (is_success code ≡ true → 1 ≤ count_of n acc)
 puback_came {i} {code} {fates} {old} {up} {rest} {ids} {acc} s at =
     let k = same_id i in puback_at i code fates old up rest ids acc s at.holds (at_head (rw k at at.of_down)) at.of_old at.of_up at.open_is at.fits
@@ -87,6 +91,7 @@ pubrec_at i code fates old up rest ids (receiving m c) h e a b o =
 pubrec_at i code fates old up rest ids (releasing m p) h e a b o = absurd (cc)
 pubrec_at i code fates old up rest ids (completing m c) h e a b o = absurd (cc)
 
+-- a PUBREC that comes is of a message that waits for it, whose identifier is open if the code says so
 pub pubrec_came : {i code : ℕ} {fates : List Fate} {old up : List FromPublisher} {rest : List ToPublisher} {ids acc : List ℕ} (s : Stage) → At i fates old up (PUBREC i code ∷ rest) ids acc s → (n : ℕ) × DownCame i n for_pubrec fates old up rest × (is_among i ids ≡ is_success code)
 pubrec_came {i} {code} {fates} {old} {up} {rest} {ids} s at =
     let k = same_id i in pubrec_at i code fates old up rest ids s at.holds (at_head (rw k at at.of_down)) at.of_old at.of_up at.open_is
@@ -100,6 +105,7 @@ pubcomp_at i code fates old up rest ids (receiving m c) h e a b o = absurd (cc)
 pubcomp_at i code fates old up rest ids (releasing m p) h e a b o = absurd (cc)
 pubcomp_at i code fates old up rest ids (completing m c) h e a b o = (m, record { holds = h; of_old = at_most_none a; of_up = at_most_none b; of_rest = cc }, o)
 
+-- a PUBCOMP that comes is of a message that waits for it, whose identifier is not open
 pub pubcomp_came : {i code : ℕ} {fates : List Fate} {old up : List FromPublisher} {rest : List ToPublisher} {ids acc : List ℕ} (s : Stage) → At i fates old up (PUBCOMP i code ∷ rest) ids acc s → (n : ℕ) × DownCame i n for_pubcomp fates old up rest × (is_among i ids ≡ false)
 pubcomp_came {i} {code} {fates} {old} {up} {rest} {ids} s at =
     let k = same_id i in pubcomp_at i code fates old up rest ids s at.holds (at_head (rw k at at.of_down)) at.of_old at.of_up at.open_is

@@ -44,6 +44,7 @@ holder_here i j k n q r fs e h =
     let s : made j q ≡ made i r = ap (λ x. made j x.1) p ∙ ap (λ x. made x r) (sym (eqb-true i j e)) in
     (0, omega arith, ap Some s)
 
+-- the one message that holds an identifier has it, and none before or behind it
 pub holder : (i k n : ℕ) (r : Mark) (fs : List Fate) → held i k fs ≡ (n, r) ∷ [] → Holder i k n r fs
 holder i k n r [] h = absurd (cc)
 holder i k n r (sent_1 j ∷ fs) h =
@@ -94,6 +95,7 @@ one_in x y (inr h) = absurd h
 abbrev pub Same : ℕ × Mark → ℕ × Mark → Type 0
 Same x y = x ≡ y
 
+-- a message with an identifier is the one that holds it
 pub only : (i k n m : ℕ) (r q : Mark) (fs : List Fate) → held i k fs ≡ (n, r) ∷ [] → slice_get fs m ≡ Some (made i q) → Same (k + m, q) (n, r)
 only i k n m r q fs h e = one_in (k + m, q) (n, r) (rw h at (in_held i k m q fs e))
 
@@ -108,6 +110,7 @@ holding-acknowledged : (i k : ℕ) (b : Bool) → holding i k (acknowledged b) �
 holding-acknowledged i k true = refl
 holding-acknowledged i k false = refl
 
+-- a PUBACK takes its identifier from a message that waits for it
 pub held-on_puback_same : (i k code : ℕ) (fs : List Fate) → held i k (map (on_puback i code) fs) ≡ unacknowledged (held i k fs)
 held-on_puback_same i k code [] = refl
 held-on_puback_same i k code (sent_1 l ∷ fs) = ⊎_elim
@@ -137,6 +140,7 @@ held-received : (b : Bool) (i l k : ℕ) (hs : List (ℕ × Mark)) → nat_eq i 
 held-received true i l k hs e = rw e refl
 held-received false i l k hs e = refl
 
+-- a PUBREC moves the message that waits for it on, or takes its identifier
 pub held-on_pubrec_same : (i k code : ℕ) (fs : List Fate) → held i k (map (on_pubrec i code) fs) ≡ received_marks (is_success code) (held i k fs)
 held-on_pubrec_same i k code [] = refl
 held-on_pubrec_same i k code (sent_1 l ∷ fs) = let r = held-on_pubrec_same i (suc k) code fs in ⊎_elim
@@ -161,6 +165,7 @@ uncompleted ((n, for_puback) ∷ hs) = (n, for_puback) ∷ uncompleted hs
 uncompleted ((n, for_pubrec) ∷ hs) = (n, for_pubrec) ∷ uncompleted hs
 uncompleted ((n, for_pubcomp) ∷ hs) = uncompleted hs
 
+-- a PUBCOMP takes its identifier from a message that waits for it
 pub held-on_pubcomp_same : (i k : ℕ) (fs : List Fate) → held i k (map (on_pubcomp i) fs) ≡ uncompleted (held i k fs)
 held-on_pubcomp_same i k [] = refl
 held-on_pubcomp_same i k (sent_1 l ∷ fs) = let r = held-on_pubcomp_same i (suc k) fs in ⊎_elim
@@ -185,6 +190,7 @@ holding-on_puback i j k l b h = ⊎_elim
     (λ (e : nat_eq j l ≡ false). rw e refl)
     (test_cases (nat_eq j l))
 
+-- a PUBACK leaves other identifiers alone
 pub held-on_puback_other : (i j k code : ℕ) (fs : List Fate) → nat_eq i j ≡ false → held i k (map (on_puback j code) fs) ≡ held i k fs
 held-on_puback_other i j k code [] h = refl
 held-on_puback_other i j k code (sent_1 l ∷ fs) h = let r = held-on_puback_other i j (suc k) code fs h in let q = holding-on_puback i j k l (is_success code) h in cc
@@ -203,6 +209,7 @@ holding-on_pubrec i j k l b h = ⊎_elim
     (λ (e : nat_eq j l ≡ false). rw e refl)
     (test_cases (nat_eq j l))
 
+-- a PUBREC leaves other identifiers alone
 pub held-on_pubrec_other : (i j k code : ℕ) (fs : List Fate) → nat_eq i j ≡ false → held i k (map (on_pubrec j code) fs) ≡ held i k fs
 held-on_pubrec_other i j k code [] h = refl
 held-on_pubrec_other i j k code (sent_1 l ∷ fs) h = let r = held-on_pubrec_other i j (suc k) code fs h in cc
@@ -211,6 +218,7 @@ held-on_pubrec_other i j k code (sent l ∷ fs) h = let r = held-on_pubrec_other
 held-on_pubrec_other i j k code (released l ∷ fs) h = let r = held-on_pubrec_other i j (suc k) code fs h in cc
 held-on_pubrec_other i j k code (ended by ∷ fs) h = held-on_pubrec_other i j (suc k) code fs h
 
+-- a PUBCOMP leaves other identifiers alone
 pub held-on_pubcomp_other : (i j k : ℕ) (fs : List Fate) → nat_eq i j ≡ false → held i k (map (on_pubcomp j) fs) ≡ held i k fs
 held-on_pubcomp_other i j k [] h = refl
 held-on_pubcomp_other i j k (sent_1 l ∷ fs) h = let r = held-on_pubcomp_other i j (suc k) fs h in cc
@@ -226,6 +234,7 @@ renewed i ((n, for_puback) ∷ hs) = PUBLISH_1 i n true ∷ renewed i hs
 renewed i ((n, for_pubrec) ∷ hs) = PUBLISH_2 i n true ∷ renewed i hs
 renewed i ((n, for_pubcomp) ∷ hs) = PUBREL i ∷ renewed i hs
 
+-- what is sent again under an identifier is of the message that holds it
 pub ups-resent_from : (i k : ℕ) (fs : List Fate) → ups i (resent_from k fs) ≡ renewed i (held i k fs)
 ups-resent_from i k [] = refl
 ups-resent_from i k (sent_1 l ∷ fs) = let r = ups-resent_from i (suc k) fs in grind (arith, nat_tests, r)

@@ -157,5 +157,6 @@ run-append : (earlier later : List Event) (w : World) → run (earlier ++ later)
 run-append [] later w = refl
 run-append (event ∷ earlier) later w = run-append earlier later (step w event)
 
+-- what has ended stays as it ended, whatever comes later
 pub for_good : (earlier later : List Event) (n : ℕ) → IsEnded (fate_of n (after earlier)) → fate_of n (after (earlier ++ later)) ≡ fate_of n (after earlier)
 for_good earlier later n h = ap (fate_of n) (run-append earlier later start) ∙ (stays_run later (after earlier)).stays n h

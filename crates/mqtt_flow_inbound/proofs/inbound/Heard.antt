@@ -199,8 +199,10 @@ heard_on : (es : List Event) (w : World) → Good w → Heard w → Heard (run e
 heard_on [] w g h = h
 heard_on (e ∷ es) w g h = heard_on es (step w e) (good_keeps w e g) (heard_step w e g h)
 
+-- in every run each success that a publisher hears is of an acceptance
 pub heard_run : (es : List Event) → Heard (after es)
 heard_run es = heard_on es start begins tt
 
+-- in every run a CONNECT is alone on its line
 pub alone_run : (es : List Event) → ConnectsAlone (after es)
 alone_run es = alone_of (after es) (is_good es)

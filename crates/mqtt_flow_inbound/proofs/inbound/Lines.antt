@@ -38,6 +38,7 @@ calm_closed false code (is_turned k l b u d) = is_turned k l refl refl d
 calm_closed false code (is_answered present rest l u d q late r t) = is_answered present rest l refl d q late r t
 calm_closed false code (is_live l n late t) = is_live l refl late t
 
+-- the broker's closing of a line leaves the hop in order
 pub closes : (code : ℕ) (w : World) → Norm w → Norm (closed_by code w)
 closes code w inv = record {
   each = drop_each w.linked (DISCONNECT code) w.fates w.old w.up w.down w.ids w.ids w.accepted (λ i. refl) refl inv.each;
@@ -61,6 +62,7 @@ calm_dropped t' g (is_turned code l b u d) = is_turned code l b u d
 calm_dropped t' g (is_answered present rest l u d q late r t) = is_answered present rest l u d q (inl refl) r (g t)
 calm_dropped t' g (is_live l n late t) = is_live l n (inl refl) (g t)
 
+-- the end of an old line leaves the hop in order
 pub drops_old : (w : World) (old : List FromPublisher) → old ≡ [] → Norm w → Norm (record w { old = old })
 drops_old w old e inv = record {
   each = λ j. ((inv.each j).0, same_stage (inv.each j).1 refl (inl (rw e refl)) (inr refl) (inr refl) refl);
@@ -219,6 +221,7 @@ old_connects false clean takes rest w t e r inv = old_begins w rest t r inv
 old_connects false clean takes_unheard rest w t e r inv = old_begins w rest t r inv
 old_connects false clean refuses rest w t e r inv = drops_old w rest r inv
 
+-- the broker's reading of an old line leaves the hop in order
 pub reads_old : (choice : Choice) (old : List FromPublisher) (w : World) → w.old ≡ old → Norm w → Norm (broker_reads_old choice old w)
 reads_old choice [] w u inv = inv
 reads_old choice (CONNECT clean ∷ rest) w u inv =
@@ -265,12 +268,14 @@ live_old e (is_turned code l b u d) = inl (rw u refl)
 live_old e (is_answered present rest l u d q late r t) = inl (rw u refl)
 live_old e (is_live l n late t) = inl n
 
+-- a publisher that gives up leaves the hop in order
 pub gives_up : (l : Link) (c : Bool) (w : World) → w.link ≡ l → w.clean ≡ c → Norm w → Norm (on_give_up l c w)
 gives_up away c w l k inv = inv
 gives_up asked true w l k inv = inv
 gives_up asked false w l k inv = gives_up_line w (asking_old k inv.calm) inv
 gives_up live c w l k inv = gives_up_line w (live_old l inv.calm) inv
 
+-- a publisher that connects leaves the hop in order
 pub joins : (l : Link) (c : Bool) (w : World) → Norm w → Norm (on_join l c w)
 joins away c w inv = record {
   each = λ j. ((inv.each j).0, same_stage (inv.each j).1 refl (inr refl) (inl refl) (inl refl) refl);

@@ -15,24 +15,31 @@ use Rattle.mqtt_flow_inbound.proofs.inbound.Came.{publish_1_came, publish_2_came
 use Rattle.mqtt_flow_inbound.proofs.inbound.Stages.{Mark, for_puback, for_pubrec, for_pubcomp, Stage, acknowledging, receiving, completing, held, ups, downs, down_about, AtMost, At, Told, IsMore, same_stage, more_accepted, by_id}
 use Rattle.mqtt_flow_inbound.proofs.inbound.Fates.{holder, only, made, Same}
 
+-- one acceptance more counts for its own message alone
 pub count_of-push : (m n : ℕ) (accepted : List ℕ) → count_of m (accepted ++ n ∷ []) ≡ count_of m accepted + cond (nat_eq m n) 1 0
 count_of-push m n accepted = grind (arith, common_steps)
 
+-- one acceptance more is more
 pub more_push : (n : ℕ) (accepted : List ℕ) → IsMore accepted (accepted ++ n ∷ [])
 more_push n accepted = λ m. rw (count_of-push m n accepted) (omega arith)
 
+-- a message just accepted was accepted
 pub one_push : (n : ℕ) (accepted : List ℕ) → 1 ≤ count_of n (accepted ++ n ∷ [])
 one_push n accepted = rw (count_of-push n n accepted, same_id n) (omega arith)
 
+-- another's acceptance does not count
 pub same_count : (m n : ℕ) (accepted : List ℕ) → nat_eq m n ≡ false → count_of m (accepted ++ n ∷ []) ≡ count_of m accepted
 same_count m n accepted e = count_of-push m n accepted ∙ rw (e, add-zero) refl
 
+-- a PUBLISH that is new found its identifier not open
 pub new_is : (i : ℕ) (ids : List ℕ) → answer_to i ids ≡ New → is_among i ids ≡ false
 new_is i ids e = grind arith
 
+-- one that comes again opens nothing
 pub again_is : (i : ℕ) (ids : List ℕ) → answer_to i ids ≡ Again → open_after i ids ≡ ids
 again_is i ids e = rw e refl
 
+-- one above the window opens nothing
 pub over_is : (i : ℕ) (ids : List ℕ) → answer_to i ids ≡ Over → open_after i ids ≡ ids
 over_is i ids e = rw e refl
 
@@ -40,14 +47,17 @@ over_is i ids e = rw e refl
 pub downs-push : (i : ℕ) (down : List ToPublisher) (p : ToPublisher) → down_about i p ≡ false → downs i (down ++ p ∷ []) ≡ downs i down
 downs-push i down p e = rw (filter-append (down_about i) down (p ∷ []), e, append-nil) refl
 
+-- what goes down is none of another identifier's
 pub downs-other : (b : Bool) (i : ℕ) (down : List ToPublisher) (p : ToPublisher) → down_about i p ≡ false → downs i (sent_on b down (p ∷ [])) ≡ downs i down
 downs-other true i down p e = downs-push i down p e
 downs-other false i down p e = refl
 
+-- what goes down of an identifier is that one packet, if there was none
 pub downs-same : (b : Bool) (i : ℕ) (down : List ToPublisher) (p : ToPublisher) → down_about i p ≡ true → downs i down ≡ [] → AtMost (downs i (sent_on b down (p ∷ []))) (p ∷ [])
 downs-same true i down p e h = inr (rw (filter-append (down_about i) down (p ∷ []), e, h) refl)
 downs-same false i down p e h = inl h
 
+-- a line and an old line may change places in what holds of an identifier
 pub swap : {i : ℕ} {f : List Fate} {a b : List FromPublisher} {d : List ToPublisher} {o acc : List ℕ} {s : Stage} → At i f a b d o acc s → At i f b a d o acc s
 swap at = record { holds = at.holds; of_old = at.of_up; of_up = at.of_old; of_down = at.of_down; open_is = at.open_is; fits = at.fits }
 
@@ -92,6 +102,7 @@ pubrel_each i code f a rest d d' o acc each none here there j =
 pub drop_each : (b : Bool) (p : ToPublisher) (f : List Fate) (a up : List FromPublisher) (d : List ToPublisher) (o o' acc : List ℕ) → ((i : ℕ) → down_about i p ≡ false) → o' ≡ o → Each f a up d o acc → Each f a [] (sent_on b d (p ∷ [])) o' acc
 drop_each b p f a up d o o' acc about same each j = ((each j).0, same_stage (each j).1 refl (inr refl) (inl refl) (inr (downs-other b j d p (about j))) (rw same refl))
 
+-- one place has one message
 pub same_number : (m n : ℕ) (q r : Mark) → Same (0 + m, q) (n, r) → m ≡ n
 same_number m n q r h = sym (zero-add m) ∙ ap (λ x. x.0) h
 
@@ -150,6 +161,7 @@ told_new_2 i n f o acc told holds new m =
     let p = same_count m n acc e in
     rw p (told_ids (slice_get f m) (count_of m acc) o (open_after i o) (λ k g. is_among-open_after_other k i o (apart i k n m f holds g e)) (told m)))
 
+-- a PUBREL that is read leaves what is told of all messages true
 pub told_release : (i n : ℕ) (f : List Fate) (o acc : List ℕ) → AllTold o acc f → held i 0 f ≡ (n, for_pubcomp) ∷ [] → AllTold (ids_without i o) acc f
 told_release i n f o acc told holds m = told_ids (slice_get f m) (count_of m acc) o (ids_without i o) (λ k g. is_among-ids_without_other k i o (none_sent i k n m for_pubcomp f refl holds g)) (told m)
 
@@ -161,6 +173,7 @@ accept_is New refuses code e = absurd (cc)
 accept_is Again c code e = absurd (cc)
 accept_is Over c code e = absurd (cc)
 
+-- only a new PUBLISH is refused
 pub refuse_is : (a : Published) (c : Choice) → verdict_on a c ≡ refuse → a ≡ New
 refuse_is New takes e = absurd (cc)
 refuse_is New takes_unheard e = absurd (cc)
@@ -168,6 +181,7 @@ refuse_is New refuses e = refl
 refuse_is Again c e = absurd (cc)
 refuse_is Over c e = absurd (cc)
 
+-- only one that comes again is answered again
 pub repeat_is : (a : Published) (c : Choice) → verdict_on a c ≡ repeat → a ≡ Again
 repeat_is New takes e = absurd (cc)
 repeat_is New takes_unheard e = absurd (cc)
@@ -175,6 +189,7 @@ repeat_is New refuses e = absurd (cc)
 repeat_is Again c e = refl
 repeat_is Over c e = absurd (cc)
 
+-- only one above the window closes the line
 pub shut_is : (a : Published) (c : Choice) → verdict_on a c ≡ shut → a ≡ Over
 shut_is New takes e = absurd (cc)
 shut_is New takes_unheard e = absurd (cc)

@@ -58,10 +58,12 @@ ascending_from : (least : ℕ) (xs : List ℕ) → AscendsFrom least xs → IsAs
 ascending_from least [] h = tt
 ascending_from least (x ∷ xs) h = (above_from (suc x) x xs (omega arith) h.1, ascending_from (suc x) xs h.1)
 
+-- identifiers that ascend strictly increase
 pub strictly_increasing : (xs : List ℕ) → IsAscending xs → IsStrictlyIncreasing xs
 strictly_increasing [] h = rises 0 [] tt
 strictly_increasing (x ∷ xs) h = rises 0 (x ∷ xs) (omega arith, from_above x xs h.0 h.1)
 
+-- identifiers that strictly increase ascend
 pub is_ascending : (xs : List ℕ) → IsStrictlyIncreasing xs → IsAscending xs
 is_ascending xs h = ascending_from 0 xs (ascends_all xs h)
 
@@ -75,6 +77,7 @@ ascends-ids_with least id (x ∷ xs) le missing h = ⊎_elim
     rw b (h.0, ascends-ids_with (suc x) id xs above rest h.1))
     (test_cases (nat_lt id x))
 
+-- a list with room takes one more identifier in its place
 pub lawful-ids_with : (id : ℕ) (ids : List ℕ) → is_among id ids ≡ false → length ids < OPEN_LIMIT → IsOpenList ids → IsOpenList (ids_with id ids)
 lawful-ids_with id ids missing room h = record {
   ascending = rises 0 (ids_with id ids) (ascends-ids_with 0 id ids (omega arith) missing (ascends_all ids h.ascending));
@@ -86,6 +89,7 @@ pub lawful_insert : (done : Bool) (id place : ℕ) (ids : List ℕ) → BelongsA
 lawful_insert true id place ids b room h = rw b.inserted (lawful-ids_with id ids b.is_missing room h)
 lawful_insert false id place ids b room h = h
 
+-- a list gives one up
 pub lawful-ids_without : (id : ℕ) (ids : List ℕ) → IsOpenList ids → IsOpenList (ids_without id ids)
 lawful-ids_without id ids h = record {
   ascending = IsStrictlyIncreasing-filter (λ other. not (nat_eq other id)) ids h.ascending;
@@ -100,5 +104,6 @@ lawful-ids_on New id ids e h =
 lawful-ids_on Again id ids e h = h
 lawful-ids_on Over id ids e h = h
 
+-- a PUBLISH leaves the open identifiers in order
 pub lawful-open_after : (id : ℕ) (ids : List ℕ) → IsOpenList ids → IsOpenList (open_after id ids)
 lawful-open_after id ids h = lawful-ids_on (answer_to id ids) id ids refl h

@@ -54,6 +54,7 @@ inserted id (suc place) (other ∷ ids) le h =
     let lt : other < id = h.below 0 (omega arith) in
     grind (arith, nat_tests, r)
 
+-- an identifier between its neighbours belongs there
 pub belongs : (id place : ℕ) (ids : List ℕ) → place ≤ length ids → IsBetween id ids place → BelongsAt id ids place
 belongs id place ids le h = record {
   in_range = le;
@@ -99,6 +100,7 @@ removed id (suc place) (other ∷ ids) le h =
     let lt : other < id = h.below 0 (omega arith) in
     grind (arith, nat_tests, r)
 
+-- an identifier found at a place stands there
 pub stands : (id place : ℕ) (ids : List ℕ) → place < length ids → IsAmong id ids place → StandsAt id ids place
 stands id place ids le h = record {
   in_range = le;
@@ -120,6 +122,7 @@ never_falls ids h i j le range = ⊎_elim
     (λ (b : nat_lt i j ≡ false). let e : i ≡ j = grind (arith, nat_tests) in rw e (omega arith))
     (test_cases (nat_lt i j))
 
+-- a binary search finds where an identifier stands, or where it belongs
 pub placed : (id : ℕ) (ids : List ℕ) (r : Result ℕ ℕ) → IsStrictlyIncreasing ids → IsBinarySearchResult (λ y. nat_cmp y id) ids r → OfPlace id ids r
 placed id ids (Ok place) h s =
     let q = searched ids id (Ok place) s (never_falls ids h) in
@@ -132,10 +135,12 @@ placed id ids (Err place) h s =
     let q = searched ids id (Err place) s (never_falls ids h) in
     belongs id place ids q.0 (record { below = q.1; above = q.2 })
 
+-- if it finds one, that is where it stands
 pub found : (id : ℕ) (ids : List ℕ) (r : Result ℕ ℕ) → OfPlace id ids r → IfOk r (StandsAt id ids)
 found id ids (Ok place) h = h
 found id ids (Err place) h = tt
 
+-- if it finds none, that is where it belongs
 pub missed : (id : ℕ) (ids : List ℕ) (r : Result ℕ ℕ) → OfPlace id ids r → IfErr r (BelongsAt id ids)
 missed id ids (Ok place) h = tt
 missed id ids (Err place) h = h

@@ -187,6 +187,7 @@ reads_clean : (w : World) (rest : List ToPublisher) → w.link ≡ asked → w.u
 reads_clean w rest l u q fresh = subst (λ l. Norm (on_connack l false (record w { down = rest }))) (sym l)
     (goes_out live (forgot rest w) refl (forgets w rest u q fresh.late fresh.begun (λ i. rw fresh.of_ids refl) (rw fresh.of_ids (omega arith)) fresh.weak))
 
+-- a publisher's reading on a new line leaves the hop in order
 pub reads_anew : (w : World) → Fresh w → Good (publisher_reads w.down w)
 reads_anew w fresh = ⊎_elim
     (λ (h : w.down ≡ []). inr (subst (λ d. Fresh (publisher_reads d w)) (sym h) fresh))

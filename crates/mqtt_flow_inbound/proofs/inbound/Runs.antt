@@ -120,10 +120,12 @@ fresh_keeps w (close code) h = inr (fresh_closes code w h)
 fresh_keeps w close_old h = inr (fresh_drops w h)
 fresh_keeps w restart h = inr (fresh_lines w away false [] [] [] (inl refl) (blank_away refl refl refl refl) h)
 
+-- every event leaves the hop in order
 pub good_keeps : (w : World) (e : Event) → Good w → Good (step w e)
 good_keeps w e (inl h) = keeps w e h
 good_keeps w e (inr h) = fresh_keeps w e h
 
+-- at first the hop is in order
 pub begins : Good start
 begins = inl (record {
   each = λ j. (free, record { holds = refl; of_old = inl refl; of_up = inl refl; of_down = inl refl; open_is = refl; fits = tt });
@@ -138,6 +140,7 @@ runs : (es : List Event) (w : World) → Good w → Good (run es w)
 runs [] w inv = inv
 runs (e ∷ es) w inv = runs es (step w e) (good_keeps w e inv)
 
+-- in every run the hop is in order
 pub is_good : (es : List Event) → Good (run es start)
 is_good es = runs es start begins
 
@@ -163,6 +166,7 @@ weak_once c (Some (sent i)) q t = t
 weak_once c (Some (released i)) q t = t
 weak_once c (Some (ended by)) q t = end_once c by t
 
+-- a message that is to come exactly once was accepted at most once
 pub once : (w : World) (n : ℕ) → Good w → IsExactlyOnce (fate_of n w) → accepted_count n w ≤ 1
 once w n (inl h) q = told_once w.ids (accepted_count n w) (fate_of n w) q (h.told n)
 once w n (inr h) q = weak_once (accepted_count n w) (fate_of n w) q (h.weak n)
@@ -172,14 +176,17 @@ pub ended_is : (w : World) (n : ℕ) (by : Finish) → Good w → fate_of n w �
 ended_is w n by (inl h) e = subst (Told w.ids (accepted_count n w)) e (h.told n)
 ended_is w n by (inr h) e = subst (Weak (accepted_count n w)) e (h.weak n)
 
+-- a message of QoS 1 that ended so was accepted as its end tells
 pub ended_1_is : (w : World) (n : ℕ) (by : Finish) → Good w → fate_of n w ≡ Some (ended_1 by) → EndTold_1 (accepted_count n w) by
 ended_1_is w n by (inl h) e = subst (Told w.ids (accepted_count n w)) e (h.told n)
 ended_1_is w n by (inr h) e = subst (Weak (accepted_count n w)) e (h.weak n)
 
+-- a message that was not sent was not accepted
 pub unsent_is : (w : World) (n : ℕ) → Good w → fate_of n w ≡ None → accepted_count n w ≡ 0
 unsent_is w n (inl h) e = subst (Told w.ids (accepted_count n w)) e (h.told n)
 unsent_is w n (inr h) e = subst (Weak (accepted_count n w)) e (h.weak n)
 
+-- never are more identifiers open than may be
 pub few : (w : World) → Good w → length w.ids ≤ OPEN_LIMIT
 few w (inl h) = h.within
 few w (inr h) = rw h.of_ids (omega arith)

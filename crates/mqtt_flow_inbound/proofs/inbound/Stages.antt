@@ -206,15 +206,18 @@ pub record Fresh (w : World) : Type 0 where
 abbrev pub Good : World → Type 0
 Good w = Norm w ⊎ Fresh w
 
+-- at most nothing is nothing
 pub at_most_none : {P : Type 0} {xs : List P} → AtMost xs [] → xs ≡ []
 at_most_none (inl e) = e
 at_most_none (inr e) = e
 
+-- "at most" goes on from one to the next
 pub at_most_more : {P : Type 0} {xs ys zs : List P} → AtMost xs ys → AtMost ys zs → AtMost xs zs
 at_most_more (inl e) h = inl e
 at_most_more (inr e) (inl h) = inl (e ∙ h)
 at_most_more (inr e) (inr h) = inr (e ∙ h)
 
+-- where at most so much is and something is, it is all of that
 pub at_head : {P : Type 0} {xs ys : List P} {p : P} → AtMost (p ∷ xs) ys → p ∷ xs ≡ ys
 at_head (inl e) = absurd (cc)
 at_head (inr e) = e
@@ -243,6 +246,7 @@ fits_more (receiving n code) acc acc' g h = tt
 fits_more (releasing n o) acc acc' g h = tt
 fits_more (completing n code) acc acc' g h = tt
 
+-- what holds of an identifier holds behind more acceptances
 pub more_accepted : {i : ℕ} {f : List Fate} {a b : List FromPublisher} {d : List ToPublisher} {o acc : List ℕ} (acc' : List ℕ) (s : Stage) → IsMore acc acc' → At i f a b d o acc s → At i f a b d o acc' s
 more_accepted {acc = acc} acc' s g at = record {
   holds = at.holds;
@@ -253,5 +257,6 @@ more_accepted {acc = acc} acc' s g at = record {
   fits = fits_more s acc acc' g at.fits;
 }
 
+-- what holds of one identifier and of all others holds of each
 pub by_id : (P : ℕ → Type 0) (i j : ℕ) → P i → (nat_eq j i ≡ false → P j) → P j
 by_id P i j p q = ⊎_elim (λ (e : nat_eq j i ≡ true). subst P (sym (eqb-true j i e)) p) q (test_cases (nat_eq j i))

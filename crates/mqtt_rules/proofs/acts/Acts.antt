@@ -230,6 +230,7 @@ IsCallOf about (Lost n) b = IsItsLine about n b
 IsCallOf about (Pump n) b = IsItsLine about n b
 IsCallOf about Tick b = IsDue about b
 
+-- every call does what is asked of a call without conditions
 pub call_of_anyone : (call : Call) (b : Broker) → IsCallOf anyone call b
 call_of_anyone NewLine b = tt
 call_of_anyone (Input n packet) b = ((λ l e. tt), tt)
@@ -238,6 +239,7 @@ call_of_anyone (Lost n) b = λ l e. tt
 call_of_anyone (Pump n) b = λ l e. tt
 call_of_anyone Tick b = record { silent = λ l e. tt; wills = λ s e. tt; ends = λ s e. tt }
 
+-- nothing is asked of what acts find
 pub finds_anyone : (Keep : Broker → Type 0) → Finds anyone Keep
 finds_anyone Keep = record {
   its_number = λ l its. tt;
@@ -251,6 +253,7 @@ finds_anyone Keep = record {
 
 -- ---- a line and its number
 
+-- the line found by a number has that number
 pub found_number : (n : ℕ) (l : Line) (ls : List Line) → find (λ x. nat_eq x.number n) ls ≡ Some l → l.number ≡ n
 found_number n l [] e = absurd cc
 found_number n l (x ∷ ls) e = elim (cases_Bool (nat_eq x.number n)) [
@@ -258,6 +261,7 @@ found_number n l (x ∷ ls) e = elim (cases_Bool (nat_eq x.number n)) [
   | inr other ↦ found_number n l ls (rw other at e)
 ]
 
+-- a line that stands has its session on it
 pub found_on : (l : Line) (ls : List Line) → IsAmong l ls → IsOn l.number l.session ls
 found_on l [] h = absurd h
 found_on l (x ∷ ls) h = elim h [
@@ -277,6 +281,7 @@ beside_line now (SetAlias alias topic) l h = (refl, refl)
 beside_line now (Greet birth keep_alive window largest) l h = absurd cc
 beside_line now (Went place) l h = absurd cc
 
+-- what happens on a line, other than a greeting, keeps who stands on the others
 pub stays_on : (now k : ℕ) (part : LinePart) (n : ℕ) (session : Option ℕ) (ls : List Line) → is_beside part ≡ true → IsOn n session ls → IsOn n session (on_line now k part ls)
 stays_on now k part n session [] h on = absurd on
 stays_on now k part n session (l ∷ ls) h on = elim (cases_Bool (nat_eq l.number k)) [

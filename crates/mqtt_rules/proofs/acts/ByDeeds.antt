@@ -111,6 +111,7 @@ retain_now true true number m b = forgotten (retained_of m.topic b.records)
     forgotten (Some x) = refl
 retain_now true false number m b = refl
 
+-- an accepted publication finds a place for its retained message
 pub place_found : (env : Env) (m : Message) (b : Broker) (ds : List CopyTo) → accepted_copies env m b ≡ Some ds → finds_place env m b.records ≡ true
 place_found env m b ds e = accepted (finds_place env m b.records) _ ds e
   where

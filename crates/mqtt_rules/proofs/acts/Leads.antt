@@ -14,6 +14,7 @@ use Rattle.mqtt_rules.proofs.acts.Goods.{after_append, AreGood, good_append}
 
 -- ---- what a search finds is there
 
+-- what is found in a list is among its items
 pub found_among : {X : Type 0} (test : X → Bool) (x : X) (xs : List X) → find test xs ≡ Some x → IsAmong x xs
 found_among test x [] e = absurd cc
 found_among test x (y ∷ ys) e = elim (cases_Bool (test y)) [
@@ -21,6 +22,7 @@ found_among test x (y ∷ ys) e = elim (cases_Bool (test y)) [
   | inr other ↦ inr (found_among test x ys (rw other at e))
 ]
 
+-- a row found by its key is among the rows
 pub row_among : {X : Type 0} (key : X → ℕ) (k : ℕ) (x : X) (xs : List X) → row_at key k xs ≡ Some x → IsAmong x xs
 row_among key k x [] e = absurd cc
 row_among key k x (y ∷ ys) e = elim (cases_Bool (nat_eq (key y) k)) [
@@ -28,6 +30,7 @@ row_among key k x (y ∷ ys) e = elim (cases_Bool (nat_eq (key y) k)) [
   | inr other ↦ inr (row_among key k x ys (rw other at e))
 ]
 
+-- what is found by a test passes it
 pub found_passes : {X : Type 0} (test : X → Bool) (x : X) (xs : List X) → find test xs ≡ Some x → test x ≡ true
 found_passes test x [] e = absurd cc
 found_passes test x (y ∷ ys) e = elim (cases_Bool (test y)) [

@@ -134,12 +134,14 @@ client_put row k r new room =
     mapped true = refl
     mapped false = refl
 
+-- beginning a session names that one alone
 pub client_begun : (row : Columns) (will : Option Will) (k : ℕ) (r : Records) → session_at row.birth r ≡ None → HasRoomFor birth_of SESSION_LIMIT row.birth r.sessions
     → client_at k (stored_after (Begin row will) r) ≡ cond (nat_eq row.birth k) (Some row.client) (client_at k r)
 client_begun row None k r new room = client_put row k r new room
 client_begun row (Some w) k r new room =
     field_kept client_of row.birth k (with_will (Some w)) (changed (PutSession row) r) (λ s. refl) (λ s. refl) ∙ client_put row k r new room
 
+-- finishing a session unnames that one alone
 pub client_finished : (who : Whose) (k : ℕ) (r : Records) → client_at k (stored_after (Finish who) r) ≡ cond (nat_eq who.birth k) None (client_at k r)
 client_finished who k r = ap (option_map client_of) (row_at-remove_row birth_of k who.birth r.sessions) ∙ mapped (nat_eq who.birth k)
   where

@@ -70,6 +70,7 @@ by_refused table (c ∷ cs) alias fault some fits r = named_refused (c ∷ cs) f
 
 -- ---- both
 
+-- a topic that resolves has the meaning that it resolves to
 pub resolved_means : (table : AliasTable) (topic : List ℕ) (alias : Option ℕ) (name : List ℕ) → Resolves table topic alias name → resolved table topic alias ≡ Means name
 resolved_means table topic None name r = named_means topic name r.0 r.1
 resolved_means table [] (Some alias) name r =
@@ -81,6 +82,7 @@ within : (t : Bool) (x : Meaning) (name : List ℕ) → cond t x (Wrong topic_al
 within true x name e = (refl, e)
 within false x name e = absurd (cc)
 
+-- and the meaning comes from resolving alone
 pub resolved_only : (table : AliasTable) (topic : List ℕ) (alias : Option ℕ) (name : List ℕ) → resolved table topic alias ≡ Means name → Resolves table topic alias name
 resolved_only table topic None name e = named_only topic name e
 resolved_only table [] (Some alias) name e =
@@ -97,6 +99,7 @@ beyond table topic alias fault some fits r =
     ap (λ t. cond t (named_by table topic alias) (Wrong topic_alias_invalid)) (in_range table.max alias r.0)
     ∙ by_refused table topic alias fault some fits r.1
 
+-- an alias that is refused has no meaning, but a reason code
 pub resolved_refused : (table : AliasTable) (topic : List ℕ) (alias : Option ℕ) (fault : TopicFault) → fault ≢ Memory → fault ≢ NotText → RefusesAlias table topic alias fault
     → resolved table topic alias ≡ Wrong (topic_code fault)
 resolved_refused table topic None fault some fits r = named_refused topic fault some fits r
@@ -112,12 +115,15 @@ resolved_refused table topic (Some alias) NotText some fits r = absurd (fits ref
 
 -- ---- a Subscription Identifier comes first
 
+-- a PUBLISH without a Subscription Identifier is read on
 pub unless_identified : (t : Bool) (x : Meaning) → t ≡ false → cond t (Wrong protocol_error) x ≡ x
 unless_identified t x e = ap (λ b. cond b (Wrong protocol_error) x) e
 
+-- one with a Subscription Identifier is a protocol error
 pub if_identified : (t : Bool) (x : Meaning) → t ≡ true → cond t (Wrong protocol_error) x ≡ Wrong protocol_error
 if_identified t x e = ap (λ b. cond b (Wrong protocol_error) x) e
 
+-- a PUBLISH that has a meaning has no Subscription Identifier
 pub identified_only : (t : Bool) (x : Meaning) (name : List ℕ) → cond t (Wrong protocol_error) x ≡ Means name → x ≡ Means name
 identified_only true x name e = absurd (cc)
 identified_only false x name e = e

@@ -27,8 +27,10 @@ pub unfront : (xs ys : List ℕ) → auto ++ xs ≡ auto ++ ys → xs ≡ ys
 unfolding behind
 unfront xs ys same = ap (λ (zs : List ℕ). behind (behind (behind (behind (behind zs))))) same
 
+-- two assigned names are the same only if their numbers are
 pub assigned_differ : (m n : ℕ) → m < 2 ^ 64 → n < 2 ^ 64 → auto ++ decimal m ≡ auto ++ decimal n → m ≡ n
 assigned_differ m n small less same = decimals_differ m n small less (unfront (decimal m) (decimal n) same)
 
+-- an assigned name begins as such names do
 pub assigned_starts : (n : ℕ) → starts_with nat_eq (auto ++ decimal n) auto ≡ true
 assigned_starts n = refl

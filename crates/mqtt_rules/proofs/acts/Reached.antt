@@ -30,6 +30,7 @@ chosen_among : (m : Member) (es : List Member) → IsAmong m es → (n : ℕ) ×
 chosen_among m [] h = absurd h
 chosen_among m (e ∷ es) h = let place = place_among m (e ∷ es) h in (place.0, ap Some (place.1 e))
 
+-- a group with an eligible member is served by one
 pub member_reached : (at : Answers) (p : Publication) (all : List Member) (direct : List Copy) (before : List Served) (text : List ℕ) (m : Member)
     → IsAmong m (in_group text all) → is_eligible at p direct before m ≡ true
     → (n : ℕ) × (serve_one at p direct before n text all ≡ Some (served_by p text m))
@@ -61,6 +62,7 @@ module _ (at : Answers) (p : Publication) (all : List Member) (direct : List Cop
       one None h e = absurd cc
       one (Some s) h e = h s e
 
+-- groups are served one after the other, each on what those before it left
 pub serve_apart : (at : Answers) (p : Publication) (all : List Member) (direct : List Copy) (first later : List ℕ) (n : ℕ) (groups rest : List (List ℕ)) (text : List ℕ) (none before : List Served)
     → length first ≡ length groups
     → serve at p all direct first groups none ≡ Some before

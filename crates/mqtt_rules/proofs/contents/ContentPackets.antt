@@ -44,6 +44,7 @@ use Rattle.mqtt_records.specs.Session.{auto}
 
 -- ---- what is passed on
 
+-- what a PUBLISH passes on is a content that copies may have
 pub published : (sizes : Sizes) (place : Place) (topic : List ℕ) (ps : List Prop) (payload : List ℕ) → IsContentOf sizes place topic ps payload → IsContentOf sizes places.Publish topic (passed_on ps) payload
 published sizes place topic ps payload h =
     let less = block_within (passed_on ps) ps (passed_short ps) in
@@ -103,6 +104,7 @@ publish_short p taken =
     let third = length-append (block p.properties) p.payload in
     omega (arith, short, framing, first, second, third)
 
+-- a PUBLISH that was taken and has a meaning gives a lawful content
 pub sent_content : (sizes : Sizes) → AreSizes sizes → (p : Publication) (table : AliasTable) (topic : List ℕ) → IsTaken (packets.Publish p) → AllByRecursion (λ e. IsTopic e.1) table.topics → meaning p table ≡ Means topic
     → IsContentOf sizes places.Publish topic (passed_on p.properties) p.payload
 sent_content sizes are p table topic taken h is =
@@ -165,6 +167,7 @@ will_content sizes are (Some w) good fits lawful short =
       short = omega (arith, short, first, second, third, most);
     }
 
+-- a CONNECT that was taken and is not refused gives a lawful Will
 pub asked_content : (sizes : Sizes) → AreSizes sizes → (c : Greeting) (r : Records) → IsTaken (packets.Connect c) → refusal c r ≡ None → IsWilledOf sizes (will_of c)
 asked_content sizes are c r taken e =
     let lawful = two (keeps_laws places.Connect c.properties) (lawful_will c.will) taken.spelled.2 in
@@ -193,6 +196,7 @@ number_found (p ∷ ps) each values =
       | inr other ↦ rw other (number_found ps each.1 parts.1)
     ]
 
+-- a SUBSCRIBE that was taken has a Subscription Identifier in range, if any
 pub asked_identifier : (p : Asking) → IsTaken (packets.Subscribe p) → IsIdentifier (number_at SubscriptionIdentifier p.properties)
 asked_identifier p taken =
     let laws = two (none_repeats places.Subscribe p.properties) (values_are_lawful p.properties) (two (keeps_laws places.Subscribe p.properties) _ taken.spelled.2).0 in

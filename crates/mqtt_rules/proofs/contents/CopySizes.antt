@@ -21,9 +21,11 @@ use Rattle.mqtt_rules.proofs.contents.PassedContents.{props_append}
 
 -- ---- properties
 
+-- a property has as many bytes however long it waited
 pub aged_length : (waited : ℕ) (p : Prop) → length (prop (aged waited p)) ≡ length (prop (aged 0 p))
 aged_length waited p = elim (cases_Bool (is_named MessageExpiryInterval p)) [ inl named ↦ rw named refl | inr other ↦ rw other refl ]
 
+-- properties have as many bytes however long they waited
 pub all_aged : (waited : ℕ) (ps : List Prop) → length (props (map (aged waited) ps)) ≡ length (props (map (aged 0) ps))
 all_aged waited [] = refl
 all_aged waited (p ∷ ps) =
@@ -74,6 +76,7 @@ body_length now dup id copy =
     let block_is = block_length sent (first_sent copy) (props_sent (seconds_waited now copy.content) copy.identifiers copy.content.properties) in
     omega (arith, first, named, second, third, field_is, block_is)
 
+-- a copy's PUBLISH has the same size at each moment, with DUP or without, under each identifier
 pub sent_size : (now : ℕ) (dup : Bool) (id : ℕ) (copy : MessageCopy) → size_of (publish_of now dup id copy) ≡ publish_size copy
 sent_size now dup id copy =
     let body = shortest_body (publish_of now dup id copy) in
@@ -82,5 +85,6 @@ sent_size now dup id copy =
     let lengths : length (varint (length body)) ≡ length (varint (remaining copy)) = ap (λ (n : ℕ). length (varint n)) is in
     omega (arith, is, whole, lengths)
 
+-- and it is that of the first sending
 pub first_size : (copy : MessageCopy) → publish_size copy ≡ size_of (publish_of copy.content.arrived false 1 copy)
 first_size copy = sym (sent_size copy.content.arrived false 1 copy)

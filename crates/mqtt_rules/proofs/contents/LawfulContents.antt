@@ -130,6 +130,7 @@ session_contents last s h = record {
   queue = each_more (IsLawfulCopy last s.birth) (λ e. IsCopied e.copy) (copy_content last s.birth) s.queue h.queue.each;
 }
 
+-- what a store may hold has lawful contents
 pub lawful_contents : (r : Records) → IsLawful r → HasLawfulContents r
 lawful_contents r h =
     let last = last_of r in

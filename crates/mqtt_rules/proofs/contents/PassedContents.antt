@@ -22,25 +22,30 @@ use Rattle.mqtt_rules.proofs.numbers.Copies.{each_append}
 
 -- ---- tests
 
+-- both parts of an "and" that holds hold
 pub two : (a b : Bool) → (a && b) ≡ true → (a ≡ true) × (b ≡ true)
 two true b h = (refl, h)
 two false b h = absurd cc
 
+-- an "and" holds if both its parts do
 pub and_two : (a b : Bool) → a ≡ true → b ≡ true → (a && b) ≡ true
 and_two true true p q = refl
 and_two true false p q = absurd cc
 and_two false b p q = absurd cc
 
+-- a property that may stand once was not found before
 pub not_again : (may found rest : Bool) → ((may || not found) && rest) ≡ true → may ≡ false → found ≡ false
 not_again true found rest h never = absurd cc
 not_again false true rest h never = absurd cc
 not_again false false rest h never = refl
 
+-- a property may stand if it was not found before
 pub unless_found : (may found rest : Bool) → found ≡ false → rest ≡ true → ((may || not found) && rest) ≡ true
 unless_found may true rest none r = absurd cc
 unless_found true false rest none r = r
 unless_found false false rest none r = r
 
+-- a property that may stand often may stand
 pub where_may : (may found rest : Bool) → may ≡ true → rest ≡ true → ((may || not found) && rest) ≡ true
 where_may true found rest m r = r
 where_may false found rest m r = absurd cc
@@ -59,6 +64,7 @@ has_other a b (p ∷ ps) rest apart none = elim (cases_Bool (is_named b p)) [
   | inr other ↦ rw other (has_other a b ps rest apart none)
 ]
 
+-- a property that is named so has that name
 pub name_is : (name : PropName) (p : Prop) → is_named name p ≡ true → p.name ≡ name
 name_is name p named = id_is p.name name (eqb-true (property_row p.name).id (property_row name).id named)
 
@@ -189,6 +195,7 @@ chain_may ps =
     (all_may CorrelationData ps (users_of ps) refl
     (all_may UserProperty ps [] refl refl)))))
 
+-- what was not found is no hindrance
 pub no_data : (found other : Bool) → found ≡ false → (not found || other) ≡ true
 no_data true other e = absurd cc
 no_data false other e = refl
@@ -202,14 +209,17 @@ chain_lawful place ps h =
     (and_two (list_all (λ p. is_lawful_value p.name p.value) (chain ps)) (has_method_for_data (chain ps)) (all_chain (λ p. is_lawful_value p.name p.value) ps each.0)
     (no_data (has AuthenticationData (chain ps)) (has AuthenticationMethod (chain ps)) none))
 
+-- what is passed on may stand in a PUBLISH
 pub passed_may : (ps : List Prop) → all_may_stand Publish (passed_on ps) ≡ true
 passed_may ps = subst (λ (xs : List Prop). all_may_stand Publish xs ≡ true) (chain_is ps) (chain_may ps)
 
+-- what is passed on is lawful in a PUBLISH
 pub passed_lawful : (place : Place) (ps : List Prop) → is_lawful place ps ≡ true → is_lawful Publish (passed_on ps) ≡ true
 passed_lawful place ps h = subst (λ (xs : List Prop). is_lawful Publish xs ≡ true) (chain_is ps) (chain_lawful place ps h)
 
 -- ---- sizes
 
+-- two lists of properties have the bytes of both
 pub props_append : (ps qs : List Prop) → length (props (ps ++ qs)) ≡ length (props ps) + length (props qs)
 props_append [] qs = omega arith
 props_append (p ∷ ps) qs =
@@ -218,6 +228,7 @@ props_append (p ∷ ps) qs =
     let front = length-append (prop p) (props ps) in
     omega (arith, rest, whole, front)
 
+-- the properties of one name and the others have the bytes of all
 pub parted : (name : PropName) (ps : List Prop) → length (props (only name ps)) + length (props (without name ps)) ≡ length (props ps)
 parted name [] = refl
 parted name (p ∷ ps) =
@@ -281,6 +292,7 @@ names_apart = (
   ((refl, (refl, (refl, (refl, tt)))), ((refl, (refl, (refl, tt))), ((refl, (refl, tt)), ((refl, tt), (tt, tt))))),
 )
 
+-- what is passed on is no longer than what came
 pub passed_short : (ps : List Prop) → length (props (passed_on ps)) ≤ length (props ps)
 passed_short ps =
     let is : length (props (chain ps)) ≡ length (props (passed_on ps)) = ap (λ (xs : List Prop). length (props xs)) (chain_is ps) in
@@ -291,6 +303,7 @@ passed_short ps =
 each_only : (name : PropName) (ps rest : List Prop) → FitsBlock ps → AllByRecursion IsProp rest → AllByRecursion IsProp (only name ps ++ rest)
 each_only name ps rest fits h = each_append IsProp (only name ps) rest (FitsBlock-filter (is_named name) ps fits).each h
 
+-- what is passed on fits a block if what came did
 pub passed_fits : (ps : List Prop) → FitsBlock ps → FitsBlock (passed_on ps)
 passed_fits ps fits =
     let each =
@@ -304,6 +317,7 @@ passed_fits ps fits =
     let long = fits.short in
     record { each = subst (λ (xs : List Prop). AllByRecursion IsProp xs) (chain_is ps) each; short = omega (arith, short, long) }
 
+-- a shorter list of properties has no longer block
 pub block_within : (ps qs : List Prop) → length (props ps) ≤ length (props qs) → length (block ps) ≤ length (block qs)
 block_within ps qs le =
     let lengths = varint_sizes (length (props ps)) (length (props qs)) le in

@@ -196,6 +196,7 @@ aged_sizes waited (x ∷ xs) h =
     let new = length-append (prop (aged waited x)) (props (map (aged waited) xs)) in
     omega (arith, one, rest, old, new)
 
+-- the greatest length takes four bytes
 pub longest : length (varint 268435455) ≡ 4
 unfolding varint
 longest = refl
@@ -214,6 +215,7 @@ identified_sizes (n ∷ ns) h =
     let whole = length-append (prop (identified n)) (props (map identified ns)) in
     omega (arith, rest, four, top, whole)
 
+-- what is sent is at most five bytes longer for each Subscription Identifier
 pub sent_size : (sizes : Sizes) (waited : ℕ) (ids : List ℕ) (ps : List Prop) → AreIdentifiersOf sizes ids → FitsBlock ps → length (props (sent_after waited ids ps)) ≤ length (props ps) + 5 * sizes.identifiers
 sent_size sizes waited ids ps h fits =
     let others = without UserProperty ps in
@@ -237,6 +239,7 @@ sent_more waited ids ps fits =
 
 -- ---- what is sent
 
+-- what is sent fits a block if there is room for the identifiers
 pub sent_fits : (sizes : Sizes) (waited : ℕ) (ids : List ℕ) (ps : List Prop) → AreIdentifiersOf sizes ids → FitsBlock ps → length (props ps) + 5 * sizes.identifiers < 2 ^ 28 → FitsBlock (sent_after waited ids ps)
 sent_fits sizes waited ids ps h fits short =
     let others = without UserProperty ps in
@@ -256,10 +259,12 @@ all_sent sizes test waited ids ps kept is h all =
     (all_append test (map (aged waited) others) (map identified ids) (all_aged test waited others kept (all_filter test (λ p. not (is_named UserProperty p)) ps all)) (all_identified test ids is h.each))
     (all_filter test (is_named UserProperty) ps all)
 
+-- what is sent may stand in a PUBLISH
 pub sent_may : (sizes : Sizes) (waited : ℕ) (ids : List ℕ) (ps : List Prop) → AreIdentifiersOf sizes ids → all_may_stand Publish ps ≡ true → all_may_stand Publish (sent_after waited ids ps) ≡ true
 sent_may sizes waited ids ps h may =
     all_sent sizes (λ p. may_stand p.name Publish) waited ids ps (λ p q. ap (λ (n : PropName). may_stand n Publish) (aged_name waited p) ∙ q) (λ n q. refl) h may
 
+-- what is sent is lawful in a PUBLISH
 pub sent_lawful : (sizes : Sizes) (waited : ℕ) (ids : List ℕ) (ps : List Prop) → AreIdentifiersOf sizes ids → all_may_stand Publish ps ≡ true → is_lawful Publish ps ≡ true → is_lawful Publish (sent_after waited ids ps) ≡ true
 sent_lawful sizes waited ids ps h may lawful =
     let sent = sent_after waited ids ps in

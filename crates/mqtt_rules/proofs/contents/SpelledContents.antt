@@ -45,6 +45,7 @@ block_size sizes are copy h =
     let block = block_short (first_sent copy) (omega (arith, short, size, bytes, few)) in
     omega (arith, short, size, block)
 
+-- a copy of a lawful content has a spelling
 pub copy_spelled : (sizes : Sizes) → AreSizes sizes → (copy : MessageCopy) → IsCopiedOf sizes copy → IsSpelled copy
 copy_spelled sizes are copy h =
     let ps = copy.content.properties in
@@ -63,9 +64,11 @@ copy_spelled sizes are copy h =
 pub packets_are : AreSizes of_packets
 packets_are = record { bytes = (omega arith, omega arith); identifiers = (omega arith, omega arith) }
 
+-- the sizes of stored rows are such as a lawful content may have
 pub rows_are : AreSizes of_rows
 rows_are = record { bytes = (omega arith, omega arith); identifiers = (omega arith, omega arith) }
 
+-- a copy of what packets can carry is a lawful PUBLISH
 pub copy_message : (copy : MessageCopy) → IsCopiedOf of_packets copy → IsMessage places.Publish copy.content.topic (first_sent copy) copy.content.payload
 copy_message copy h =
     let ps = copy.content.properties in
@@ -88,9 +91,11 @@ content_message place topic ps payload h =
     let long = h.named.fits.0 in
     record { text = h.named.fits; spelled = h.fits; may = h.may; lawful = h.lawful; short = omega (arith, short, long); topic = h.named.name }
 
+-- a retained message of what packets can carry is a lawful PUBLISH
 pub retained_message : (content : Content) → IsPublishedOf of_packets content → IsMessage places.Publish content.topic content.properties content.payload
 retained_message content h = content_message places.Publish content.topic content.properties content.payload h
 
+-- a Will of what packets can carry is a lawful one
 pub will_message : (will : Option Will) → IsWilledOf of_packets will → HasLawfulWill will
 will_message None h = tt
 will_message (Some will) h = content_message places.Will will.topic will.properties will.payload h

@@ -67,6 +67,7 @@ IsFit (At who part) b = IsFitPart who.birth part b.records
 IsFit (Keep kept) b = IsFitMessage kept b.records
 IsFit d b = ⊤
 
+-- a deed that fits gives the next numbers, if it gives any
 pub fit_next : (d : Deed) (b : Broker) → IsFit d b → GivesNext d b
 fit_next (Accept number origin m) b fit = fit
 fit_next (Begin row will) b fit = fit.next
@@ -94,6 +95,7 @@ pub record Coheres (r : Records) : Type 0 where
 
 -- ---- sessions
 
+-- a name assigned up to a number is assigned up to any greater one
 pub assigned_more : (m n : ℕ) (client : List ℕ) → m ≤ n → IsAssignedUpTo m client → IsAssignedUpTo n client
 assigned_more m n client le h is = let x = h is in let up = x.1 in (x.0, omega (arith, up, le), x.2)
 
@@ -180,9 +182,11 @@ sessions_deed (Gone n) b fit h = h.sessions
 
 -- ---- client identifiers
 
+-- no session stands yet under the birth that is given next
 pub no_session : (r : Records) (birth : ℕ) → birth ≡ suc r.births → HasGivenBirths r → session_at birth r ≡ None
 no_session r birth is low = subst (λ (n : ℕ). session_at n r ≡ None) (sym is) (below_none birth_of (suc r.births) r.sessions low)
 
+-- "or" holds if its second part does
 pub or_right : (x y : Bool) → y ≡ true → (x || y) ≡ true
 or_right true y is = refl
 or_right false y is = is
@@ -261,6 +265,7 @@ retained_deed (Gone n) b fit h = h.retained
 
 -- ---- together
 
+-- a deed that fits leaves coherent records coherent
 pub coheres_deed : (d : Deed) (b : Broker) → IsFit d b → Coheres b.records → Coheres (after d b).records
 coheres_deed d b fit h =
     let new = (after d b).records in

@@ -56,6 +56,7 @@ naming = record anyone { client = λ client b. IsAssignedUpTo b.records.autos cl
 
 -- ---- searches
 
+-- what holds of each item holds of one that is among them
 pub all_among : {X : Type 0} (P : X → Type 0) (x : X) (xs : List X) → AllByRecursion P xs → IsAmong x xs → P x
 all_among P x [] h among = absurd among
 all_among P x (y ∷ ys) h among = elim among [ inl it ↦ subst P it h.0 | inr more ↦ all_among P x ys h.1 more ]
@@ -67,6 +68,7 @@ none_passes test x (y ∷ ys) e among = elim (cases_Bool (test y)) [
   | inr other ↦ elim among [ inl it ↦ ap test (sym it) ∙ other | inr more ↦ none_passes test x ys (rw other at e) more ]
 ]
 
+-- a row found by its key is among the rows
 pub row_is_among : {X : Type 0} (key : X → ℕ) (k : ℕ) (x : X) (xs : List X) → row_at key k xs ≡ Some x → IsAmong x xs
 row_is_among key k x [] e = absurd cc
 row_is_among key k x (y ∷ ys) e = elim (cases_Bool (nat_eq (key y) k)) [
@@ -79,6 +81,7 @@ pub mapped_some : {X Y : Type 0} (f : X → Y) (o : Option X) (y : Y) → option
 mapped_some f None y e = absurd cc
 mapped_some f (Some x) y e = let it : f x ≡ y = cc in (x, refl, it)
 
+-- texts that are equal are the same byte by byte
 pub same_text : (a b : List ℕ) → a ≡ b → bytes_eq a b ≡ true
 same_text a b is = (bytes_eq-Decides a b).1 is
 
@@ -90,6 +93,7 @@ client_found birth client r e =
     let x = mapped_some (λ (s : Session). s.client) (session_at birth r) client e in
     (x.0, row_is_among birth_of birth x.0 r.sessions x.1, x.2)
 
+-- a name by which no session is found is no session's name
 pub name_is_new : (client : List ℕ) (r : Records) → session_named client r ≡ None → (birth : ℕ) → client_at birth r ≡ Some client → ⊥
 name_is_new client r none birth there =
     let x = client_found birth client r there in
@@ -135,6 +139,7 @@ admitted_name c b k e starts =
         let given = its (ap (λ (text : List ℕ). starts_with nat_eq text auto) same ∙ starts) in
         (given.0, given.1, sym same ∙ given.2)
 
+-- a deed that fits lowers no counter of assigned names
 pub autos_grow : (d : Deed) (b : Broker) → IsFit d b → b.records.autos ≤ (counts_after d (counts b.records)).autos
 autos_grow (Name n) b fit = omega (arith, fit)
 autos_grow (deeds.Accept number origin m) b fit = omega arith
@@ -402,6 +407,7 @@ alone_fits who (Release id) b is = tt
 fewer_sessions : (env : Env) → AreWithin env.limits → (n : ℕ) → nat_lt n env.limits.sessions ≡ true → nat_lt n SESSION_LIMIT ≡ true
 fewer_sessions env within n room = let less = ltb-true n env.limits.sessions room in let le = within.sessions in lt-ltb n SESSION_LIMIT (omega (arith, less, le))
 
+-- every deed of every act fits what stands as it is done
 pub fit_law : (env : Env) → AreWithin env.limits → DeedLaw env naming Keeps IsFit
 fit_law env within = record {
   finds = record {
@@ -449,5 +455,6 @@ fit_law env within = record {
   gone = λ line b k. tt;
 }
 
+-- marking a copy, as turns do, fits
 pub fit_mark : MarkLaw Keeps IsFit
 fit_mark who place phase b k = tt

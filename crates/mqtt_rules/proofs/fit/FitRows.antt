@@ -43,6 +43,7 @@ unspent_one x xs e =
     let both = or_false (nat_lt LAST_NUMBER (number_given x)) (is_spent xs) e in
     (ltb-false LAST_NUMBER (number_given x) both.0, both.1)
 
+-- no number is spent in two lists of rows if none is in both together
 pub unspent_append : (xs ys : List Change) → is_spent (xs ++ ys) ≡ false → (is_spent xs ≡ false) × (is_spent ys ≡ false)
 unspent_append [] ys e = (refl, e)
 unspent_append (x ∷ xs) ys e =
@@ -96,6 +97,7 @@ or_right : (x y : Bool) → y ≡ true → (x || y) ≡ true
 or_right true y is = refl
 or_right false y is = is
 
+-- two lists of rows fit one behind the other if the second fits what the first leaves
 pub fit_append : (xs ys : List Change) (r : Records) → FitAll xs r → FitAll ys (changed_all xs r) → FitAll (xs ++ ys) r
 fit_append [] ys r p q = q
 fit_append (x ∷ xs) ys r p q = (p.0, fit_append xs ys (changed x r) p.1 q)

@@ -89,6 +89,7 @@ module _ (last : Last) where
   copies_up_to : (s : Session) → IsLawfulSession last s → HasCopiesUpTo last.publications s
   copies_up_to s h = each_more (IsLawfulCopy last s.birth) (λ e. e.copy.id.publication ≤ last.publications) (λ e g. g.due.publication.1) s.queue h.queue.each
 
+-- what a store may hold is coherent
 pub lawful_coherent : (r : Records) → IsLawful r → IsCoherent r
 lawful_coherent r h =
     let last = last_of r in
@@ -112,6 +113,7 @@ lawful_coherent r h =
       };
     }
 
+-- what a store may hold has copies of accepted publications alone
 pub lawful_accepted : (r : Records) → IsLawful r → HasAcceptedNumbers r
 lawful_accepted r h =
     let last = last_of r in (

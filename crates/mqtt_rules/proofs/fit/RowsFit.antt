@@ -32,6 +32,7 @@ use Rattle.mqtt_rules.proofs.fit.FitRows.{AreNumbers, fits_all, fit_append, unsp
 
 -- ---- what is asked, and what the deeds keep
 
+-- coherent records have all that the walk over deeds asks of them
 pub made_of : (r : Records) → IsCoherent r → Coheres r
 made_of r h = record { ordered = h.ordered; clients = λ le. h.clients; topics = h.topics; births = h.births; sessions = h.sessions; retained = h.retained }
 
@@ -95,6 +96,7 @@ done_fits ds b ready e =
 
 -- ---- steps
 
+-- each call does what the walk over deeds asks of a call that may give names
 pub naming_call : (call : Call) (b : Broker) → IsCallOf naming call b
 naming_call NewLine b = tt
 naming_call (Input n packet) b = ((λ l e. tt), tt)
@@ -103,6 +105,7 @@ naming_call (Lost n) b = λ l e. tt
 naming_call (Pump n) b = λ l e. tt
 naming_call Tick b = record { silent = λ l e. tt; wills = λ s e. tt; ends = λ s e. tt }
 
+-- within the tables no queue is longer than a queue may be
 pub queues_short : (ss : List Session) → AllByRecursion HasTables ss → AreShort QUEUE_LIMIT ss
 queues_short [] h = tt
 queues_short (s ∷ ss) h = (h.0.queue.within, queues_short ss h.1)
@@ -137,6 +140,7 @@ module _ (env : Env) (within : AreWithin env.limits) (b : Broker) (h : IsCoheren
     stands = stands_opening env b h.ordered;
   }
 
+-- the moment of a step is one that is kept
 pub moment_last : (b : Broker) (now : ℕ) → IsNumber b.now → IsNumber (at_moment now b).now
 moment_last b now last = max-le last (min-le_right now LAST_NUMBER)
 
@@ -149,10 +153,12 @@ step_made limits choice now call b within h timed last e =
     done_fits (deeds limits choice now call b) (at_moment now b)
     (ready_call (env_of limits choice b) within (at_moment now b) h (moment_timed b now timed) (moment_last b now last) call) e
 
+-- the rows of a step fit what is stored, if no number is spent
 pub step_fits : (limits : Limits) (choice : MemberChoice) (now : ℕ) (call : Call) (b : Broker) → AreWithin limits → IsCoherent (stored b) → IsTimed b → IsNumber b.now → is_step_spent limits choice now call b ≡ false
     → FitAll (rows_written (deeds limits choice now call b) (at_moment now b)) (stored b)
 step_fits limits choice now call b within h timed last e = (step_made limits choice now call b within h timed last e).0
 
+-- a step leaves coherent records, if no number is spent
 pub step_coherent : (limits : Limits) (choice : MemberChoice) (now : ℕ) (call : Call) (b : Broker) → AreWithin limits → IsCoherent (stored b) → IsTimed b → IsNumber b.now → is_step_spent limits choice now call b ≡ false
     → IsCoherent (stored (stepped limits choice now call b))
 step_coherent limits choice now call b within h timed last e = (step_made limits choice now call b within h timed last e).1
@@ -161,6 +167,7 @@ stamped_now : (rows : List Change) (b : Broker) → (with_moment rows b).now ≡
 stamped_now [] b = refl
 stamped_now (x ∷ rows) b = refl
 
+-- the moment behind a step is one that is kept
 pub step_last : (limits : Limits) (choice : MemberChoice) (now : ℕ) (call : Call) (b : Broker) → IsNumber b.now → IsNumber (stepped limits choice now call b).now
 step_last limits choice now call b last =
     let c = at_moment now b in
@@ -184,14 +191,17 @@ opening_made limits choice now r within h e =
     let b = unopened now r in
     done_fits (opening_deeds limits choice now r) b (ready_opening (env_of limits choice b) within b h (opening_timed r now h.counters.moment) (opening_last r now)) e
 
+-- the rows of an opening fit what is stored, if no number is spent
 pub opening_fits : (limits : Limits) (choice : MemberChoice) (now : ℕ) (r : Records) → AreWithin limits → IsCoherent r → is_opening_spent limits choice now r ≡ false
     → FitAll (rows_written (opening_deeds limits choice now r) (unopened now r)) r
 opening_fits limits choice now r within h e = (opening_made limits choice now r within h e).0
 
+-- an opening leaves coherent records, if no number is spent
 pub opening_coherent : (limits : Limits) (choice : MemberChoice) (now : ℕ) (r : Records) → AreWithin limits → IsCoherent r → is_opening_spent limits choice now r ≡ false
     → IsCoherent (stored (opened limits choice now r))
 opening_coherent limits choice now r within h e = (opening_made limits choice now r within h e).1
 
+-- the moment behind an opening is one that is kept
 pub opened_last : (limits : Limits) (choice : MemberChoice) (now : ℕ) (r : Records) → IsNumber (opened limits choice now r).now
 opened_last limits choice now r =
     let c = unopened now r in
@@ -200,6 +210,7 @@ opened_last limits choice now r =
 
 -- ---- before the first session
 
+-- nothing stored is coherent
 pub nothing_coherent : IsCoherent nothing
 nothing_coherent = record {
   ordered = nothing-ordered;

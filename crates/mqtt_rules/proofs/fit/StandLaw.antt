@@ -47,6 +47,7 @@ ordered_all (d ∷ ds) b h = ordered_all ds (after d b) (changed_all-ordered (ro
 led : (ds : List Deed) (b : Broker) → Orders b → AreGood Stands ds b → Leads Orders Stands ds b
 led ds b h good = (good, ordered_all ds b h)
 
+-- the places in a queue rise, if the records are in order
 pub rising : (s : Session) (b : Broker) → Orders b → session_at s.birth b.records ≡ Some s → IsAscending copy_place s.queue
 rising s b h there = (all_at birth_of HasTables s.birth s b.records.sessions h.each there).queue.ascending
 
@@ -138,6 +139,7 @@ stands_end s b h there =
 
 -- ---- together
 
+-- every deed of every act finds what it speaks of still standing
 pub stand_law : (env : Env) → Law env anyone Orders Stands
 stand_law env = record {
   finds = finds_anyone Orders;
@@ -164,9 +166,11 @@ stand_law env = record {
   sends = λ n packet b h its. led (Send n packet ∷ []) b h (tt, tt);
 }
 
+-- each deed of a call finds what it speaks of still standing
 pub stands_call : (env : Env) (call : Call) (b : Broker) → IsOrdered b.records → AreGood Stands (deeds_of env call b) b
 stands_call env call b h = (leads_call env anyone Orders Stands (stand_law env) call b h (call_of_anyone call b)).0
 
+-- each deed of an opening finds what it speaks of still standing
 pub stands_opening : (env : Env) (b : Broker) → IsOrdered b.records → AreGood Stands (opening env b) b
 stands_opening env b h =
     (leads_opening env anyone Orders Stands (stand_law env) (λ s c g is. led (At (whose s) (Close c.now) ∷ []) c g (tt, tt)) (λ birth. tt) b h).0

@@ -33,8 +33,10 @@ stamped_stores [] now r c same times = same
 stamped_stores (row ∷ rows) now r c same times =
     changed_all_append (row ∷ rows) (SetCounter Moment now ∷ []) r ∙ ap (with_now now) same ∙ ap (λ m. with_now m c.records) times
 
+-- the rows of deeds make of what is stored what the deeds make of the state
 pub rows_store : (ds : List Deed) (b : Broker) → changed_all (rows_written ds b) (stored b) ≡ stored (done ds b)
 rows_store ds b = stamped_stores (rows_of_all ds b.records) b.now b.records (after_all ds b) (stored_after_all ds b) (sym (now_stays ds b))
 
+-- a deed without a row changes nothing that is stored
 pub without_row : (d : Deed) (b : Broker) → rows_of d (stored b) ≡ [] → stored (after d b) ≡ stored b
 without_row d b none = ap (λ rows. changed_all rows b.records) none

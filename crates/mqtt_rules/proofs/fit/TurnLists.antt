@@ -43,6 +43,7 @@ rises_later q m n (turns.Repeat id ∷ ts) le h = rises_later q m n ts le h
 rises_later q m n (turns.Unknown id ∷ ts) le h = rises_later q m n ts le h
 rises_later q m n (turns.Leave place ending ∷ ts) le h = let at = h.0 in (omega (arith, at, le), h.1)
 
+-- a queue whose places rise is all that stands from its front on
 pub whole : (q : List CopyRow) → IsAscending copy_place q → From q 0 q
 whole q up = all_more (λ (e : CopyRow). row_at copy_place e.place q ≡ Some e) (λ (e : CopyRow). (0 ≤ e.place) × (has_row copy_place e.place q ≡ true)) q (λ e there. (omega arith, ap is_some there)) (all_found copy_place q up)
 
@@ -168,14 +169,18 @@ rises_answer a l s up is = elim is [
 
 -- ---- together
 
+-- the turn that a receiver's answer asks for is of a copy that stands
 pub answers_rise : (a : Answer) (t : Turn) (l : Line) (s : Session) → IsAscending copy_place s.queue → IsAnswer a l s → a ≡ Ok (Some t) → Rises s.queue 0 (t ∷ [])
 answers_rise a t l s up is e = subst (RisesAnswer s.queue) e (rises_answer a l s up is)
 
+-- the turns of a pump go up the queue, one at most for a copy
 pub pumps_rise : (way : Way) (went : List ℕ) (s : Session) → IsAscending copy_place s.queue → Rises s.queue 0 (pump way (queue_on went s))
 pumps_rise way went s up = rises_pump way s.queue went 0 s.queue (pace way (queue_on went s)) up (whole s.queue up)
 
+-- the turns by which copies expire go up the queue, one at most for a copy
 pub lapses_rise : (now : ℕ) (s : Session) → IsAscending copy_place s.queue → Rises s.queue 0 (expired now (queue_on [] s))
 lapses_rise now s up = rises_expired s.queue now 0 [] s.queue up (whole s.queue up)
 
+-- the turns by which copies make way go up the queue, one at most for a copy
 pub drops_rise : (k since : ℕ) (s : Session) → IsAscending copy_place s.queue → Rises s.queue 0 (dropped k since (queue_on [] s))
 drops_rise k since s up = rises_dropped s.queue k since 0 [] s.queue up (whole s.queue up)

@@ -30,6 +30,7 @@ flight-inserted e queue none is =
     fewer queue (insert_row copy_place e queue) (insert-ascending copy_place e queue is.places)
     (λ place id h. without_identifier e id (nat_eq e.place place) (row_at copy_place place queue) none (ap identifier_in (sym (row_at-insert_row copy_place place e queue)) ∙ h)) is
 
+-- a copy without an identifier may enter a queue
 pub flight-put : (limit : ℕ) (e : CopyRow) (queue : List CopyRow) → identifier_of e.phase ≡ None → IsFlight queue → IsFlight (put_row copy_place limit e queue)
 flight-put limit e queue none is = elim (cases_Bool (has_row copy_place e.place queue || nat_lt (length queue) limit)) [
   | inl room ↦ rw room (flight-inserted e queue none is)
@@ -41,10 +42,12 @@ pub gone : (id : ℕ) (b : Bool) (o : Option CopyRow) → identifier_in (cond b 
 gone id true o h = absurd cc
 gone id false o h = (refl, h)
 
+-- an identifier behind a removal was there before, at another place
 pub identifier-removed : (place gone_from id : ℕ) (queue : List CopyRow) → identifier_at place (remove_row copy_place gone_from queue) ≡ Some id → (nat_eq gone_from place ≡ false) × (identifier_at place queue ≡ Some id)
 identifier-removed place gone_from id queue h =
     gone id (nat_eq gone_from place) (row_at copy_place place queue) (ap identifier_in (sym (row_at-remove_row copy_place place gone_from queue)) ∙ h)
 
+-- a copy may leave a queue
 pub flight-removed : (place : ℕ) (queue : List CopyRow) → IsFlight queue → IsFlight (remove_row copy_place place queue)
 flight-removed place queue is =
     fewer queue (remove_row copy_place place queue) (remove-ascending copy_place place queue is.places)
@@ -54,6 +57,7 @@ flight-removed place queue is =
 pub place-kept : (phase : Phase) (e : CopyRow) → copy_place (in_phase phase e) ≡ copy_place e
 place-kept phase e = refl
 
+-- an identifier behind a mark is the marked copy's new one, or another's that stayed
 pub identifier-marked : (place other id : ℕ) (phase : Phase) (e : CopyRow) (queue : List CopyRow) → row_at copy_place place queue ≡ Some e → identifier_at other (change_row copy_place place (in_phase phase) queue) ≡ Some id → ((place ≡ other) × (identifier_of phase ≡ Some id)) ⊎ ((nat_eq place other ≡ false) × (identifier_at other queue ≡ Some id))
 identifier-marked place other id phase e queue there h = elim (cases_Bool (nat_eq place other)) [
   | inl same ↦

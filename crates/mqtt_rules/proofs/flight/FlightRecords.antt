@@ -26,9 +26,11 @@ use Rattle.mqtt_rules.proofs.flight.FlightQueue.{flight-put, flight-removed}
 abbrev pub Queued : Session → Type 0
 Queued s = IsFlight s.queue
 
+-- an empty queue has no identifier twice
 pub flight-nothing : IsFlight []
 flight-nothing = record { places = tt; identifiers = λ place other id h k. absurd cc }
 
+-- a counter has nothing to do with identifiers in flight
 pub counter_keeps : (counter : Counter) (value : ℕ) (r : Records) → HasDistinctIdentifiers r → HasDistinctIdentifiers (with_counter counter value r)
 counter_keeps Births value r h = h
 counter_keeps Publications value r h = h
@@ -36,6 +38,7 @@ counter_keeps Subscribes value r h = h
 counter_keeps Autos value r h = h
 counter_keeps Moment value r h = h
 
+-- a change of one session keeps identifiers apart if it does so in that session's queue
 pub in_session_keeps : (birth : ℕ) (f : Session → Session) (r : Records) → ((s : Session) → IsFlight s.queue → IsFlight (f s).queue) → HasDistinctIdentifiers r → HasDistinctIdentifiers (in_session birth f r)
 in_session_keeps birth f r g h = all_changed birth_of Queued birth f r.sessions g h
 
@@ -43,12 +46,14 @@ put_keeps_by : (b : Bool) (row : Columns) (r : Records) → AllByRecursion Queue
 put_keeps_by true row r h = all_changed birth_of Queued row.birth (with_columns row) r.sessions (λ s k. k) h
 put_keeps_by false row r h = all_put birth_of Queued SESSION_LIMIT (fresh row) r.sessions flight-nothing h
 
+-- a session's own row has nothing to do with identifiers in flight
 pub put_keeps : (row : Columns) (r : Records) → HasDistinctIdentifiers r → HasDistinctIdentifiers (changed (Change.PutSession row) r)
 put_keeps row r h = put_keeps_by (has_row birth_of row.birth r.sessions) row r h
 
 set_keeps : (row : Columns) (r : Records) → HasDistinctIdentifiers r → HasDistinctIdentifiers (changed (Change.SetSession row) r)
 set_keeps row r h = in_session_keeps row.birth (with_columns row) r (λ s k. k) h
 
+-- a session may be removed
 pub remove_keeps : (birth : ℕ) (r : Records) → HasDistinctIdentifiers r → HasDistinctIdentifiers (changed (Change.RemoveSession birth) r)
 remove_keeps birth r h = all_removed birth_of Queued birth r.sessions h
 
@@ -56,6 +61,7 @@ will_keeps : (birth : ℕ) (will : Option Will) (r : Records) → HasDistinctIde
 will_keeps birth None r h = in_session_keeps birth (with_will None) r (λ s k. k) h
 will_keeps birth (Some will) r h = in_session_keeps birth (with_will (Some will)) r (λ s k. k) h
 
+-- a session may begin
 pub begin_keeps : (row : Columns) (will : Option Will) (r : Records) → HasDistinctIdentifiers r → HasDistinctIdentifiers (changed_all (begin_rows row will) r)
 begin_keeps row None r h = put_keeps row r h
 begin_keeps row (Some will) r h = in_session_keeps row.birth (with_will (Some will)) (changed (Change.PutSession row) r) (λ s k. k) (put_keeps row r h)
@@ -87,6 +93,7 @@ part_keeps (Enter copy) s r u h = in_session_keeps s.birth _ r (λ t k. flight-p
 part_keeps (Mark place phase) s r u h = absurd u
 part_keeps (Leave e ending) s r u h = in_session_keeps s.birth _ r (λ t k. flight-removed e.place t.queue k) h
 
+-- a part of a session that marks no copy keeps identifiers apart
 pub parts_keep : (part : Part) (o : Option Session) (r : Records) → Unmarked part → HasDistinctIdentifiers r → HasDistinctIdentifiers (changed_all (part_rows_of part o) r)
 parts_keep part None r u h = h
 parts_keep part (Some s) r u h = part_keeps part s r u h
@@ -99,6 +106,7 @@ pub record Sits (birth : ℕ) (queue : List CopyRow) (r : Records) : Type 0 wher
   pub its_queue : session.queue ≡ queue
   pub distinct : HasDistinctIdentifiers r
 
+-- in the queue of a session identifiers are apart, if they are in all
 pub flight_of : (birth : ℕ) (queue : List CopyRow) (r : Records) → Sits birth queue r → IsFlight queue
 flight_of birth queue r sits = subst IsFlight sits.its_queue (all_at birth_of Queued birth sits.session r.sessions sits.distinct sits.there)
 
@@ -117,12 +125,14 @@ sits-changed birth queue f r s there keeps is flight h =
       distinct = all_changed_at birth_of Queued s.birth f s r.sessions at (subst IsFlight (sym is) flight) h;
     }
 
+-- behind a mark the session's queue is the marked one
 pub sits-marked : (who : Whose) (place : ℕ) (phase : Phase) (queue : List CopyRow) (r : Records) → Sits who.birth queue r → IsFlight (change_row copy_place place (in_phase phase) queue) → Sits who.birth (change_row copy_place place (in_phase phase) queue) (stored_after (At who (Mark place phase)) r)
 sits-marked who place phase queue r sits flight =
     let s = sits.session in
     subst (Sits who.birth (change_row copy_place place (in_phase phase) queue)) (sym (stored_is who (Mark place phase) r s sits.there))
     (sits-changed who.birth (change_row copy_place place (in_phase phase) queue) (with_phase place phase) r s sits.there (λ t. refl) (ap (change_row copy_place place (in_phase phase)) sits.its_queue) flight sits.distinct)
 
+-- behind a leaving the session's queue is the one without that copy
 pub sits-left : (who : Whose) (e : CopyRow) (ending : Ending) (queue : List CopyRow) (r : Records) → Sits who.birth queue r → Sits who.birth (remove_row copy_place e.place queue) (stored_after (At who (Leave e ending)) r)
 sits-left who e ending queue r sits =
     let s = sits.session in

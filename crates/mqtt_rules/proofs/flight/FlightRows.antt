@@ -7,6 +7,7 @@ use Rattle.mqtt_records_rows.specs.Order.{IsAbove, IsAscending, row_at, has_row,
 use Rattle.mqtt_records_rows.proofs.OrderLemmas.{apart}
 use Rattle.mqtt_records_rows.proofs.LookUps.{row_at-here}
 
+-- what holds of each item, and brings something else, brings it for each
 pub all_more : {X : Type 0} (P Q : X → Type 0) (xs : List X) → ((x : X) → P x → Q x) → AllByRecursion P xs → AllByRecursion Q xs
 all_more P Q [] f h = tt
 all_more P Q (x ∷ xs) f h = (f x h.0, all_more P Q xs f h.1)

@@ -222,12 +222,14 @@ moment_keeps : (rows : List Change) (b : Broker) → HasDistinctIdentifiers b.re
 moment_keeps [] b h = h
 moment_keeps (row ∷ rows) b h = h
 
+-- a step keeps identifiers in flight apart
 pub step_keeps : (limits : Limits) (choice : MemberChoice) (now : ℕ) (call : Call) (b : Broker) → HasDistinctIdentifiers b.records → HasDistinctIdentifiers (stepped limits choice now call b).records
 step_keeps limits choice now call b h =
     let c = at_moment now b in
     let ds = step_deeds limits choice now call b in
     moment_keeps (rows_of_all ds c.records) (after_all ds c) (leads_call (env_of limits choice b) anyone Distinct (λ d x. ⊤) (flight_law (env_of limits choice b)) call c h (call_of_anyone call c)).1
 
+-- an opening keeps identifiers in flight apart
 pub opening_keeps : (limits : Limits) (choice : MemberChoice) (now : ℕ) (r : Records) → HasDistinctIdentifiers r → HasDistinctIdentifiers (opened limits choice now r).records
 opening_keeps limits choice now r h =
     let b = unopened now r in

@@ -37,6 +37,7 @@ quiet_leave s t b = tt
 quiet_leaves : (s : Session) (ts : List Turn) (b : Broker) → AreGood IsQuiet (flat_map (leave_deeds s) ts) b
 quiet_leaves s ts b = good_flat IsQuiet (leave_deeds s) (quiet_leave s) ts b
 
+-- a turn connects nobody to a line, and takes nobody off one
 pub quiet_turn : (now line : ℕ) (s : Session) (t : Turn) (b : Broker) → AreGood IsQuiet (turn_deeds now line s t) b
 quiet_turn now line s (turns.Send place id) b = good_of_entry IsQuiet (row_at copy_place place s.queue) _ b (λ e. (tt, (tt, (tt, tt))))
 quiet_turn now line s (turns.Resend place id) b = good_of_entry IsQuiet (row_at copy_place place s.queue) _ b (λ e. (tt, (tt, tt)))
@@ -46,9 +47,11 @@ quiet_turn now line s (turns.Repeat id) b = (tt, tt)
 quiet_turn now line s (turns.Unknown id) b = (tt, tt)
 quiet_turn now line s (turns.Leave place ending) b = quiet_leave s (turns.Leave place ending) b
 
+-- a pump connects nobody to a line, and takes nobody off one
 pub quiet_pump : (l : Line) (now : ℕ) (s : Session) (b : Broker) → AreGood IsQuiet (pump_deeds l now s) b
 quiet_pump l now s b = good_flat IsQuiet (turn_deeds now l.number s) (quiet_turn now l.number s) (pump_turns l now s) b
 
+-- nor do the deeds by which copies expire
 pub quiet_lapses : (now : ℕ) (s : Session) (b : Broker) → AreGood IsQuiet (lapse_deeds now s) b
 quiet_lapses now s b = quiet_leaves s (lapses now s) b
 
@@ -79,12 +82,14 @@ quiet_retain false empty number m b = tt
 quiet_retain true true number m b = quiet_forgets (retained_of m.topic b.records) b
 quiet_retain true false number m b = (tt, tt)
 
+-- nor does a publication
 pub quiet_publish : (env : Env) (origin : Origin) (m : Message) (ds : List CopyTo) (b : Broker) → AreGood IsQuiet (publish env origin m ds b) b
 quiet_publish env origin m ds b =
     let number = next_publication b.records in
     good_series IsQuiet (always (Accept number origin m ∷ []) ∷ retain_by m.retain (is_empty m.payload) number m ∷ map (deliver env) ds)
     ((λ c. (tt, tt)), (quiet_retain m.retain (is_empty m.payload) number m, good_acts IsQuiet (deliver env) (quiet_deliver env) ds)) b
 
+-- nor does the granting of a subscription
 pub quiet_grants : (env : Env) (w : sub.Wish) (s : Session) (b : Broker) → AreGood IsQuiet (sub.granted_filter env (sub.next_number b.records) s w (brought_to w s b) b).deeds b
 quiet_grants env w s b =
     let number = sub.next_number b.records in
@@ -106,14 +111,17 @@ still_will env who (Some w) b =
     good_two IsStill (publish_or_refuse env who m (accepted_copies env m b)) (always (At who DropWill ∷ [])) b
     (still_publish_or_refuse env who m (accepted_copies env m b) b) (tt, tt)
 
+-- publishing a Will adds no line and connects nobody
 pub still_publish_will : (env : Env) (s : Session) (b : Broker) → AreGood IsStill (publish_will env s b) b
 still_publish_will env s b = still_will env (whose s) s.will b
 
+-- ending a session adds no line and connects nobody
 pub still_end : (s : Session) (b : Broker) → AreGood IsStill (end_session s) b
 still_end s b =
     good_append IsStill (map (λ e. At (whose s) (Leave e SessionEnded)) s.queue) (Finish (whose s) ∷ []) b
     (good_map IsStill (λ e. At (whose s) (Leave e SessionEnded)) (λ e c. tt) s.queue b) (tt, tt)
 
+-- what is due when a session's line is gone adds no line and connects nobody
 pub still_settle : (env : Env) (birth : ℕ) (b : Broker) → AreGood IsStill (settle env birth b) b
 still_settle env birth b =
     let first = of_session birth (λ s. only_if (has_due_will b.now s) (publish_will env s)) in
@@ -122,6 +130,7 @@ still_settle env birth b =
     (good_of_session IsStill birth (λ s. only_if (has_due_will b.now s) (publish_will env s)) (λ s. good_if IsStill (has_due_will b.now s) (publish_will env s) (still_publish_will env s)) b)
     (good_of_session IsStill birth (λ s. only_if (has_due_end b.now s) (always (end_session s))) (λ s. good_if IsStill (has_due_end b.now s) (always (end_session s)) (still_end s)) (after_all (first b) b))
 
+-- making way for a clean start adds no line and connects nobody
 pub still_clear : (env : Env) (s : Session) (b : Broker) → AreGood IsStill (clear env s b) b
 still_clear env s b =
     good_two IsStill (publish_will env s) (of_client s.client (λ t. always (end_session t))) b (still_publish_will env s b)

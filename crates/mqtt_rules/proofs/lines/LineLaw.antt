@@ -65,6 +65,7 @@ on_is n session (l ∷ ls) up on = elim on [
       rw (apart l.number n (λ same. omega (arith, same, less))) rest
 ]
 
+-- a line that stands is found by its number, with its session
 pub on_line_of : (l : Line) (b : Broker) → IsAscending line_number b.lines → IsOn l.number l.session b.lines → session_on l.number b ≡ Some l.session
 on_line_of l b up on = among_is l.number b ∙ on_is l.number l.session b.lines up on
 
@@ -96,6 +97,7 @@ on_found birth l b up found =
     its None e = absurd cc
     its (Some x) e = ap Some (eqb-true x birth e)
 
+-- a connected session's line is found
 pub line_found : (b : Broker) (birth : ℕ) (s : Session) → HasUniqueLines b → session_at birth b.records ≡ Some s → s.closed ≡ None → (l : Line) × (line_of birth b ≡ Some l)
 line_found b birth s u there open_ =
     let on = u.connected birth (ap (option_map (λ (x : Session). x.closed)) there ∙ ap Some open_) in
@@ -105,6 +107,7 @@ line_found b birth s u there open_ =
     by n on None is = absurd (found_of n birth b on is)
     by n on (Some l) is = (l, is)
 
+-- a closed session has no line
 pub line_none : (b : Broker) (birth moment : ℕ) (s : Session) → HasUniqueLines b → session_at birth b.records ≡ Some s → s.closed ≡ Some moment → line_of birth b ≡ None
 line_none b birth moment s u there shut = by (line_of birth b) refl
   where
@@ -115,6 +118,7 @@ line_none b birth moment s u there shut = by (line_of birth b) refl
         let clash : Some (Some moment) ≡ Some None = sym (ap (option_map (λ (x : Session). x.closed)) there ∙ ap Some shut) ∙ stands in
         absurd cc
 
+-- behind the loss of a line nobody stands on it, and on the others who stood there
 pub on_gone : (n k : ℕ) (b : Broker) → session_on k (after (Gone n) b) ≡ cond (nat_eq n k) None (session_on k b)
 on_gone n k b =
     among_is k (after (Gone n) b) ∙ ap (option_map (λ (l : Line). l.session)) (row_at-remove_row line_number k n b.lines) ∙ mapped (nat_eq n k)
@@ -158,6 +162,7 @@ on_linked k b low =
 
 -- ---- sessions that are closed, or resumed
 
+-- closing a session closes that one alone
 pub closed_by_close : (who : Whose) (moment k : ℕ) (r : Records) (x : Option ℕ) → closed_at who.birth r ≡ Some x → closed_at k (stored_after (At who (Close moment)) r) ≡ cond (nat_eq who.birth k) (Some (Some moment)) (closed_at k r)
 closed_by_close who moment k r x there = by (session_at who.birth r) refl
   where
@@ -174,6 +179,7 @@ closed_by_resume s expiry will k r there =
 
 -- ---- deeds that connect, close and end nobody
 
+-- deeds that connect nobody keep each session on at most one line
 pub unique_quiet : (ds : List Deed) (b : Broker) → AreGood IsQuiet ds b → HasUniqueLines b → HasUniqueLines (after_all ds b)
 unique_quiet ds b q u =
     let c = after_all ds b in
@@ -183,6 +189,7 @@ unique_quiet ds b q u =
 
 -- ---- a new line
 
+-- so does a new line
 pub unique_linked : (b : Broker) → HasUniqueLines b → HasUniqueLines (after (Link (suc b.given)) b)
 unique_linked b u =
     let c = after (Link (suc b.given)) b in
@@ -233,11 +240,13 @@ unique_closing keeps_will n (Some birth) b u on = by (session_at birth b.records
     by None is = let clash : None ≡ Some None = sym (ap (option_map (λ (s : Session). s.closed)) is) ∙ u.stands n birth on in absurd cc
     by (Some s) is = unique_parted keeps_will n birth s b u on is
 
+-- so does the closing of a line
 pub unique_closes : (keeps_will : Bool) (l : Line) (b : Broker) → IsOn l.number l.session b.lines → HasUniqueLines b → HasUniqueLines (after_all (closing keeps_will l b) b)
 unique_closes keeps_will l b on u = unique_closing keeps_will l.number l.session b u (on_line_of l b u.ascending on)
 
 -- ---- a session ends that isn't connected
 
+-- so does the end of a closed session
 pub unique_ended : (s : Session) (b : Broker) → (closed_at s.birth b.records ≡ Some None → ⊥) → HasUniqueLines b → HasUniqueLines (after_all (end_session s) b)
 unique_ended s b shut u =
     let ds = map (λ e. At (whose s) (Leave e SessionEnded)) s.queue in
@@ -264,11 +273,13 @@ unique_greeted l c birth b d u lines given free shut closed =
     (subst (IsAscending line_number) (sym (on_line_is d.now l.number part d.lines)) (change-ascending line_number l.number (line_after d.now part) d.lines (numbered d.now part) up))
     (subst (IsBelow line_number (suc d.given)) (sym (on_line_is d.now l.number part d.lines)) (below_change line_number (suc d.given) l.number (line_after d.now part) d.lines (numbered d.now part) low))
 
+-- so does the resumption of a session that was closed
 pub unique_resumed : (l : Line) (c : Greeting) (s : Session) (b : Broker) → session_at s.birth b.records ≡ Some s → session_on l.number b ≡ Some None → (closed_at s.birth b.records ≡ Some None → ⊥) → HasUniqueLines b
     → HasUniqueLines (after_all (At (whose s) (Resume (expiry_of c) (will_of c)) ∷ greet l c s.birth ∷ []) b)
 unique_resumed l c s b there free shut u =
     unique_greeted l c s.birth b (after (At (whose s) (Resume (expiry_of c) (will_of c))) b) u refl refl free shut (λ k. closed_by_resume s (expiry_of c) (will_of c) k b.records there)
 
+-- so does the beginning of a new session
 pub unique_begun : (l : Line) (c : Greeting) (row : Columns) (b : Broker) → IsFit (Begin row (will_of c)) b → Coheres b.records → session_on l.number b ≡ Some None → HasUniqueLines b
     → HasUniqueLines (after_all (Begin row (will_of c) ∷ greet l c row.birth ∷ []) b)
 unique_begun l c row b fit h free u =

@@ -134,6 +134,7 @@ shut_stays client ds x q shut k named is = let left = leaves ds x q in shut k (l
 pub named_stands : (client : List ℕ) (s : Session) (b : Broker) → Coheres b.records → session_named client b.records ≡ Some s → session_at s.birth b.records ≡ Some s
 named_stands client s b h named = here s b.records h.ordered.sessions.ascending (found_among (λ x. bytes_eq x.client client) s b.records.sessions named)
 
+-- the session found by a name has that name
 pub named_is : (client : List ℕ) (s : Session) (b : Broker) → Coheres b.records → session_named client b.records ≡ Some s → client_at s.birth b.records ≡ Some client
 named_is client s b h named =
     let same : s.client ≡ client = (bytes_eq-Decides s.client client).0 (found_passes (λ x. bytes_eq x.client client) s b.records.sessions named) in

@@ -33,6 +33,7 @@ found_row : (n : ℕ) (ls : List Line) → find (λ l. nat_eq l.number n) ls ≡
 found_row n [] = refl
 found_row n (l ∷ ls) = ap (λ (o : Option Line). cond (nat_eq l.number n) (Some l) o) (found_row n ls)
 
+-- who stands on a line is who is found there among all lines
 pub among_is : (n : ℕ) (b : Broker) → session_on n b ≡ session_among n b.lines
 among_is n b = ap (option_map (λ (l : Line). l.session)) (found_row n b.lines)
 
@@ -84,10 +85,12 @@ module _ (f : Line → Line) (number : (l : Line) → (f l).number ≡ l.number)
     below = λ n low. below_change line_number n j f ls number low;
   }
 
+-- what happens on a line is a change of the row with its number
 pub on_line_is : (now n : ℕ) (part : LinePart) (ls : List Line) → on_line now n part ls ≡ change_row line_number n (line_after now part) ls
 on_line_is now n part [] = refl
 on_line_is now n part (l ∷ ls) = ap (λ (rest : List Line). cond (nat_eq l.number n) (line_after now part l ∷ ls) (l ∷ rest)) (on_line_is now n part ls)
 
+-- what happens on a line keeps its number
 pub numbered : (now : ℕ) (part : LinePart) (l : Line) → (line_after now part l).number ≡ l.number
 numbered now Hear l = refl
 numbered now (Greet birth keep_alive window largest) l = refl
@@ -212,6 +215,7 @@ closed_resumed expiry will s k r there =
     let row : Columns = record { birth = s.birth; client = s.client; expiry = expiry; closed = None } in
     closed_will s.birth will k (changed (SetSession row) r) ∙ closed_columns row s k r there
 
+-- the rows of closing a session close that one alone
 pub closed_closed : (moment : ℕ) (s : Session) (k : ℕ) (r : Records) → session_at s.birth r ≡ Some s
     → closed_at k (changed_all (part_rows (Close moment) s) r) ≡ cond (nat_eq s.birth k) (Some (Some moment)) (closed_at k r)
 closed_closed moment s k r there = closed_columns _ s k r there
@@ -277,6 +281,7 @@ closed_put row k r new room =
     mapped true = refl
     mapped false = refl
 
+-- beginning a session says of that one alone whether it is closed
 pub closed_begun : (row : Columns) (will : Option Will) (k : ℕ) (r : Records) → session_at row.birth r ≡ None → HasRoomFor birth_of SESSION_LIMIT row.birth r.sessions
     → closed_at k (stored_after (Begin row will) r) ≡ cond (nat_eq row.birth k) (Some row.closed) (closed_at k r)
 closed_begun row None k r new room = closed_put row k r new room
@@ -362,6 +367,7 @@ leaves_deed d b q =
       names = λ k client e. names_deed d b k client q e;
     }
 
+-- deeds that connect nobody leave who stands on which line, or take him off
 pub leaves : (ds : List Deed) (b : Broker) → AreGood IsStill ds b → Leaves b (after_all ds b)
 leaves [] b q = record { lines = λ n. refl; ascending = λ up. up; below = λ n low. low; given = refl; autos = refl; falls = λ k e. e; names = λ k client e. e }
 leaves (d ∷ ds) b q =
@@ -377,6 +383,7 @@ leaves (d ∷ ds) b q =
       names = λ k client e. one.names k client (more.names k client e);
     }
 
+-- deeds that connect nobody and close nobody leave each session as closed as it was
 pub closed_stays : (ds : List Deed) (b : Broker) (k : ℕ) → AreGood IsQuiet ds b → closed_at k (after_all ds b).records ≡ closed_at k b.records
 closed_stays [] b k q = refl
 closed_stays (d ∷ ds) b k q = closed_stays ds (after d b) k q.1 ∙ closed_deed d b k q.0
@@ -396,6 +403,7 @@ still_deed (Link n) b q = absurd q
 still_deed (Gone n) b q = absurd q
 still_deed d b q = tt
 
+-- what neither connects nor closes anybody connects nobody
 pub still_quiet : (ds : List Deed) (b : Broker) → AreGood IsQuiet ds b → AreGood IsStill ds b
 still_quiet [] b q = tt
 still_quiet (d ∷ ds) b q = (still_deed d b q.0, still_quiet ds (after d b) q.1)

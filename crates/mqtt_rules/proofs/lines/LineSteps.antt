@@ -161,6 +161,7 @@ stamped_autos : (rows : List Change) (b : Broker) → (with_moment rows b).recor
 stamped_autos [] b = refl
 stamped_autos (x ∷ rows) b = refl
 
+-- a step keeps each session on at most one line, if no number is spent
 pub step_unique : (limits : Limits) (choice : MemberChoice) (now : ℕ) (call : Call) (b : Broker) → AreWithin limits → IsCoherent (stored b) → IsTimed b → IsNumber b.now → is_step_spent limits choice now call b ≡ false
     → HasUniqueLines b → HasUniqueLines (stepped limits choice now call b)
 step_unique limits choice now call b within h timed last e u =
@@ -221,6 +222,7 @@ still_opening env [] b = tt
 still_opening env (s ∷ ss) b =
     good_append IsStill (shuts env s b) (series (map (shuts env) ss) (after_all (shuts env s b) b)) b (still_close_if (is_connected s) env s b) (still_opening env ss (after_all (shuts env s b) b))
 
+-- behind an opening nobody stands on a line
 pub opening_unique : (limits : Limits) (choice : MemberChoice) (now : ℕ) (r : Records) → HasUniqueLines (opened limits choice now r)
 opening_unique limits choice now r =
     let b = unopened now r in

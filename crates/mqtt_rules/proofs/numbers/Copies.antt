@@ -47,14 +47,17 @@ module _ {X : Type 0} (P : X → Type 0) where
   each_all h [] = tt
   each_all h (x ∷ xs) = (h x, each_all h xs)
 
+-- what holds of each item, and brings something else, brings it for each
 pub each_more : {X : Type 0} (P Q : X → Type 0) → ((x : X) → P x → Q x) → (xs : List X) → AllByRecursion P xs → AllByRecursion Q xs
 each_more P Q more [] h = tt
 each_more P Q more (x ∷ xs) h = (more x h.0, each_more P Q more xs h.1)
 
+-- what is made of items holds if it holds of each
 pub each_map : {X Y : Type 0} (P : X → Type 0) (f : Y → X) (ys : List Y) → AllByRecursion (λ y. P (f y)) ys → AllByRecursion P (map f ys)
 each_map P f [] h = tt
 each_map P f (y ∷ ys) h = (h.0, each_map P f ys h.1)
 
+-- lists that are made of items hold if each does
 pub each_flat : {X Y : Type 0} (P : X → Type 0) (f : Y → List X) → ((y : Y) → AllByRecursion P (f y)) → (ys : List Y) → AllByRecursion P (flat_map f ys)
 each_flat P f h [] = tt
 each_flat P f h (y ∷ ys) = each_append P (f y) (flat_map f ys) (h y) (each_flat P f h ys)
@@ -116,9 +119,11 @@ numbered_if true number now m (Some r) ds e =
     let same : copies_to number now m r ≡ ds = cc in
     subst (λ (xs : List CopyTo). AreNumbered number now xs) same (numbered_deliveries number now m r)
 
+-- the copies of an accepted publication have its number, the next one
 pub routed_numbered : (env : Env) (m : Message) (b : Broker) (ds : List CopyTo) → accepted_copies env m b ≡ Some ds → AreNumbered (next_publication b.records) b.now ds
 routed_numbered env m b ds e = numbered_if (finds_place env m b.records) (next_publication b.records) b.now m (routing_of env m b.records) ds e
 
+-- copies with the last number given are of an accepted publication
 pub made_numbered : (number : ℕ) (ds : List CopyTo) (b : Broker) → b.records.publications ≡ number → AreNumbered number b.now ds → AreMade ds b
 made_numbered number ds b same h =
     each_more (IsNumbered number b.now) (λ d. IsMade d.birth d.copy b)
@@ -147,6 +152,7 @@ brought_by true number s w b le =
     (each_more mine (λ k. IsMade s.birth (retained_copy s.birth number w k) b) (λ k h. record { its_birth = refl; cause = le; source = inr h })
     (filter (is_brought b.now s w) (map message_in (kept_for w.filter (map kept_of ks)))) fit)
 
+-- retained copies that a subscription brings are of accepted publications
 pub brought_made : (number : ℕ) (s : Session) (w : Wish) (b : Broker) → number ≤ b.records.subscribes → AreMade (brought b.now number s w b.records.retained) b
 brought_made number s w b le = brought_by (not (begins_share w.filter) && wants_retained w.options.retain_handling (has_filter w.filter s)) number s w b le
 
@@ -177,17 +183,20 @@ kinds_part_of part (Some s) r = kinds_part part s r
 pub kinds_at : (who : Whose) (part : Part) (b : Broker) → kinds (after (At who part) b).records ≡ kinds b.records
 kinds_at who part b = kinds_part_of part (session_at who.birth b.records) b.records
 
+-- a deed beside acceptance keeps which publications were accepted
 pub kinds_deed : (d : Deed) (b : Broker) → IsBeside d b → kinds (after d b).records ≡ kinds b.records
 kinds_deed (At who part) b beside = kinds_part_of part (session_at who.birth b.records) b.records
 kinds_deed (On line part) b beside = refl
 kinds_deed (Send line packet) b beside = refl
 kinds_deed d b beside = absurd beside
 
+-- a copy of an accepted publication stays one behind such deeds
 pub made_stays : (birth : ℕ) (copy : MessageCopy) (ds : List Deed) (b : Broker) → AreGood IsBeside ds b → IsMade birth copy b → IsMade birth copy (after_all ds b)
 made_stays birth copy [] b beside made = made
 made_stays birth copy (d ∷ ds) b beside made =
     made_stays birth copy ds (after d b) beside.1 (subst (λ (k : Kinds). IsMadeOf birth copy k b.now) (sym (kinds_deed d b beside.0)) made)
 
+-- copies of accepted publications stay such behind such deeds
 pub are_made_stay : (all : List CopyTo) (ds : List Deed) (b : Broker) → AreGood IsBeside ds b → AreMade all b → AreMade all (after_all ds b)
 are_made_stay all ds b beside made =
     each_more (λ d. IsMade d.birth d.copy b) (λ d. IsMade d.birth d.copy (after_all ds b)) (λ d h. made_stays d.birth d.copy ds b beside h) all made
@@ -196,6 +205,7 @@ beside_leave : (s : Session) (t : Turn) (b : Broker) → AreGood IsBeside (leave
 beside_leave s (turns.Leave place ending) b = good_of_entry IsBeside (row_at copy_place place s.queue) (λ e. At (whose s) (Leave e ending) ∷ []) b (λ e. (tt, tt))
 beside_leave s t b = tt
 
+-- copies that leave accept nothing
 pub beside_leaves : (s : Session) (ts : List Turn) (b : Broker) → AreGood IsBeside (flat_map (leave_deeds s) ts) b
 beside_leaves s ts b = good_flat IsBeside (leave_deeds s) (beside_leave s) ts b
 
@@ -213,5 +223,6 @@ beside_deliver_by true env d b =
     good_with_session IsBeside (session_at d.birth b.records) (λ s. always (enter_deeds env d.copy s)) b (λ s e. beside_enter env d.copy s b)
 beside_deliver_by false env d b = beside_offer (line_of d.birth b) (publish_of b.now false 0 d.copy) b
 
+-- a delivery accepts nothing
 pub beside_deliver : (env : Env) (d : CopyTo) (b : Broker) → AreGood IsBeside (deliver env d b) b
 beside_deliver env d b = beside_deliver_by (is_queued d) env d b

@@ -156,6 +156,7 @@ rows_deed n d r less low = tt
 below_deed : (n : ℕ) (d : Deed) (r : Records) → BirthBelow n d → IsBelow birth_of n r.sessions → IsBelow birth_of n (stored_after d r).sessions
 below_deed n d r less low = below_changed_all n (rows_of d r) r (rows_deed n d r less low) low
 
+-- a session that begins with the next birth has one that was given
 pub given_begin : (row : Columns) (will : Option Will) (b : Broker) → row.birth ≡ suc b.records.births → HasGivenBirths b.records → HasGivenBirths (after (Begin row will) b).records
 given_begin row will b e low =
     let more = below_more birth_of (suc b.records.births) (suc row.birth) b.records.sessions (omega (arith, e)) low in
@@ -168,10 +169,12 @@ given_other : (d : Deed) (b : Broker) → BirthBelow (suc b.records.births) d �
 given_other d b less same low =
     subst (λ (i : ℕ). IsBelow birth_of (suc i) (after d b).records.sessions) same (below_deed (suc b.records.births) d b.records less low)
 
+-- a deed that gives the next number keeps all births given
 pub given_deed : (d : Deed) (b : Broker) → GivesNext d b → HasGivenBirths b.records → HasGivenBirths (after d b).records
 given_deed (Begin row will) b e low = given_begin row will b e low
 given_deed d b e low = given_other d b tt (sym (ap (λ (c : Counts). c.births) (counts_deed d b.records))) low
 
+-- deeds that give the next numbers keep all births given
 pub given_all : (ds : List Deed) (b : Broker) → AreGood GivesNext ds b → HasGivenBirths b.records → HasGivenBirths (after_all ds b).records
 given_all [] b q low = low
 given_all (d ∷ ds) b q low = given_all ds (after d b) q.1 (given_deed d b q.0 low)

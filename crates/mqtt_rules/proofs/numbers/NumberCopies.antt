@@ -197,10 +197,12 @@ moment_accepted (row ∷ rows) b h = h
 accepted_done : (ds : List Deed) (b : Broker) → AreGood OfAccepted ds b → HasAcceptedNumbers b.records → HasAcceptedNumbers (done ds b).records
 accepted_done ds b q h = moment_accepted (rows_of_all ds b.records) (after_all ds b) (accepted_all ds b q h)
 
+-- behind a step each copy is of an accepted publication
 pub step_accepted : (limits : Limits) (choice : MemberChoice) (now : ℕ) (call : Call) (b : Broker) → HasAcceptedNumbers b.records → HasAcceptedNumbers (stepped limits choice now call b).records
 step_accepted limits choice now call b h =
     accepted_done (deeds limits choice now call b) (at_moment now b) ((leads_deeds (env_of limits choice b) (λ c. ⊤) OfAccepted (accepted_law (env_of limits choice b)) accepted_mark call (at_moment now b) tt).0) h
 
+-- behind an opening each copy is of an accepted publication
 pub opening_accepted : (limits : Limits) (choice : MemberChoice) (now : ℕ) (r : Records) → HasAcceptedNumbers r → HasAcceptedNumbers (opened limits choice now r).records
 opening_accepted limits choice now r h =
     let b = unopened now r in

@@ -39,6 +39,7 @@ counts_part_of : (part : Part) (o : Option Session) (r : Records) → counts (ch
 counts_part_of part None r = refl
 counts_part_of part (Some s) r = counts_part part s r
 
+-- what a deed makes of the counters depends on the counters alone
 pub counts_deed : (d : Deed) (r : Records) → counts (stored_after d r) ≡ counts_after d (counts r)
 counts_deed (Begin row None) r = refl
 counts_deed (Begin row (Some will)) r = refl
@@ -53,6 +54,7 @@ GivesNext (Name n) b = n ≡ suc b.records.autos
 GivesNext (Count n) b = n ≡ suc b.records.subscribes
 GivesNext d b = ⊤
 
+-- every deed of every act gives the next number, if it gives any
 pub next_law : (env : Env) → DeedLaw env anyone (λ b. ⊤) GivesNext
 next_law env = record {
   finds = finds_anyone (λ b. ⊤);
@@ -80,6 +82,7 @@ next_law env = record {
   gone = λ line b k. tt;
 }
 
+-- marking a copy gives no number
 pub next_mark : MarkLaw (λ b. ⊤) GivesNext
 next_mark who place phase b k = tt
 
@@ -88,22 +91,26 @@ next_mark who place phase b k = tt
 from : (n k m : ℕ) (xs : List ℕ) → k ≡ n → CountsOn k xs m → CountsOn n xs m
 from n k m xs e h = subst (λ (i : ℕ). CountsOn i xs m) e h
 
+-- births that deeds give count on from the last
 pub births_count : (ds : List Deed) (b : Broker) → AreGood GivesNext ds b → CountsOn b.records.births (filter_map birth_given ds) (after_all ds b).records.births
 births_count [] b q = refl
 births_count (Begin row None ∷ ds) b q = (q.0, births_count ds (after (Begin row None) b) q.1)
 births_count (Begin row (Some will) ∷ ds) b q = (q.0, births_count ds (after (Begin row (Some will)) b) q.1)
 births_count (d ∷ ds) b q = from b.records.births (after d b).records.births _ (filter_map birth_given ds) (ap (λ (c : Counts). c.births) (counts_deed d b.records)) (births_count ds (after d b) q.1)
 
+-- numbers of publications count on from the last
 pub publications_count : (ds : List Deed) (b : Broker) → AreGood GivesNext ds b → CountsOn b.records.publications (filter_map publication_given ds) (after_all ds b).records.publications
 publications_count [] b q = refl
 publications_count (Accept number origin m ∷ ds) b q = (q.0, publications_count ds (after (Accept number origin m) b) q.1)
 publications_count (d ∷ ds) b q = from b.records.publications (after d b).records.publications _ (filter_map publication_given ds) (ap (λ (c : Counts). c.publications) (counts_deed d b.records)) (publications_count ds (after d b) q.1)
 
+-- numbers of granted filters count on from the last
 pub grants_count : (ds : List Deed) (b : Broker) → AreGood GivesNext ds b → CountsOn b.records.subscribes (filter_map grant_given ds) (after_all ds b).records.subscribes
 grants_count [] b q = refl
 grants_count (Count n ∷ ds) b q = (q.0, grants_count ds (after (Count n) b) q.1)
 grants_count (d ∷ ds) b q = from b.records.subscribes (after d b).records.subscribes _ (filter_map grant_given ds) (ap (λ (c : Counts). c.subscribes) (counts_deed d b.records)) (grants_count ds (after d b) q.1)
 
+-- numbers of assigned names count on from the last
 pub names_count : (ds : List Deed) (b : Broker) → AreGood GivesNext ds b → CountsOn b.records.autos (filter_map name_given ds) (after_all ds b).records.autos
 names_count [] b q = refl
 names_count (Name n ∷ ds) b q = (q.0, names_count ds (after (Name n) b) q.1)
@@ -116,6 +123,7 @@ moment_stays (Begin row None ∷ ds) b = moment_stays ds (after (Begin row None)
 moment_stays (Begin row (Some will) ∷ ds) b = moment_stays ds (after (Begin row (Some will)) b)
 moment_stays (d ∷ ds) b = subst (λ (i : ℕ). (after_all ds (after d b)).records.moment ≡ i) (ap (λ (c : Counts). c.moment) (counts_deed d b.records)) (moment_stays ds (after d b))
 
+-- deeds leave the moment
 pub now_stays : (ds : List Deed) (b : Broker) → (after_all ds b).now ≡ b.now
 now_stays [] b = refl
 now_stays (d ∷ ds) b = now_stays ds (after d b)

@@ -84,11 +84,14 @@ moment_order (row ∷ rows) b h = h
 order_done : (ds : List Deed) (b : Broker) → AreInOrder b.records → AreInOrder (done ds b).records
 order_done ds b h = moment_order (rows_of_all ds b.records) (after_all ds b) (order_all ds b h)
 
+-- a step leaves all keys rising
 pub step_order : (limits : Limits) (choice : MemberChoice) (now : ℕ) (call : Call) (b : Broker) → AreInOrder b.records → AreInOrder (stepped limits choice now call b).records
 step_order limits choice now call b h = order_done (deeds limits choice now call b) (at_moment now b) h
 
+-- an opening leaves all keys rising
 pub opening_order : (limits : Limits) (choice : MemberChoice) (now : ℕ) (r : Records) → AreInOrder r → AreInOrder (opened limits choice now r).records
 opening_order limits choice now r h = let b = unopened now r in order_done (opening (env_of limits choice b) b) b h
 
+-- in nothing stored all keys rise
 pub nothing_order : AreInOrder nothing
 nothing_order = (tt, tt, tt)

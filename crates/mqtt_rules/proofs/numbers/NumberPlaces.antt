@@ -5,6 +5,7 @@ use Rattle.std.proofs.lemmas.Bool.{cases_Bool}
 use Rattle.mqtt_records.specs.declared.subscription.Subscription.{Subscription}
 use Rattle.mqtt_rules.specs.Subscribe.{is_to, place_among}
 
+-- a filter that a session does not have gets a new place
 pub grants_place : (number : ℕ) (text : List ℕ) (subs : List Subscription) → list_any (is_to text) subs ≡ false → place_among number text subs ≡ number
 grants_place number text [] new = refl
 grants_place number text (x ∷ xs) new = elim (cases_Bool (is_to text x)) [

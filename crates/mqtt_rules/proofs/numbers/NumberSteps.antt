@@ -20,20 +20,24 @@ use Rattle.mqtt_rules.proofs.numbers.NumberBirths.{given_all}
 
 -- ---- numbers that count on
 
+-- the last number is not below the one before the first
 pub counts_grow : (n m : ℕ) (xs : List ℕ) → CountsOn n xs m → n ≤ m
 counts_grow n m [] e = omega (arith, e)
 counts_grow n m (x ∷ xs) h = let e = h.0 in let more = counts_grow x m xs h.1 in omega (arith, e, more)
 
+-- each number given is above those given before
 pub counts_above : (n m : ℕ) (xs : List ℕ) → CountsOn n xs m → IsAbove number_of n xs
 counts_above n m [] h = tt
 counts_above n m (x ∷ xs) h =
     let e = h.0 in
     (omega (arith, e), above_less number_of n x xs (omega (arith, e)) (counts_above x m xs h.1))
 
+-- numbers given rise
 pub counts_ascend : (n m : ℕ) (xs : List ℕ) → CountsOn n xs m → IsAscending number_of xs
 counts_ascend n m [] h = tt
 counts_ascend n m (x ∷ xs) h = (counts_above x m xs h.1, counts_ascend x m xs h.1)
 
+-- the last number is as far from the first as numbers were given
 pub counts_many : (n m : ℕ) (xs : List ℕ) → CountsOn n xs m → m ≡ n + length xs
 counts_many n m [] e = omega (arith, e)
 counts_many n m (x ∷ xs) h = let e = h.0 in let more = counts_many x m xs h.1 in omega (arith, e, more)
@@ -75,18 +79,22 @@ timed_done ds b h =
 step_next : (limits : Limits) (choice : MemberChoice) (now : ℕ) (call : Call) (b : Broker) → AreGood GivesNext (deeds limits choice now call b) (at_moment now b)
 step_next limits choice now call b = (leads_deeds (env_of limits choice b) (λ c. ⊤) GivesNext (next_law (env_of limits choice b)) next_mark call (at_moment now b) tt).0
 
+-- a step's numbers count on
 pub step_counts : (limits : Limits) (choice : MemberChoice) (now : ℕ) (call : Call) (b : Broker) → CountOn (deeds limits choice now call b) b.records (stepped limits choice now call b).records
 step_counts limits choice now call b = count_done (deeds limits choice now call b) (at_moment now b) (step_next limits choice now call b)
 
+-- a step lowers no counter
 pub step_fell : (limits : Limits) (choice : MemberChoice) (now : ℕ) (call : Call) (b : Broker) → NoneFell b.records (stepped limits choice now call b).records
 step_fell limits choice now call b = none_fell (deeds limits choice now call b) b.records (stepped limits choice now call b).records (step_counts limits choice now call b)
 
+-- a step lowers no stored moment, and stores none that was not handed in
 pub step_timed : (limits : Limits) (choice : MemberChoice) (now : ℕ) (call : Call) (b : Broker) → IsTimed b
     → (b.records.moment ≤ (stepped limits choice now call b).records.moment) × IsTimed (stepped limits choice now call b)
 step_timed limits choice now call b h =
     let more = le-max_left b.now (capped now) in
     timed_done (deeds limits choice now call b) (at_moment now b) (omega (arith, h, more))
 
+-- behind a step each session has a birth that was given
 pub step_given : (limits : Limits) (choice : MemberChoice) (now : ℕ) (call : Call) (b : Broker) → HasGivenBirths b.records → HasGivenBirths (stepped limits choice now call b).records
 step_given limits choice now call b h = given_done (deeds limits choice now call b) (at_moment now b) (step_next limits choice now call b) h
 
@@ -98,20 +106,24 @@ opening_next limits choice now r =
     let env = env_of limits choice b in
     (leads_opened env (λ c. ⊤) GivesNext (next_law env) next_mark b tt).0
 
+-- an opening's numbers count on
 pub opening_counts : (limits : Limits) (choice : MemberChoice) (now : ℕ) (r : Records)
     → CountOn (opening (env_of limits choice (unopened now r)) (unopened now r)) r (opened limits choice now r).records
 opening_counts limits choice now r =
     count_done (opening (env_of limits choice (unopened now r)) (unopened now r)) (unopened now r) (opening_next limits choice now r)
 
+-- an opening lowers no counter
 pub opening_fell : (limits : Limits) (choice : MemberChoice) (now : ℕ) (r : Records) → NoneFell r (opened limits choice now r).records
 opening_fell limits choice now r = none_fell (opening (env_of limits choice (unopened now r)) (unopened now r)) r (opened limits choice now r).records (opening_counts limits choice now r)
 
+-- an opening lowers no stored moment, and stores none that was not handed in
 pub opening_timed : (limits : Limits) (choice : MemberChoice) (now : ℕ) (r : Records) → r.moment ≤ LAST_NUMBER → (r.moment ≤ (opened limits choice now r).records.moment) × IsTimed (opened limits choice now r)
 opening_timed limits choice now r within =
     let counts : r.moment ≤ capped r.moment = le-min (omega arith) within in
     let more = le-max_left (capped r.moment) (capped now) in
     timed_done (opening (env_of limits choice (unopened now r)) (unopened now r)) (unopened now r) (omega (arith, counts, more))
 
+-- behind an opening each session has a birth that was given
 pub opening_given : (limits : Limits) (choice : MemberChoice) (now : ℕ) (r : Records) → HasGivenBirths r → HasGivenBirths (opened limits choice now r).records
 opening_given limits choice now r h =
     given_done (opening (env_of limits choice (unopened now r)) (unopened now r)) (unopened now r) (opening_next limits choice now r) h

@@ -11,6 +11,7 @@ use Rattle.mqtt_rules.specs.Laws.{HasTables, IsOrdered, QueuesWithin, HasEntered
 use Rattle.mqtt_rules.proofs.order.OrderedQueues.{stay_is}
 use Rattle.mqtt_rules.proofs.order.OrderedEnters.{all_found, enters}
 
+-- a copy that enters a queue with room stands there, last, with those that did not make way
 pub has_entered : (env : Env) (copy : MessageCopy) (s : Session) (b : Broker)
     → env.limits.queue ≤ QUEUE_LIMIT → IsOrdered b.records → QueuesWithin env.limits.queue b.records → session_at s.birth b.records ≡ Some s → 0 < room env s
     → HasEntered env s b.records (after_all (enter_deeds env copy s) b).records

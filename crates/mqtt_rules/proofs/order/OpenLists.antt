@@ -22,8 +22,10 @@ ascending_here : (ids : List ℕ) → flow.IsAscending ids → IsAscending numbe
 ascending_here [] h = tt
 ascending_here (x ∷ xs) h = (above_here x xs h.0, ascending_here xs h.1)
 
+-- identifiers that are in order strictly increase
 pub increasing_there : (ids : List ℕ) → IsAscending number_of ids → IsStrictlyIncreasing ids
 increasing_there ids h = strictly_increasing ids (ascending_there ids h)
 
+-- identifiers that strictly increase are in order
 pub ascending_of : (ids : List ℕ) → IsStrictlyIncreasing ids → IsAscending number_of ids
 ascending_of ids h = ascending_here ids (is_ascending ids h)

@@ -21,12 +21,14 @@ use Rattle.mqtt_rules.specs.Laws.{HasTables, IsOrdered}
 
 -- ---- how many rows there are after an edit
 
+-- a filter leaves no more items
 pub length-filter_le : {X : Type 0} (keep : X → Bool) (xs : List X) → length (filter keep xs) ≤ length xs
 length-filter_le keep [] = omega arith
 length-filter_le keep (x ∷ xs) =
     let rest = length-filter_le keep xs in
     elim (cases_Bool (keep x)) [ inl stays ↦ rw stays (omega (arith, rest)) | inr goes ↦ rw goes (omega (arith, rest)) ]
 
+-- putting an item in the place of another keeps the count
 pub length-slice_set : {X : Type 0} (xs : List X) (i : ℕ) (x : X) → length (slice_set xs i x) ≡ length xs
 length-slice_set xs i x = length-set xs i x
 
@@ -110,6 +112,7 @@ module _ {X : Type 0} (key : X → ℕ) where
     | inr other ↦ rw other (all.0, all-change_row P k f xs keeps all.1)
   ]
 
+-- what holds of each item holds of those that a filter leaves
 pub all-filter : {X : Type 0} (P : X → Type 0) (keep : X → Bool) (xs : List X) → AllByRecursion P xs → AllByRecursion P (filter keep xs)
 all-filter P keep [] all = tt
 all-filter P keep (x ∷ xs) all = elim (cases_Bool (keep x)) [
@@ -140,6 +143,7 @@ in_session-ordered birth f r keeps h = record {
   retained = h.retained;
 }
 
+-- what holds of both choices holds of the one that is made
 pub either : {X : Type 0} (P : X → Type 0) (test : Bool) (x y : X) → P x → P y → P (cond test x y)
 either P true x y p q = p
 either P false x y p q = q
@@ -167,6 +171,7 @@ counter-ordered Subscribes value r h = record { sessions = h.sessions; each = h.
 counter-ordered Autos value r h = record { sessions = h.sessions; each = h.each; retained = h.retained }
 counter-ordered Moment value r h = record { sessions = h.sessions; each = h.each; retained = h.retained }
 
+-- a change keeps all rows in order
 pub changed-ordered : (change : Change) (r : Records) → IsOrdered r → IsOrdered (changed change r)
 changed-ordered (SetCounter counter value) r h = counter-ordered counter value r h
 changed-ordered (PutSession row) r h = record { sessions = put_session-table row r.sessions h.sessions; each = put_session-each row r.sessions h.each; retained = h.retained }
@@ -247,9 +252,11 @@ changed-ordered (RemoveCopy birth place) r h = in_session-ordered birth (without
 changed-ordered (PutRetained kept) r h = record { sessions = h.sessions; each = h.each; retained = put-table kept_place RETAINED_LIMIT kept r.retained h.retained }
 changed-ordered (RemoveRetained place) r h = record { sessions = h.sessions; each = h.each; retained = remove-table kept_place RETAINED_LIMIT place r.retained h.retained }
 
+-- changes keep all rows in order
 pub changed_all-ordered : (changes : List Change) (r : Records) → IsOrdered r → IsOrdered (changed_all changes r)
 changed_all-ordered [] r h = h
 changed_all-ordered (change ∷ changes) r h = changed_all-ordered changes (changed change r) (changed-ordered change r h)
 
+-- nothing stored is in order
 pub nothing-ordered : IsOrdered nothing
 nothing-ordered = record { sessions = empty-table birth_of SESSION_LIMIT; each = tt; retained = empty-table kept_place RETAINED_LIMIT }

@@ -25,6 +25,7 @@ use Rattle.mqtt_rules.specs.Routing.{subscriber_of, publication_of, answers, fin
 
 -- ---- counting
 
+-- of two lists as many pass a test as of the first and of the second
 pub count_append : {X : Type 0} (p : X → Bool) (xs ys : List X) → length (filter p (xs ++ ys)) ≡ length (filter p xs) + length (filter p ys)
 count_append p [] ys = omega arith
 count_append p (x ∷ xs) ys =

@@ -50,22 +50,27 @@ abbrev pub ArePlain : List Deed → Type 0
 ArePlain [] = Unit {0}
 ArePlain (d ∷ ds) = IsPlain d × ArePlain ds
 
+-- plain deeds behind plain deeds are plain
 pub plain_append : (xs ys : List Deed) → ArePlain xs → ArePlain ys → ArePlain (xs ++ ys)
 plain_append [] ys p q = q
 plain_append (x ∷ xs) ys p q = (p.0, plain_append xs ys p.1 q)
 
+-- deeds made of items are plain if each is
 pub plain_map : {X : Type 0} (f : X → Deed) → ((x : X) → IsPlain (f x)) → (xs : List X) → ArePlain (map f xs)
 plain_map f h [] = tt
 plain_map f h (x ∷ xs) = (h x, plain_map f h xs)
 
+-- lists of deeds made of items are plain if each is
 pub plain_flat : {X : Type 0} (f : X → List Deed) → ((x : X) → ArePlain (f x)) → (xs : List X) → ArePlain (flat_map f xs)
 plain_flat f h [] = tt
 plain_flat f h (x ∷ xs) = plain_append (f x) (flat_map f xs) (h x) (plain_flat f h xs)
 
+-- a choice between plain deeds is plain
 pub plain_cond : (t : Bool) (xs ys : List Deed) → ArePlain xs → ArePlain ys → ArePlain (cond t xs ys)
 plain_cond true xs ys p q = p
 plain_cond false xs ys p q = q
 
+-- offering a packet to a line is plain
 pub plain_offer : (l : Option Line) (p : Packet) → ArePlain (offer l p)
 plain_offer None p = tt
 plain_offer (Some l) p = plain_cond _ (Send l.number p ∷ []) [] (tt, tt) tt
@@ -74,6 +79,7 @@ plain_of_entry : (o : Option CopyRow) (f : CopyRow → List Deed) → ((e : Copy
 plain_of_entry None f h = tt
 plain_of_entry (Some e) f h = h e
 
+-- a copy's leaving is plain
 pub plain_leave : (s : Session) (t : Turn) → ArePlain (leave_deeds s t)
 plain_leave s (turns.Leave place ending) = plain_of_entry (row_at copy_place place s.queue) (λ e. At (whose s) (Leave e ending) ∷ []) (λ e. (tt, tt))
 plain_leave s (turns.Send place id) = tt
@@ -144,6 +150,7 @@ pub record Keeping (env : Env) (P : Records → Type 0) (Good : Deed → Broker 
       → Leads (λ c. P c.records) Good (sub.granted_filter env (sub.next_number b.records) s w (brought_to w s b) b).deeds b
   pub moment : (now : ℕ) (r : Records) → P r → P (record r { moment = now })
 
+-- the session found by a birth has that birth
 pub birth_found : (birth : ℕ) (ss : List Session) (s : Session) → row_at birth_of birth ss ≡ Some s → s.birth ≡ birth
 birth_found birth [] s found = absurd cc
 birth_found birth (x ∷ xs) s found = elim (cases_Bool (nat_eq (birth_of x) birth)) [

@@ -171,6 +171,7 @@ deed_other (On line part) r q = tt
 deed_other (Send line packet) r q = tt
 deed_other (Gone line) r q = tt
 
+-- a plain deed makes no queue longer
 pub still_one : (d : Deed) → IsPlain d → IsStill d
 still_one (At who part) p = p
 still_one (Begin row will) p = tt
@@ -192,12 +193,14 @@ pub record ShortQueues (limit : ℕ) (r : Records) : Type 0 where
   pub ordered : IsOrdered r
   pub short : AreShort limit r.sessions
 
+-- a deed that makes no queue longer keeps all within a limit
 pub still_short : (limit : ℕ) (d : Deed) (r : Records) → IsStill d → ShortQueues limit r → ShortQueues limit (stored_after d r)
 still_short limit d r q h = record {
   ordered = changed_all-ordered (rows_of d r) r h.ordered;
   short = changes_short limit (rows_of d r) r (deed_other d r q) h.short;
 }
 
+-- plain deeds keep all queues within a limit
 pub plain_short : (limit : ℕ) (ds : List Deed) (b : Broker) → ArePlain ds → ShortQueues limit b.records → ShortQueues limit (stored (after_all ds b))
 plain_short limit [] b q h = h
 plain_short limit (d ∷ ds) b q h = plain_short limit ds (after d b) q.1 (still_short limit d b.records (still_one d q.0) h)
@@ -260,6 +263,7 @@ leaves first s (turns.Unknown id ∷ ts) now b all found = absurd all.0
 
 -- ---- a copy enters
 
+-- what is found twice in one look is the same
 pub some_same : (x y : Session) → Some x ≡ Some y → x ≡ y
 some_same x y is = cc
 
@@ -302,6 +306,7 @@ room_to_leave s (turns.Outgrow place id order) b = tt
 room_to_leave s (turns.Repeat id) b = tt
 room_to_leave s (turns.Unknown id) b = tt
 
+-- a copy that has room enters, those that make way leave, and every queue stays within its limit
 pub enters : (limit : ℕ) (env : Env) (copy : MessageCopy) (s : Session) (b : Broker) → env.limits.queue ≤ limit → env.limits.queue ≤ QUEUE_LIMIT → HasTables s → session_at s.birth b.records ≡ Some s → own_stay env s < env.limits.queue → ShortQueues limit b.records
     → Entered env s b.records.sessions (stored (after_all (enter_deeds env copy s) b)).sessions × ShortQueues limit (stored (after_all (enter_deeds env copy s) b)) × AreGood RoomToEnter (enter_deeds env copy s) b
 enters limit env copy s b le small tables found free short =

@@ -220,6 +220,7 @@ room_plain : (d : Deed) (b : Broker) → IsPlain d → RoomToEnter d b
 room_plain (At who (Enter copy)) b plain = absurd plain
 room_plain d b plain = tt
 
+-- every deed that finds room keeps all queues within the limit
 pub queues_keeping : (limit : ℕ) (env : Env) → env.limits.queue ≤ limit → env.limits.queue ≤ QUEUE_LIMIT → Keeping env (ShortQueues limit) RoomToEnter
 queues_keeping limit env le small = record {
   plain = λ d r q p. still_short limit d r (still_one d q) p;
@@ -231,12 +232,14 @@ queues_keeping limit env le small = record {
   moment = λ now r p. record { ordered = changed-ordered (SetCounter Moment now) r p.ordered; short = p.short };
 }
 
+-- a step keeps all queues within the broker's limit
 pub step_queues : (limits : Limits) (choice : MemberChoice) (now : ℕ) (call : Call) (b : Broker) → limits.queue ≤ QUEUE_LIMIT → IsOrdered (stored b) → AreShort limits.queue (stored b).sessions
     → AreShort limits.queue (stored (stepped limits choice now call b)).sessions
 step_queues limits choice now call b small ordered short =
     let env = env_of limits choice b in
     (step_keeps limits choice now call b (ShortQueues limits.queue) RoomToEnter (queues_keeping limits.queue env (omega arith) small) (record { ordered = ordered; short = short })).short
 
+-- an opening keeps all queues within the broker's limit
 pub opening_queues : (limits : Limits) (choice : MemberChoice) (now : ℕ) (r : Records) → limits.queue ≤ QUEUE_LIMIT → IsOrdered r → AreShort limits.queue r.sessions
     → AreShort limits.queue (stored (opened limits choice now r)).sessions
 opening_queues limits choice now r small ordered short =

@@ -40,10 +40,12 @@ count_mapped p f (x ∷ xs) =
     let rest = count_mapped p f xs in
     elim (cases_Bool (p (f x))) [ inl so ↦ rw so (ap suc rest) | inr not_so ↦ rw not_so rest ]
 
+-- mapping a list keeps the count
 pub length-mapped : {X Y : Type 0} (f : X → Y) (xs : List X) → length (map f xs) ≡ length xs
 length-mapped f [] = refl
 length-mapped f (x ∷ xs) = ap suc (length-mapped f xs)
 
+-- one item more at the end is one more
 pub length-append_one : {X : Type 0} (xs : List X) (x : X) → length (xs ++ x ∷ []) ≡ suc (length xs)
 length-append_one [] x = refl
 length-append_one (y ∷ ys) x = ap suc (length-append_one ys x)
@@ -97,6 +99,7 @@ below_front : (n : ℕ) (xs ys : List CopyRow) → IsBelow copy_place n (xs ++ y
 below_front n [] ys low = tt
 below_front n (x ∷ xs) ys low = (low.0, below_front n xs ys low.1)
 
+-- all places of a queue are below the next one
 pub below_own : (q : List CopyRow) → IsBelow copy_place (next_of copy_place q) q
 below_own q = below_next q
 
@@ -110,10 +113,12 @@ abbrev pub stay : Full → ℕ → List CopyRow → ℕ
 stay Refuse first q = length q
 stay Drop first q = length (filter (stands first) q)
 
+-- the copies that stay in any case, counted in rows and in what the session rules see of them
 pub stay_is : (full : Full) (first birth : ℕ) (q : List CopyRow) → staying full first (map (entry_on []) q) ≡ stay full first q
 stay_is Refuse first birth q = length-mapped (entry_on []) q
 stay_is Drop first birth q = sym (length-filter (λ e. not (gives_way first e)) (map (entry_on []) q)) ∙ count_mapped (λ e. not (gives_way first e)) (entry_on []) q
 
+-- no more copies stay than stand
 pub stay_le : (full : Full) (first : ℕ) (q : List CopyRow) → stay full first q ≤ length q
 stay_le Refuse first q = omega arith
 stay_le Drop first q = length-filter_le (stands first) q
@@ -166,6 +171,7 @@ both_are : (x y : Bool) → (x && y) ≡ true → y ≡ true
 both_are true y h = h
 both_are false y h = absurd cc
 
+-- a copy that makes way is one that may
 pub dropped_gives : (k first birth : ℕ) (q : List CopyRow) → AllByRecursion (GivesWay first q) (dropped k first (map (entry_on []) q))
 dropped_gives k first birth [] = tt
 dropped_gives zero first birth (e ∷ es) = tt
@@ -263,6 +269,7 @@ later_place p ts q n None is next all =
       | inr not_so ↦ rw not_so (below_front (next_of copy_place (rest ++ n ∷ [])) rest (n ∷ []) (below_next (rest ++ n ∷ [])))
     ]))
 
+-- behind an entering at most one copy more stays in any case
 pub stay_more : (full : Full) (p : CopyRow → Bool) (ts : List Turn) (q : List CopyRow) (n : CopyRow) → n.place ≡ next_of copy_place (leaving ts q) → AllByRecursion (GivesWay (first_place p q) q) ts
     → stay full (first_place p (leaving ts q ++ n ∷ [])) (leaving ts q ++ n ∷ []) ≤ suc (stay full (first_place p q) q)
 stay_more Refuse p ts q n next all = let one = length-append_one (leaving ts q) n in let less = length_leaving ts q in omega (arith, one, less)

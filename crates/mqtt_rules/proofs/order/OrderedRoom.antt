@@ -75,6 +75,7 @@ pub record Roomy (env : Env) (P : Records → Type 0) : Type 0 where
       → P (stored_after (Keep (kept_message number now m (place_of_kept (retained_of m.topic r) r.retained))) r)
   pub moment : (now : ℕ) (r : Records) → P r → P (record r { moment = now })
 
+-- a publication that is accepted found its test met
 pub accepted : (t : Bool) (o : Option (List CopyTo)) (ds : List CopyTo) → accepted_if t o ≡ Some ds → t ≡ true
 accepted true o ds is = refl
 accepted false o ds is = absurd cc
@@ -188,6 +189,7 @@ part_stays (Enter copy) s r old = session_stays (PutCopy s.birth (new_entry copy
 part_stays (Mark place phase) s r old = session_stays (SetCopy s.birth place phase) r tt
 part_stays (Leave e ending) s r old = session_stays (RemoveCopy s.birth e.place) r tt
 
+-- a session found by its birth is among those that stand
 pub found_there : (birth : ℕ) (ss : List Session) (s : Session) → row_at birth_of birth ss ≡ Some s → has_row birth_of s.birth ss ≡ true
 found_there birth ss s found = ap is_some (ap (λ n. row_at birth_of n ss) (birth_found birth ss s found) ∙ found)
 
@@ -242,6 +244,7 @@ sessions_roomy env = record {
   moment = λ now r p. p;
 }
 
+-- every deed keeps the sessions within the broker's limit
 pub sessions_keeping : (env : Env) → Keeping env (FewSessions env) (λ d b. ⊤)
 sessions_keeping env = roomy_keeps env (FewSessions env) (sessions_roomy env)
 
@@ -271,10 +274,12 @@ part_retained (Enter copy) s r = refl
 part_retained (Mark place phase) s r = refl
 part_retained (Leave e ending) s r = refl
 
+-- a part of a session has nothing to do with retained messages
 pub at_retained : (part : Part) (r : Records) (o : Option Session) → (changed_all (part_rows_of part o) r).retained ≡ r.retained
 at_retained part r None = refl
 at_retained part r (Some s) = part_retained part s r
 
+-- nor has the beginning of a session
 pub begin_retained : (row : Columns) (will : Option Will) (r : Records) → (stored_after (Begin row will) r).retained ≡ r.retained
 begin_retained row None r = refl
 begin_retained row (Some will) r = refl
@@ -336,6 +341,7 @@ either_is : (x y : Bool) → y ≡ true → (x || y) ≡ true
 either_is true y h = refl
 either_is false y h = h
 
+-- a retained message takes the place of its topic's, or there is room for one more
 pub place_is_fit : (env : Env) (m : Message) (number now : ℕ) (r : Records) (o : Option RetainedMessage) → retained_of m.topic r ≡ o
     → (is_some o || nat_lt (length r.retained) env.limits.retained) ≡ true
     → (has_row kept_place (kept_message number now m (place_of_kept o r.retained)).place r.retained || nat_lt (length r.retained) env.limits.retained) ≡ true
@@ -344,6 +350,7 @@ place_is_fit env m number now r (Some x) is fits =
     let there : has_row kept_place x.place r.retained ≡ true = kept_there (is_topic m.topic) r.retained x is in
     rw there refl
 
+-- one of two ways is left if the first is not open
 pub found_place : (t e : Bool) (rest : Bool) → t ≡ true → e ≡ false → (not (t && not e) || rest) ≡ true → rest ≡ true
 found_place true false rest is empty h = h
 found_place true true rest is empty h = absurd cc
@@ -360,5 +367,6 @@ retained_roomy env = record {
   moment = λ now r p. p;
 }
 
+-- every deed keeps the retained messages within the broker's limit
 pub retained_keeping : (env : Env) → Keeping env (FewRetained env) (λ d b. ⊤)
 retained_keeping env = roomy_keeps env (FewRetained env) (retained_roomy env)

@@ -78,6 +78,7 @@ ending_patient (Send n packet ∷ ds) q = (tt, ending_patient ds q.1)
 ending_patient (Gone n ∷ ds) q = (tt, ending_patient ds q.1)
 ending_patient (d ∷ ds) q = absurd q.0
 
+-- what ends a session gives no number
 pub ending_next : (ds : List Deed) (b : Broker) → AreEnding ds → AreGood GivesNext ds b
 ending_next [] b q = tt
 ending_next (At who part ∷ ds) b q = (tt, ending_next ds (after (At who part) b) q.1)
@@ -202,6 +203,7 @@ ends client n x b on only at is =
 
 -- ---- the deeds of the CONNECT
 
+-- a clean start of a session without a Will ends it, and no more
 pub clear_is : (env : Env) (client : List ℕ) (x : Session) (b : Broker) → session_named client b.records ≡ Some x → x.client ≡ client → x.will ≡ None
     → of_client client (clear env) b ≡ end_session x
 clear_is env client x b named its no_will =
@@ -229,6 +231,7 @@ prepare_is o env client s n b e t k =
 abbrev next_birth : List Deed → Broker → ℕ
 next_birth ds b = suc (after_all ds b).records.births
 
+-- where there is a place a new session begins
 pub begins_by_room : (t e : Bool) (ds : List Deed) (l : BrokerLine) (c : Greeting) (r : Records) → t ≡ true → e ≡ false
     → cond t (ds ++ begin_named e l c r) (refused l c quota_exceeded) ≡ ds ++ begin l c false c.client_identifier (suc r.births)
 begins_by_room false e ds l c r room is = absurd cc
@@ -243,6 +246,7 @@ pub record Cleared (o : Option BrokerLine) (client : List ℕ) (n : ℕ) (ds : L
   pub closings_is : filter_map closing ds ≡ lines_left o
   pub ending : AreEnding ds
 
+-- behind the takeover and the clean start nothing of the old session is there
 pub cleared : (o : Option BrokerLine) (client : List ℕ) (s : Session) (n : ℕ) (b : Broker) → IsTaken o s.birth n → IsKept client s b → session_on n b.lines ≡ Some None
     → Cleared o client n (ended_by o s b.now) b
 cleared o client s n b t k on =

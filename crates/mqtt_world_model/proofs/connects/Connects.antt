@@ -57,9 +57,11 @@ pub record Leaves (birth n : ℕ) (ds : List Deed) (b : Broker) (f : Face) (on :
   pub begun_is : begun ds ≡ []
   pub patient : ArePatient ds
 
+-- two lists of deeds close the lines of both
 pub closings_append : (xs ys : List Deed) → filter_map closing (xs ++ ys) ≡ filter_map closing xs ++ filter_map closing ys
 closings_append xs ys = filter_map-append closing xs ys
 
+-- what one list leaves and the next makes of it, both together make
 pub leaves_append : (birth n : ℕ) (xs ys : List Deed) (b : Broker) (f g : Face) (on then_on : Option (Option ℕ)) (ps qs : List ToPublisher) (cs ds : List ℕ)
     → Leaves birth n xs b f on ps cs → Leaves birth n ys (after_all xs b) g then_on qs ds → Leaves birth n (xs ++ ys) b g then_on (ps ++ qs) (cs ++ ds)
 leaves_append birth n xs ys b f g on then_on ps qs cs ds x y = record {
@@ -82,12 +84,14 @@ abbrev pub left_face : Option BrokerLine → ℕ → Face → Face
 left_face None now f = f
 left_face (Some l) now f = record f { closed = Some now }
 
+-- a takeover drops the line that the session stood on, if any
 pub take_over_is : (o : Option BrokerLine) (env : Env) (s : Session) (n : ℕ) (b : Broker) → line_of s.birth b ≡ o → IsTaken o s.birth n → session_at s.birth b.records ≡ Some s → s.will ≡ None → s.expiry ≡ never
     → take_over env s b ≡ left_by o s b.now
 take_over_is None env s n b e t at no_will no_end = ap (λ (x : Option BrokerLine). with_line x (drop_line env session_taken_over) b) e
 take_over_is (Some l) env s n b e t at no_will no_end =
     ap (λ (x : Option BrokerLine). with_line x (drop_line env session_taken_over) b) e ∙ drop_is env session_taken_over l s b at (t.connected l refl) no_will no_end
 
+-- and leaves the session closed
 pub left_leaves : (o : Option BrokerLine) (s : Session) (n : ℕ) (b : Broker) (on : Option (Option ℕ)) → IsTaken o s.birth n → session_at s.birth b.records ≡ Some s → session_on n b.lines ≡ on
     → Leaves s.birth n (left_by o s b.now) b (left_face o b.now (face s)) on [] (lines_left o)
 left_leaves None s n b on t at is = record { face_is = ap (option_map face) at; line_is = is; told_is = refl; closings_is = refl; numbers_is = refl; begun_is = refl; patient = tt }
@@ -113,6 +117,7 @@ resumed_face expiry x r at =
     let first : row_at birth_of x.birth set ≡ Some (with_columns row x) = change_row-here birth_of x.birth (with_columns row) x r.sessions (λ y. refl) at in
     ap (option_map face) (change_row-here birth_of x.birth (with_will None) (with_columns row x) set (λ y. refl) first)
 
+-- behind a greeting the session stands on the line
 pub greeted_line : (now n k keep_alive window largest : ℕ) (ls : List BrokerLine) → session_on n ls ≡ Some None → session_on n (on_line now n (Greet k keep_alive window largest) ls) ≡ Some (Some k)
 greeted_line now n k keep_alive window largest [] h = absurd cc
 greeted_line now n k keep_alive window largest (l ∷ ls) h = elim (cases_Bool (nat_eq l.number n)) [
@@ -120,6 +125,7 @@ greeted_line now n k keep_alive window largest (l ∷ ls) h = elim (cases_Bool (
   | inr further ↦ rw (further, further) (greeted_line now n k keep_alive window largest ls (rw further at h))
 ]
 
+-- PUBREL that go out again have nothing to do with another session
 pub repeats_quiet : {X : Type 0} (birth m now line : ℕ) (s : Session) (xs : List X) (id : X → ℕ) → AreQuiet birth m (all_turn_deeds now line s (map (λ x. turns.Repeat (id x)) xs))
 repeats_quiet birth m now line s [] id = tt
 repeats_quiet birth m now line s (x ∷ xs) id = (inr refl, repeats_quiet birth m now line s xs id)
@@ -143,6 +149,7 @@ hello client = record {
   password = None;
 }
 
+-- a resumption leaves the session open on its line
 pub resume_leaves : (now : ℕ) (l : BrokerLine) (client : List ℕ) (x : Session) (b : Broker) → session_at x.birth b.records ≡ Some x → session_on l.number b.lines ≡ Some None
     → Leaves x.birth l.number (resume l (hello client) now x) b (record (face x) { expiry = never; closed = None; will = None }) (Some (Some x.birth)) (CONNACK true ∷ []) []
 resume_leaves now l client x b at on =
@@ -181,31 +188,38 @@ abbrev pub taken_from : Option BrokerLine → ℕ → Session → Session
 taken_from None now s = s
 taken_from (Some l) now s = with_columns (closed_row now s) s
 
+-- behind a takeover the session is found
 pub taken_at : (o : Option BrokerLine) (s : Session) (b : Broker) → session_at s.birth b.records ≡ Some s
     → session_at s.birth (after_all (left_by o s b.now) b).records ≡ Some (taken_from o b.now s)
 taken_at None s b at = at
 taken_at (Some l) s b at = closed_after b.now s b at
 
+-- with its birth
 pub taken_birth : (o : Option BrokerLine) (now : ℕ) (s : Session) → (taken_from o now s).birth ≡ s.birth
 taken_birth None now s = refl
 taken_birth (Some l) now s = refl
 
+-- its client
 pub taken_client : (o : Option BrokerLine) (now : ℕ) (s : Session) → (taken_from o now s).client ≡ s.client
 taken_client None now s = refl
 taken_client (Some l) now s = refl
 
+-- its open identifiers
 pub taken_inbound : (o : Option BrokerLine) (now : ℕ) (s : Session) → (taken_from o now s).inbound ≡ s.inbound
 taken_inbound None now s = refl
 taken_inbound (Some l) now s = refl
 
+-- its Will
 pub taken_will : (o : Option BrokerLine) (now : ℕ) (s : Session) → (taken_from o now s).will ≡ s.will
 taken_will None now s = refl
 taken_will (Some l) now s = refl
 
+-- and its expiry
 pub taken_expiry : (o : Option BrokerLine) (now : ℕ) (s : Session) → (taken_from o now s).expiry ≡ s.expiry
 taken_expiry None now s = refl
 taken_expiry (Some l) now s = refl
 
+-- a takeover begins no session
 pub taken_begun : (o : Option BrokerLine) (s : Session) (now : ℕ) → begun (left_by o s now) ≡ []
 taken_begun None s now = refl
 taken_begun (Some l) s now = refl
@@ -213,12 +227,14 @@ taken_begun (Some l) s now = refl
 refused_not : (client : List ℕ) (r : Records) → nat_lt 64 (length client) ≡ false → starts_with nat_eq client auto ≡ false → refusal (hello client) r ≡ None
 refused_not client r short plain = rw (short, plain) refl
 
+-- behind it the client's name finds its session
 pub named_taken : (o : Option BrokerLine) (client : List ℕ) (s : Session) (b : Broker) → IsKept client s b
     → session_named client (after_all (left_by o s b.now) b).records ≡ Some (taken_from o b.now s)
 named_taken o client s b k =
     let ds = left_by o s b.now in
     named_is client s.birth (after_all ds b).records (taken_from o b.now s) (only_deeds client s.birth ds b (none_begun client s.birth ds (taken_begun o s b.now)) k.only) (taken_at o s b k.session) (taken_client o b.now s ∙ k.name)
 
+-- what a CONNECT prepares begins with the takeover
 pub prepare_front : (o : Option BrokerLine) (env : Env) (client : List ℕ) (s : Session) (n : ℕ) (b : Broker) (rest : List Act) → line_of s.birth b ≡ o → IsTaken o s.birth n → IsKept client s b
     → series (of_client client (take_over env) ∷ of_client client (λ z. settle env z.birth) ∷ rest) b
     ≡ left_by o s b.now ++ series rest (after_all (left_by o s b.now) b)
@@ -242,6 +258,7 @@ prepare_is : (o : Option BrokerLine) (env : Env) (client : List ℕ) (s : Sessio
 prepare_is o env client s n b e t k =
     prepare_front o env client s n b (only_if false (of_client client (clear env)) ∷ []) e t k ∙ append-nil (left_by o s b.now)
 
+-- a CONNECT to a session that stands is the takeover and the resumption
 pub connect_is : (o : Option BrokerLine) (env : Env) (l : BrokerLine) (client : List ℕ) (s : Session) (b : Broker) → line_of s.birth b ≡ o → IsTaken o s.birth l.number → IsKept client s b
     → on_connect env l (hello client) b ≡ left_by o s b.now ++ resume l (hello client) b.now (taken_from o b.now s)
 connect_is o env l client s b e t k =
@@ -254,6 +271,7 @@ connect_is o env l client s b e t k =
 abbrev pub resumed_as : Session → Face
 resumed_as x = record (face x) { expiry = never; closed = None; will = None }
 
+-- and leaves the session open on its line
 pub connect_leaves : (o : Option BrokerLine) (env : Env) (l : BrokerLine) (client : List ℕ) (s : Session) (b : Broker) → line_of s.birth b ≡ o → IsTaken o s.birth l.number → IsKept client s b
     → session_on l.number b.lines ≡ Some None
     → Leaves s.birth l.number (on_connect env l (hello client) b) b (resumed_as (taken_from o b.now s)) (Some (Some s.birth)) (CONNACK true ∷ []) (lines_left o)
@@ -295,6 +313,7 @@ heard_line_of k m now b o e t = in_list b.lines o e t
           ]
     ]
 
+-- hearing a line keeps who stands on it
 pub heard_on_line : (m now : ℕ) (ls : List BrokerLine) (x : Option ℕ) → session_on m ls ≡ Some x → session_on m (on_line now m Hear ls) ≡ Some x
 heard_on_line m now ls x h = line_on now m m Hear ls (inr tt) ∙ h
 
@@ -326,6 +345,7 @@ call_leaves limits choice now p l s b a =
     (sym (connect_call limits choice now (hello p.client) l b a.line a.waits)) closed in
     (f, whole, taken_client o h.now s ∙ a.kept.name, taken_inbound o h.now s, refl, refl)
 
+-- the line of a CONNECT is none that it drops
 pub not_left : (o : Option BrokerLine) (k n : ℕ) → IsTaken o k n → is_one_of (Some n) (lines_left o) ≡ false
 not_left None k n t = refl
 not_left (Some l) k n t = rw (t.another l refl) refl

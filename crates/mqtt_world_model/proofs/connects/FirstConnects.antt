@@ -47,6 +47,7 @@ hello_by clean client = record (hello client) { clean_start = clean }
 
 -- ---- the deeds of the call
 
+-- a publisher's CONNECT is not refused for its name
 pub refused_not : (clean : Bool) (client : List ℕ) (r : Records) → nat_lt 64 (length client) ≡ false → starts_with nat_eq client auto ≡ false → refusal (hello_by clean client) r ≡ None
 refused_not clean client r short plain = rw (short, plain) refl
 
@@ -93,6 +94,7 @@ call_is limits choice now clean p l b a =
 
 -- ---- the new session
 
+-- where no session has the name none is another's
 pub only_none : (client : List ℕ) (birth : ℕ) (ss : List Session) → find (λ (x : Session). bytes_eq x.client client) ss ≡ None → AllByRecursion (IsIts client birth) ss
 only_none client birth [] e = tt
 only_none client birth (x ∷ xs) e = elim (cases_Bool (bytes_eq x.client client)) [
@@ -105,6 +107,7 @@ only_none client birth (x ∷ xs) e = elim (cases_Bool (bytes_eq x.client client
   )
 ]
 
+-- a new session shows what a new session has
 pub fresh_face : (row : Columns) (ss : List Session) → row_at birth_of row.birth ss ≡ None → length ss < SESSION_LIMIT → option_map face (row_at birth_of row.birth (put_session row ss)) ≡ Some (face (fresh row))
 fresh_face row ss new less =
     let not_there : has_row birth_of row.birth ss ≡ false = ap is_some new in

@@ -50,32 +50,39 @@ reports_of es = filter_map report (deeds_over usual (turns es) start)
 abbrev sent_count : List Event → ℕ
 sent_count es = length (filter_map output (deeds_over usual (turns es) start))
 
+-- the old line first: the message completes
 pub old_first_completes : fates_after old_first ≡ Some (ended completed ∷ [])
 unfolding varint
 old_first_completes = refl
 
+-- and is accepted once
 pub old_first_accepts : accepted_over p1 usual (turns old_first) start ≡ 0 ∷ []
 unfolding varint
 old_first_accepts = refl
 
+-- what each event tells
 pub old_first_is_told : tellings old_first
     ≡ silent ∷ silent ∷ sends_out 1 ∷ silent ∷ silent ∷ record { reports = Accepted 1 ∷ []; out = 1 } ∷ silent ∷ silent ∷ silent
     ∷ record { reports = Released 1 p1 1 ∷ []; out = 1 } ∷ sends_out 2 ∷ silent ∷ sends_out 1 ∷ silent ∷ []
 unfolding varint
 old_first_is_told = refl
 
+-- and all reports together
 pub old_first_tells : reports_of old_first ≡ Accepted 1 ∷ Released 1 p1 1 ∷ []
 unfolding varint
 old_first_tells = refl
 
+-- the CONNECT first: the message completes
 pub connect_first_completes : fates_after connect_first ≡ Some (ended completed ∷ [])
 unfolding varint
 connect_first_completes = refl
 
+-- and is accepted once
 pub connect_first_accepts : accepted_over p1 usual (turns connect_first) start ≡ 0 ∷ []
 unfolding varint
 connect_first_accepts = refl
 
+-- what each event tells
 pub connect_first_is_told : tellings connect_first
     ≡ silent ∷ silent ∷ sends_out 1 ∷ silent ∷ silent ∷ record { reports = Accepted 1 ∷ []; out = 1 } ∷ silent ∷ silent ∷ silent
     ∷ sends_out 2 ∷ silent ∷ silent ∷ record { reports = Released 1 p1 1 ∷ []; out = 1 } ∷ silent ∷ []
@@ -91,10 +98,12 @@ connect_first_sends = refl
 abbrev old_line : List Event → Option (List Sent)
 old_line es = option_map (λ (p : Publisher). p.line.old) (publisher_named p1 (after usual (turns es)))
 
+-- a PUBREL is on its way on the old line
 pub a_pubrel_is_under_way : old_line released ≡ Some (shake (PUBREL 1) ∷ [])
 unfolding varint
 a_pubrel_is_under_way = refl
 
+-- a takeover drops it
 pub a_takeover_drops_the_old_line : old_line (released ++ ask (to_broker p1) ∷ []) ≡ Some []
 unfolding varint
 a_takeover_drops_the_old_line = refl
@@ -114,6 +123,7 @@ pub stopped_hands_once : option_map (λ (r : Receiver). map (λ (e : Entry). e.c
 unfolding varint
 stopped_hands_once = refl
 
+-- what is told where the broker stops
 pub stopped_tells : reports_of stopped ≡ Accepted 1 ∷ Entered (record { publication = 1; birth = 1; cause = Direct }) r1 ∷ Ended (record { publication = 1; birth = 1; cause = Direct }) r1 Taken ∷ []
 unfolding varint
 stopped_tells = refl
@@ -126,14 +136,17 @@ joined = publisher p1 ∷ connect_end p1 false ∷ ask (to_broker p1) ∷ to_end
 abbrev resent : List Event
 resent = connect_end p1 false ∷ ask (to_broker p1) ∷ to_end p1 ∷ ask (to_broker p1) ∷ to_end p1 ∷ ask (to_broker p1) ∷ to_end p1 ∷ []
 
+-- a stop before the commit
 pub a_stop_before_accepts_once : accepted_over p1 usual (turns (joined ++ stop_before (to_broker p1) ∷ resent)) start ≡ 0 ∷ []
 unfolding varint
 a_stop_before_accepts_once = refl
 
+-- a stop behind it
 pub a_stop_after_accepts_once : accepted_over p1 usual (turns (joined ++ stop_after (to_broker p1) ∷ resent)) start ≡ 0 ∷ []
 unfolding varint
 a_stop_after_accepts_once = refl
 
+-- the message completes in both
 pub both_complete : fates_after (joined ++ stop_before (to_broker p1) ∷ resent) ≡ fates_after (joined ++ stop_after (to_broker p1) ∷ resent)
 unfolding varint
 both_complete = refl
@@ -148,6 +161,7 @@ stranger_says =
     ask (stranger s1 (bytes "10 14 00 04 4d 51 54 54 05 00 00 00 05 11 ff ff ff ff 00")) ∷ ask (stranger s1 (bytes "02 73 31 34 0a 00 03 61 2f 62 00 0a"))
     ∷ ask (stranger s1 (bytes "00 68 69")) ∷ []
 
+-- a stranger's packets are answered as any client's
 pub a_stranger_is_answered : filter_map output (deeds_over usual (turns stranger_says) start) ≡ (1, welcome false) ∷ (1, pubrec 10 0x10) ∷ []
 unfolding varint first_of size_at packet_at frame_at versioned_at lawful_at body_at connect_at fields_at will_at user_name_at password_at publish_at delivery_at layout_at block_at items_at items_in text_at blob_at is_utf8 chars encode varint_at groups_at prop_at value_at
 a_stranger_is_answered = refl
@@ -164,6 +178,7 @@ lost_answer =
     published ++ ask (to_broker p1) ∷ ask (pump r1) ∷ to_end r1 ∷ ask (break r1) ∷ connect_end r1 false ∷ ask (to_broker r1) ∷ to_end r1 ∷ ask (pump r1) ∷ to_end r1
     ∷ ask (to_broker r1) ∷ to_end r1 ∷ ask (to_broker r1) ∷ []
 
+-- an answer that is lost brings no second copy
 pub a_lost_answer_hands_once : option_map (λ (r : Receiver). map (λ (e : Entry). e.copy) r.ledger) (receiver_after lost_answer)
     ≡ Some (Some (record { publication = 1; birth = 1; cause = Direct }) ∷ [])
 unfolding varint
@@ -171,10 +186,12 @@ a_lost_answer_hands_once = refl
 
 -- ---- a restart in mid-handshake: accepted once, and completed (4.3.3, 4.4)
 
+-- a restart between PUBLISH and answer
 pub a_restart_accepts_once : accepted_over p1 usual (turns (joined ++ ask (to_broker p1) ∷ restart ∷ resent)) start ≡ 0 ∷ []
 unfolding varint
 a_restart_accepts_once = refl
 
+-- the message completes
 pub a_restart_completes : fates_after (joined ++ ask (to_broker p1) ∷ restart ∷ resent) ≡ Some (ended completed ∷ [])
 unfolding varint
 a_restart_completes = refl
@@ -184,10 +201,12 @@ a_restart_completes = refl
 abbrev cleaned : List Event
 cleaned = joined ++ ask (to_broker p1) ∷ ask (break p1) ∷ connect_end p1 true ∷ ask (to_broker p1) ∷ to_end p1 ∷ []
 
+-- a clean start forgets what is under way
 pub a_clean_start_forgets : fates_after cleaned ≡ Some (ended forgotten ∷ [])
 unfolding varint
 a_clean_start_forgets = refl
 
+-- which was accepted
 pub a_clean_start_accepts_once : accepted_over p1 usual (turns cleaned) start ≡ 0 ∷ []
 unfolding varint
 a_clean_start_accepts_once = refl
@@ -204,14 +223,17 @@ late =
     publisher p1 ∷ connect_end p1 false ∷ give_up p1 ∷ connect_end p1 false ∷ ask (to_broker p1) ∷ to_end p1 ∷ publish p1 draft ∷ ask (to_broker p1)
     ∷ ask (old_to_broker p1) ∷ to_end p1 ∷ to_end p1 ∷ []
 
+-- a CONNECT that comes late takes the session over
 pub a_late_connect_takes_over : filter_map output (deeds_over usual (turns late) start) ≡ (2, welcome false) ∷ (2, pubrec 1 0x10) ∷ (2, disconnect 0x8e) ∷ (1, welcome true) ∷ []
 unfolding varint
 a_late_connect_takes_over = refl
 
+-- with one acceptance
 pub a_late_connect_accepts_once : accepted_over p1 usual (turns (late ++ connect_end p1 false ∷ ask (to_broker p1) ∷ to_end p1 ∷ ask (to_broker p1) ∷ to_end p1 ∷ [])) start ≡ 0 ∷ []
 unfolding varint
 a_late_connect_accepts_once = refl
 
+-- and the message completes
 pub a_late_connect_completes : fates_after (late ++ connect_end p1 false ∷ ask (to_broker p1) ∷ to_end p1 ∷ ask (to_broker p1) ∷ to_end p1 ∷ []) ≡ Some (ended completed ∷ [])
 unfolding varint
 a_late_connect_completes = refl

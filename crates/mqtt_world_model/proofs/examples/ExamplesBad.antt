@@ -12,15 +12,19 @@ use Rattle.mqtt_world_model.proofs.examples.Scripts.{turns, r1, wish, joins}
 
 -- ---- a receiver
 
+-- a Receive Maximum of 0
 pub no_window_is_bad : is_bad (receiver r1 0) start ≡ true
 no_window_is_bad = refl
 
+-- of 1
 pub the_least_window_is_good : is_bad (receiver r1 1) start ≡ false
 the_least_window_is_good = refl
 
+-- of 65,535
 pub the_greatest_window_is_good : is_bad (receiver r1 65535) start ≡ false
 the_greatest_window_is_good = refl
 
+-- of more
 pub a_window_of_three_bytes_is_bad : is_bad (receiver r1 65536) start ≡ true
 a_window_of_three_bytes_is_bad = refl
 
@@ -39,22 +43,27 @@ to_filter local filter = record wish { filter = filter; options = record (option
 abbrev bad : Wish → Bool
 bad x = is_bad (subscribe r1 x) joined
 
+-- a subscription as others are
 pub a_usual_wish_is_good : bad wish ≡ false
 unfolding varint
 a_usual_wish_is_good = refl
 
+-- a Subscription Identifier of 0
 pub number_0_is_bad : bad (with_number 0) ≡ true
 unfolding varint
 number_0_is_bad = refl
 
+-- of 1
 pub number_1_is_good : bad (with_number 1) ≡ false
 unfolding varint
 number_1_is_good = refl
 
+-- of 268,435,455
 pub the_greatest_number_is_good : bad (with_number 268435455) ≡ false
 unfolding varint
 the_greatest_number_is_good = refl
 
+-- of more
 pub a_number_of_five_bytes_is_bad : bad (with_number 268435456) ≡ true
 unfolding varint
 a_number_of_five_bytes_is_bad = refl
@@ -64,10 +73,12 @@ pub a_shared_filter_is_good : bad (to_filter false (codes "$share/g/a")) ≡ fal
 unfolding varint
 a_shared_filter_is_good = refl
 
+-- No Local of a shared filter
 pub no_local_of_a_shared_filter_is_bad : bad (to_filter true (codes "$share/g/a")) ≡ true
 unfolding varint
 no_local_of_a_shared_filter_is_bad = refl
 
+-- of another
 pub no_local_is_good : bad (to_filter true (codes "a/b")) ≡ false
 unfolding varint
 no_local_is_good = refl
@@ -77,6 +88,7 @@ pub the_longest_filter_is_good : bad (to_filter false (replicate 65526 97)) ≡ 
 unfolding varint
 the_longest_filter_is_good = refl
 
+-- a filter with which no SUBSCRIBE has a spelling
 pub a_longer_filter_is_bad : bad (to_filter false (replicate 65527 97)) ≡ true
 unfolding varint
 a_longer_filter_is_bad = refl

@@ -37,6 +37,7 @@ lost =
     ∷ ask (stranger m2 (bytes "10 14 00 04 4d 51 54 54 05 00 00 00 05 11 ff ff ff ff 00 02 6d 32 82 12 00 01 00 00 0c 24 73 68 61 72 65 2f 67 2f 61 2f 62 02"))
     ∷ publisher p1 ∷ joins p1 false ++ (publish p1 draft ∷ exchange p1 ++ (ask (stranger m1 (bytes "00 00")) ∷ clock 4999 ∷ ask tick ∷ clock 1 ∷ ask tick ∷ []))
 
+-- the copy of a member whose session ends leaves with it
 pub a_lost_members_copy_ends : filter_map report (deeds_over usual (turns lost) start)
     ≡ Accepted 1 ∷ Entered (in_group 1 1) m1 ∷ Ended (in_group 1 1) m1 SessionEnded ∷ []
 unfolding varint first_of size_at packet_at frame_at versioned_at lawful_at body_at connect_at fields_at will_at user_name_at password_at publish_at delivery_at subscribe_at subscription_at layout_at block_at items_at items_in text_at blob_at is_utf8 chars encode varint_at groups_at prop_at value_at

@@ -12,6 +12,7 @@ use Rattle.mqtt_world_model.proofs.examples.Scripts.{turns, p1, r1, draft, joins
 abbrev resumed : List Event
 resumed = joins r1 false ++ to_end r1 ∷ ask (to_broker r1) ∷ []
 
+-- a restart in the middle of a handshake
 pub a_restart_keeps_a_handshake : comes_to (pumped ++ ask (to_broker r1) ∷ restart ∷ resumed)
     ≡ record { handed = 1 ∷ []; queue = 0; messages = 1; done = 0; publications = 1; sessions = 2 }
 unfolding varint
@@ -25,6 +26,7 @@ anew =
     pumped ++ ask (break r1) ∷ joins r1 true ++ (subscribes r1 ++ (to_end p1 ∷ exchange p1 ++ (publish p1 draft ∷ ask (to_broker p1) ∷ round r1
     ++ round r1)))
 
+-- a new session hands a copy over again, as another one
 pub a_new_session_keeps_no_identifier : comes_to anew ≡ record { handed = 1 ∷ 2 ∷ []; queue = 0; messages = 2; done = 1; publications = 2; sessions = 2 }
 unfolding varint
 a_new_session_keeps_no_identifier = refl
@@ -32,6 +34,7 @@ a_new_session_keeps_no_identifier = refl
 abbrev forgotten : List Event
 forgotten = publisher p1 ∷ joins p1 false ++ (publish p1 draft ∷ ask (to_broker p1) ∷ ask (break p1) ∷ joins p1 true ++ exchange p1)
 
+-- what was forgotten does not come again
 pub a_forgotten_message_is_not_resent : accepted_over p1 usual (turns forgotten) start ≡ 0 ∷ []
 unfolding varint
 a_forgotten_message_is_not_resent = refl

@@ -26,6 +26,7 @@ use Rattle.mqtt_world_model.proofs.examples.Scripts.{p1, r1, first_copy, joins, 
 abbrev one_out : Telling
 one_out = sends_out 1
 
+-- what is told where a pump is lost
 pub a_lost_pump_is_told : tellings stopped
     ≡ silent ∷ silent ∷ silent ∷ one_out ∷ silent ∷ silent ∷ one_out ∷ silent ∷ silent ∷ one_out ∷ silent ∷ silent
     ∷ record { reports = Accepted 1 ∷ Entered first_copy r1 ∷ []; out = 1 } ∷ silent ∷ silent ∷ one_out ∷ silent ∷ one_out ∷ silent ∷ one_out ∷ silent
@@ -33,6 +34,7 @@ pub a_lost_pump_is_told : tellings stopped
 unfolding varint
 a_lost_pump_is_told = refl
 
+-- its copy waits
 pub a_lost_pump_comes_to : comes_to stopped ≡ record { handed = 1 ∷ []; queue = 0; messages = 1; done = 0; publications = 1; sessions = 2 }
 unfolding varint
 a_lost_pump_comes_to = refl
@@ -56,52 +58,64 @@ goes_on =
 abbrev once_each : Sum
 once_each = record { handed = 1 ∷ []; queue = 0; messages = 1; done = 1; publications = 1; sessions = 2 }
 
+-- without a stop
 pub without_a_stop : comes_to (taken ++ exchange p1) ≡ once_each
 unfolding varint
 without_a_stop = refl
 
+-- the broker stops before it stores a PUBLISH
 pub a_stop_before_a_publish : comes_to (published ++ stop_before (to_broker p1) ∷ goes_on) ≡ once_each
 unfolding varint
 a_stop_before_a_publish = refl
 
+-- and behind that
 pub a_stop_after_a_publish : comes_to (published ++ stop_after (to_broker p1) ∷ goes_on) ≡ once_each
 unfolding varint
 a_stop_after_a_publish = refl
 
+-- before it stores what a pump sends
 pub a_stop_before_a_pump : comes_to (published ++ ask (to_broker p1) ∷ stop_before (pump r1) ∷ goes_on) ≡ once_each
 unfolding varint
 a_stop_before_a_pump = refl
 
+-- and behind that
 pub a_stop_after_a_pump : comes_to (published ++ ask (to_broker p1) ∷ stop_after (pump r1) ∷ goes_on) ≡ once_each
 unfolding varint
 a_stop_after_a_pump = refl
 
+-- before it stores a PUBREC
 pub a_stop_before_a_pubrec : comes_to (pumped ++ stop_before (to_broker r1) ∷ goes_on) ≡ once_each
 unfolding varint
 a_stop_before_a_pubrec = refl
 
+-- and behind that
 pub a_stop_after_a_pubrec : comes_to (pumped ++ stop_after (to_broker r1) ∷ goes_on) ≡ once_each
 unfolding varint
 a_stop_after_a_pubrec = refl
 
+-- before it stores a PUBCOMP
 pub a_stop_before_a_pubcomp : comes_to (received ++ stop_before (to_broker r1) ∷ goes_on) ≡ once_each
 unfolding varint
 a_stop_before_a_pubcomp = refl
 
+-- and behind that
 pub a_stop_after_a_pubcomp : comes_to (received ++ stop_after (to_broker r1) ∷ goes_on) ≡ once_each
 unfolding varint
 a_stop_after_a_pubcomp = refl
 
+-- before it stores a PUBREL
 pub a_stop_before_a_pubrel : comes_to (taken ++ stop_before (to_broker p1) ∷ goes_on) ≡ once_each
 unfolding varint
 a_stop_before_a_pubrel = refl
 
+-- and behind that
 pub a_stop_after_a_pubrel : comes_to (taken ++ stop_after (to_broker p1) ∷ goes_on) ≡ once_each
 unfolding varint
 a_stop_after_a_pubrel = refl
 
 -- ---- what the stopped step sent is read by nobody
 
+-- what was stored is not told
 pub nothing_of_a_stopped_step_goes_out :
     comes_to (published ++ ask (to_broker p1) ∷ stop_after (pump r1) ∷ to_end r1 ∷ [])
     ≡ record { handed = []; queue = 1; messages = 1; done = 0; publications = 1; sessions = 2 }
@@ -116,10 +130,12 @@ says = stranger (codes "s1") (bytes "10 14 00 04 4d 51 54 54 05 00 00 00 05 11 f
 abbrev stranger_alone : ℕ → Sum
 stranger_alone sessions = record { handed = []; queue = 0; messages = 0; done = 0; publications = 0; sessions = sessions }
 
+-- a stranger's packet that is lost
 pub a_stop_before_a_stranger_is_heard : comes_to (stop_before says ∷ []) ≡ stranger_alone 0
 unfolding varint first_of size_at packet_at frame_at versioned_at lawful_at body_at connect_at fields_at will_at user_name_at password_at publish_at delivery_at layout_at block_at items_at items_in text_at blob_at is_utf8 chars encode varint_at groups_at prop_at value_at
 a_stop_before_a_stranger_is_heard = refl
 
+-- and one that is stored
 pub a_stop_after_a_stranger_is_heard : comes_to (stop_after says ∷ []) ≡ stranger_alone 1
 unfolding varint first_of size_at packet_at frame_at versioned_at lawful_at body_at connect_at fields_at will_at user_name_at password_at publish_at delivery_at layout_at block_at items_at items_in text_at blob_at is_utf8 chars encode varint_at groups_at prop_at value_at
 a_stop_after_a_stranger_is_heard = refl

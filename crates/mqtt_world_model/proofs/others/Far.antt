@@ -36,6 +36,7 @@ abbrev pub AreFar : List ℕ → ℕ → ℕ → List Deed → Type 0
 AreFar client birth n [] = ⊤
 AreFar client birth n (d ∷ ds) = IsFar client birth n d × AreFar client birth n ds
 
+-- a smaller number differs
 pub less_differs : (a b : ℕ) → a < b → nat_eq b a ≡ false
 less_differs a b less = elim (cases_Bool (nat_eq b a)) [
   | inl same ↦ let is = eqb-true b a same in absurd (omega (arith, is, less))
@@ -134,6 +135,7 @@ pub record Apart (birth n : ℕ) (ds : List Deed) (b : Broker) : Type 0 where
   pub told_is : told_to n ds ≡ []
   pub closes_is : closes n ds ≡ false
 
+-- deeds far from him leave what is his apart
 pub apart_by : (client : List ℕ) (birth n : ℕ) (ds : List Deed) (b : Broker) → AreFar client birth n ds → Apart birth n ds b
 apart_by client birth n [] b q = record { face_is = refl; line_is = refl; told_is = refl; closes_is = refl }
 apart_by client birth n (d ∷ ds) b q =
@@ -147,6 +149,7 @@ apart_by client birth n (d ∷ ds) b q =
 
 -- ---- far deeds keep whose the session and the line are
 
+-- numbers that differ are not the same
 pub not_same : (a b : ℕ) → nat_eq a b ≡ false → a ≡ b → ⊥
 not_same a b h e =
     let yes : nat_eq a b ≡ true = ap (λ (k : ℕ). nat_eq k b) e ∙ nat_eq_equiv.refl b in
@@ -360,6 +363,7 @@ part_births (Enter copy) s r = refl
 part_births (Mark place phase) s r = refl
 part_births (Leave e ending) s r = refl
 
+-- a part of a session gives no birth
 pub at_births : (part : Part) (o : Option Session) (r : Records) → (changed_all (part_rows_of part o) r).births ≡ r.births
 at_births part None r = refl
 at_births part (Some s) r = part_births part s r
@@ -400,6 +404,7 @@ far_given client birth n (On m part) given q h = h
 far_given client birth n (Send m packet) given q h = h
 far_given client birth n (Gone m) given q h = h
 
+-- a deed far from him leaves him what is his
 pub own_deed : (client : List ℕ) (birth n : ℕ) (d : Deed) (b : Broker) → IsFar client birth n d → Own client birth n b → Own client birth n (after d b)
 own_deed client birth n d b q o = record {
   sessions = far_ours client birth n d b.records q o.sessions;
@@ -408,6 +413,7 @@ own_deed client birth n d b q o = record {
   given = far_given client birth n d b.given q o.given;
 }
 
+-- so do many
 pub own_deeds : (client : List ℕ) (birth n : ℕ) (ds : List Deed) (b : Broker) → AreFar client birth n ds → Own client birth n b → Own client birth n (after_all ds b)
 own_deeds client birth n [] b q o = o
 own_deeds client birth n (d ∷ ds) b q o = own_deeds client birth n ds (after d b) q.1 (own_deed client birth n d b q.0 o)

@@ -57,6 +57,7 @@ not_both client (x ∷ xs) h g = elim (cases_Bool (bytes_eq x.client client)) [
   | inr other ↦ rw other (not_both client xs h.1 g.1)
 ]
 
+-- what strangers to a name do begins no session of it
 pub still_none : (client : List ℕ) (ds : List Deed) (b : Broker) → AreStrangers client ds → session_named client b.records ≡ None → session_named client (after_all ds b).records ≡ None
 still_none client ds b q none =
     not_both client (after_all ds b).records.sessions

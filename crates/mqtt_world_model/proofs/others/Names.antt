@@ -46,6 +46,7 @@ named_from client birth (x ∷ xs) s h at is = elim (cases_Bool (bytes_eq x.clie
   ]
 ]
 
+-- the session of a birth that has the name is the one that the name finds
 pub named_is : (client : List ℕ) (birth : ℕ) (r : Records) (s : Session) → IsOnly client birth r → session_at birth r ≡ Some s → s.client ≡ client → session_named client r ≡ Some s
 named_is client birth r s h at is = named_from client birth r.sessions s h at is
 
@@ -154,9 +155,11 @@ rows_none client birth (On m part) r q h = tt
 rows_none client birth (Send m packet) r q h = tt
 rows_none client birth (Gone m) r q h = tt
 
+-- a deed that begins none of the name leaves it with one session
 pub only_deed : (client : List ℕ) (birth : ℕ) (d : Deed) (r : Records) → BeginsNone client birth d → IsOnly client birth r → IsOnly client birth (stored_after d r)
 only_deed client birth d r q h = only_changes client birth (rows_of d r) r (rows_none client birth d r q h) h
 
+-- so do many
 pub only_deeds : (client : List ℕ) (birth : ℕ) (ds : List Deed) (b : Broker) → BeginNone client birth ds → IsOnly client birth b.records → IsOnly client birth (after_all ds b).records
 only_deeds client birth [] b q h = h
 only_deeds client birth (d ∷ ds) b q h = only_deeds client birth ds (after d b) q.1 (only_deed client birth d b.records q.0 h)
@@ -177,6 +180,7 @@ begin_first client birth (On m part) ks h = (tt, h)
 begin_first client birth (Send m packet) ks h = (tt, h)
 begin_first client birth (Gone m) ks h = (tt, h)
 
+-- deeds that give no birth begin none
 pub none_begun : (client : List ℕ) (birth : ℕ) (ds : List Deed) → filter_map birth_given ds ≡ [] → BeginNone client birth ds
 none_begun client birth [] h = tt
 none_begun client birth (d ∷ ds) h =

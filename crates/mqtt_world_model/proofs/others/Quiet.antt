@@ -159,11 +159,13 @@ quiet_beside birth n (On m part) r q = tt
 quiet_beside birth n (Send m packet) r q = tt
 quiet_beside birth n (Gone m) r q = tt
 
+-- a quiet deed leaves what a session shows
 pub quiet_face : (birth n : ℕ) (d : Deed) (r : Records) → IsQuiet birth n d → face_at birth (stored_after d r) ≡ face_at birth r
 quiet_face birth n d r q = beside_changes birth (rows_of d r) r (quiet_beside birth n d r q)
 
 -- ---- the line after a quiet deed
 
+-- a new line leaves who stands on the others
 pub line_linked : (n : ℕ) (x : Line) (ls : List Line) → nat_eq x.number n ≡ false → session_on n (ls ++ x ∷ []) ≡ session_on n ls
 line_linked n x [] q = rw q refl
 line_linked n x (l ∷ ls) q = elim (cases_Bool (nat_eq l.number n)) [
@@ -171,6 +173,7 @@ line_linked n x (l ∷ ls) q = elim (cases_Bool (nat_eq l.number n)) [
   | inr further ↦ rw further (line_linked n x ls q)
 ]
 
+-- so does one that goes
 pub line_gone : (n m : ℕ) (ls : List Line) → nat_eq m n ≡ false → session_on n (filter (λ (l : Line). not (nat_eq l.number m)) ls) ≡ session_on n ls
 line_gone n m [] q = refl
 line_gone n m (l ∷ ls) q = elim (cases_Bool (nat_eq l.number m)) [
@@ -189,6 +192,7 @@ kept_session now (Greet birth keep_alive window largest) l q = absurd q
 kept_session now (SetAlias alias topic) l q = refl
 kept_session now (Went place) l q = refl
 
+-- so does what happens on another line, or happens quietly on this one
 pub line_on : (now n m : ℕ) (part : LinePart) (ls : List Line) → (nat_eq m n ≡ false) ⊎ IsQuietOn part → session_on n (on_line now m part ls) ≡ session_on n ls
 line_on now n m part [] q = refl
 line_on now n m part (l ∷ ls) q = elim (cases_Bool (nat_eq l.number m)) [
@@ -243,6 +247,7 @@ line_at_part n birth (Enter copy) ls = refl
 line_at_part n birth (Mark place phase) ls = refl
 line_at_part n birth (Leave e ending) ls = line_without n birth e.place ls
 
+-- a quiet deed leaves who stands on a line
 pub quiet_line : (birth n now : ℕ) (d : Deed) (ls : List Line) → IsQuiet birth n d → session_on n (lines_after now d ls) ≡ session_on n ls
 quiet_line birth n now (Accept number origin m) ls q = refl
 quiet_line birth n now (Begin row will) ls q = refl
@@ -260,6 +265,7 @@ quiet_line birth n now (Gone m) ls q = line_gone n m ls q
 
 -- ---- what a quiet deed tells
 
+-- it tells nothing there
 pub quiet_told : (birth n : ℕ) (d : Deed) → IsQuiet birth n d → heard_by n (output d) ≡ None
 quiet_told birth n (Send m packet) (inl other) = rw other refl
 quiet_told birth n (Send m packet) (inr unheard) = elim (cases_Bool (nat_eq m n)) [
@@ -279,6 +285,7 @@ quiet_told birth n (Link m) q = refl
 quiet_told birth n (On m part) q = refl
 quiet_told birth n (Gone m) q = refl
 
+-- it closes nothing there
 pub quiet_closing : (birth n : ℕ) (d : Deed) → IsQuiet birth n d → is_closing n (closing d) ≡ false
 quiet_closing birth n (Accept number origin m) q = refl
 quiet_closing birth n (Begin row will) q = refl
@@ -336,6 +343,7 @@ pub record Calm (birth n : ℕ) (ds : List Deed) (b : Broker) : Type 0 where
   pub numbers_is : numbers ds ≡ []
   pub begun_is : begun ds ≡ []
 
+-- quiet deeds leave a session and its line calm
 pub calm : (birth n : ℕ) (ds : List Deed) (b : Broker) → AreQuiet birth n ds → Calm birth n ds b
 calm birth n [] b q = record { face_is = refl; line_is = refl; told_is = refl; closes_is = refl; numbers_is = refl; begun_is = refl }
 calm birth n (d ∷ ds) b q =
@@ -351,20 +359,24 @@ calm birth n (d ∷ ds) b q =
 
 -- ---- lists of quiet deeds
 
+-- two quiet lists are quiet
 pub quiet_append : (birth n : ℕ) (xs ys : List Deed) → AreQuiet birth n xs → AreQuiet birth n ys → AreQuiet birth n (xs ++ ys)
 quiet_append birth n [] ys p q = q
 quiet_append birth n (x ∷ xs) ys p q = (p.0, quiet_append birth n xs ys p.1 q)
 
+-- lists that are made of items are quiet if each is
 pub quiet_flat : {X : Type 0} (birth n : ℕ) (f : X → List Deed) → ((x : X) → AreQuiet birth n (f x)) → (xs : List X) → AreQuiet birth n (flat_map f xs)
 quiet_flat birth n f h [] = tt
 quiet_flat birth n f h (x ∷ xs) = quiet_append birth n (f x) (flat_map f xs) (h x) (quiet_flat birth n f h xs)
 
+-- a choice between quiet lists is quiet
 pub quiet_cond : (birth n : ℕ) (t : Bool) (xs ys : List Deed) → AreQuiet birth n xs → AreQuiet birth n ys → AreQuiet birth n (cond t xs ys)
 quiet_cond birth n true xs ys p q = p
 quiet_cond birth n false xs ys p q = q
 
 -- ---- a publication
 
+-- a copy's leaving is quiet
 pub quiet_leave : (birth n : ℕ) (s : Session) (t : Turn) → AreQuiet birth n (leave_deeds s t)
 quiet_leave birth n s (turns.Leave place ending) = leaves (row_at copy_place place s.queue)
   where
@@ -397,6 +409,7 @@ quiet_deliver_by birth n true env d b =
     quiet_with birth n (session_at d.birth b.records) (λ s. always (enter_deeds env d.copy s)) b (λ s. quiet_enter birth n env d.copy s)
 quiet_deliver_by birth n false env d b = quiet_offer birth n b.now (line_of d.birth b) d.copy
 
+-- deliveries are quiet
 pub quiet_deliveries : (birth n : ℕ) (env : Env) (ds : List CopyTo) (b : Broker) → AreQuiet birth n (series (map (deliver env) ds) b)
 quiet_deliveries birth n env [] b = tt
 quiet_deliveries birth n env (d ∷ ds) b =
@@ -418,6 +431,7 @@ copies_of env origin m ds b =
     let number = next_publication b.records in
     series (retain_by m.retain (is_empty m.payload) number m ∷ map (deliver env) ds) (after (Accept number origin m) b)
 
+-- the copies of a publication are quiet
 pub quiet_copies : (birth n : ℕ) (env : Env) (origin : Origin) (m : Message) (ds : List CopyTo) (b : Broker) → AreQuiet birth n (copies_of env origin m ds b)
 quiet_copies birth n env origin m ds b =
     let number = next_publication b.records in

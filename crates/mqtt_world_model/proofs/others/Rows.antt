@@ -109,6 +109,7 @@ counter_beside birth Subscribes value r = refl
 counter_beside birth Autos value r = refl
 counter_beside birth Moment value r = refl
 
+-- a change beside a session leaves what it shows
 pub beside_change : (birth : ℕ) (c : Change) (r : Records) → IsBeside birth c → face_at birth (changed c r) ≡ face_at birth r
 beside_change birth (SetCounter counter value) r q = counter_beside birth counter value r
 beside_change birth (PutSession row) r q = ap (option_map face) (other_put birth row r.sessions q)
@@ -126,6 +127,7 @@ beside_change birth (RemoveCopy k place) r q = view-change_row birth_of face bir
 beside_change birth (PutRetained kept) r q = refl
 beside_change birth (RemoveRetained place) r q = refl
 
+-- so do many
 pub beside_changes : (birth : ℕ) (cs : List Change) (r : Records) → AreBeside birth cs → face_at birth (changed_all cs r) ≡ face_at birth r
 beside_changes birth [] r q = refl
 beside_changes birth (c ∷ cs) r q = beside_changes birth cs (changed c r) q.1 ∙ beside_change birth c r q.0

@@ -261,6 +261,7 @@ pub record Spared (n : ℕ) (ds : List Deed) (b : Broker) : Type 0 where
   pub closes_is : closes n ds ≡ false
   pub given : n ≤ b.given → n ≤ (after_all ds b).given
 
+-- deeds away from a line spare it
 pub spared_by : (n : ℕ) (ds : List Deed) (b : Broker) → AreAway n ds → Spared n ds b
 spared_by n [] b q = record { line_is = refl; told_is = refl; closes_is = refl; given = λ h. h }
 spared_by n (d ∷ ds) b q =
@@ -272,6 +273,7 @@ spared_by n (d ∷ ds) b q =
       given = λ h. rest.given (given_grows n d b.given q.0 h);
     }
 
+-- and leave it idle
 pub idle_deeds : (n : ℕ) (ds : List Deed) (b : Broker) → AreAway n ds → IsIdle n b → IsIdle n (after_all ds b)
 idle_deeds n [] b q h = h
 idle_deeds n (d ∷ ds) b q h = idle_deeds n ds (after d b) q.1 (record { lines = idle_after n b.now d b.lines q.0 h.lines; given = given_grows n d b.given q.0 h.given })
@@ -293,6 +295,7 @@ away_deed birth n (On m part) q = inr q
 away_deed birth n (Send m packet) q = q
 away_deed birth n (Gone m) q = q
 
+-- quiet deeds are away from the line
 pub away_quiet : (birth n : ℕ) (ds : List Deed) → AreQuiet birth n ds → AreAway n ds
 away_quiet birth n [] q = tt
 away_quiet birth n (d ∷ ds) q = (away_deed birth n d q.0, away_quiet birth n ds q.1)

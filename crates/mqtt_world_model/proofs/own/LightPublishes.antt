@@ -120,6 +120,7 @@ abbrev pub Does : Effect → Handing → BrokerLine → Session → List Deed �
 Does (chooses choice) d l s ds b = GivesLight d (verdict_on (standing d s.inbound) choice) l s ds b
 Does (drops code) d l s ds b = Gives s.birth l.number ds b (closed_face b.now (face s)) None (DISCONNECT code ∷ []) true []
 
+-- a PUBLISH without an alias sets none
 pub no_alias : (t : Bool) (line : ℕ) (topic : List ℕ) → sets_alias t None line topic ≡ []
 no_alias true line topic = refl
 no_alias false line topic = refl
@@ -139,6 +140,7 @@ meant_does (Means name) env l s d c b light at on there no_will no_end =
       subst (λ (ds : List Deed). Does (chooses (choice_of (accepted_copies env m b) (is_wanted env m b.records))) d l s ds b) (sym same) g,
     )
 
+-- a PUBLISH of QoS 0 or 1 leaves his session as it was, but for its answer
 pub light_does : (env : Env) (l : BrokerLine) (s : Session) (d : Handing) (c : Content) (b : Broker)
     → opens s d ≡ [] → session_at s.birth b.records ≡ Some s → l.session ≡ Some s.birth → session_on l.number b.lines ≡ Some (Some s.birth) → s.will ≡ None → s.expiry ≡ never
     → (e : Effect) × Does e d l s (on_publish env l s (handed d c) b) b

@@ -43,6 +43,7 @@ all_drop (x ∷ xs) h = h.1
 
 -- ---- a packet of its session, which is connected there
 
+-- a packet on the old line is steps of the hop
 pub old_packet_comes : (limits : Limits) (choice : MemberChoice) (now : ℕ) (p : Publisher) (rest : List Sent) (packet : Sent) (l : BrokerLine) (s : Session) (b : Broker) (accepted : List ℕ)
     → p.line.old ≡ packet ∷ rest → IsNoConnect packet → AllByRecursion IsNoConnect p.line.old → IsConnected (turned_back p) l s b → IsApart p.line.number p.line.old_number
     → IsHis p.client (Some s.birth) l.number b → Present (Some s.birth) l.number p.line b
@@ -103,6 +104,7 @@ abbrev pub LateConnected : Limits → MemberChoice → ℕ → ℕ → Publisher
 LateConnected limits choice now k p l b accepted =
     Comes k p (after_old_step limits choice now (Input l.number (connect_packet false p)) p b) b (stepped limits choice now (Input l.number (connect_packet false p)) b) accepted accepted
 
+-- so is a CONNECT there
 pub late_comes : (limits : Limits) (choice : MemberChoice) (now : ℕ) (p : Publisher) (l : BrokerLine) (s : Session) (k : ℕ) (b : Broker) (accepted : List ℕ)
     → IsInOrder b → IsInOrder (stepped limits choice now (Input l.number (connect_packet false p)) b)
     → p.line.old ≡ shake (CONNECT false) ∷ [] → p.line.old_number ≡ Some l.number → IsApart p.line.number p.line.old_number → line_at l.number b ≡ Some l → l.session ≡ None → l.keep_alive ≡ 0 → IsIdle l.number b
@@ -172,6 +174,7 @@ stands_kept : (t : Bool) (w : Hop) → (run (own_events t) w).stands ≡ w.stand
 stands_kept true w = refl
 stands_kept false w = refl
 
+-- also if it is the first
 pub late_first : (limits : Limits) (choice : MemberChoice) (now : ℕ) (p : Publisher) (l : BrokerLine) (k : ℕ) (b : Broker) (accepted : List ℕ)
     → IsNamed p.client → IsSound limits p.client b → IsInOrder (stepped limits choice now (Input l.number (connect_packet false p)) b)
     → p.line.old ≡ shake (CONNECT false) ∷ [] → p.line.old_number ≡ Some l.number → IsApart p.line.number p.line.old_number → line_at l.number b ≡ Some l → l.session ≡ None → l.keep_alive ≡ 0

@@ -33,6 +33,7 @@ use Rattle.mqtt_world_model.proofs.seats.Seats.{AreElsewhere}
 use Rattle.mqtt_world_model.proofs.seats.HopStands.{stands_run, stands_stays}
 use Rattle.mqtt_world_model.proofs.seats.OwnSeats.{own_on, none_there, empty_stays, joined_after, former_after, not_among}
 
+-- numbers that are not the same differ
 pub differs : (n m : ℕ) → (n ≡ m → ⊥) → nat_eq n m ≡ false
 differs n m h = elim (cases_Bool (nat_eq n m)) [ inl same ↦ absurd (h (eqb-true n m same)) | inr other ↦ other ]
 
@@ -49,6 +50,7 @@ former_taken o k l b (lingers birth own is calm there) = lingers birth own is ca
 
 -- ---- a packet of its session
 
+-- a packet on his line is steps of the hop
 pub packet_comes : (limits : Limits) (choice : MemberChoice) (now : ℕ) (p : Publisher) (rest : List Sent) (packet : Sent) (l : BrokerLine) (s : Session) (b : Broker) (accepted : List ℕ)
     → p.line.up ≡ packet ∷ rest → IsNoConnect packet → IsConnected p l s b → IsApart p.line.number p.line.old_number → IsHis p.client (Some s.birth) l.number b → Former (Some s.birth) l.number p.line b
     → Comes l.number p (after_step limits choice now (Input l.number (wire p.client p.contents packet)) p b) b (stepped limits choice now (Input l.number (wire p.client p.contents packet)) b)
@@ -76,6 +78,7 @@ packet_comes limits choice now p rest packet l s b accepted up other c apart his
 
 -- ---- a line that waits
 
+-- a line that waits for its CONNECT has no session and no Keep Alive
 pub waiting_line : (n : ℕ) (b : Broker) → glance_at n b.lines ≡ waits_there → (l : BrokerLine) × (line_at n b ≡ Some l) × (l.session ≡ None) × (l.keep_alive ≡ 0) × (l.number ≡ n)
 waiting_line n b h = by (line_at n b) refl h
   where
@@ -113,6 +116,7 @@ own_found birth k l (x ∷ xs) h e = elim (cases_Bool (is_of x.session birth)) [
   | inr other ↦ own_found birth k l xs h.1 (rw other at e)
 ]
 
+-- the line that his session stood on is not the one of his CONNECT
 pub taken_of : (client : List ℕ) (birth k n : ℕ) (b : Broker) → Own client birth k b → IsIdle n b → IsTaken (line_of birth b) birth n
 taken_of client birth k n b own idle = record {
   connected = λ l e. (own_found birth k l b.lines own.lines e).0;
@@ -127,6 +131,7 @@ left_idle birth m b idle = by (line_of birth b) refl
     by None e = refl
     by (Some l) e = let other = connected_elsewhere m birth l b idle e in rw other refl
 
+-- it is the one that a takeover drops
 pub left_own : (client : List ℕ) (birth k : ℕ) (b : Broker) → Own client birth k b → session_on k b.lines ≡ Some (Some birth) → is_one_of (Some k) (lines_left (line_of birth b)) ≡ true
 left_own client birth k b own on = by (line_of birth b) refl
   where
@@ -193,6 +198,7 @@ abbrev pub Connected : Limits → MemberChoice → ℕ → Bool → ℕ → Publ
 Connected limits choice now clean k p l b accepted =
     Comes k p (after_step limits choice now (Input l.number (connect_packet clean p)) p b) b (stepped limits choice now (Input l.number (connect_packet clean p)) b) accepted accepted
 
+-- behind a CONNECT the hop is linked
 pub hop_linked : (clean t : Bool) (w : Hop) → (on_connect t clean takes [] w).linked ≡ true
 hop_linked true true w = refl
 hop_linked false true w = refl
@@ -249,6 +255,7 @@ asking_of p l s k b is at waits idle kept own former = record {
   old = spared_of p.client s.birth k p.line b own former;
 }
 
+-- a CONNECT to his session is a step of the hop
 pub kept_connect : (limits : Limits) (choice : MemberChoice) (now : ℕ) (clean : Bool) (p : Publisher) (l : BrokerLine) (s : Session) (k : ℕ) (b : Broker) (accepted : List ℕ)
     → IsNamed p.client → IsSound limits p.client b → IsInOrder (stepped limits choice now (Input l.number (connect_packet clean p)) b)
     → p.line.up ≡ shake (CONNECT clean) ∷ [] → p.line.number ≡ Some l.number → IsApart p.line.number p.line.old_number → line_at l.number b ≡ Some l → l.session ≡ None → l.keep_alive ≡ 0 → IsIdle l.number b
@@ -267,10 +274,12 @@ kept_connect limits choice now true p l s k b accepted named sound order up is a
 
 -- ---- where no session of its name stands
 
+-- what is not some is none
 pub not_some : (o : Option Session) → is_some o ≡ false → o ≡ None
 not_some None e = refl
 not_some (Some s) e = absurd cc
 
+-- a CONNECT without a session of his is a step of the hop
 pub first_connect : (limits : Limits) (choice : MemberChoice) (now : ℕ) (clean : Bool) (p : Publisher) (l : BrokerLine) (k : ℕ) (b : Broker) (accepted : List ℕ)
     → IsNamed p.client → IsSound limits p.client b → IsInOrder (stepped limits choice now (Input l.number (connect_packet clean p)) b)
     → p.line.up ≡ shake (CONNECT clean) ∷ [] → p.line.number ≡ Some l.number → IsApart p.line.number p.line.old_number → line_at l.number b ≡ Some l → l.session ≡ None → l.keep_alive ≡ 0 → IsIdle l.number b

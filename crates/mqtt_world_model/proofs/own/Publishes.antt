@@ -63,9 +63,11 @@ told_append n (x ∷ xs) ys = first (heard_by n _) (told_append n xs ys)
     first None h = h
     first (Some packet) h = ap (λ (ps : List ToPublisher). packet ∷ ps) h
 
+-- two lists of deeds accept the publications of both
 pub numbers_append : (xs ys : List Deed) → numbers (xs ++ ys) ≡ numbers xs ++ numbers ys
 numbers_append xs ys = filter_map-append client_number xs ys
 
+-- and begin the sessions of both
 pub begun_append : (xs ys : List Deed) → begun (xs ++ ys) ≡ begun xs ++ begun ys
 begun_append xs ys = filter_map-append birth_given xs ys
 
@@ -137,6 +139,7 @@ opened_face birth id f r (Some x) e h =
 
 -- ---- a line is dropped
 
+-- an act that does nothing may be left out
 pub act_none : (act : Act) (rest : List Act) (b : Broker) → act b ≡ [] → series (act ∷ rest) b ≡ series rest b
 act_none act rest b e = ap (λ (ds : List Deed). ds ++ series rest (after_all ds b)) e
 
@@ -147,10 +150,12 @@ only_none : (t : Bool) (act : Act) (b : Broker) → t ≡ false → only_if t ac
 only_none true act b h = absurd cc
 only_none false act b h = refl
 
+-- no Will is never due
 pub no_will_due : (closed : Option ℕ) (expiry now : ℕ) → is_due now (will_due closed expiry None) ≡ false
 no_will_due None expiry now = refl
 no_will_due (Some moment) expiry now = refl
 
+-- a session that never expires never ends
 pub no_end_due : (closed : Option ℕ) (now : ℕ) → is_due now (end_due closed never) ≡ false
 no_end_due None now = refl
 no_end_due (Some moment) now = refl
@@ -172,11 +177,13 @@ closed_row now s = record (columns_of s) { closed = Some now }
 pub closed_at : (now : ℕ) (s : Session) (r : Records) → session_at s.birth r ≡ Some s → session_at s.birth (changed_all (part_rows_of (Close now) (Some s)) r) ≡ Some (with_columns (closed_row now s) s)
 closed_at now s r at = change_row-here birth_of s.birth (with_columns (closed_row now s)) s r.sessions (λ y. refl) at
 
+-- a session that was closed is found closed
 pub closed_after : (now : ℕ) (s : Session) (b : Broker) → session_at s.birth b.records ≡ Some s
     → session_at s.birth (after (At (whose s) (Close now)) b).records ≡ Some (with_columns (closed_row now s) s)
 closed_after now s b at =
     ap (λ (o : Option Session). session_at s.birth (changed_all (part_rows_of (Close now) o) b.records)) at ∙ closed_at now s b.records at
 
+-- closing it does nothing else
 pub session_closes : (env : Env) (s : Session) (b : Broker) → session_at s.birth b.records ≡ Some s → s.will ≡ None → s.expiry ≡ never
     → close_session env true s b ≡ At (whose s) (Close b.now) ∷ []
 session_closes env s b at no_will no_end =
@@ -187,6 +194,7 @@ session_closes env s b at no_will no_end =
 abbrev pub dropped : ℕ → Line → Session → ℕ → List Deed
 dropped code l s now = Send l.number (disconnect code) ∷ Gone l.number ∷ At (whose s) (Close now) ∷ []
 
+-- dropping his line tells him, and closes his session
 pub drop_is : (env : Env) (code : ℕ) (l : Line) (s : Session) (b : Broker) → session_at s.birth b.records ≡ Some s → l.session ≡ Some s.birth → s.will ≡ None → s.expiry ≡ never
     → drop_line env code l b ≡ dropped code l s b.now
 drop_is env code l s b at on no_will no_end =
@@ -196,6 +204,7 @@ drop_is env code l s b at on no_will no_end =
     ∙ (ap (λ (o : Option Session). with_session o (close_session env true) c) at ∙ session_closes env s c at no_will no_end) in
     ap (λ (ds : List Deed). Send l.number (disconnect code) ∷ ((Gone l.number ∷ (ds ++ [])) ++ [])) inner
 
+-- behind the loss of a line nobody stands on it
 pub line_none : (n : ℕ) (ls : List Line) → session_on n (filter (λ (l : Line). not (nat_eq l.number n)) ls) ≡ None
 line_none n [] = refl
 line_none n (l ∷ ls) = elim (cases_Bool (nat_eq l.number n)) [
@@ -221,6 +230,7 @@ dropped_gives code l s b at =
       others = λ m other. rw other refl;
     }
 
+-- and that is what a drop leaves
 pub drop_gives : (env : Env) (code : ℕ) (l : Line) (s : Session) (b : Broker) → session_at s.birth b.records ≡ Some s → l.session ≡ Some s.birth → s.will ≡ None → s.expiry ≡ never
     → Gives s.birth l.number (drop_line env code l b) b (closed_face b.now (face s)) None (DISCONNECT code ∷ []) true []
 drop_gives env code l s b at on no_will no_end =
@@ -345,6 +355,7 @@ new_gives env l s p m (Some ds) true dup id b is w at on new =
 new_gives env l s p m (Some ds) false dup id b is w at on new =
     subst (λ (ds : List Deed). GivesBy (accept no_matching_subscribers) id l s ds b) (sym (new_deeds env l s p m ds false dup id b is w)) (accepted_gives env l s m ds false dup id b at on new)
 
+-- a PUBLISH of QoS 2 leaves what its verdict says
 pub publish_gives : (st : Published) (env : Env) (l : Line) (s : Session) (p : Publication) (m : Message) (dup : Bool) (id : ℕ) (b : Broker)
     → p.delivery ≡ twice dup id → session_at s.birth b.records ≡ Some s → l.session ≡ Some s.birth → session_on l.number b.lines ≡ Some (Some s.birth)
     → s.will ≡ None → s.expiry ≡ never → answer_to id s.inbound ≡ st
@@ -457,6 +468,7 @@ pubrel_by Unknown l s id b at on is =
       others = λ m other. refl;
     }
 
+-- a PUBREL closes its identifier, and is answered
 pub pubrel_does : (l : Line) (s : Session) (id : ℕ) (b : Broker) → session_at s.birth b.records ≡ Some s → session_on l.number b.lines ≡ Some (Some s.birth)
     → Gives s.birth l.number (on_pubrel l s id) b (record (face s) { inbound = ids_without id s.inbound }) (Some (Some s.birth)) (answer_to_pubrel (answer_to_release id s.inbound) id ∷ []) false []
 pubrel_does l s id b at on = pubrel_by (answer_to_release id s.inbound) l s id b at on refl

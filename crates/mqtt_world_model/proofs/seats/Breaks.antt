@@ -32,6 +32,7 @@ lost_is limits choice now l s b line on at no_will no_end =
     (ap (λ (o : Option ℕ). close_connected env true o c) on
     ∙ (ap (λ (o : Option Session). with_session o (close_session env true) c) at ∙ session_closes env s c at no_will no_end))
 
+-- a lost line is a break of the hop
 pub break_is_hop : (limits : Limits) (choice : MemberChoice) (now : ℕ) (p : Publisher) (l : BrokerLine) (s : Session) (b : Broker) (accepted : List ℕ) → IsConnected p l s b
     → seen accepted (lost_by limits choice now l.number p b) (stepped limits choice now (Lost l.number) b)
     ≡ step (seen accepted p b) break

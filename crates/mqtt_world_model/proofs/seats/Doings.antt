@@ -157,6 +157,7 @@ some_line_there k x b h = by (line_at k b) h
     by None e = absurd cc
     by (Some l) e = refl
 
+-- the publisher sees his line as the broker has it, or waits for his CONNACK
 pub agrees_or_waits : (o : Option ℕ) (k : ℕ) (l : Line Sent) (b : Broker) → Present o k l b → (is_linked l.number b ≡ stands l.number b) ⊎ ((l.link ≡ asked) × (filter_map heard_in l.down ≡ []))
 agrees_or_waits o k l b (absent none up) = inl (ap (λ (x : Option ℕ). is_linked x b) none ∙ sym (ap (λ (x : Option ℕ). stands x b) none))
 agrees_or_waits o k l b (waiting n clean is link_is clean_is up down idle there) = inr (link_is, down)
@@ -192,6 +193,7 @@ present_like o k x y b e f g h d (waiting n clean at link_is clean_is up down id
 present_like o k x y b e f g h d (closed n at up idle none) = closed n (e ∙ at) (h ∙ up) idle none
 present_like o k x y b e f g h d (joined birth own at there) = joined birth own (e ∙ at) there
 
+-- publishing is a step of the hop
 pub publishes : (o : Option ℕ) (k : ℕ) (d : Draft) (p : Publisher) (b : Broker) (accepted : List ℕ) → Seat o k p b → IsSettled p → Does o k p (published (stands p.line.number b) d p) b accepted
 publishes o k d p b accepted seat settled = by p.line.link refl (agrees_or_waits o k p.line b seat.present)
   where
@@ -303,6 +305,7 @@ waits_on o k t (d ∷ rest) p b accepted seat settled is none = by (heard d.pack
         } in
         subst (λ (z : Option ToPublisher). Does o k p (reads_if t z q) b accepted) (sym e) c
 
+-- reading is a step of the hop
 pub hears : (o : Option ℕ) (k : ℕ) (p : Publisher) (b : Broker) (accepted : List ℕ) → Seat o k p b → IsSettled p → Does o k p (publisher_reads (stands p.line.number b) p.line.down p) b accepted
 hears o k p b accepted seat settled = by seat.present (agrees_or_waits o k p.line b seat.present)
   where
@@ -367,6 +370,7 @@ run_calm accepted p b r linked =
     let a : ConnectsAlone (seen accepted p b) = subst ConnectsAlone (sym r.seen_is) (alone_run r.events) in
     calm_up (is_linked p.line.number b) p.line.up linked h a.0
 
+-- giving up is a step of the hop
 pub gives : (o : Option ℕ) (k : ℕ) (p : Publisher) (b : Broker) (accepted : List ℕ) → Seat o k p b → IsSettled p → IsRun accepted p b → MayGiveUp p.line.link p.line.clean
     → Does o k p (record p { line = gives_up p.line.link p.line }) b accepted
 gives o k p b accepted seat settled r may = by p.line.link refl
@@ -415,6 +419,7 @@ fresh_glance : (n now : ℕ) (ls : List BrokerLine) → IsBelow line_number n ls
 fresh_glance n now [] low = let it = nat_eq_equiv.refl n in rw it refl
 fresh_glance n now (l ∷ ls) low = let less = low.0 in rw (apart l.number n (λ same. omega (arith, same, less))) (fresh_glance n now ls low.1)
 
+-- connecting is a step of the hop
 pub joins : (limits : Limits) (choice : MemberChoice) (now : ℕ) (clean : Bool) (o : Option ℕ) (k : ℕ) (p : Publisher) (b : Broker) (accepted : List ℕ)
     → Seat o k p b → IsNamed p.client → MayJoin clean p b
     → Comes k p (joined_by limits choice now clean p b) b (stepped limits choice now NewLine b) accepted accepted

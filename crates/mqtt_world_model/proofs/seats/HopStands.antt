@@ -74,6 +74,7 @@ joins_stands away clean w = refl
 joins_stands asked clean w = refl
 joins_stands live clean w = refl
 
+-- a publisher that stands goes on standing
 pub stands_stays : (e : HopEvent) (w : Hop) → w.stands ≡ true → (step w e).stands ≡ true
 stands_stays (publish qos) w h = unsent_stands w.link (record w { unsent = w.unsent ++ qos ∷ [] }) ∙ h
 stands_stays (to_broker choice) w h = broker_stands choice w.up w h
@@ -86,6 +87,7 @@ stands_stays (close code) w h = h
 stands_stays close_old w h = h
 stands_stays restart w h = h
 
+-- so he does in every run
 pub stands_run : (es : List HopEvent) (w : Hop) → w.stands ≡ true → (run es w).stands ≡ true
 stands_run [] w h = h
 stands_run (e ∷ es) w h = stands_run es (step w e) (stands_stays e w h)

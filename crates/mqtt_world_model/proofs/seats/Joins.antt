@@ -21,6 +21,7 @@ use Rattle.mqtt_world_model.specs.Hops.{joined_by, MayJoin}
 pub new_is : (limits : Limits) (choice : MemberChoice) (now : ℕ) (b : Broker) → can_link b ≡ true → stepped limits choice now NewLine b ≡ after (Linked (suc b.given)) (at_moment now b)
 new_is limits choice now b can = ap (λ (t : Bool). done (cond t (Linked (suc b.given) ∷ []) []) (at_moment now b)) can
 
+-- a new line tells nothing
 pub told_none : (limits : Limits) (choice : MemberChoice) (now : ℕ) (b : Broker) → can_link b ≡ true → told limits choice now NewLine b ≡ nothing_told
 told_none limits choice now b can = ap (λ (t : Bool). outcome_of NewLine (cond t (Linked (suc b.given) ∷ []) [])) can
 
@@ -31,14 +32,17 @@ fresh_free n now (l ∷ ls) low =
     let less = low.0 in
     rw (apart l.number n (λ same. omega (arith, same, less))) (fresh_free n now ls low.1)
 
+-- no line is among none
 pub none_closed : (o : Option ℕ) → is_one_of o [] ≡ false
 none_closed None = refl
 none_closed (Some n) = refl
 
+-- what holds before holds behind
 pub carries : (old new : Bool) → (old ≡ true → new ≡ true) → new ≡ (old || new)
 carries true new h = h refl
 carries false new h = refl
 
+-- a publisher's joining a new line is a CONNECT of the hop
 pub join_is_hop : (limits : Limits) (choice : MemberChoice) (now : ℕ) (clean : Bool) (p : Publisher) (b : Broker) (accepted : List ℕ) → MayJoin clean p b
     → seen accepted (joined_by limits choice now clean p b) (stepped limits choice now NewLine b) ≡ step (seen accepted p b) (connect clean)
 join_is_hop limits choice now clean p b accepted may =

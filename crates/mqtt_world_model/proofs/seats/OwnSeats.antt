@@ -100,6 +100,7 @@ neither : (a b : Bool) → (a || b) ≡ false → (a ≡ false) × (b ≡ false)
 neither true b h = absurd cc
 neither false b h = (refl, h)
 
+-- a line that is not closed stands
 pub stays_open : (n : ℕ) (ds : List Deed) (b : Broker) → closes n ds ≡ false → Stands n b.lines → Stands n (after_all ds b).lines
 stays_open n [] b q h = h
 stays_open n (d ∷ ds) b q h =
@@ -108,6 +109,7 @@ stays_open n (d ∷ ds) b q h =
 
 -- ---- on its own line is its session, or nobody
 
+-- the publisher's line has nobody on it, or his session
 pub own_on : (birth k : ℕ) (ls : List BrokerLine) → AllByRecursion (IsOurLine birth k) ls → (session_on k ls ≡ None) ⊎ (session_on k ls ≡ Some (Some birth))
 own_on birth k [] h = inl refl
 own_on birth k (l ∷ ls) h = elim (cases_Bool (nat_eq l.number k)) [
@@ -118,6 +120,7 @@ own_on birth k (l ∷ ls) h = elim (cases_Bool (nat_eq l.number k)) [
   ]
 ]
 
+-- a line with nobody shows nobody
 pub none_there : (n : ℕ) (ls : List BrokerLine) → session_on n ls ≡ None → AllByRecursion (HasNobody n) ls × (glance_at n ls ≡ None)
 none_there n [] h = (tt, refl)
 none_there n (l ∷ ls) h = elim (cases_Bool (nat_eq l.number n)) [
@@ -140,6 +143,7 @@ kept_calm : (t : Bool) (xs : List Sent) → AllByRecursion IsNoConnect xs → Al
 kept_calm true xs h = tt
 kept_calm false xs h = h
 
+-- what is empty stays empty
 pub empty_stays : (t : Bool) (xs : List Sent) → xs ≡ [] → unless_closed t xs ≡ []
 empty_stays true xs e = refl
 empty_stays false xs e = e
@@ -252,6 +256,7 @@ module _ (limits : Limits) (choice : MemberChoice) (now : ℕ) (call : Call) (b 
 
 -- ---- the line and the session that it is connected on
 
+-- who stands on a line stands on one that is found
 pub line_of_on : (n : ℕ) (x : Option ℕ) (b : Broker) → session_on n b.lines ≡ Some x → (l : BrokerLine) × (line_at n b ≡ Some l) × (l.session ≡ x) × (l.number ≡ n)
 line_of_on n x b h = by (line_at n b) refl h
   where
@@ -269,6 +274,7 @@ line_of_on n x b h = by (line_at n b) refl h
     by None e f = absurd cc
     by (Some l) e f = let on : l.session ≡ x = cc in (l, e, on, number_is l b.lines e)
 
+-- another line is not among these
 pub not_among : (x : Option ℕ) (n : ℕ) → (x ≡ Some n → ⊥) → is_one_of x (n ∷ []) ≡ false
 not_among None n h = refl
 not_among (Some m) n h = elim (cases_Bool (nat_eq n m)) [
@@ -276,6 +282,7 @@ not_among (Some m) n h = elim (cases_Bool (nat_eq n m)) [
   | inr other ↦ rw other refl
 ]
 
+-- a publisher on whose line his session stands is connected
 pub connected_of : (p : Publisher) (birth k : ℕ) (b : Broker) → IsNamed p.client → IsHis p.client (Some birth) k b → p.line.number ≡ Some k → IsApart p.line.number p.line.old_number → session_on k b.lines ≡ Some (Some birth)
     → (l : BrokerLine) × (s : Session) × IsConnected p l s b × (l.number ≡ k) × (s.birth ≡ birth)
 connected_of p birth k b named his is apart on =

@@ -33,6 +33,7 @@ abbrev pub ArePatient : List Deed → Type 0
 ArePatient [] = ⊤
 ArePatient (d ∷ ds) = IsPatient d × ArePatient ds
 
+-- two lists of deeds wait for no Keep Alive if neither does
 pub patient_append : (xs ys : List Deed) → ArePatient xs → ArePatient ys → ArePatient (xs ++ ys)
 patient_append [] ys p q = q
 patient_append (x ∷ xs) ys p q = (p.0, patient_append xs ys p.1 q)
@@ -159,6 +160,7 @@ all_two P Q R (x ∷ xs) f p q = (f x p.0 q.0, all_two P Q R xs f p.1 q.1)
 
 -- ---- whose the session and the line are, from what is found
 
+-- a session with the publisher's name, line and no Will is his own
 pub owned : (client : List ℕ) (birth n : ℕ) (f : Face) (b : Broker) → IsInOrder b → IsOnly client birth b.records → face_at birth b.records ≡ Some f → f.client ≡ client → f.will ≡ None → f.expiry ≡ never
     → session_on n b.lines ≡ Some (Some birth) → NoneKeptAlive n b.lines → Own client birth n b
 owned client birth n f b order only at client_is no_will no_end on quiet =

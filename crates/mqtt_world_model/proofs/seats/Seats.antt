@@ -33,6 +33,7 @@ use Rattle.mqtt_world_model.proofs.others.Nameless.{AreStrangers, still_none}
 
 -- ---- what is found by the name is what is found by the birth
 
+-- the session of the publisher's name is that of his birth
 pub named_at : (client : List ℕ) (birth : ℕ) (ss : List Session) → AllByRecursion (IsOurs client birth) ss → find (λ (x : Session). bytes_eq x.client client) ss ≡ row_at birth_of birth ss
 named_at client birth [] h = refl
 named_at client birth (x ∷ xs) h = elim (cases_Bool (bytes_eq x.client client)) [
@@ -123,6 +124,7 @@ pub record Remains (client : List ℕ) (o : Option ℕ) (k : ℕ) (b c : Broker)
   pub stands : is_some (session_named client c.records) ≡ is_some (session_named client b.records)
   pub ids : open_in (session_named client c.records) ≡ open_in (session_named client b.records)
 
+-- what others do leaves what is his
 pub remains : (client : List ℕ) (o : Option ℕ) (k : ℕ) (ds : List Deed) (b : Broker) → IsHis client o k b → AreOthers client o k ds → Remains client o k b (after_all ds b)
 remains client None k ds b none q =
     let still = still_none client ds b q none in
@@ -181,6 +183,7 @@ pub record Rests (n : ℕ) (ds : List Deed) (b : Broker) : Type 0 where
   pub told_is : told_to n ds ≡ []
   pub line_is : (closes n ds ≡ false) × (glance_at n (after_all ds b).lines ≡ glance_at n b.lines) ⊎ (closes n ds ≡ true) × (glance_at n (after_all ds b).lines ≡ None)
 
+-- an idle line stays idle, or goes
 pub rests : (n : ℕ) (ds : List Deed) (b : Broker) → IsIdle n b → AreAway n ds ⊎ (ds ≡ Gone n ∷ []) → Rests n ds b
 rests n ds b h (inl away) =
     let s = spared_by n ds b away in
@@ -214,6 +217,7 @@ pub idle_done : (n : ℕ) (rows : List Change) (b : Broker) → IsIdle n b → I
 idle_done n [] b h = h
 idle_done n (row ∷ rows) b h = record { lines = h.lines; given = h.given }
 
+-- the stored moment changes nothing on a line
 pub glance_done : (n : ℕ) (rows : List Change) (b : Broker) → glance_at n (with_moment rows b).lines ≡ glance_at n b.lines
 glance_done n rows b = ap (glance_at n) (done_lines rows b)
 
@@ -348,6 +352,7 @@ module _ (limits : Limits) (choice : MemberChoice) (now : ℕ) (call : Call) (cl
 
 -- ---- together: a step of others is unseen, but that lines close
 
+-- the end of his line drops what was on its way
 pub closes_own : (t : Bool) (up : List Sent) (w : Hop) → w.up ≡ filter_map shaken up → (t ≡ true → w.linked ≡ false) → record w { up = filter_map shaken (unless_closed t up) } ≡ run (own_events t) w
 closes_own false up w e h = λ i. record w { up = sym e i }
 closes_own true up w e h =
@@ -355,14 +360,17 @@ closes_own true up w e h =
     let downs = ap (λ (z : Bool). sent_on z w.down (DISCONNECT 0 ∷ [])) (sym none) in
     λ i. record w { up = []; linked = none i; down = downs i }
 
+-- the end of his old line drops what was on its way there
 pub closes_old : (t : Bool) (old : List Sent) (w : Hop) → w.old ≡ filter_map shaken old → record w { old = filter_map shaken (unless_closed t old) } ≡ run (old_events t) w
 closes_old true old w e = refl
 closes_old false old w e = λ i. record w { old = sym e i }
 
+-- two runs one behind the other are one
 pub run_append : (xs ys : List HopEvent) (w : Hop) → run (xs ++ ys) w ≡ run ys (run xs w)
 run_append [] ys w = refl
 run_append (x ∷ xs) ys w = run_append xs ys (step w x)
 
+-- what happens on his line leaves the old one
 pub old_after : (t : Bool) (w : Hop) → (run (own_events t) w).old ≡ w.old
 old_after true w = refl
 old_after false w = refl

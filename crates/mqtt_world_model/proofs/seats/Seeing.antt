@@ -23,16 +23,19 @@ use Rattle.mqtt_world_model.proofs.others.Names.{named_is}
 
 -- ---- the moment of a step changes no session and no line
 
+-- the stored moment changes no session
 pub done_sessions : (rows : List Change) (b : Broker) → (with_moment rows b).records.sessions ≡ b.records.sessions
 done_sessions [] b = refl
 done_sessions (row ∷ rows) b = refl
 
+-- nor a line
 pub done_lines : (rows : List Change) (b : Broker) → (with_moment rows b).lines ≡ b.lines
 done_lines [] b = refl
 done_lines (row ∷ rows) b = refl
 
 -- ---- what is read off the deeds is what the outcome says
 
+-- a line that was closed is among those that were
 pub among_closed : (n : ℕ) (ds : List Deed) → is_one_of (Some n) (filter_map closing ds) ≡ closes n ds
 among_closed n [] = refl
 among_closed n (d ∷ ds) = first (closing d) (among_closed n ds)
@@ -48,6 +51,7 @@ sent_one : (t : Bool) (n : ℕ) (b : Broker) (packet : Packet) (rest : List Down
 sent_one true n b packet rest = refl
 sent_one false n b packet rest = refl
 
+-- what goes down his line is what he was told
 pub told_down : (n : ℕ) (b : Broker) (ds : List Deed) → filter_map heard_in (sent_to (Some n) b (filter_map output ds)) ≡ told_to n ds
 told_down n b [] = refl
 told_down n b (d ∷ ds) = first (output d) (told_down n b ds)
@@ -58,6 +62,7 @@ told_down n b (d ∷ ds) = first (output d) (told_down n b ds)
     first (Some x) h =
         sent_one (nat_eq x.0 n) n b x.1 (sent_to (Some n) b (filter_map output ds)) ∙ ap (cons_option (heard_on n x)) h
 
+-- two lists are heard one behind the other
 pub append_heard : (xs ys : List Down) → filter_map heard_in (xs ++ ys) ≡ filter_map heard_in xs ++ filter_map heard_in ys
 append_heard xs ys = filter_map-append heard_in xs ys
 
@@ -71,6 +76,7 @@ linked_by : (o : Option BrokerLine) → has_session o ≡ linked_of (option_map 
 linked_by None = refl
 linked_by (Some l) = refl
 
+-- a line is linked if somebody may be seen on it
 pub linked_is : (n : ℕ) (b : Broker) → is_linked (Some n) b ≡ linked_of (session_on n b.lines)
 linked_is n b = linked_by (line_at n b)
 
@@ -79,6 +85,7 @@ pub some_face : (f : Face) (o : Option Session) → option_map face o ≡ Some f
 some_face f None h = absurd cc
 some_face f (Some s) h = (s, refl, cc)
 
+-- the session of his name shows what it has
 pub named_face : (client : List ℕ) (birth : ℕ) (r : Records) (f : Face) → IsOnly client birth r → face_at birth r ≡ Some f → f.client ≡ client
     → (is_some (session_named client r) ≡ true) × (open_in (session_named client r) ≡ f.inbound)
 named_face client birth r f only at is =
