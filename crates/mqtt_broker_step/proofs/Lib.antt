@@ -16,3 +16,4 @@ pub mod FilterBacks
 pub mod AliasDeeds
 pub mod NumbersBefore
 pub mod Then
+pub mod PlaceLists

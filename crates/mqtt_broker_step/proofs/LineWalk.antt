@@ -65,3 +65,8 @@ pub changed_behind : (g : Line → Line) (i : ℕ) (ls : List Line) → length l
 changed_behind g i [] few = refl
 changed_behind g zero (x ∷ xs) few = absurd (omega (arith, few))
 changed_behind g (suc i) (x ∷ xs) few = ap (λ (ys : List Line). x ∷ ys) (changed_behind g i xs (omega (arith, few)))
+
+pub length-changed_from : (i : ℕ) (g : Line → Line) (ls : List Line) → length (changed_from i g ls) ≡ length ls
+length-changed_from i g [] = refl
+length-changed_from zero g (x ∷ xs) = ap suc (length-changed_from zero g xs)
+length-changed_from (suc i) g (x ∷ xs) = ap suc (length-changed_from i g xs)

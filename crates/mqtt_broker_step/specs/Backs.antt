@@ -17,3 +17,11 @@ TakesBack change undo s = (r : Records) → session_at s.birth r ≡ Some s → 
 abbrev pub TakesLineBack : ℕ → (old new : List Line) → Option LineChange → Type 0
 TakesLineBack number old new None = new ≡ old
 TakesLineBack number old new (Some undo) = change_row line_number number (line_changed undo) new ≡ old
+
+-- the change makes this of a line on which these places went out
+abbrev pub Makes : (Line → Line) → List ℕ → LineChange → Type 0
+Makes f went change = (l : Line) → l.went ≡ went → line_changed change l ≡ f l
+
+-- the change takes this back, of a line on which these places went out
+abbrev pub Unmakes : (Line → Line) → List ℕ → LineChange → Type 0
+Unmakes f went undo = (l : Line) → l.went ≡ went → line_changed undo (f l) ≡ l

@@ -1,10 +1,12 @@
 -- The table of lines, by their numbers.
-use Rattle.std.specs.Prelude.{◌≡◌, refl, ℕ, zero, suc, cond, List, [], ◌∷◌, Option, Some, is_some}
+use Rattle.std.specs.Prelude.{◌≡◌, refl, ℕ, zero, suc, cond, List, [], ◌∷◌, ◌++◌, Option, Some, is_some}
+use Rattle.std.specs.List.{remove}
 use Rattle.mqtt_topic.specs.Aliases.{AliasTable, after_resolve, restored, topic_of, with_topics}
 use Rattle.mqtt_flow_inbound.specs.Identifiers.{ids_without}
 use Rattle.mqtt_rules.specs.State.{Line}
 use Rattle.mqtt_broker_step.specs.declared.line.LineChange.{LineChange}
-use Rattle.mqtt_broker_step.specs.declared.line.LineChange.TheVariants.{Hear, Greet, SetWent, RestoreAlias}
+use Rattle.mqtt_broker_step.specs.declared.line.LineChange.TheVariants.{Hear, Greet, SetWent, PushWent, PopWent, RemoveWent, PutWentBack, RestoreAlias}
+use Rattle.mqtt_broker_step.specs.Places.{with_inserted, with_pushed, without_last}
 
 abbrev pub line_number : Line → ℕ
 line_number l = l.number
@@ -22,8 +24,16 @@ abbrev pub line_changed : LineChange → Line → Line
 line_changed (Hear heard) l = record l { heard = heard }
 line_changed (Greet session keep_alive window largest) l =
     record l { session = session; keep_alive = keep_alive; window = window; largest = largest }
-line_changed (SetWent went) l = record l { went = went.items }
+line_changed (SetWent went) l = record l { went = went }
+line_changed (PushWent place) l = record l { went = with_pushed place l.went }
+line_changed PopWent l = record l { went = without_last l.went }
+line_changed (RemoveWent index) l = record l { went = remove l.went index }
+line_changed (PutWentBack index place) l = record l { went = with_inserted index place l.went }
 line_changed (RestoreAlias alias before) l = record l { aliases = alias_restored alias before l.aliases }
+
+-- a copy's PUBLISH is told as gone out
+abbrev pub with_went : ℕ → Line → Line
+with_went place l = record l { went = l.went ++ place ∷ [] }
 
 -- a copy's PUBLISH is told no longer as gone out
 abbrev pub without_went : ℕ → Line → Line
@@ -46,4 +56,8 @@ pub number-line_changed : (change : LineChange) (l : Line) → line_number (line
 number-line_changed (Hear heard) l = refl
 number-line_changed (Greet session keep_alive window largest) l = refl
 number-line_changed (SetWent went) l = refl
+number-line_changed (PushWent place) l = refl
+number-line_changed PopWent l = refl
+number-line_changed (RemoveWent index) l = refl
+number-line_changed (PutWentBack index place) l = refl
 number-line_changed (RestoreAlias alias before) l = refl

@@ -1,6 +1,5 @@
 //! A copy leaves a session's queue, and the places that went out on the session's line (MQTT 5.0, 4.3, 4.4).
 ghost use Rattle.std.specs.Prelude.{◌≡◌, Some, map, IfOk, IfErr, OnOk};
-ghost use Rattle.mqtt_flow_inbound.specs.Identifiers.{ids_without};
 ghost use Rattle.mqtt_records_rows.specs.Order.{change_row};
 ghost use Rattle.mqtt_records.specs.declared.session.Session.{Session as TheSession};
 ghost use Rattle.mqtt_records.specs.declared.change.Change.TheVariants.{RemoveCopy};
@@ -9,6 +8,7 @@ ghost use Rattle.mqtt_rules.specs.State.{session_at};
 ghost use Rattle.mqtt_rules.specs.Deeds.{without_place};
 ghost use Rattle.mqtt_rules.specs.Laws.{HasTables};
 ghost use Rattle.mqtt_broker_step.specs.Lines.{line_number, without_went, nth_changed};
+ghost use Rattle.mqtt_broker_step.specs.Backs.{Makes, Unmakes};
 ghost use Rattle.mqtt_broker_step.specs.Undoing.{with_lines};
 ghost use Rattle.mqtt_broker_step.specs.Doing.{leaves};
 ghost use Rattle.mqtt_broker_step.specs.Stepping.{Did, IsLeft, IsKept, written, with_broker};
@@ -16,20 +16,38 @@ ghost use Rattle.mqtt_broker_step.specs.Stepping.{Did, IsLeft, IsKept, written, 
 use crate::fault::StepFault;
 use crate::handshakes::has_tables;
 use crate::line::LineChange;
+use crate::places::Places;
 use crate::step::Step;
-use mqtt_base::{Ending, LINE_LIMIT};
+use mqtt_base::Ending;
 use mqtt_records::{Change, Session};
 use mqtt_records_message::CopyRow;
 use mqtt_rules::Report;
 use std::alloc::{AllocError, Global};
 
-/// Places without one.
-fn without(alloc: Global, places: &[u64], place: u64) -> Result<Vec<u64>, AllocError>
-    ensures { IfOk result (λ others. others.items ≡ ids_without place places.now) }
+/// The change of a line by which a place leaves those that went out. It takes memory where they don't ascend.
+fn parting(alloc: Global, went: &Places, place: u64) -> Result<LineChange, AllocError>
+    ensures { IfOk result (Makes (without_went place) went.now) }
 {
-    let mut others = Vec::from_slice(alloc, places)?;
-    others.retain(|other| *other != place);
-    Ok(others)
+    if let Some(index) = went.index_of(place) {
+        return Ok(LineChange::RemoveWent { index });
+    }
+    Ok(LineChange::SetWent {
+        went: went.without(alloc, place)?,
+    })
+}
+
+/// The change of a line by which that place is back. It takes memory where there would be no room for it.
+fn returning(alloc: Global, went: &Places, place: u64) -> Result<LineChange, AllocError>
+    ensures { IfOk result (Unmakes (without_went place) went.now) }
+{
+    if let Some(index) = went.index_of(place) {
+        if went.may_put_back() {
+            return Ok(LineChange::PutWentBack { index, place });
+        }
+    }
+    Ok(LineChange::SetWent {
+        went: went.copied(alloc)?,
+    })
 }
 
 /// That a copy left the queue of a session.
@@ -61,19 +79,17 @@ impl Step {
         let Some(state) = self.line(line) else {
             return Ok(());
         };
-        let before = Vec::from_slice(self.alloc, state.went())?;
-        let went = match without(self.alloc, state.went(), place) {
-            Ok(went) => went,
+        if !state.went().contains(place) {
+            return Ok(());
+        }
+        let undo = returning(self.alloc, state.went(), place)?;
+        match parting(self.alloc, state.went(), place) {
+            Ok(change) => self.edit_line(line, change, undo),
             Err(_) => {
-                drop(before);
-                return Err(StepFault::Memory);
+                drop(undo);
+                Err(StepFault::Memory)
             }
-        };
-        self.edit_line(
-            line,
-            LineChange::SetWent { went },
-            LineChange::SetWent { went: before },
-        )
+        }
     }
 
     /// A session's place leaves those that went out on the line at an index, if the session is connected on it.
@@ -98,10 +114,10 @@ impl Step {
             (without_place birth place) self.old.broker.lines) self.old.broker) self.old) }
         ensures left { IfErr result (λ fault. IsKept fault self.old self.new) }
     {
-        for at in 0..LINE_LIMIT {
+        let count = self.lines().len();
+        for at in 0..count {
             self.drop_at(at, birth, place)?;
         }
-        self.lines();
         Ok(())
     }
 

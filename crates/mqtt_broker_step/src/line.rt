@@ -6,6 +6,7 @@ ghost use Rattle.mqtt_rules.specs.State.{is_of};
 ghost use Rattle.mqtt_rules.specs.Deeds.{fresh_line};
 ghost use Rattle.mqtt_broker_step.specs.Lines.{alias_restored, with_alias};
 
+use crate::places::Places;
 use mqtt_base::ALIAS_LIMIT;
 use mqtt_records_rows::{Editable, Row};
 use mqtt_topic::{Aliases, TopicName};
@@ -22,7 +23,7 @@ pub struct LineState {
     window: u16,
     largest: u32,
     aliases: Aliases,
-    went: Vec<u64>,
+    went: Places,
 }
 
 impl Model for LineState {
@@ -38,7 +39,7 @@ impl Model for LineState {
       window = a.window;
       largest = a.largest;
       aliases = a.aliases.table;
-      went = a.went.items;
+      went = a.went;
     } };
 }
 
@@ -86,7 +87,7 @@ impl LineState {
             window: 0,
             largest: 0,
             aliases: Aliases::new(alloc, ALIAS_LIMIT),
-            went: Vec::new(alloc),
+            went: Places::new(alloc),
         }
     }
 
@@ -165,7 +166,7 @@ impl LineState {
     }
 
     /// The places of the copies whose PUBLISH went out on it. Takes no memory.
-    pub fn went(&self) -> &[u64]
+    pub fn went(&self) -> &Places
         ensures { result.now ≡ self.now.went }
     {
         &self.went
@@ -196,7 +197,22 @@ pub enum LineChange {
     },
     /// The places of the copies whose PUBLISH went out on it are these.
     SetWent {
-        went: Vec<u64>,
+        went: Places,
+    },
+    /// One place more went out, if there is room for it.
+    PushWent {
+        place: u64,
+    },
+    /// The last place didn't go out.
+    PopWent,
+    /// The place at an index leaves those that went out.
+    RemoveWent {
+        index: usize,
+    },
+    /// A place is at an index again, if there is room for it.
+    PutWentBack {
+        index: usize,
+        place: u64,
     },
     /// An alias that stands for a topic stands for what it stood for before.
     RestoreAlias {
@@ -227,6 +243,10 @@ impl Editable for LineState {
                 self.largest = largest;
             }
             LineChange::SetWent { went } => self.went = went,
+            LineChange::PushWent { place } => self.went.push(place),
+            LineChange::PopWent => self.went.pop(),
+            LineChange::RemoveWent { index } => self.went.remove(index),
+            LineChange::PutWentBack { index, place } => self.went.put_back(index, place),
             LineChange::RestoreAlias { alias, before } => {
                 restore_in(&mut self.aliases, alias, before);
             }

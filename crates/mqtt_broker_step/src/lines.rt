@@ -4,22 +4,27 @@ ghost use Rattle.mqtt_base.specs.declared.limits.TheConstants.{LINE_LIMIT as lin
 ghost use Rattle.mqtt_records_rows.specs.Order.{IsAscending, row_at};
 ghost use Rattle.mqtt_rules.specs.State.{Line};
 ghost use Rattle.mqtt_rules.specs.Deeds.{Gone, Hear, Greet, Went, On, always};
-ghost use Rattle.mqtt_broker_step.specs.Lines.{line_changed, line_number};
+ghost use Rattle.mqtt_broker_step.specs.Lines.{line_changed, line_number, with_went};
+ghost use Rattle.mqtt_broker_step.specs.Backs.{Makes};
 ghost use Rattle.mqtt_broker_step.specs.Undoing.{with_line_changed};
 ghost use Rattle.mqtt_broker_step.specs.Stepping.{Did, IsLeft, with_broker};
 
 use crate::fault::StepFault;
 use crate::line::{LineChange, LineState};
+use crate::places::Places;
 use crate::step::Step;
 use std::alloc::{AllocError, Global};
 
-/// Places with one more at the end.
-fn with_place(alloc: Global, places: &[u64], place: u64) -> Result<Vec<u64>, AllocError>
-    ensures { IfOk result (λ more. more.items ≡ places.now ++ place ∷ []) }
+/// The change of a line by which a place more goes out. It takes memory where there is no room.
+fn sending(alloc: Global, went: &Places, place: u64) -> Result<LineChange, AllocError>
+    ensures { IfOk result (Makes (with_went place) went.now) }
 {
-    let mut more = Vec::from_slice(alloc, places)?;
-    more.push(place)?;
-    Ok(more)
+    if went.has_room() {
+        return Ok(LineChange::PushWent { place });
+    }
+    Ok(LineChange::SetWent {
+        went: went.with(alloc, place)?,
+    })
 }
 
 impl Step {
@@ -118,19 +123,8 @@ impl Step {
         let Some(state) = self.line(line) else {
             return Ok(());
         };
-        let before = Vec::from_slice(self.alloc, state.went())?;
-        let went = match with_place(self.alloc, state.went(), place) {
-            Ok(went) => went,
-            Err(_) => {
-                drop(before);
-                return Err(StepFault::Memory);
-            }
-        };
-        self.edit_line(
-            line,
-            LineChange::SetWent { went },
-            LineChange::SetWent { went: before },
-        )
+        let change = sending(self.alloc, state.went(), place)?;
+        self.edit_line(line, change, LineChange::PopWent)
     }
 
     /// A line leaves the table.

@@ -1,10 +1,11 @@
 use Rattle.std.proofs.Common.{◌≡◌, ℕ, ◌≤◌, ◌+◌, suc, List, length, arith, ap, sym, ◌∙◌}
+use Rattle.std.proofs.lemmas.List.{length-map}
 use Rattle.mqtt_rules.specs.State.{Line}
 use Rattle.mqtt_rules.specs.Deeds.{without_place}
 use Rattle.mqtt_broker_step.specs.Lines.{changed_from, nth_changed}
 use Rattle.mqtt_broker_step.specs.Undoing.{with_lines}
 use Rattle.mqtt_broker_step.specs.Stepping.{Stepping, with_broker}
-use Rattle.mqtt_broker_step.proofs.LineWalk.{changed_next, changed_all_lines, changed_behind}
+use Rattle.mqtt_broker_step.proofs.LineWalk.{changed_next, changed_all_lines, changed_behind, length-changed_from}
 use Rattle.mqtt_broker_step.proofs.step.Step.drop_places.Goals as goal
 
 pub loop-at-init : goal.loop-at-init
@@ -25,6 +26,11 @@ loop-at-preserved c =
 pub returns-clause-ok : goal.returns-clause-ok
 returns-clause-ok c =
     let s : Stepping = c.loop-at.self in
-    let behind : length s.broker.lines ≤ c.loop-at.at = omega (arith, c.loop-at-test.false, c.lines.ensures.few) in
-    ap (λ (ls : List Line). with_broker (with_lines ls s.broker) s) (sym (changed_behind (without_place c.args.birth c.args.place) c.loop-at.at s.broker.lines behind))
+    let g : Line → Line = without_place c.args.birth c.args.place in
+    let left = length-changed_from c.loop-at.at g s.broker.lines in
+    let all = length-map c.args.self.now.broker.lines g in
+    let same = ap (λ (v : Stepping). length v.broker.lines) c.loop-at.invariant in
+    let first = ap length c.lines-count.ensures.lines in
+    let behind : length s.broker.lines ≤ c.loop-at.at = omega (arith, left, all, same, first) in
+    ap (λ (ls : List Line). with_broker (with_lines ls s.broker) s) (sym (changed_behind g c.loop-at.at s.broker.lines behind))
     ∙ c.loop-at.invariant

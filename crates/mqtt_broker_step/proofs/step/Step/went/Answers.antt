@@ -1,9 +1,12 @@
-use Rattle.std.proofs.Common.{◌≡◌, ℕ, List, [], ◌∷◌, ◌++◌, ap, sym, ◌∙◌}
+use Rattle.std.proofs.Common.{◌≡◌, ℕ, List, ap, sym, ◌∙◌}
+use Rattle.std.specs.Prelude.{Some}
 use Rattle.mqtt_rules.specs.State.{Line}
 use Rattle.mqtt_rules.specs.Deeds.{Went}
-use Rattle.mqtt_broker_step.specs.declared.line.LineChange.TheVariants.{SetWent}
+use Rattle.mqtt_broker_step.specs.declared.line.LineChange.TheVariants.{PopWent}
+use Rattle.mqtt_broker_step.specs.Lines.{line_changed}
 use Rattle.mqtt_broker_step.proofs.Doing.{on_ok}
 use Rattle.mqtt_broker_step.proofs.LineDeeds.{on_no_line, on_ok_line}
+use Rattle.mqtt_broker_step.proofs.PlaceLists.{popped}
 use Rattle.mqtt_broker_step.proofs.step.Step.went.Goals as goal
 
 pub returns-in_default-clause-ok : goal.returns-in_default-clause-ok
@@ -12,8 +15,14 @@ returns-in_default-clause-ok c = on_no_line c.args.line (Went c.args.place) c.ar
 pub returns-clause-ok : goal.returns-clause-ok
 returns-clause-ok c =
     let l : Line = c.in-Some.state.now in
-    let more : c.in-Ok.went.items ≡ l.went ++ c.args.place ∷ [] = c.in-Ok.ensures ∙ ap (λ (xs : List ℕ). xs ++ c.args.place ∷ []) c.went-2.ensures in
     on_ok c.edit_line.result
-    (on_ok_line c.args.line (Went c.args.place) (SetWent c.in-Ok.went) l c.args.self.now c.edit_line.new.self (sym c.in-Some.ensures)
-    (ap (λ xs. let x : Line = record l { went = xs } in x) more))
+    (on_ok_line c.args.line (Went c.args.place) c.in_ok-change.change l c.args.self.now c.edit_line.new.self (sym c.in-Some.ensures)
+    (c.in_ok-change.ensures l (sym c.went.ensures)))
     c.edit_line.ensures.ok
+
+pub edit_line-requires : goal.edit_line-requires
+edit_line-requires c l found =
+    let same : Some l ≡ Some c.in-Some.state.now = sym found ∙ sym c.in-Some.ensures in
+    let is : l ≡ c.in-Some.state.now = cc in
+    ap (line_changed PopWent) (c.in_ok-change.ensures l (ap (λ (x : Line). x.went) is ∙ sym c.went.ensures))
+    ∙ ap (λ (ws : List ℕ). let x : Line = record l { went = ws } in x) (popped c.args.place l.went)
