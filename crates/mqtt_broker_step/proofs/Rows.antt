@@ -1,5 +1,6 @@
 -- One row more for the store.
 use Rattle.std.proofs.Common.{◌≡◌, false, ◌||◌, List, [], ◌∷◌, ◌++◌, nat_lt, refl, ap, sym, subst, ◌∙◌, inl, inr}
+use Rattle.std.specs.Prelude.{Result, Ok, Err, OnOk, OnErr}
 use Rattle.std.proofs.lemmas.Bool.{cases_Bool}
 use Rattle.mqtt_base.specs.declared.limits.TheConstants.{LAST_NUMBER}
 use Rattle.mqtt_records.specs.declared.change.Change.{Change}
@@ -25,3 +26,12 @@ row_more t t2 rows rows2 c is rows_is made within =
       unspent = spent_append rows (c ∷ []) ∙ (ap (λ b. b || is_spent (c ∷ [])) is.unspent ∙ one);
     } in
     subst (λ (x : Changing). IsStep x.start x.broker rows2) (sym made) (subst (λ xs. IsStep t.start (with_change c t.broker) xs) (sym rows_is) all)
+
+-- the row is there if its change was made; else all is as it was
+pub row_if_made : {A E : Type 0} (r : Result A E) (t t2 : Changing) (rows before rows2 : List Change) (c noted : Change) → IsStep t.start t.broker rows
+    → before ≡ rows → noted ≡ c → OnOk r (t2 ≡ become (with_change c t.broker) t) → OnOk r (rows2 ≡ before ++ noted ∷ []) → OnErr r (t2 ≡ t) → OnErr r (rows2 ≡ before)
+    → nat_lt LAST_NUMBER (number_given c) ≡ false → IsStep t2.start t2.broker rows2
+row_if_made (Ok a) t t2 rows before rows2 c noted is kept copy made more same rest within =
+    row_more t t2 rows rows2 c is (more ∙ (ap (λ xs. xs ++ noted ∷ []) kept ∙ ap (λ x. rows ++ x ∷ []) copy)) made within
+row_if_made (Err e) t t2 rows before rows2 c noted is kept copy made more same rest within =
+    subst (λ (x : Changing). IsStep x.start x.broker rows2) (sym same) (subst (λ xs. IsStep t.start t.broker xs) (sym (rest ∙ kept)) is)

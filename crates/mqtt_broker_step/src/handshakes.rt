@@ -92,8 +92,8 @@ impl Step {
             return Ok(());
         };
         let birth = session.birth;
-        let undo = closed_back(session, identifier);
         let client = session.client.clone()?;
+        let undo = closed_back(session, identifier);
         let report = Report::Released {
             birth,
             client,

@@ -1,10 +1,10 @@
 //! A step under way: deeds are done in place and noted for the store, and can be taken back.
-ghost use Rattle.std.specs.Prelude.{◌≡◌, ◌≤◌, ◌<◌, [], option_copied, IfOk, IfErr, OnOk, OnErr, vec_len, vec_capacity};
+ghost use Rattle.std.specs.Prelude.{◌≡◌, ◌≤◌, ◌<◌, [], ◌∷◌, ◌++◌, option_copied, IfOk, IfErr, OnOk, OnErr, vec_len, vec_capacity};
 ghost use Rattle.mqtt_base.specs.declared.limits.TheConstants.{LAST_NUMBER as last_number};
 ghost use Rattle.mqtt_records.specs.Records.{changed};
 ghost use Rattle.mqtt_rules.specs.State.{session_at};
 ghost use Rattle.mqtt_rules.specs.Step.{count_given, number_given};
-ghost use Rattle.mqtt_broker_step.specs.Undoing.{broker_of};
+ghost use Rattle.mqtt_broker_step.specs.Undoing.{become, broker_of, with_change};
 ghost use Rattle.mqtt_broker_step.specs.Stepping.{at_rest, written, told, shut, sent, IsLeftRow, IsRefusedRow};
 
 use crate::fault::StepFault;
@@ -94,6 +94,36 @@ fn row_noted(rows: &mut Vec<Change>, row: &Change) -> Result<Change, StepFault>
     Ok(row.clone()?)
 }
 
+/// Makes a change that another takes back, and notes its row, for which there is room. A refusal changes nothing.
+fn make_noted(
+    tables: &mut Tables,
+    rows: &mut Vec<Change>,
+    change: Change,
+    undo: Change,
+    noted: Change,
+) -> Result<(), StepFault>
+    requires back { changed undo (changed change tables.old.broker.records)
+        ≡ tables.old.broker.records }
+    requires room { vec_len rows.old < vec_capacity rows.old }
+    ensures made { OnOk result (tables.new
+        ≡ become (with_change change tables.old.broker) tables.old) }
+    ensures rows { OnOk result (rows.new.items ≡ rows.old.items ++ noted ∷ []) }
+    ensures tables { OnErr result (tables.new ≡ tables.old) }
+    ensures same { OnErr result (rows.new.items ≡ rows.old.items) }
+    ensures fault { IfErr result (λ fault. fault ≡ StepFault.Memory) }
+{
+    match tables.make(change, undo) {
+        Ok(()) => {
+            rows.push(noted).unwrap();
+            Ok(())
+        }
+        Err(_) => {
+            drop(noted);
+            Err(StepFault::Memory)
+        }
+    }
+}
+
 impl Step {
     /// A broker at rest with these records and no lines.
     pub fn new(
@@ -124,10 +154,14 @@ impl Step {
         ensures err { OnErr result (self.new ≡ self.old) }
         ensures fault { IfErr result (IsRefusedRow row) }
     {
-        let noted = row_noted(&mut self.rows, &row)?;
-        self.tables.make(row, undo)?;
-        self.rows.push(noted).unwrap();
-        Ok(())
+        match row_noted(&mut self.rows, &row) {
+            Ok(noted) => make_noted(&mut self.tables, &mut self.rows, row, undo, noted),
+            Err(fault) => {
+                drop(row);
+                drop(undo);
+                Err(fault)
+            }
+        }
     }
 
     /// Tells something.
@@ -152,8 +186,13 @@ impl Step {
         ensures ok { OnOk result (self.new ≡ told report (written row self.old)) }
         ensures left { IfErr result (λ fault. IsLeftRow row fault self.old self.new) }
     {
-        self.make(row, undo)?;
-        self.tell(report)
+        match self.make(row, undo) {
+            Ok(()) => self.tell(report),
+            Err(fault) => {
+                drop(report);
+                Err(fault)
+            }
+        }
     }
 
     /// A line closed.

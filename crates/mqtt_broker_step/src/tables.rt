@@ -192,7 +192,12 @@ impl Tables {
             ≡ become (with_change change self.old.broker) self.old) }
         ensures err { OnErr result (self.new ≡ self.old) }
     {
-        self.journal.push(Undo::Make { change: undo })?;
+        if self.journal.reserve(1).is_err() {
+            drop(change);
+            drop(undo);
+            return Err(AllocError);
+        }
+        self.journal.push(Undo::Make { change: undo }).unwrap();
         self.records.change(change);
         Ok(())
     }
@@ -226,10 +231,16 @@ impl Tables {
             ≡ become (with_line_changed number change self.old.broker) self.old) }
         ensures err { OnErr result (self.new ≡ self.old) }
     {
-        self.journal.push(Undo::EditLine {
+        if self.journal.reserve(1).is_err() {
+            drop(change);
+            drop(undo);
+            return Err(AllocError);
+        }
+        let undo = Undo::EditLine {
             number,
             change: undo,
-        })?;
+        };
+        self.journal.push(undo).unwrap();
         self.lines.edit(number, change);
         Ok(())
     }

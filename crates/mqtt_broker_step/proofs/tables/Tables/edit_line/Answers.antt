@@ -14,7 +14,9 @@ returns-clause-ok c =
     let ls : List Line = c.self.inside.lines in
     let b : Broker = broker_of c.self.inside.records ls c.self.inside.given c.self.inside.moment in
     let here : ls ≡ c.args.self.now.broker.lines = ap (λ (v : Changing). v.broker.lines) c.self.view_is in
-    let pushed : c.push.new.self.items ≡ c.self.inside.journal.items ++ EditLine c.args.number c.args.undo ∷ [] = c.in_ok-push.ensures.items in
+    let noted = rw c.unwrap.ensures at c.push.ensures.items in
+    let kept : c.reserve.new.self.items ≡ c.self.inside.journal.items = c.reserve.ensures.items in
+    let pushed : c.push.new.self.items ≡ c.self.inside.journal.items ++ EditLine c.args.number c.args.undo ∷ [] = cc in
     let edited : c.edit.new.self ≡ change_row line_number c.args.number (line_changed c.args.change) ls = c.edit.ensures in
     let back : change_row line_number c.args.number (line_changed c.args.undo) c.edit.new.self ≡ ls =
     ap (change_row line_number c.args.number (line_changed c.args.undo)) edited
