@@ -1,16 +1,14 @@
--- What an answer asks for has nothing to do with the copies that went out on the line, and what a session does at it.
-use Rattle.std.proofs.Common.{◌≡◌, ℕ, ◌+◌, List, [], ◌∷◌, map, max, refl, ap, sym, ◌∙◌, inl, inr}
+-- What a session does at an answer, and that orders of release have nothing to do with the copies that went out on the line.
+use Rattle.std.proofs.Common.{◌≡◌, ℕ, List, [], ◌∷◌, map, max, refl, ap, sym, ◌∙◌}
 use Rattle.mqtt_base.specs.Phases.{order_of}
-use Rattle.std.specs.Prelude.{Option, Some, find}
-use Rattle.std.proofs.lemmas.Bool.{cases_Bool}
-use Rattle.mqtt_flow.specs.declared.entry.Entry.{Entry as FlowEntry}
-use Rattle.mqtt_flow.specs.Queue.{is_holder, holder, greatest_order, next_order}
-use Rattle.mqtt_flow.specs.Outbound.{Answer, puback, pubrec, pubcomp, puback_at, pubrec_at, pubcomp_at}
+use Rattle.std.specs.Prelude.{Option, Some}
+use Rattle.mqtt_flow.specs.Queue.{greatest_order}
+use Rattle.mqtt_flow.specs.Outbound.{Answer}
 use Rattle.mqtt_records_message.specs.Queue.{CopyRow}
 use Rattle.mqtt_records.specs.declared.session.Session.{Session}
 use Rattle.mqtt_rules.specs.Deeds.{Act, of_session, with_session}
 use Rattle.mqtt_rules.specs.Inbound.{on_answer}
-use Rattle.mqtt_rules.specs.State.{Line, Broker, Env, session_at, entry_on, queue_on}
+use Rattle.mqtt_rules.specs.State.{Line, Broker, Env, session_at, entry_on}
 use Rattle.mqtt_broker_step.specs.declared.fault.StepFault.{StepFault}
 use Rattle.mqtt_broker_step.specs.Stepping.{Stepping, IsLeft}
 use Rattle.mqtt_broker_queue.specs.declared.answering.Answered.{Answered}
@@ -18,31 +16,11 @@ use Rattle.mqtt_broker_queue.specs.declared.answering.Answered.TheVariants.{Take
 use Rattle.mqtt_broker_queue.specs.Answering.{asks, Came}
 use Rattle.mqtt_broker_step.proofs.Then.{same_act, same_left}
 
--- ---- who holds an identifier is the same copy, whatever went out
-
-held_alike : {R : Type 0} (id : ℕ) (went : List ℕ) (f : Option FlowEntry → R) (es : List CopyRow)
-    → ((e : CopyRow) → f (Some (entry_on went e)) ≡ f (Some (entry_on [] e)))
-    → f (find (λ e. is_holder id e.phase) (map (entry_on went) es)) ≡ f (find (λ e. is_holder id e.phase) (map (entry_on []) es))
-held_alike id went f [] same = refl
-held_alike id went f (e ∷ es) same = elim (cases_Bool (is_holder id e.phase)) [
-  | inl here ↦ rw here (same e)
-  | inr later ↦ rw later (held_alike id went f es same)
-]
+-- ---- the greatest order is the same, whatever went out
 
 pub orders_alike : (went : List ℕ) (es : List CopyRow) → greatest_order (map (entry_on went) es) ≡ greatest_order (map (entry_on []) es)
 orders_alike went [] = refl
 orders_alike went (e ∷ es) = ap (λ n. max (order_of e.phase) n) (orders_alike went es)
-
-pub puback_alike : (id code : ℕ) (went : List ℕ) (s : Session) → puback id code (queue_on went s) ≡ puback id code (queue_on [] s)
-puback_alike id code went s = held_alike id went (puback_at code) s.queue (λ e. refl)
-
-pub pubcomp_alike : (id : ℕ) (went : List ℕ) (s : Session) → pubcomp id (queue_on went s) ≡ pubcomp id (queue_on [] s)
-pubcomp_alike id went s = held_alike id went pubcomp_at s.queue (λ e. refl)
-
-pub pubrec_alike : (id code : ℕ) (went : List ℕ) (s : Session) → pubrec id code (queue_on went s) ≡ pubrec id code (queue_on [] s)
-pubrec_alike id code went s =
-    ap (λ n. pubrec_at id code (n + 1) (holder id (queue_on went s))) (orders_alike went s.queue)
-    ∙ held_alike id went (pubrec_at id code (next_order (queue_on [] s))) s.queue (λ e. refl)
 
 -- ---- as the rules look
 

@@ -1,5 +1,5 @@
 -- A copy enters when those that make way have left.
-use Rattle.std.proofs.Common.{◌≡◌, ℕ, zero, suc, ◌+◌, ◌-◌, ◌<◌, ◌≤◌, Bool, true, false, arith, List, [], ◌∷◌, ◌++◌, length, map, refl, ap, sym, subst, ◌∙◌}
+use Rattle.std.proofs.Common.{◌≡◌, ℕ, zero, suc, ◌+◌, ◌-◌, ◌<◌, Bool, true, false, arith, List, [], ◌∷◌, ◌++◌, length, map, refl, ap, sym, subst, ◌∙◌}
 use Rattle.std.specs.Prelude.{Option, Some, None, IfSome, flat_map, option_map}
 use Rattle.std.proofs.lemmas.Bool.{lt-ltb}
 use Rattle.mqtt_base.specs.declared.limits.TheConstants.{QUEUE_LIMIT}
@@ -29,7 +29,6 @@ use Rattle.mqtt_broker_step.specs.declared.fault.StepFault.{StepFault}
 use Rattle.mqtt_broker_step.specs.Stepping.{Stepping, Did, Does, IsLeft, Leaves, env_in, to_session}
 use Rattle.mqtt_broker_step.proofs.Doing.{found_birth}
 use Rattle.mqtt_broker_queue.specs.Entering.{HasEnteredAt, HasRoomAt, makes_way}
-use Rattle.mqtt_broker_queue.specs.Queues.{Seen, entry_of}
 use Rattle.mqtt_broker_queue.specs.Turning.{takes_turns}
 use Rattle.mqtt_broker_queue.proofs.Pumped.{dropped_leave}
 use Rattle.mqtt_broker_queue.proofs.Taking.{same_whose}
@@ -175,13 +174,6 @@ table_there birth x b found table y there = subst (λ (z : Session). IsTable cop
     some_session x y e = cc
 
 -- ---- what the look was given
-
-pub few_rows : (seen : List Seen) (s : Session) → map entry_of seen ≡ queue_on [] s → length seen ≤ QUEUE_LIMIT → length s.queue ≤ QUEUE_LIMIT
-few_rows seen s is few =
-    let same = ap length is in
-    let left = length-mapped entry_of seen in
-    let right = length-mapped (entry_on []) s.queue in
-    omega (arith, same, left, right, few)
 
 abbrev pub limits_of : Limits → QueueLimits
 limits_of l = record { queue = l.queue; full = l.full }

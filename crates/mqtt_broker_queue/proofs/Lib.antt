@@ -1,7 +1,6 @@
 pub mod Turned
 pub mod Taking
 pub mod Asked
-pub mod Seen
 pub mod Pumped
 pub mod RoomLeft
 pub mod Stayings

@@ -1,19 +1,16 @@
 //! A receiver's answers: PUBACK, PUBREC, PUBCOMP (MQTT 5.0, 3.4, 3.5, 3.7, 4.3).
-ghost use Rattle.std.specs.Prelude.{◌≡◌, ◌≤◌, ℕ, List, [], is_some, true, IfOk, IfErr};
-ghost use Rattle.mqtt_flow.specs.Outbound.{puback, pubrec, pubcomp};
-ghost use Rattle.mqtt_flow.specs.Queue.{greatest_order};
-ghost use Rattle.mqtt_rules.specs.State.{Env, Line, queue_on, session_at};
+ghost use Rattle.std.specs.Prelude.{◌≡◌, is_some, true, IfOk, IfErr};
+ghost use Rattle.mqtt_rules.specs.State.{Env, Line, session_at};
 ghost use Rattle.mqtt_broker_step.specs.Stepping.{IsLeft};
 ghost use Rattle.mqtt_broker_queue.specs.Answering.{Came, asks, pubacks, pubrecs, pubcomps};
 ghost use Rattle.mqtt_broker_queue.specs.Queues.{HasKeptOrders};
 
-use crate::queue::rows_of;
+use crate::queue::OnLine;
 use crate::turning::turn;
-use mqtt_base::{LAST_NUMBER, Reason};
+use mqtt_base::Reason;
 use mqtt_broker_step::{Step, StepFault};
 use mqtt_flow::{Turn, look_puback, look_pubcomp, look_pubrec};
 use mqtt_flow_inbound::FlowFault;
-use mqtt_records::Session;
 use std::alloc::Global;
 
 /// What came of a receiver's answer.
@@ -49,57 +46,6 @@ fn take(
     }
 }
 
-/// What a PUBACK asks of a session.
-fn ask_puback(
-    alloc: Global,
-    session: &Session,
-    identifier: u16,
-    code: Reason,
-) -> Result<Result<Option<Turn>, FlowFault>, StepFault>
-    ensures asked { (went : List ℕ) → IfOk result (λ asked. asked
-        ≡ puback identifier code.0 (queue_on went session.now)) }
-    ensures fault { IfErr result (λ fault. fault ≡ StepFault.Memory) }
-{
-    let rows = rows_of(alloc, session, &[])?;
-    let asked = look_puback(&rows, identifier, code);
-    drop(rows);
-    Ok(asked)
-}
-
-/// What a PUBREC asks of a session.
-fn ask_pubrec(
-    alloc: Global,
-    session: &Session,
-    identifier: u16,
-    code: Reason,
-) -> Result<Result<Option<Turn>, FlowFault>, StepFault>
-    requires { greatest_order (queue_on [] session.now) ≤ LAST_NUMBER }
-    ensures asked { (went : List ℕ) → IfOk result (λ asked. asked
-        ≡ pubrec identifier code.0 (queue_on went session.now)) }
-    ensures fault { IfErr result (λ fault. fault ≡ StepFault.Memory) }
-{
-    let rows = rows_of(alloc, session, &[])?;
-    let asked = look_pubrec(&rows, identifier, code);
-    drop(rows);
-    Ok(asked)
-}
-
-/// What a PUBCOMP asks of a session.
-fn ask_pubcomp(
-    alloc: Global,
-    session: &Session,
-    identifier: u16,
-) -> Result<Result<Option<Turn>, FlowFault>, StepFault>
-    ensures asked { (went : List ℕ) → IfOk result (λ asked. asked
-        ≡ pubcomp identifier (queue_on went session.now)) }
-    ensures fault { IfErr result (λ fault. fault ≡ StepFault.Memory) }
-{
-    let rows = rows_of(alloc, session, &[])?;
-    let asked = look_pubcomp(&rows, identifier);
-    drop(rows);
-    Ok(asked)
-}
-
 /// A PUBACK that comes on the line of a session ends a sent copy of QoS 1 (4.3.2).
 pub fn puback(
     alloc: Global,
@@ -117,7 +63,7 @@ pub fn puback(
     let Some(session) = step.session(birth) else {
         return Ok(Answered::Taken);
     };
-    let asked = ask_puback(alloc, session, identifier, code)?;
+    let asked = look_puback::<OnLine<'_>>(session.queue.as_slice(), identifier, code);
     take(alloc, step, line, birth, asked)
 }
 
@@ -139,7 +85,7 @@ pub fn pubrec(
     let Some(session) = step.session(birth) else {
         return Ok(Answered::Taken);
     };
-    let asked = ask_pubrec(alloc, session, identifier, code)?;
+    let asked = look_pubrec::<OnLine<'_>>(session.queue.as_slice(), identifier, code);
     take(alloc, step, line, birth, asked)
 }
 
@@ -159,6 +105,6 @@ pub fn pubcomp(
     let Some(session) = step.session(birth) else {
         return Ok(Answered::Taken);
     };
-    let asked = ask_pubcomp(alloc, session, identifier)?;
+    let asked = look_pubcomp::<OnLine<'_>>(session.queue.as_slice(), identifier);
     take(alloc, step, line, birth, asked)
 }

@@ -14,7 +14,7 @@ ghost use Rattle.mqtt_rules.specs.State.{Env, MemberChoice, queue_on, session_at
 ghost use Rattle.mqtt_broker_step.specs.Stepping.{Does, Leaves, env_in};
 ghost use Rattle.mqtt_broker_queue.specs.Entering.{HasEnteredAt, HasRoomAt, IsBegun, makes_way};
 
-use crate::queue::rows_of;
+use crate::queue::OnLine;
 use crate::turns::take_turns;
 use mqtt_base::QUEUE_LIMIT;
 use mqtt_broker_decisions::is_new;
@@ -131,10 +131,7 @@ fn way_turns(alloc: Global, step: &Step, session: &Session) -> Result<Vec<Turn>,
         queue: sizes.queue as usize,
         full: sizes.full,
     };
-    let rows = rows_of(alloc, session, &[])?;
-    let turns = look_enter(alloc, limits, since, &rows);
-    drop(rows);
-    match turns {
+    match look_enter::<OnLine<'_>>(alloc, limits, since, queue) {
         Ok(turns) => Ok(turns),
         Err(fault) => Err(of_memory(fault)),
     }

@@ -6,7 +6,7 @@ ghost use Rattle.mqtt_rules.specs.State.{queue_on};
 ghost use Rattle.mqtt_broker_step.specs.Stepping.{Did, IsLeft};
 ghost use Rattle.mqtt_broker_queue.specs.Turning.{lapses_of};
 
-use crate::queue::rows_of;
+use crate::queue::OnLine;
 use crate::turns::take_turns;
 use mqtt_broker_step::{Step, StepFault};
 use mqtt_flow::{Turn, look_expire};
@@ -22,10 +22,7 @@ fn lapse_turns(alloc: Global, session: &Session, now: u64) -> Result<Vec<Turn>, 
     ensures rise { IfOk result (λ turns. Rises session.now.queue 0 turns.items) }
     ensures fault { IfErr result (λ fault. fault ≡ StepFault.Memory) }
 {
-    let rows = rows_of(alloc, session, &[])?;
-    let turns = look_expire(alloc, now, &rows);
-    drop(rows);
-    match turns {
+    match look_expire::<OnLine<'_>>(alloc, now, session.queue.as_slice()) {
         Ok(turns) => Ok(turns),
         Err(_) => Err(StepFault::Memory),
     }

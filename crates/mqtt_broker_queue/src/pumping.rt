@@ -10,7 +10,7 @@ ghost use Rattle.mqtt_broker_step.specs.Stepping.{Did, IsLeft};
 ghost use Rattle.mqtt_broker_queue.specs.Queues.{HasKeptOrders};
 ghost use Rattle.mqtt_broker_queue.specs.Turning.{is_sending, pumps};
 
-use crate::queue::rows_of;
+use crate::queue::OnLine;
 use crate::turns::take_turns;
 use mqtt_base::{LAST_NUMBER, PUMP_LIMIT};
 use mqtt_broker_step::{Step, StepFault};
@@ -59,10 +59,7 @@ fn pump_turns(
         (all_turn_deeds moment line session.now turns.items)) ≡ count_by is_sending turns.items) }
     ensures fault { IfErr result (λ fault. fault ≡ StepFault.Memory) }
 {
-    let rows = rows_of(alloc, session, went)?;
-    let turns = look_pump(alloc, way, &rows, &());
-    drop(rows);
-    match turns {
+    match look_pump(alloc, way, &OnLine { went }, session.queue.as_slice()) {
         Ok(turns) => Ok(turns),
         Err(_) => Err(StepFault::Memory),
     }

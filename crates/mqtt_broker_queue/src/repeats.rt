@@ -4,7 +4,7 @@ ghost use Rattle.mqtt_flow.specs.Outbound.{resumed_with};
 ghost use Rattle.mqtt_records.specs.declared.session.Session.{Session as TheSession};
 ghost use Rattle.mqtt_rules.specs.State.{queue_on, session_at};
 
-use crate::queue::rows_of;
+use crate::queue::OnLine;
 use mqtt_broker_step::{Step, StepFault};
 use mqtt_flow::{Turn, look_resume};
 use std::alloc::Global;
@@ -19,10 +19,7 @@ pub fn repeats_of(alloc: Global, step: &Step, birth: u64) -> Result<Vec<Turn>, S
     let Some(session) = step.session(birth) else {
         return Ok(Vec::new(alloc));
     };
-    let rows = rows_of(alloc, session, &[])?;
-    let looked = look_resume(alloc, &rows);
-    drop(rows);
-    match looked {
+    match look_resume::<OnLine<'_>>(alloc, session.queue.as_slice()) {
         Ok(turns) => Ok(turns),
         Err(_) => Err(StepFault::Memory),
     }

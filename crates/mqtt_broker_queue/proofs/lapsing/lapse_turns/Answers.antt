@@ -1,18 +1,15 @@
-use Rattle.std.proofs.Common.{map, ap, sym, subst, ◌∙◌}
+use Rattle.std.proofs.Common.{[], map, ap, sym, subst, ◌∙◌}
 use Rattle.mqtt_flow.specs.Outbound.{expired}
+use Rattle.mqtt_rules.specs.State.{entry_on}
 use Rattle.mqtt_rules.proofs.fit.Turns.{Rises}
 use Rattle.mqtt_rules.proofs.fit.TurnLists.{lapses_rise}
-use Rattle.mqtt_broker_queue.specs.Queues.{entry_of}
 use Rattle.mqtt_broker_queue.proofs.lapsing.lapse_turns.Goals as goal
 
 abbrev looked-up : goal.returns-in-Ok-clause-turns
-looked-up c =
-    c.in-Ok.ensures.turns tt
-    ∙ (ap (λ rows. expired c.args.now (map entry_of rows)) c.deref.ensures.value
-    ∙ ap (expired c.args.now) c.in_ok-rows.ensures.rows)
+looked-up c = c.in-Ok.ensures.turns [] ∙ ap (λ rows. expired c.args.now (map (entry_on []) rows)) c.as_slice.ensures.rows
 
 pub returns-in-Ok-clause-turns : goal.returns-in-Ok-clause-turns
 returns-in-Ok-clause-turns c = looked-up c
 
 pub returns-in-Ok-clause-rise : goal.returns-in-Ok-clause-rise
-returns-in-Ok-clause-rise c = subst (λ ts. Rises c.args.session.now.queue 0 ts) (sym (looked-up c)) (lapses_rise c.args.now c.args.session.now c.in_ok-rows.ensures.order)
+returns-in-Ok-clause-rise c = subst (λ ts. Rises c.args.session.now.queue 0 ts) (sym (looked-up c)) (lapses_rise c.args.now c.args.session.now c.as_slice.ensures.order)
