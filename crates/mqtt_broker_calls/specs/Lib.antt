@@ -2,3 +2,4 @@ pub mod Sound
 pub mod Doing
 pub mod First
 pub mod Inputs
+pub mod Answers

@@ -11,7 +11,7 @@ ghost use Rattle.mqtt_broker_calls.specs.Doing.{IsCalled};
 ghost use Rattle.mqtt_broker_calls.specs.Sound.{IsSound};
 ghost use Rattle.mqtt_broker_calls.specs.Inputs.{HasClient, takes};
 
-use crate::answers::{puback, pubcomp, pubrec};
+use crate::answers::{AnswerKind, answer};
 use crate::leaving::{disconnect, stray};
 use crate::publishing::publish;
 use crate::quiet::{pingreq, pubrel, subscribe, unsubscribe};
@@ -40,10 +40,10 @@ fn take<R: Router>(
 {
     match packet {
         Packet::Publish(packet) => publish(alloc, router, step, line, birth, packet),
-        Packet::Puback(packet) => puback(alloc, router, step, line, birth, packet),
-        Packet::Pubrec(packet) => pubrec(alloc, router, step, line, birth, packet),
+        Packet::Puback(ack) => answer(alloc, router, step, line, birth, AnswerKind::Puback, ack),
+        Packet::Pubrec(ack) => answer(alloc, router, step, line, birth, AnswerKind::Pubrec, ack),
         Packet::Pubrel(packet) => pubrel(step, line, birth, packet),
-        Packet::Pubcomp(packet) => pubcomp(alloc, router, step, line, birth, packet),
+        Packet::Pubcomp(ack) => answer(alloc, router, step, line, birth, AnswerKind::Pubcomp, ack),
         Packet::Subscribe(packet) => subscribe(alloc, step, line, birth, packet),
         Packet::Unsubscribe(packet) => unsubscribe(alloc, step, line, birth, packet),
         Packet::Pingreq => pingreq(step, line, birth),
