@@ -1,7 +1,7 @@
 //! Laws of a receiver's hop: what calls of the broker make of it (4.1, 4.4, 4.6, 4.9).
-ghost use Rattle.std.specs.Prelude.{◌≡◌, ◌∷◌, ℕ, Bool, List, false, length, nat_lt, true};
+ghost use Rattle.std.specs.Prelude.{◌≡◌, ℕ, Bool, List, [], ◌∷◌, false, length, nat_lt, true};
 ghost use Rattle.mqtt_flow.specs.OutboundWorld.{Lot};
-ghost use Rattle.mqtt_flow.specs.Receiver.{connect, puback, pubcomp, pubrec};
+ghost use Rattle.mqtt_flow.specs.Receiver.{Answer, HasNoConnect, connect};
 ghost use Rattle.mqtt_world_receiver_laws.specs.Calls.{IsBeginning, IsLingering, IsRenewing, IsResuming, reads_old_answer, receiver_called};
 ghost use Rattle.mqtt_world_receiver_laws.specs.Handing.{IsListening, IsRun, RunsOn, after_answer, reads_answer};
 ghost use Rattle.mqtt_world_receiver_laws.specs.Seen.{Numbering};
@@ -28,21 +28,12 @@ pub fn sending_is_a_step_of_the_hop()
 /// still: what the receiver and its session see of the world stays a run of their hop, with the same copies;
 /// nothing of it comes to the receiver, on whatever line it is now (4.3.2, 4.3.3, 4.4, 4.13).
 pub fn answers_on_the_line_given_up_are_steps_of_the_hop()
-    ensures puback { (number : Numbering) (largest : ℕ) (copies : List Lot) (limits : Limits) (choice : MemberChoice)
-        → (now i code : ℕ) (rest : List Back) (r : Receiver) (l : Line) (s : Session) (b : Broker)
-        → IsRun number largest copies r b → IsLingering r l s b → r.line.old ≡ answers (puback i code) ∷ rest
-        → RunsOn number largest copies (reads_old_answer limits choice now l.number (puback i code) r b)
-        (after_answer limits choice now l.number (puback i code) r b) }
-    ensures pubrec { (number : Numbering) (largest : ℕ) (copies : List Lot) (limits : Limits) (choice : MemberChoice)
-        → (now i code : ℕ) (rest : List Back) (r : Receiver) (l : Line) (s : Session) (b : Broker)
-        → IsRun number largest copies r b → IsLingering r l s b → r.line.old ≡ answers (pubrec i code) ∷ rest
-        → RunsOn number largest copies (reads_old_answer limits choice now l.number (pubrec i code) r b)
-        (after_answer limits choice now l.number (pubrec i code) r b) }
-    ensures pubcomp { (number : Numbering) (largest : ℕ) (copies : List Lot) (limits : Limits) (choice : MemberChoice)
-        → (now i code : ℕ) (rest : List Back) (r : Receiver) (l : Line) (s : Session) (b : Broker)
-        → IsRun number largest copies r b → IsLingering r l s b → r.line.old ≡ answers (pubcomp i code) ∷ rest
-        → RunsOn number largest copies (reads_old_answer limits choice now l.number (pubcomp i code) r b)
-        (after_answer limits choice now l.number (pubcomp i code) r b) }
+    ensures answers { (number : Numbering) (largest : ℕ) (copies : List Lot) (limits : Limits) (choice : MemberChoice)
+        → (now : ℕ) (a : Answer) (rest : List Back) (r : Receiver) (l : Line) (s : Session) (b : Broker)
+        → HasNoConnect (a ∷ []) → IsRun number largest copies r b → IsLingering r l s b
+        → r.line.old ≡ answers a ∷ rest
+        → RunsOn number largest copies (reads_old_answer limits choice now l.number a r b)
+        (after_answer limits choice now l.number a r b) }
 {}
 
 /// The broker reads a receiver's CONNECT without Clean Start, while its session stands, connected on another line

@@ -5,7 +5,7 @@ ghost use Rattle.mqtt_base.specs.declared.session.CopyId.{CopyId};
 ghost use Rattle.mqtt_base.specs.declared.session.Ending.TheVariants.{Taken, Expired, Dropped};
 ghost use Rattle.mqtt_base.specs.declared.session.Qos.TheVariants.{AtLeastOnce, ExactlyOnce};
 ghost use Rattle.mqtt_flow.specs.OutboundWorld.{Lot, TopicAndPayload, past};
-ghost use Rattle.mqtt_flow.specs.Receiver.{puback, pubcomp, pubrec};
+ghost use Rattle.mqtt_flow.specs.Receiver.{Answer, HasNoConnect};
 ghost use Rattle.mqtt_flow.specs.declared.entry.Entry.{Entry as FlowEntry};
 ghost use Rattle.mqtt_world_receiver_laws.specs.Handing.{IsListening, IsOf, IsRun, MayComeBack, RunsOn};
 ghost use Rattle.mqtt_world_receiver_laws.specs.Handing.{after_answer, reads_answer, receiver_joined, receiver_lost};
@@ -79,25 +79,16 @@ pub fn a_run_of_the_hop_hands_over_once()
         → AllByRecursion (IsOf number copies) r.ledger × AllByRecursion (IsOf number copies) r.once }
 {}
 
-/// The broker reads an answer of a receiver whose session is connected on its line, PUBACK, PUBREC or PUBCOMP:
+/// The broker reads an answer of a receiver whose session is connected on its line, which is PUBACK, PUBREC or PUBCOMP:
 /// what the receiver and its session see of the world stays a run of their hop, with the same copies, whether
 /// the answer ends a copy, releases it, is passed over, or breaks the protocol (4.3.2, 4.3.3, 4.13).
 pub fn answers_of_a_receiver_are_steps_of_the_hop()
-    ensures puback { (number : Numbering) (largest : ℕ) (copies : List Lot) (limits : Limits) (choice : MemberChoice)
-        → (now i code : ℕ) (rest : List Back) (r : Receiver) (l : Line) (s : Session) (b : Broker)
-        → IsRun number largest copies r b → IsListening r l s b → r.line.up ≡ answers (puback i code) ∷ rest
-        → RunsOn number largest copies (reads_answer limits choice now l.number (puback i code) r b)
-        (after_answer limits choice now l.number (puback i code) r b) }
-    ensures pubrec { (number : Numbering) (largest : ℕ) (copies : List Lot) (limits : Limits) (choice : MemberChoice)
-        → (now i code : ℕ) (rest : List Back) (r : Receiver) (l : Line) (s : Session) (b : Broker)
-        → IsRun number largest copies r b → IsListening r l s b → r.line.up ≡ answers (pubrec i code) ∷ rest
-        → RunsOn number largest copies (reads_answer limits choice now l.number (pubrec i code) r b)
-        (after_answer limits choice now l.number (pubrec i code) r b) }
-    ensures pubcomp { (number : Numbering) (largest : ℕ) (copies : List Lot) (limits : Limits) (choice : MemberChoice)
-        → (now i code : ℕ) (rest : List Back) (r : Receiver) (l : Line) (s : Session) (b : Broker)
-        → IsRun number largest copies r b → IsListening r l s b → r.line.up ≡ answers (pubcomp i code) ∷ rest
-        → RunsOn number largest copies (reads_answer limits choice now l.number (pubcomp i code) r b)
-        (after_answer limits choice now l.number (pubcomp i code) r b) }
+    ensures answers { (number : Numbering) (largest : ℕ) (copies : List Lot) (limits : Limits) (choice : MemberChoice)
+        → (now : ℕ) (a : Answer) (rest : List Back) (r : Receiver) (l : Line) (s : Session) (b : Broker)
+        → HasNoConnect (a ∷ []) → IsRun number largest copies r b → IsListening r l s b
+        → r.line.up ≡ answers a ∷ rest
+        → RunsOn number largest copies (reads_answer limits choice now l.number a r b)
+        (after_answer limits choice now l.number a r b) }
 {}
 
 /// The line that a receiver's session is connected on is lost, and the receiver leaves it: what the two see

@@ -2,7 +2,7 @@
 ghost use Rattle.std.specs.Prelude.{◌≡◌, ◌∷◌, ℕ, Bool, List, [], Some, false, length, nat_eq, nat_lt, suc, true};
 ghost use Rattle.std.specs.List.{starts_with};
 ghost use Rattle.mqtt_base.specs.declared.session.CopyId.{CopyId};
-ghost use Rattle.mqtt_flow.specs.Receiver.{connect, puback, pubcomp, pubrec};
+ghost use Rattle.mqtt_flow.specs.Receiver.{Answer, HasNoConnect, connect};
 ghost use Rattle.mqtt_world_receiver_laws.specs.Calls.{IsBeginning, IsLingering, IsRenewing, IsResuming, reads_old_answer, receiver_called, turned_back};
 ghost use Rattle.mqtt_world_receiver_laws.specs.Handing.{IsListening, after_answer, reads_answer, receiver_after, receiver_lost};
 ghost use Rattle.mqtt_world_receiver_laws.specs.Own.{IsAwaiting, IsInStep, Listens, StepsOn, Subscribed};
@@ -21,36 +21,18 @@ ghost use Rattle.mqtt_rules.specs.declared.Limits.{Limits};
 /// The broker reads a receiver's answer on the line that its session is connected on, be it the receiver's own or the one
 /// that it gave up: the two stay in step, with the same copies, session and lines (4.3.2, 4.3.3, 4.13).
 pub fn answers_leave_a_receiver_in_step()
-    ensures puback { (largest : ℕ) (ids : List CopyId) (birth : ℕ) (ns : List ℕ) (limits : Limits) (choice : MemberChoice)
-        → (now i code : ℕ) (rest : List Back) (r : Receiver) (l : Line) (s : Session) (b : Broker)
-        → IsInStep largest ids birth ns r b → IsListening r l s b → r.line.up ≡ answers (puback i code) ∷ rest
-        → IsInStep largest ids birth ns (reads_answer limits choice now l.number (puback i code) r b)
-        (after_answer limits choice now l.number (puback i code) r b) }
-    ensures pubrec { (largest : ℕ) (ids : List CopyId) (birth : ℕ) (ns : List ℕ) (limits : Limits) (choice : MemberChoice)
-        → (now i code : ℕ) (rest : List Back) (r : Receiver) (l : Line) (s : Session) (b : Broker)
-        → IsInStep largest ids birth ns r b → IsListening r l s b → r.line.up ≡ answers (pubrec i code) ∷ rest
-        → IsInStep largest ids birth ns (reads_answer limits choice now l.number (pubrec i code) r b)
-        (after_answer limits choice now l.number (pubrec i code) r b) }
-    ensures pubcomp { (largest : ℕ) (ids : List CopyId) (birth : ℕ) (ns : List ℕ) (limits : Limits) (choice : MemberChoice)
-        → (now i code : ℕ) (rest : List Back) (r : Receiver) (l : Line) (s : Session) (b : Broker)
-        → IsInStep largest ids birth ns r b → IsListening r l s b → r.line.up ≡ answers (pubcomp i code) ∷ rest
-        → IsInStep largest ids birth ns (reads_answer limits choice now l.number (pubcomp i code) r b)
-        (after_answer limits choice now l.number (pubcomp i code) r b) }
-    ensures old_puback { (largest : ℕ) (ids : List CopyId) (birth : ℕ) (ns : List ℕ) (limits : Limits) (choice : MemberChoice)
-        → (now i code : ℕ) (rest : List Back) (r : Receiver) (l : Line) (s : Session) (b : Broker)
-        → IsInStep largest ids birth ns r b → IsLingering r l s b → r.line.old ≡ answers (puback i code) ∷ rest
-        → IsInStep largest ids birth ns (reads_old_answer limits choice now l.number (puback i code) r b)
-        (after_answer limits choice now l.number (puback i code) r b) }
-    ensures old_pubrec { (largest : ℕ) (ids : List CopyId) (birth : ℕ) (ns : List ℕ) (limits : Limits) (choice : MemberChoice)
-        → (now i code : ℕ) (rest : List Back) (r : Receiver) (l : Line) (s : Session) (b : Broker)
-        → IsInStep largest ids birth ns r b → IsLingering r l s b → r.line.old ≡ answers (pubrec i code) ∷ rest
-        → IsInStep largest ids birth ns (reads_old_answer limits choice now l.number (pubrec i code) r b)
-        (after_answer limits choice now l.number (pubrec i code) r b) }
-    ensures old_pubcomp { (largest : ℕ) (ids : List CopyId) (birth : ℕ) (ns : List ℕ) (limits : Limits) (choice : MemberChoice)
-        → (now i code : ℕ) (rest : List Back) (r : Receiver) (l : Line) (s : Session) (b : Broker)
-        → IsInStep largest ids birth ns r b → IsLingering r l s b → r.line.old ≡ answers (pubcomp i code) ∷ rest
-        → IsInStep largest ids birth ns (reads_old_answer limits choice now l.number (pubcomp i code) r b)
-        (after_answer limits choice now l.number (pubcomp i code) r b) }
+    ensures answers { (largest : ℕ) (ids : List CopyId) (birth : ℕ) (ns : List ℕ) (limits : Limits)
+        → (choice : MemberChoice) (now : ℕ) (a : Answer) (rest : List Back) (r : Receiver) (l : Line) (s : Session)
+        → (b : Broker) → HasNoConnect (a ∷ []) → IsInStep largest ids birth ns r b → IsListening r l s b
+        → r.line.up ≡ answers a ∷ rest
+        → IsInStep largest ids birth ns (reads_answer limits choice now l.number a r b)
+        (after_answer limits choice now l.number a r b) }
+    ensures old_answers { (largest : ℕ) (ids : List CopyId) (birth : ℕ) (ns : List ℕ) (limits : Limits)
+        → (choice : MemberChoice) (now : ℕ) (a : Answer) (rest : List Back) (r : Receiver) (l : Line) (s : Session)
+        → (b : Broker) → HasNoConnect (a ∷ []) → IsInStep largest ids birth ns r b → IsLingering r l s b
+        → r.line.old ≡ answers a ∷ rest
+        → IsInStep largest ids birth ns (reads_old_answer limits choice now l.number a r b)
+        (after_answer limits choice now l.number a r b) }
 {}
 
 /// The broker sends what waits for a receiver, or loses the line that its session is connected on, and the receiver

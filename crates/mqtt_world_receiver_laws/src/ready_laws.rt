@@ -1,7 +1,7 @@
 //! Laws of a receiver's hop: after which steps its session may receive more (4.4, 4.6, 4.9).
-ghost use Rattle.std.specs.Prelude.{◌≡◌, ◌∷◌, ℕ, Bool, List, false, length, nat_lt, true};
+ghost use Rattle.std.specs.Prelude.{◌≡◌, ℕ, Bool, List, [], ◌∷◌, false, length, nat_lt, true};
 ghost use Rattle.mqtt_flow.specs.OutboundWorld.{Lot};
-ghost use Rattle.mqtt_flow.specs.Receiver.{connect, puback, pubcomp, pubrec};
+ghost use Rattle.mqtt_flow.specs.Receiver.{Answer, HasNoConnect, connect};
 ghost use Rattle.mqtt_world_receiver_laws.specs.Calls.{IsBeginning, IsLingering, IsRenewing, IsResuming, reads_old_answer, receiver_called};
 ghost use Rattle.mqtt_world_receiver_laws.specs.Entering.{IsReceiving, Receives};
 ghost use Rattle.mqtt_world_receiver_laws.specs.Handing.{IsListening, IsRun, after_answer, reads_answer, receiver_lost};
@@ -23,42 +23,18 @@ pub fn a_receivers_session_may_receive_more()
         → l.largest ≡ largest → HasDistinctIdentifiers b.records
         → Receives (receiver_called limits choice now (Pump l.number) r b)
         (stepped limits choice now (Pump l.number) b) }
-    ensures puback { (number : Numbering) (largest : ℕ) (copies : List Lot) (limits : Limits) (choice : MemberChoice)
-        → (now i code : ℕ) (rest : List Back) (r : Receiver) (l : Line) (s : Session) (b : Broker)
-        → IsRun number largest copies r b → IsListening r l s b → IsReceiving r s b
-        → r.line.up ≡ answers (puback i code) ∷ rest
-        → Receives (reads_answer limits choice now l.number (puback i code) r b)
-        (after_answer limits choice now l.number (puback i code) r b) }
-    ensures pubrec { (number : Numbering) (largest : ℕ) (copies : List Lot) (limits : Limits) (choice : MemberChoice)
-        → (now i code : ℕ) (rest : List Back) (r : Receiver) (l : Line) (s : Session) (b : Broker)
-        → IsRun number largest copies r b → IsListening r l s b → IsReceiving r s b
-        → r.line.up ≡ answers (pubrec i code) ∷ rest
-        → Receives (reads_answer limits choice now l.number (pubrec i code) r b)
-        (after_answer limits choice now l.number (pubrec i code) r b) }
-    ensures pubcomp { (number : Numbering) (largest : ℕ) (copies : List Lot) (limits : Limits) (choice : MemberChoice)
-        → (now i code : ℕ) (rest : List Back) (r : Receiver) (l : Line) (s : Session) (b : Broker)
-        → IsRun number largest copies r b → IsListening r l s b → IsReceiving r s b
-        → r.line.up ≡ answers (pubcomp i code) ∷ rest
-        → Receives (reads_answer limits choice now l.number (pubcomp i code) r b)
-        (after_answer limits choice now l.number (pubcomp i code) r b) }
-    ensures old_puback { (number : Numbering) (largest : ℕ) (copies : List Lot) (limits : Limits) (choice : MemberChoice)
-        → (now i code : ℕ) (rest : List Back) (r : Receiver) (l : Line) (s : Session) (b : Broker)
-        → IsRun number largest copies r b → IsLingering r l s b → IsReceiving r s b
-        → r.line.old ≡ answers (puback i code) ∷ rest
-        → Receives (reads_old_answer limits choice now l.number (puback i code) r b)
-        (after_answer limits choice now l.number (puback i code) r b) }
-    ensures old_pubrec { (number : Numbering) (largest : ℕ) (copies : List Lot) (limits : Limits) (choice : MemberChoice)
-        → (now i code : ℕ) (rest : List Back) (r : Receiver) (l : Line) (s : Session) (b : Broker)
-        → IsRun number largest copies r b → IsLingering r l s b → IsReceiving r s b
-        → r.line.old ≡ answers (pubrec i code) ∷ rest
-        → Receives (reads_old_answer limits choice now l.number (pubrec i code) r b)
-        (after_answer limits choice now l.number (pubrec i code) r b) }
-    ensures old_pubcomp { (number : Numbering) (largest : ℕ) (copies : List Lot) (limits : Limits) (choice : MemberChoice)
-        → (now i code : ℕ) (rest : List Back) (r : Receiver) (l : Line) (s : Session) (b : Broker)
-        → IsRun number largest copies r b → IsLingering r l s b → IsReceiving r s b
-        → r.line.old ≡ answers (pubcomp i code) ∷ rest
-        → Receives (reads_old_answer limits choice now l.number (pubcomp i code) r b)
-        (after_answer limits choice now l.number (pubcomp i code) r b) }
+    ensures answers { (number : Numbering) (largest : ℕ) (copies : List Lot) (limits : Limits) (choice : MemberChoice)
+        → (now : ℕ) (a : Answer) (rest : List Back) (r : Receiver) (l : Line) (s : Session) (b : Broker)
+        → HasNoConnect (a ∷ []) → IsRun number largest copies r b → IsListening r l s b → IsReceiving r s b
+        → r.line.up ≡ answers a ∷ rest
+        → Receives (reads_answer limits choice now l.number a r b)
+        (after_answer limits choice now l.number a r b) }
+    ensures old_answers { (number : Numbering) (largest : ℕ) (copies : List Lot) (limits : Limits)
+        → (choice : MemberChoice) (now : ℕ) (a : Answer) (rest : List Back) (r : Receiver) (l : Line) (s : Session)
+        → (b : Broker) → HasNoConnect (a ∷ []) → IsRun number largest copies r b → IsLingering r l s b
+        → IsReceiving r s b → r.line.old ≡ answers a ∷ rest
+        → Receives (reads_old_answer limits choice now l.number a r b)
+        (after_answer limits choice now l.number a r b) }
     ensures loses { (limits : Limits) (choice : MemberChoice) (now : ℕ) (r : Receiver) (l : Line) (s : Session)
         → (b : Broker) → IsListening r l s b
         → Receives (receiver_lost limits choice now l.number r b) (stepped limits choice now (Lost l.number) b) }

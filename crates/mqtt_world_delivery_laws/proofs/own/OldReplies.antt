@@ -3,23 +3,21 @@
 use Rattle.std.proofs.Common.{◌≡◌, ℕ, false, List, [], ◌∷◌, map, Some, subst, inl, inr}
 use Rattle.std.specs.List.{AllByRecursion}
 use Rattle.mqtt_base.specs.declared.session.CopyId.{CopyId}
-use Rattle.mqtt_flow.specs.Receiver.{Answer, HasNoConnect, connect, puback, pubcomp, pubrec}
+use Rattle.mqtt_flow.specs.Receiver.{Answer, HasNoConnect}
 use Rattle.mqtt_world_model.specs.Ends.{Back, Receiver, answers, wire_back}
 use Rattle.mqtt_world_model.specs.Hops.{IsNoConnect}
 use Rattle.mqtt_world_model.specs.Run.{read_first}
 use Rattle.mqtt_world_model.specs.World.{Setting, World, asks, receiver_named, old_to_broker}
-use Rattle.mqtt_records.specs.declared.session.Session.{Session}
 use Rattle.mqtt_rules.proofs.numbers.NumberSteps.{step_fell}
-use Rattle.mqtt_rules.specs.State.{Line as BrokerLine, Broker, MemberChoice}
+use Rattle.mqtt_rules.specs.State.{Broker, MemberChoice}
 use Rattle.mqtt_rules.specs.Step.{Input}
 use Rattle.mqtt_rules.specs.declared.Limits.{Limits}
 use Rattle.mqtt_world_acceptance_laws.specs.Fair.{IsSteady}
 use Rattle.mqtt_world_acceptance_laws.specs.Spending.{spending}
-use Rattle.mqtt_world_receiver_laws.specs.Calls.{IsLingering, reads_old_answer, turned_back}
+use Rattle.mqtt_world_receiver_laws.specs.Calls.{reads_old_answer, turned_back}
 use Rattle.mqtt_world_receiver_laws.specs.Handing.{after_answer}
-use Rattle.mqtt_world_receiver_laws.specs.Own.{IsInStep}
 use Rattle.mqtt_world_receiver_laws.proofs.queue.Apart.{apart_still}
-use Rattle.mqtt_world_receiver_laws.proofs.own.OwnCalls.{old_puback_in_step, old_pubcomp_in_step, old_pubrec_in_step}
+use Rattle.mqtt_world_receiver_laws.proofs.own.OwnCalls.{old_answers_in_step}
 use Rattle.mqtt_world_delivery_laws.specs.Standing.{IsPlaced, IsSeen, Stands, packet_like}
 use Rattle.mqtt_world_delivery_laws.proofs.own.Fronts.{IsJoined, front_there, no_connect}
 use Rattle.mqtt_world_delivery_laws.proofs.own.Heard.{hears_there, placed_after_there}
@@ -28,14 +26,6 @@ use Rattle.mqtt_world_delivery_laws.proofs.own.Reading.{first_read_there}
 use Rattle.mqtt_world_delivery_laws.proofs.own.Replies.{read_owns}
 
 -- ---- the receiver after it
-
-module _ (largest : ℕ) (ids : List CopyId) (ns : List ℕ) (limits : Limits) (choice : MemberChoice) (now : ℕ) (rest : List Back) (r : Receiver) (l : BrokerLine) (s : Session) (b : Broker) (a : IsLingering r l s b) where
-  read_step : (x : Answer) (birth : ℕ) → IsInStep largest ids birth ns r b → HasNoConnect (x ∷ []) → r.line.old ≡ answers x ∷ rest
-      → IsInStep largest ids birth ns (reads_old_answer limits choice now l.number x r b) (after_answer limits choice now l.number x r b)
-  read_step (connect clean) birth k none up = absurd none
-  read_step (puback i code) birth k none up = old_puback_in_step largest ids birth ns limits choice now i code rest r l s b k a up
-  read_step (pubrec i code) birth k none up = old_pubrec_in_step largest ids birth ns limits choice now i code rest r l s b k a up
-  read_step (pubcomp i code) birth k none up = old_pubcomp_in_step largest ids birth ns limits choice now i code rest r l s b k a up
 
 read_placed : (largest : ℕ) (ids : List CopyId) (ns : List ℕ) (limits : Limits) (choice : MemberChoice) (now : ℕ) (x : Answer) (rest : List Back) (r : Receiver) (b : Broker) (placed : IsPlaced largest ids ns r b) → IsSteady b
     → IsJoined placed.birth placed.line r.line.old_number b → AllByRecursion IsNoConnect (map packet_like r.line.old) → HasNoConnect (x ∷ []) → r.line.old ≡ answers x ∷ rest
@@ -47,11 +37,11 @@ read_placed largest ids ns limits choice now x rest r b placed steady j calm non
     let a = h.listens.listening in
     let packet = wire_back r.client r.window (answers x) in
     let new = after_answer limits choice now l.number x r b in
-    let owns = read_owns largest ids ns limits choice now rest (turned_back r) l s b a x j.birth placed.line none h.owns in
+    let owns = read_owns limits choice now x (turned_back r) l s b j.birth placed.line a none h.owns in
     let told = apart_still ids b.records new.records placed.told (step_fell limits choice now (Input l.number packet) b) in
     subst (λ (m : ℕ). IsPlaced largest ids ns (reads_old_answer limits choice now m x r b) (after_answer limits choice now m x r b)) h.number
     (placed_after_there largest ids ns limits j.birth r b placed j.own j.there choice now l.number packet ids h.number owns told j.at calm
-    (read_step largest ids ns limits choice now rest r l s b a x j.birth h.step none up))
+    (old_answers_in_step largest ids j.birth ns limits choice now x rest r l s b none h.step a up))
 
 -- ---- as an event
 

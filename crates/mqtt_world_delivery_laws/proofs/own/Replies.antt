@@ -1,11 +1,11 @@
 -- The broker reads a receiver's answer on its line: PUBACK, PUBREC or PUBCOMP (MQTT 5.0, 4.3.2, 4.3.3, 4.13).
-use Rattle.std.proofs.Common.{◌≡◌, ℕ, false, List, [], ◌∷◌, Option, Some, None, refl, sym, subst, inl, inr}
+use Rattle.std.proofs.Common.{◌≡◌, ℕ, false, List, [], ◌∷◌, Option, Some, None, sym, subst, inl, inr}
 use Rattle.std.specs.Prelude.{Err, Ok}
 use Rattle.mqtt_base.specs.Codes.{protocol_error}
 use Rattle.mqtt_base.specs.declared.session.CopyId.{CopyId}
 use Rattle.mqtt_codec.specs.declared.packet.Packet.{Packet}
 use Rattle.mqtt_flow.specs.Outbound as rules
-use Rattle.mqtt_flow.specs.Receiver.{Answer, HasNoConnect, connect, puback, pubcomp, pubrec}
+use Rattle.mqtt_flow.specs.Receiver.{Answer, HasNoConnect}
 use Rattle.mqtt_flow.specs.declared.entry.Turn.{Turn}
 use Rattle.mqtt_flow.specs.declared.entry.Turn.TheVariants as turns
 use Rattle.mqtt_world_model.specs.Ends.{Back, Receiver, answers, wire_back}
@@ -30,9 +30,9 @@ use Rattle.mqtt_rules.specs.declared.Limits.{Limits}
 use Rattle.mqtt_world_acceptance_laws.specs.Fair.{IsSteady}
 use Rattle.mqtt_world_acceptance_laws.specs.Spending.{spending}
 use Rattle.mqtt_world_receiver_laws.specs.Handing.{IsListening, after_answer, reads_answer}
-use Rattle.mqtt_world_receiver_laws.specs.Own.{IsInStep}
 use Rattle.mqtt_world_receiver_laws.proofs.queue.Apart.{apart_still}
-use Rattle.mqtt_world_receiver_laws.proofs.own.OwnCalls.{puback_in_step, pubcomp_in_step, pubrec_in_step}
+use Rattle.mqtt_world_receiver_laws.proofs.own.Answering.{reply_to, answered_by}
+use Rattle.mqtt_world_receiver_laws.proofs.own.OwnCalls.{answers_in_step}
 use Rattle.mqtt_world_delivery_laws.specs.Standing.{IsPlaced, IsSeen, Stands}
 use Rattle.mqtt_world_delivery_laws.proofs.own.Fronts.{IsJoined, front, no_connect}
 use Rattle.mqtt_world_delivery_laws.proofs.own.Heard.{hears, placed_after}
@@ -79,21 +79,14 @@ module _ (client : List ℕ) (birth n : ℕ) where
 
 -- ---- where it is after it
 
-module _ (largest : ℕ) (ids : List CopyId) (ns : List ℕ) (limits : Limits) (choice : MemberChoice) (now : ℕ) (rest : List Back) (r : Receiver) (l : BrokerLine) (s : Session) (b : Broker) (a : IsListening r l s b) where
-  read_step : (x : Answer) (birth : ℕ) → IsInStep largest ids birth ns r b → HasNoConnect (x ∷ []) → r.line.up ≡ answers x ∷ rest
-      → IsInStep largest ids birth ns (reads_answer limits choice now l.number x r b) (after_answer limits choice now l.number x r b)
-  read_step (connect clean) birth k none up = absurd none
-  read_step (puback i code) birth k none up = puback_in_step largest ids birth ns limits choice now i code rest r l s b k a up
-  read_step (pubrec i code) birth k none up = pubrec_in_step largest ids birth ns limits choice now i code rest r l s b k a up
-  read_step (pubcomp i code) birth k none up = pubcomp_in_step largest ids birth ns limits choice now i code rest r l s b k a up
+-- whichever of its lines the receiver has as its own, session and line stay its own
+pub read_owns : (limits : Limits) (choice : MemberChoice) (now : ℕ) (x : Answer) (r : Receiver) (l : BrokerLine) (s : Session) (b : Broker) (birth n : ℕ) → IsListening r l s b → HasNoConnect (x ∷ [])
+    → Own r.client birth n b → Own r.client birth n (after_answer limits choice now l.number x r b)
+read_owns limits choice now x r l s b birth n a none own =
+    answer_owns r.client birth n limits choice now (wire_back r.client r.window (answers x)) (reply_to x (queue_on l.went s)) r l s b a
+    (answered_by x r.client r.window (env_of limits choice b) l s (heard_of now l.number b) none) own
 
-  -- whichever of its lines the receiver has as its own
-  pub read_owns : (x : Answer) (birth n : ℕ) → HasNoConnect (x ∷ []) → Own r.client birth n b → Own r.client birth n (after_answer limits choice now l.number x r b)
-  read_owns (connect clean) birth n none own = absurd none
-  read_owns (puback i code) birth n none own = answer_owns r.client birth n limits choice now (wire_back r.client r.window (answers (puback i code))) (rules.puback i code (queue_on l.went s)) r l s b a refl own
-  read_owns (pubrec i code) birth n none own = answer_owns r.client birth n limits choice now (wire_back r.client r.window (answers (pubrec i code))) (rules.pubrec i code (queue_on l.went s)) r l s b a refl own
-  read_owns (pubcomp i code) birth n none own = answer_owns r.client birth n limits choice now (wire_back r.client r.window (answers (pubcomp i code))) (rules.pubcomp i (queue_on l.went s)) r l s b a refl own
-
+-- and it has its place
 read_placed : (largest : ℕ) (ids : List CopyId) (ns : List ℕ) (limits : Limits) (choice : MemberChoice) (now : ℕ) (x : Answer) (rest : List Back) (r : Receiver) (b : Broker) (placed : IsPlaced largest ids ns r b) → IsSteady b
     → IsJoined placed.birth placed.line r.line.number b → HasNoConnect (x ∷ []) → r.line.up ≡ answers x ∷ rest
     → IsPlaced largest ids ns (reads_answer limits choice now placed.line x r b) (after_answer limits choice now placed.line x r b)
@@ -104,10 +97,10 @@ read_placed largest ids ns limits choice now x rest r b placed steady j none up 
     let a = h.listens.listening in
     let packet = wire_back r.client r.window (answers x) in
     let new = after_answer limits choice now l.number x r b in
-    let owns = read_owns largest ids ns limits choice now rest r l s b a x j.birth placed.line none h.owns in
+    let owns = read_owns limits choice now x r l s b j.birth placed.line a none h.owns in
     let told = apart_still ids b.records new.records placed.told (step_fell limits choice now (Input l.number packet) b) in
     subst (λ (m : ℕ). IsPlaced largest ids ns (reads_answer limits choice now m x r b) (after_answer limits choice now m x r b)) h.number
-    (placed_after largest ids ns limits j.birth r b placed j.own j.there choice now l.number packet ids h.number owns told j.at (read_step largest ids ns limits choice now rest r l s b a x j.birth h.step none up))
+    (placed_after largest ids ns limits j.birth r b placed j.own j.there choice now l.number packet ids h.number owns told j.at (answers_in_step largest ids j.birth ns limits choice now x rest r l s b none h.step a up))
 
 -- ---- as an event
 

@@ -15,7 +15,7 @@ use Rattle.mqtt_world_model.proofs.connects.CleanConnects.{ended_by}
 use Rattle.mqtt_world_model.proofs.connects.Connects.{not_left}
 use Rattle.mqtt_world_model.proofs.seats.Joins.{none_closed}
 use Rattle.mqtt_world_model.proofs.others.Names.{named_is}
-use Rattle.mqtt_world_model.proofs.own.OwnStep.{heard_of}
+use Rattle.mqtt_world_model.proofs.own.OwnStep.{heard_of, not_the_one}
 use Rattle.mqtt_records.specs.declared.session.Session.{Session}
 use Rattle.mqtt_rules.specs.Deeds.{Deed, after_all, closing, output}
 use Rattle.mqtt_rules.specs.State.{Line as BrokerLine, Broker, MemberChoice, line_of, session_named}
@@ -32,7 +32,7 @@ use Rattle.mqtt_world_receiver_laws.proofs.own.Answering.{IsAsideOf, all_join}
 use Rattle.mqtt_world_receiver_laws.proofs.others.AwaitingOthers.{free_unlinked}
 use Rattle.mqtt_world_receiver_laws.proofs.connects.Beginning.{Clears, begins_takes, cut_ids, first_beside, first_clears}
 use Rattle.mqtt_world_receiver_laws.proofs.connects.LateCalls.{closes_own, hop_after, late_receives, late_runs}
-use Rattle.mqtt_world_receiver_laws.proofs.own.OldAnswers.{not_one, untold}
+use Rattle.mqtt_world_receiver_laws.proofs.own.OldAnswers.{untold}
 use Rattle.mqtt_world_receiver_laws.proofs.own.Own.{runs_first, runs_for}
 use Rattle.mqtt_world_receiver_laws.proofs.connects.OwnConnects.{clears_served, free_heard, renewal_served}
 use Rattle.mqtt_world_receiver_laws.proofs.connects.OwnRefusals.{deeds_are, free_gone, given_is, lines_are, named_none, refusing, unless_true}
@@ -176,7 +176,7 @@ module _ (limits : Limits) (choice : MemberChoice) (now : ℕ) (clean : Bool) (r
   own : (o : Option ℕ) → is_one_of o (n ∷ []) ≡ false → IsLeft o
   own None other = record { told = refl; stays = refl }
   own (Some m) other =
-      let apart_m = not_one m n other in
+      let apart_m = not_the_one n m other in
       let aside : AllByRecursion (IsAsideOf m) ds = subst (AllByRecursion (IsAsideOf m)) (sym refuses) (apart_m, (apart_m, (apart_m, tt))) in
       let x = untold m new ds aside in
       record { told = x.told; stays = x.stays }

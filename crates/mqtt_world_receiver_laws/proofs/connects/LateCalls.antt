@@ -12,6 +12,7 @@ use Rattle.mqtt_world_model.specs.Lines.{is_one_of, sent_to, unless_closed}
 use Rattle.mqtt_world_model.specs.Seen.{is_linked}
 use Rattle.mqtt_world_model.proofs.others.Names.{named_is}
 use Rattle.mqtt_world_model.proofs.others.Quiet.{session_on}
+use Rattle.mqtt_world_model.proofs.own.OwnStep.{not_the_one}
 use Rattle.mqtt_world_model.proofs.seats.Seeing.{done_lines, done_sessions, linked_is, linked_of}
 use Rattle.mqtt_records.specs.declared.session.Session.{Session}
 use Rattle.mqtt_rules.proofs.numbers.Copies.{each_append}
@@ -26,7 +27,6 @@ use Rattle.mqtt_world_receiver_laws.specs.Seen.{AreQueued, Numbering, StandOn, a
 use Rattle.mqtt_world_receiver_laws.specs.Tags.{AreNumbered, AreTagged, IsTagged, id_of}
 use Rattle.mqtt_world_receiver_laws.proofs.own.Answering.{heard_append, its_went}
 use Rattle.mqtt_world_receiver_laws.proofs.queue.Known.{receives_after}
-use Rattle.mqtt_world_receiver_laws.proofs.own.OldAnswers.{not_one}
 use Rattle.mqtt_world_receiver_laws.proofs.connects.Refusals.{run_append}
 use Rattle.mqtt_world_receiver_laws.proofs.connects.Resuming.{Takes}
 
@@ -83,7 +83,7 @@ module _ (number : Numbering) (largest : ℕ) (copies copies2 : List Lot) (limit
   own : (o : Option ℕ) → is_one_of o (n ∷ []) ≡ false → is_linked o b ≡ is_one_of o ns → IsOwn o
   own None other linked = record { linked = refl; told = refl; tagged = tt }
   own (Some m) other linked =
-      let x = takes.beside m (not_one m n other) in
+      let x = takes.beside m (not_the_one n m other) in
       let t = is_one_of (Some m) ns in
       record {
         linked = linked_is m new

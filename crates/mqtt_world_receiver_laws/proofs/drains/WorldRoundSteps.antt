@@ -5,10 +5,9 @@ use Rattle.std.specs.Prelude.{Ok, Err, filter_map, is_some, option_map}
 use Rattle.std.specs.List.{AllByRecursion}
 use Rattle.std.proofs.lemmas.Bool.{eqb-true}
 use Rattle.mqtt_base.specs.declared.session.CopyId.{CopyId}
-use Rattle.mqtt_flow.specs.declared.entry.Entry.{Entry as FlowEntry}
 use Rattle.mqtt_flow.specs.Outbound as rules
-use Rattle.mqtt_flow.specs.OutboundWorld.{Lot, World as Hop, pump, queue_of, replied, step, to_broker, up_comes}
-use Rattle.mqtt_flow.specs.Receiver.{Answer, IsHeard, connect, puback, pubcomp, pubrec}
+use Rattle.mqtt_flow.specs.OutboundWorld.{Lot, World as Hop, pump, queue_of, replied, step, to_broker}
+use Rattle.mqtt_flow.specs.Receiver.{HasNoConnect, Answer, IsHeard, connect, puback, pubcomp, pubrec}
 use Rattle.mqtt_world_model.specs.Ends.{Back, Receiver, answers, wire_back}
 use Rattle.mqtt_world_model.specs.Lines.{is_one_of, unless_closed}
 use Rattle.mqtt_world_model.specs.Seen.{has_session, is_linked}
@@ -36,11 +35,11 @@ use Rattle.mqtt_world_receiver_laws.specs.Seen.{Numbering, answered, seen}
 use Rattle.mqtt_world_receiver_laws.specs.Served.{IsOwnLine}
 use Rattle.mqtt_world_receiver_laws.specs.Tags.{id_of}
 use Rattle.mqtt_world_receiver_laws.specs.WorldRounds.{IsConnected}
-use Rattle.mqtt_world_receiver_laws.proofs.own.Answering.{puback_follows, pubcomp_follows, pubrec_follows, same_queue, shut_by, standing_by}
+use Rattle.mqtt_world_receiver_laws.proofs.own.Answering.{reply_to, answered_by, answer_comes, answers_follow, shut_by}
 use Rattle.mqtt_world_receiver_laws.proofs.queue.Follows.{Follows, run_follows}
 use Rattle.mqtt_world_receiver_laws.proofs.drains.Further.{Reached, heard_up}
 use Rattle.mqtt_world_receiver_laws.proofs.own.Listening.{listens_in_step}
-use Rattle.mqtt_world_receiver_laws.proofs.own.OwnCalls.{puback_in_step, pubcomp_in_step, pubrec_in_step, pump_in_step}
+use Rattle.mqtt_world_receiver_laws.proofs.own.OwnCalls.{answers_in_step, pump_in_step}
 use Rattle.mqtt_world_receiver_laws.proofs.drains.RoundPhases.{turns_linked, up_linked}
 use Rattle.mqtt_world_receiver_laws.proofs.queue.Sending.{pump_follows, pump_is}
 use Rattle.mqtt_world_receiver_laws.proofs.drains.WorldRoundLines.{HasSame, IsOfTurn, call_same, none_closed, of_turn, of_turns, quiet_unique, quiet_way, way_on}
@@ -244,6 +243,19 @@ module _ (number : Numbering) (largest window : ℕ) (ids : List CopyId) (birth 
         same = call_same limits choice now call b all;
       }
 
+  -- PUBACK, PUBREC or PUBCOMP
+  acknowledged_at : (limits : Limits) (choice : MemberChoice) (now : ℕ) (a : Answer) (rest : List Back) (hop : Hop) (r : Receiver) (b : Broker) (x : At number largest window ids birth ns hop r b)
+      → HasNoConnect (a ∷ []) → r.line.up ≡ answers a ∷ rest → Read limits choice now a rest hop x.connected.line.number r b
+  acknowledged_at limits choice now a rest hop r b x none up =
+      let l = x.connected.line in
+      let li = listens_now r b x.connected in
+      let s = li.session in
+      answered_at limits choice now a rest hop r b x (reply_to a (queue_on l.went s)) up s li.listening (answered_by a r.client r.window (env_of limits choice b) l s (heard_of now l.number b) none)
+      (answer_comes number largest x.copies limits choice now a rest r l s b none x.run_is li.listening up)
+      (answers_follow number largest x.copies limits choice now a rest r l s b none x.run_is li.listening up)
+      (answers_in_step largest ids birth ns limits choice now a rest r l s b none x.connected.in_step li.listening up)
+
+  -- any answer: a CONNECT isn't under way while the session is connected there
   pub answer_at : (limits : Limits) (choice : MemberChoice) (now : ℕ) (a : Answer) (rest : List Back) (hop : Hop) (r : Receiver) (b : Broker) (x : At number largest window ids birth ns hop r b)
       → r.line.up ≡ answers a ∷ rest → Read limits choice now a rest hop x.connected.line.number r b
   answer_at limits choice now (connect clean) rest hop r b x up =
@@ -251,33 +263,6 @@ module _ (number : Numbering) (largest window : ℕ) (ids : List CopyId) (birth 
       let never : hop.linked ≡ false = subst (IsHeard hop.linked) ups (heard_up largest hop (reached hop r b x)) in
       let clash : true ≡ false = sym (hop_linked hop r b x) ∙ never in
       absurd cc
-  answer_at limits choice now (puback i code) rest hop r b x up =
-      let l = x.connected.line in
-      let li = listens_now r b x.connected in
-      let s = li.session in
-      let w = seen number x.copies r b in
-      answered_at limits choice now (puback i code) rest hop r b x (rules.puback i code (queue_on l.went s)) up s li.listening refl
-      (ap (λ (xs : List Answer). up_comes false xs w) (ap (filter_map answered) up) ∙ ap (λ (es : List FlowEntry). replied (rules.puback i code es) (filter_map answered rest) w)
-      (same_queue number largest x.copies limits choice now (puback i code) rest r l s b (standing_by x.copies r l s b x.run_is.queue_is li.listening) li.listening up))
-      (puback_follows number largest x.copies limits choice now i code rest r l s b x.run_is li.listening up)
-      (puback_in_step largest ids birth ns limits choice now i code rest r l s b x.connected.in_step li.listening up)
-  answer_at limits choice now (pubrec i code) rest hop r b x up =
-      let l = x.connected.line in
-      let li = listens_now r b x.connected in
-      let s = li.session in
-      let w = seen number x.copies r b in
-      answered_at limits choice now (pubrec i code) rest hop r b x (rules.pubrec i code (queue_on l.went s)) up s li.listening refl
-      (ap (λ (xs : List Answer). up_comes false xs w) (ap (filter_map answered) up) ∙ ap (λ (es : List FlowEntry). replied (rules.pubrec i code es) (filter_map answered rest) w)
-      (same_queue number largest x.copies limits choice now (pubrec i code) rest r l s b (standing_by x.copies r l s b x.run_is.queue_is li.listening) li.listening up))
-      (pubrec_follows number largest x.copies limits choice now i code rest r l s b x.run_is li.listening up)
-      (pubrec_in_step largest ids birth ns limits choice now i code rest r l s b x.connected.in_step li.listening up)
-  answer_at limits choice now (pubcomp i code) rest hop r b x up =
-      let l = x.connected.line in
-      let li = listens_now r b x.connected in
-      let s = li.session in
-      let w = seen number x.copies r b in
-      answered_at limits choice now (pubcomp i code) rest hop r b x (rules.pubcomp i (queue_on l.went s)) up s li.listening refl
-      (ap (λ (xs : List Answer). up_comes false xs w) (ap (filter_map answered) up) ∙ ap (λ (es : List FlowEntry). replied (rules.pubcomp i es) (filter_map answered rest) w)
-      (same_queue number largest x.copies limits choice now (pubcomp i code) rest r l s b (standing_by x.copies r l s b x.run_is.queue_is li.listening) li.listening up))
-      (pubcomp_follows number largest x.copies limits choice now i code rest r l s b x.run_is li.listening up)
-      (pubcomp_in_step largest ids birth ns limits choice now i code rest r l s b x.connected.in_step li.listening up)
+  answer_at limits choice now (puback i code) rest hop r b x up = acknowledged_at limits choice now (puback i code) rest hop r b x tt up
+  answer_at limits choice now (pubrec i code) rest hop r b x up = acknowledged_at limits choice now (pubrec i code) rest hop r b x tt up
+  answer_at limits choice now (pubcomp i code) rest hop r b x up = acknowledged_at limits choice now (pubcomp i code) rest hop r b x tt up

@@ -16,9 +16,9 @@ use Rattle.mqtt_flow.specs.declared.entry.Turn.{Turn}
 use Rattle.mqtt_flow.specs.declared.entry.Turn.TheVariants as turns
 use Rattle.mqtt_flow.specs.Outbound as rules
 use Rattle.mqtt_flow.specs.Outbound.{acknowledged, is_refusal, puback_at, puback_by, pubcomp_at, pubcomp_by, pubrec_at, pubrec_by, received, released_by}
-use Rattle.mqtt_flow.specs.OutboundWorld.{Lot, World as Hop, lots_after, queue_of, renewed, replied, step, to_broker, up_comes}
+use Rattle.mqtt_flow.specs.OutboundWorld.{Lot, World as Hop, lots_after, old_comes, queue_of, renewed, replied, replied_old, step, to_broker, up_comes}
 use Rattle.mqtt_flow.specs.Queue.{holder, next_order}
-use Rattle.mqtt_flow.specs.Receiver.{Answer, Output, disconnect, puback, pubrec, pubcomp, pubrel}
+use Rattle.mqtt_flow.specs.Receiver.{Answer, HasNoConnect, Output, connect, disconnect, puback, pubrec, pubcomp, pubrel}
 use Rattle.mqtt_flow_inbound.specs.Identifiers.{ids_without}
 use Rattle.mqtt_flow_inbound.specs.Line.{sent_on}
 use Rattle.mqtt_world_model.specs.Ends.{Back, Receiver, answers, wire_back}
@@ -41,7 +41,7 @@ use Rattle.mqtt_rules.specs.Deeds.{At, Close, Deed, Gone, Hear, Leave, Link, Mar
 use Rattle.mqtt_rules.specs.Inbound.{on_answer}
 use Rattle.mqtt_rules.specs.Outbound.{of_entry, turn_deeds}
 use Rattle.mqtt_rules.specs.Packets as packets
-use Rattle.mqtt_rules.specs.State.{Line as BrokerLine, Broker, MemberChoice, is_of, queue_on, session_at, session_named}
+use Rattle.mqtt_rules.specs.State.{Line as BrokerLine, Broker, Env, MemberChoice, is_of, queue_on, session_at, session_named}
 use Rattle.mqtt_rules.specs.Step.{Input, at_moment, deeds, env_of, next_packet, stepped, told}
 use Rattle.mqtt_rules.specs.declared.Limits.{Limits}
 use Rattle.mqtt_records.specs.Records.{changed_all}
@@ -568,78 +568,76 @@ module _ (number : Numbering) (largest : ℕ) (copies : List Lot) (limits : Limi
   pub same_queue : queue_of copies ≡ queue_on l.went s
   same_queue = same_entries copies l.went s.queue standing_now
 
--- ---- the three answers
+-- ---- PUBACK, PUBREC and PUBCOMP
 
-pub puback_follows : (number : Numbering) (largest : ℕ) (copies : List Lot) (limits : Limits) (choice : MemberChoice) (now i code : ℕ) (rest : List Back) (r : Receiver) (l : BrokerLine) (s : Session) (b : Broker)
-    → IsRun number largest copies r b → IsListening r l s b → r.line.up ≡ answers (puback i code) ∷ rest
-    → Follows number largest copies (to_broker false) r b (reads_answer limits choice now l.number (puback i code) r b) (after_answer limits choice now l.number (puback i code) r b)
-puback_follows number largest copies limits choice now i code rest r l s b h c up =
+-- what the session's rules answer to each
+abbrev pub reply_to : Answer → List FlowEntry → rules.Answer
+reply_to (connect clean) q = Ok None
+reply_to (puback i code) q = rules.puback i code q
+reply_to (pubrec i code) q = rules.pubrec i code q
+reply_to (pubcomp i code) q = rules.pubcomp i q
+
+-- which asks for few turns
+pub is_reply : (a : Answer) (q : List FlowEntry) → IsReply (reply_to a q)
+is_reply (connect clean) q = tt
+is_reply (puback i code) q = reply_puback code (holder i q)
+is_reply (pubrec i code) q = reply_pubrec i code (next_order q) (holder i q)
+is_reply (pubcomp i code) q = reply_pubcomp (holder i q)
+
+-- the broker does that
+pub answered_by : (a : Answer) (client : List ℕ) (window : ℕ) (env : Env) (l : BrokerLine) (s : Session) (b : Broker) → HasNoConnect (a ∷ [])
+    → next_packet env l (wire_back client window (answers a)) s b ≡ on_answer (reply_to a (queue_on l.went s)) env l s b
+answered_by (connect clean) client window env l s b none = absurd none
+answered_by (puback i code) client window env l s b none = refl
+answered_by (pubrec i code) client window env l s b none = refl
+answered_by (pubcomp i code) client window env l s b none = refl
+
+-- and so does the hop, on either line
+hop_answers : (a : Answer) (rest : List Answer) (w : Hop) → HasNoConnect (a ∷ []) → up_comes false (a ∷ rest) w ≡ replied (reply_to a (queue_of w.copies)) rest w
+hop_answers (connect clean) rest w none = absurd none
+hop_answers (puback i code) rest w none = refl
+hop_answers (pubrec i code) rest w none = refl
+hop_answers (pubcomp i code) rest w none = refl
+
+pub hop_answers_old : (a : Answer) (rest : List Answer) (w : Hop) → HasNoConnect (a ∷ []) → old_comes false (a ∷ rest) w ≡ replied_old (reply_to a (queue_of w.copies)) rest w
+hop_answers_old (connect clean) rest w none = absurd none
+hop_answers_old (puback i code) rest w none = refl
+hop_answers_old (pubrec i code) rest w none = refl
+hop_answers_old (pubcomp i code) rest w none = refl
+
+-- its event for an answer of the receiver's line
+pub answer_comes : (number : Numbering) (largest : ℕ) (copies : List Lot) (limits : Limits) (choice : MemberChoice) (now : ℕ) (a : Answer) (rest : List Back) (r : Receiver) (l : BrokerLine) (s : Session) (b : Broker)
+    → HasNoConnect (a ∷ []) → IsRun number largest copies r b → IsListening r l s b → r.line.up ≡ answers a ∷ rest
+    → step largest (seen number copies r b) (to_broker false) ≡ replied (reply_to a (queue_on l.went s)) (filter_map answered rest) (seen number copies r b)
+answer_comes number largest copies limits choice now a rest r l s b none h c up =
     let w = seen number copies r b in
+    ap (λ (xs : List Answer). up_comes false xs w) (ap (filter_map answered) up)
+    ∙ (hop_answers a (filter_map answered rest) w none
+    ∙ ap (λ (es : List FlowEntry). replied (reply_to a es) (filter_map answered rest) w) (same_queue number largest copies limits choice now a rest r l s b (standing_by copies r l s b h.queue_is c) c up))
+
+-- what the receiver and its session see of the answer follows from that event
+pub answers_follow : (number : Numbering) (largest : ℕ) (copies : List Lot) (limits : Limits) (choice : MemberChoice) (now : ℕ) (a : Answer) (rest : List Back) (r : Receiver) (l : BrokerLine) (s : Session) (b : Broker)
+    → HasNoConnect (a ∷ []) → IsRun number largest copies r b → IsListening r l s b → r.line.up ≡ answers a ∷ rest
+    → Follows number largest copies (to_broker false) r b (reads_answer limits choice now l.number a r b) (after_answer limits choice now l.number a r b)
+answers_follow number largest copies limits choice now a rest r l s b none h c up =
     let q = queue_on l.went s in
-    answer_follows number largest copies limits choice now (puback i code) rest r l s b (standing_by copies r l s b h.queue_is c) c up h.tagged (rules.puback i code q) (reply_puback code (holder i q)) refl
-    (ap (λ (xs : List Answer). up_comes false xs w) (ap (filter_map answered) up)
-    ∙ ap (λ (es : List FlowEntry). replied (rules.puback i code es) (filter_map answered rest) w) (same_queue number largest copies limits choice now (puback i code) rest r l s b (standing_by copies r l s b h.queue_is c) c up))
+    answer_follows number largest copies limits choice now a rest r l s b (standing_by copies r l s b h.queue_is c) c up h.tagged (reply_to a q) (is_reply a q)
+    (answered_by a r.client r.window (env_of limits choice b) l s (heard_of now l.number b) none)
+    (answer_comes number largest copies limits choice now a rest r l s b none h c up)
 
-pub puback_runs : (number : Numbering) (largest : ℕ) (copies : List Lot) (limits : Limits) (choice : MemberChoice) (now i code : ℕ) (rest : List Back) (r : Receiver) (l : BrokerLine) (s : Session) (b : Broker)
-    → IsRun number largest copies r b → IsListening r l s b → r.line.up ≡ answers (puback i code) ∷ rest
-    → RunsOn number largest copies (reads_answer limits choice now l.number (puback i code) r b) (after_answer limits choice now l.number (puback i code) r b)
-puback_runs number largest copies limits choice now i code rest r l s b h c up =
-    runs_follow number largest copies (to_broker false) r b (reads_answer limits choice now l.number (puback i code) r b) (after_answer limits choice now l.number (puback i code) r b) h
-    (puback_follows number largest copies limits choice now i code rest r l s b h c up)
+-- so it is a run of their hop again
+pub answers_run : (number : Numbering) (largest : ℕ) (copies : List Lot) (limits : Limits) (choice : MemberChoice) (now : ℕ) (a : Answer) (rest : List Back) (r : Receiver) (l : BrokerLine) (s : Session) (b : Broker)
+    → HasNoConnect (a ∷ []) → IsRun number largest copies r b → IsListening r l s b → r.line.up ≡ answers a ∷ rest
+    → RunsOn number largest copies (reads_answer limits choice now l.number a r b) (after_answer limits choice now l.number a r b)
+answers_run number largest copies limits choice now a rest r l s b none h c up =
+    runs_follow number largest copies (to_broker false) r b (reads_answer limits choice now l.number a r b) (after_answer limits choice now l.number a r b) h
+    (answers_follow number largest copies limits choice now a rest r l s b none h c up)
 
-pub pubrec_follows : (number : Numbering) (largest : ℕ) (copies : List Lot) (limits : Limits) (choice : MemberChoice) (now i code : ℕ) (rest : List Back) (r : Receiver) (l : BrokerLine) (s : Session) (b : Broker)
-    → IsRun number largest copies r b → IsListening r l s b → r.line.up ≡ answers (pubrec i code) ∷ rest
-    → Follows number largest copies (to_broker false) r b (reads_answer limits choice now l.number (pubrec i code) r b) (after_answer limits choice now l.number (pubrec i code) r b)
-pubrec_follows number largest copies limits choice now i code rest r l s b h c up =
-    let w = seen number copies r b in
+-- and its session may receive more
+pub answers_receive : (number : Numbering) (largest : ℕ) (copies : List Lot) (limits : Limits) (choice : MemberChoice) (now : ℕ) (a : Answer) (rest : List Back) (r : Receiver) (l : BrokerLine) (s : Session) (b : Broker)
+    → HasNoConnect (a ∷ []) → IsRun number largest copies r b → IsListening r l s b → IsReceiving r s b → r.line.up ≡ answers a ∷ rest
+    → Receives (reads_answer limits choice now l.number a r b) (after_answer limits choice now l.number a r b)
+answers_receive number largest copies limits choice now a rest r l s b none h c x up =
     let q = queue_on l.went s in
-    answer_follows number largest copies limits choice now (pubrec i code) rest r l s b (standing_by copies r l s b h.queue_is c) c up h.tagged (rules.pubrec i code q) (reply_pubrec i code (next_order q) (holder i q)) refl
-    (ap (λ (xs : List Answer). up_comes false xs w) (ap (filter_map answered) up)
-    ∙ ap (λ (es : List FlowEntry). replied (rules.pubrec i code es) (filter_map answered rest) w) (same_queue number largest copies limits choice now (pubrec i code) rest r l s b (standing_by copies r l s b h.queue_is c) c up))
-
-pub pubrec_runs : (number : Numbering) (largest : ℕ) (copies : List Lot) (limits : Limits) (choice : MemberChoice) (now i code : ℕ) (rest : List Back) (r : Receiver) (l : BrokerLine) (s : Session) (b : Broker)
-    → IsRun number largest copies r b → IsListening r l s b → r.line.up ≡ answers (pubrec i code) ∷ rest
-    → RunsOn number largest copies (reads_answer limits choice now l.number (pubrec i code) r b) (after_answer limits choice now l.number (pubrec i code) r b)
-pubrec_runs number largest copies limits choice now i code rest r l s b h c up =
-    runs_follow number largest copies (to_broker false) r b (reads_answer limits choice now l.number (pubrec i code) r b) (after_answer limits choice now l.number (pubrec i code) r b) h
-    (pubrec_follows number largest copies limits choice now i code rest r l s b h c up)
-
-pub pubcomp_follows : (number : Numbering) (largest : ℕ) (copies : List Lot) (limits : Limits) (choice : MemberChoice) (now i code : ℕ) (rest : List Back) (r : Receiver) (l : BrokerLine) (s : Session) (b : Broker)
-    → IsRun number largest copies r b → IsListening r l s b → r.line.up ≡ answers (pubcomp i code) ∷ rest
-    → Follows number largest copies (to_broker false) r b (reads_answer limits choice now l.number (pubcomp i code) r b) (after_answer limits choice now l.number (pubcomp i code) r b)
-pubcomp_follows number largest copies limits choice now i code rest r l s b h c up =
-    let w = seen number copies r b in
-    let q = queue_on l.went s in
-    answer_follows number largest copies limits choice now (pubcomp i code) rest r l s b (standing_by copies r l s b h.queue_is c) c up h.tagged (rules.pubcomp i q) (reply_pubcomp (holder i q)) refl
-    (ap (λ (xs : List Answer). up_comes false xs w) (ap (filter_map answered) up)
-    ∙ ap (λ (es : List FlowEntry). replied (rules.pubcomp i es) (filter_map answered rest) w) (same_queue number largest copies limits choice now (pubcomp i code) rest r l s b (standing_by copies r l s b h.queue_is c) c up))
-
-pub pubcomp_runs : (number : Numbering) (largest : ℕ) (copies : List Lot) (limits : Limits) (choice : MemberChoice) (now i code : ℕ) (rest : List Back) (r : Receiver) (l : BrokerLine) (s : Session) (b : Broker)
-    → IsRun number largest copies r b → IsListening r l s b → r.line.up ≡ answers (pubcomp i code) ∷ rest
-    → RunsOn number largest copies (reads_answer limits choice now l.number (pubcomp i code) r b) (after_answer limits choice now l.number (pubcomp i code) r b)
-pubcomp_runs number largest copies limits choice now i code rest r l s b h c up =
-    runs_follow number largest copies (to_broker false) r b (reads_answer limits choice now l.number (pubcomp i code) r b) (after_answer limits choice now l.number (pubcomp i code) r b) h
-    (pubcomp_follows number largest copies limits choice now i code rest r l s b h c up)
-
--- ---- and its session may receive more
-
-pub puback_receives : (number : Numbering) (largest : ℕ) (copies : List Lot) (limits : Limits) (choice : MemberChoice) (now i code : ℕ) (rest : List Back) (r : Receiver) (l : BrokerLine) (s : Session) (b : Broker)
-    → IsRun number largest copies r b → IsListening r l s b → IsReceiving r s b → r.line.up ≡ answers (puback i code) ∷ rest
-    → Receives (reads_answer limits choice now l.number (puback i code) r b) (after_answer limits choice now l.number (puback i code) r b)
-puback_receives number largest copies limits choice now i code rest r l s b h c x there =
-    let q = queue_on l.went s in
-    answer_receives number largest copies limits choice now (puback i code) rest r l s b (standing_by copies r l s b h.queue_is c) c there (reads_answer limits choice now l.number (puback i code) r b) refl x.known (rules.puback i code q) (reply_puback code (holder i q)) refl
-
-pub pubrec_receives : (number : Numbering) (largest : ℕ) (copies : List Lot) (limits : Limits) (choice : MemberChoice) (now i code : ℕ) (rest : List Back) (r : Receiver) (l : BrokerLine) (s : Session) (b : Broker)
-    → IsRun number largest copies r b → IsListening r l s b → IsReceiving r s b → r.line.up ≡ answers (pubrec i code) ∷ rest
-    → Receives (reads_answer limits choice now l.number (pubrec i code) r b) (after_answer limits choice now l.number (pubrec i code) r b)
-pubrec_receives number largest copies limits choice now i code rest r l s b h c x there =
-    let q = queue_on l.went s in
-    answer_receives number largest copies limits choice now (pubrec i code) rest r l s b (standing_by copies r l s b h.queue_is c) c there (reads_answer limits choice now l.number (pubrec i code) r b) refl x.known (rules.pubrec i code q) (reply_pubrec i code (next_order q) (holder i q)) refl
-
-pub pubcomp_receives : (number : Numbering) (largest : ℕ) (copies : List Lot) (limits : Limits) (choice : MemberChoice) (now i code : ℕ) (rest : List Back) (r : Receiver) (l : BrokerLine) (s : Session) (b : Broker)
-    → IsRun number largest copies r b → IsListening r l s b → IsReceiving r s b → r.line.up ≡ answers (pubcomp i code) ∷ rest
-    → Receives (reads_answer limits choice now l.number (pubcomp i code) r b) (after_answer limits choice now l.number (pubcomp i code) r b)
-pubcomp_receives number largest copies limits choice now i code rest r l s b h c x there =
-    let q = queue_on l.went s in
-    answer_receives number largest copies limits choice now (pubcomp i code) rest r l s b (standing_by copies r l s b h.queue_is c) c there (reads_answer limits choice now l.number (pubcomp i code) r b) refl x.known (rules.pubcomp i q) (reply_pubcomp (holder i q)) refl
+    answer_receives number largest copies limits choice now a rest r l s b (standing_by copies r l s b h.queue_is c) c up (reads_answer limits choice now l.number a r b) refl x.known (reply_to a q) (is_reply a q)
+    (answered_by a r.client r.window (env_of limits choice b) l s (heard_of now l.number b) none)

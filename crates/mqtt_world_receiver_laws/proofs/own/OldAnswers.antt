@@ -1,5 +1,5 @@
 -- The broker reads an answer on the line that a receiver gave up: what the receiver sees of it is that event of its hop.
-use Rattle.std.proofs.Common.{◌≡◌, ℕ, suc, Bool, true, false, cond, ◌||◌, List, [], ◌∷◌, ◌++◌, drop, map, Option, Some, None, nat_eq, bytes_eq, refl, sym, ap, subst, ◌∙◌, append-nil, inl}
+use Rattle.std.proofs.Common.{◌≡◌, ℕ, suc, Bool, true, false, cond, List, [], ◌∷◌, ◌++◌, drop, map, Option, Some, None, nat_eq, bytes_eq, refl, sym, ap, subst, ◌∙◌, append-nil, inl}
 use Rattle.std.specs.Prelude.{Ok, Err, filter_map, find, is_some}
 use Rattle.std.specs.List.{AllByRecursion}
 use Rattle.std.proofs.lemmas.Cmp.{nat_eq_equiv}
@@ -7,8 +7,7 @@ use Rattle.mqtt_base.specs.declared.session.CopyId.{CopyId}
 use Rattle.mqtt_codec.specs.declared.packet.Packet.{Packet}
 use Rattle.mqtt_flow.specs.Outbound as rules
 use Rattle.mqtt_flow.specs.OutboundWorld.{Lot, World as Hop, old_comes, old_to_broker, replied_old, start, step}
-use Rattle.mqtt_flow.specs.Queue.{holder, next_order}
-use Rattle.mqtt_flow.specs.Receiver.{Answer, puback, pubrec, pubcomp}
+use Rattle.mqtt_flow.specs.Receiver.{Answer, HasNoConnect}
 use Rattle.mqtt_flow.specs.declared.entry.Entry.{Entry as FlowEntry}
 use Rattle.mqtt_world_model.specs.Ends.{Back, Receiver, answers, wire_back}
 use Rattle.mqtt_world_model.specs.Lines.{Down, is_one_of, sent_to, unless_closed}
@@ -23,13 +22,13 @@ use Rattle.mqtt_rules.specs.Inbound.{on_answer}
 use Rattle.mqtt_rules.specs.State.{Line as BrokerLine, Broker, MemberChoice, queue_on, session_named}
 use Rattle.mqtt_rules.specs.Step.{Input, at_moment, deeds, env_of, next_packet, stepped}
 use Rattle.mqtt_rules.specs.declared.Limits.{Limits}
-use Rattle.mqtt_world_model.proofs.own.OwnStep.{heard_of}
+use Rattle.mqtt_world_model.proofs.own.OwnStep.{heard_of, not_the_one}
 use Rattle.mqtt_world_receiver_laws.specs.Calls.{IsLingering, reads_old_answer, turned_back}
 use Rattle.mqtt_world_receiver_laws.specs.Entering.{AreKnown, IsReceiving, Receives}
 use Rattle.mqtt_world_receiver_laws.specs.Handing.{IsRun, RunsOn, after_answer}
 use Rattle.mqtt_world_receiver_laws.specs.Seen.{AreQueued, Numbering, StandOn, answered, handed_in, heard_in, lot_on, seen, still_standing, went_in}
 use Rattle.mqtt_world_receiver_laws.specs.Tags.{AreNumbered, AreTagged, IsTagged, id_of}
-use Rattle.mqtt_world_receiver_laws.proofs.own.Answering.{IsAsideOf, IsReply, answer_becomes, answer_receives, copies_by, ids_by, its_went, named_now, reply_puback, reply_pubcomp, reply_pubrec, shut_by, standing_by}
+use Rattle.mqtt_world_receiver_laws.proofs.own.Answering.{IsAsideOf, IsReply, answer_becomes, answer_receives, copies_by, ids_by, its_went, named_now, reply_to, is_reply, answered_by, hop_answers_old, shut_by, standing_by}
 use Rattle.mqtt_world_receiver_laws.proofs.connects.Refusals.{run_append}
 use Rattle.mqtt_world_receiver_laws.proofs.queue.Turns.{same_entries}
 
@@ -80,13 +79,6 @@ untold m new (d ∷ ds) q = by d q.0 (untold m new ds q.1)
 
 -- ---- the step
 
-pub not_one : (m n : ℕ) → is_one_of (Some m) (n ∷ []) ≡ false → nat_eq n m ≡ false
-not_one m n h = by (nat_eq n m) h
-  where
-    by : (t : Bool) → (t || false) ≡ false → t ≡ false
-    by true e = absurd cc
-    by false e = refl
-
 one_closed : (n : ℕ) (shut : Bool) → is_one_of (Some n) (cond shut (n ∷ []) []) ≡ shut
 one_closed n true = rw (nat_eq_equiv.refl n) refl
 one_closed n false = refl
@@ -126,7 +118,7 @@ module _ (number : Numbering) (largest : ℕ) (copies : List Lot) (limits : Limi
   apart : (o : Option ℕ) → is_one_of o (n ∷ []) ≡ false → ((m : ℕ) → nat_eq n m ≡ false → AllByRecursion (IsAsideOf m) done_deeds) → IsApartFrom o
   apart None other aside = record { linked = refl; told = refl; stays = refl }
   apart (Some m) other aside =
-      let q = aside m (not_one m n other) in
+      let q = aside m (not_the_one n m other) in
       let x = untold m new done_deeds q in
       let lines = done_lines (rows_of_all done_deeds at_first.records) (after_all done_deeds at_first) in
       record {
@@ -203,60 +195,25 @@ module _ (number : Numbering) (largest : ℕ) (copies : List Lot) (limits : Limi
   old_answer_receives known x ok e =
       answer_receives number largest copies limits choice now a rest (turned_back r) l s b still c old (reads_old_answer limits choice now n a r b) refl known x ok e
 
--- ---- the three answers
+-- ---- PUBACK, PUBREC and PUBCOMP
 
-pub old_puback_runs : (number : Numbering) (largest : ℕ) (copies : List Lot) (limits : Limits) (choice : MemberChoice) (now i code : ℕ) (rest : List Back) (r : Receiver) (l : BrokerLine) (s : Session) (b : Broker)
-    → IsRun number largest copies r b → IsLingering r l s b → r.line.old ≡ answers (puback i code) ∷ rest
-    → RunsOn number largest copies (reads_old_answer limits choice now l.number (puback i code) r b) (after_answer limits choice now l.number (puback i code) r b)
-old_puback_runs number largest copies limits choice now i code rest r l s b h c old =
+-- what the receiver and its session see is a run of their hop again
+pub old_answers_run : (number : Numbering) (largest : ℕ) (copies : List Lot) (limits : Limits) (choice : MemberChoice) (now : ℕ) (a : Answer) (rest : List Back) (r : Receiver) (l : BrokerLine) (s : Session) (b : Broker)
+    → HasNoConnect (a ∷ []) → IsRun number largest copies r b → IsLingering r l s b → r.line.old ≡ answers a ∷ rest
+    → RunsOn number largest copies (reads_old_answer limits choice now l.number a r b) (after_answer limits choice now l.number a r b)
+old_answers_run number largest copies limits choice now a rest r l s b none h c old =
     let w = seen number copies r b in
     let q = queue_on l.went s in
-    let there = standing_by copies (turned_back r) l s b h.queue_is c in
-    answer_there number largest copies limits choice now (puback i code) rest r l s b h c old (rules.puback i code q) (reply_puback code (holder i q)) refl
+    answer_there number largest copies limits choice now a rest r l s b h c old (reply_to a q) (is_reply a q) (answered_by a r.client r.window (env_of limits choice b) l s (heard_of now l.number b) none)
     (ap (λ (xs : List Answer). old_comes false xs w) (ap (filter_map answered) old)
-    ∙ ap (λ (es : List FlowEntry). replied_old (rules.puback i code es) (filter_map answered rest) w) (same_entries copies l.went s.queue there))
+    ∙ (hop_answers_old a (filter_map answered rest) w none
+    ∙ ap (λ (es : List FlowEntry). replied_old (reply_to a es) (filter_map answered rest) w) (same_entries copies l.went s.queue (standing_by copies (turned_back r) l s b h.queue_is c))))
 
-pub old_pubrec_runs : (number : Numbering) (largest : ℕ) (copies : List Lot) (limits : Limits) (choice : MemberChoice) (now i code : ℕ) (rest : List Back) (r : Receiver) (l : BrokerLine) (s : Session) (b : Broker)
-    → IsRun number largest copies r b → IsLingering r l s b → r.line.old ≡ answers (pubrec i code) ∷ rest
-    → RunsOn number largest copies (reads_old_answer limits choice now l.number (pubrec i code) r b) (after_answer limits choice now l.number (pubrec i code) r b)
-old_pubrec_runs number largest copies limits choice now i code rest r l s b h c old =
-    let w = seen number copies r b in
+-- and its session may receive more
+pub old_answers_receive : (number : Numbering) (largest : ℕ) (copies : List Lot) (limits : Limits) (choice : MemberChoice) (now : ℕ) (a : Answer) (rest : List Back) (r : Receiver) (l : BrokerLine) (s : Session) (b : Broker)
+    → HasNoConnect (a ∷ []) → IsRun number largest copies r b → IsLingering r l s b → IsReceiving r s b → r.line.old ≡ answers a ∷ rest
+    → Receives (reads_old_answer limits choice now l.number a r b) (after_answer limits choice now l.number a r b)
+old_answers_receive number largest copies limits choice now a rest r l s b none h c x old =
     let q = queue_on l.went s in
-    let there = standing_by copies (turned_back r) l s b h.queue_is c in
-    answer_there number largest copies limits choice now (pubrec i code) rest r l s b h c old (rules.pubrec i code q) (reply_pubrec i code (next_order q) (holder i q)) refl
-    (ap (λ (xs : List Answer). old_comes false xs w) (ap (filter_map answered) old)
-    ∙ ap (λ (es : List FlowEntry). replied_old (rules.pubrec i code es) (filter_map answered rest) w) (same_entries copies l.went s.queue there))
-
-pub old_pubcomp_runs : (number : Numbering) (largest : ℕ) (copies : List Lot) (limits : Limits) (choice : MemberChoice) (now i code : ℕ) (rest : List Back) (r : Receiver) (l : BrokerLine) (s : Session) (b : Broker)
-    → IsRun number largest copies r b → IsLingering r l s b → r.line.old ≡ answers (pubcomp i code) ∷ rest
-    → RunsOn number largest copies (reads_old_answer limits choice now l.number (pubcomp i code) r b) (after_answer limits choice now l.number (pubcomp i code) r b)
-old_pubcomp_runs number largest copies limits choice now i code rest r l s b h c old =
-    let w = seen number copies r b in
-    let q = queue_on l.went s in
-    let there = standing_by copies (turned_back r) l s b h.queue_is c in
-    answer_there number largest copies limits choice now (pubcomp i code) rest r l s b h c old (rules.pubcomp i q) (reply_pubcomp (holder i q)) refl
-    (ap (λ (xs : List Answer). old_comes false xs w) (ap (filter_map answered) old)
-    ∙ ap (λ (es : List FlowEntry). replied_old (rules.pubcomp i es) (filter_map answered rest) w) (same_entries copies l.went s.queue there))
-
--- ---- and its session may receive more
-
-pub old_puback_receives : (number : Numbering) (largest : ℕ) (copies : List Lot) (limits : Limits) (choice : MemberChoice) (now i code : ℕ) (rest : List Back) (r : Receiver) (l : BrokerLine) (s : Session) (b : Broker)
-    → IsRun number largest copies r b → IsLingering r l s b → IsReceiving r s b → r.line.old ≡ answers (puback i code) ∷ rest
-    → Receives (reads_old_answer limits choice now l.number (puback i code) r b) (after_answer limits choice now l.number (puback i code) r b)
-old_puback_receives number largest copies limits choice now i code rest r l s b h c x there =
-    let q = queue_on l.went s in
-    old_answer_receives number largest copies limits choice now (puback i code) rest r l s b h c there x.known (rules.puback i code q) (reply_puback code (holder i q)) refl
-
-pub old_pubrec_receives : (number : Numbering) (largest : ℕ) (copies : List Lot) (limits : Limits) (choice : MemberChoice) (now i code : ℕ) (rest : List Back) (r : Receiver) (l : BrokerLine) (s : Session) (b : Broker)
-    → IsRun number largest copies r b → IsLingering r l s b → IsReceiving r s b → r.line.old ≡ answers (pubrec i code) ∷ rest
-    → Receives (reads_old_answer limits choice now l.number (pubrec i code) r b) (after_answer limits choice now l.number (pubrec i code) r b)
-old_pubrec_receives number largest copies limits choice now i code rest r l s b h c x there =
-    let q = queue_on l.went s in
-    old_answer_receives number largest copies limits choice now (pubrec i code) rest r l s b h c there x.known (rules.pubrec i code q) (reply_pubrec i code (next_order q) (holder i q)) refl
-
-pub old_pubcomp_receives : (number : Numbering) (largest : ℕ) (copies : List Lot) (limits : Limits) (choice : MemberChoice) (now i code : ℕ) (rest : List Back) (r : Receiver) (l : BrokerLine) (s : Session) (b : Broker)
-    → IsRun number largest copies r b → IsLingering r l s b → IsReceiving r s b → r.line.old ≡ answers (pubcomp i code) ∷ rest
-    → Receives (reads_old_answer limits choice now l.number (pubcomp i code) r b) (after_answer limits choice now l.number (pubcomp i code) r b)
-old_pubcomp_receives number largest copies limits choice now i code rest r l s b h c x there =
-    let q = queue_on l.went s in
-    old_answer_receives number largest copies limits choice now (pubcomp i code) rest r l s b h c there x.known (rules.pubcomp i q) (reply_pubcomp (holder i q)) refl
+    old_answer_receives number largest copies limits choice now a rest r l s b h c old x.known (reply_to a q) (is_reply a q)
+    (answered_by a r.client r.window (env_of limits choice b) l s (heard_of now l.number b) none)

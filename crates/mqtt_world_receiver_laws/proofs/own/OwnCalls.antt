@@ -5,7 +5,7 @@ use Rattle.mqtt_base.specs.Codes.{protocol_error}
 use Rattle.mqtt_base.specs.declared.session.CopyId.{CopyId}
 use Rattle.mqtt_codec.specs.declared.packet.Packet.{Packet}
 use Rattle.mqtt_flow.specs.Outbound as rules
-use Rattle.mqtt_flow.specs.Receiver.{puback, pubrec, pubcomp}
+use Rattle.mqtt_flow.specs.Receiver.{Answer, HasNoConnect}
 use Rattle.mqtt_world_model.specs.Ends.{Back, Receiver, answers, wire_back}
 use Rattle.mqtt_world_model.proofs.seats.Breaks.{lost_is}
 use Rattle.mqtt_world_model.proofs.own.OwnStep.{heard_of, input_is}
@@ -21,9 +21,9 @@ use Rattle.mqtt_world_receiver_laws.specs.Calls.{IsLingering, reads_old_answer, 
 use Rattle.mqtt_world_receiver_laws.specs.Handing.{IsListening, after_answer, reads_answer, receiver_lost}
 use Rattle.mqtt_world_receiver_laws.specs.Own.{IsInStep}
 use Rattle.mqtt_world_receiver_laws.specs.Served.{IsServed}
-use Rattle.mqtt_world_receiver_laws.proofs.own.Answering.{puback_receives, puback_runs, pubcomp_receives, pubcomp_runs, pubrec_receives, pubrec_runs}
+use Rattle.mqtt_world_receiver_laws.proofs.own.Answering.{reply_to, answered_by, answers_run, answers_receive}
 use Rattle.mqtt_world_receiver_laws.proofs.own.Losing.{losing_receives, losing_runs}
-use Rattle.mqtt_world_receiver_laws.proofs.own.OldAnswers.{old_puback_receives, old_puback_runs, old_pubcomp_receives, old_pubcomp_runs, old_pubrec_receives, old_pubrec_runs}
+use Rattle.mqtt_world_receiver_laws.proofs.own.OldAnswers.{old_answers_run, old_answers_receive}
 use Rattle.mqtt_world_receiver_laws.proofs.own.Own.{AreSafe, IsSafe, call_served, runs_for, safe_turn, safe_turns, session_is}
 use Rattle.mqtt_world_receiver_laws.proofs.queue.Sending.{pump_is, pump_receives, pump_runs}
 
@@ -45,82 +45,34 @@ module _ (client : List ℕ) (birth : ℕ) (ns : List ℕ) (r : Receiver) (l : B
       call_served client birth ns limits choice now (Input l.number packet) b
       (subst (AreSafe client birth ns) (sym (input_is limits choice now packet l s b a.line a.connected a.session)) (tt, each_append (IsSafe client birth ns) (next_packet env l packet s c) [] own tt)) v
 
-pub puback_in_step : (largest : ℕ) (ids : List CopyId) (birth : ℕ) (ns : List ℕ) (limits : Limits) (choice : MemberChoice) (now i code : ℕ) (rest : List Back) (r : Receiver) (l : BrokerLine) (s : Session) (b : Broker)
-    → IsInStep largest ids birth ns r b → IsListening r l s b → r.line.up ≡ answers (puback i code) ∷ rest
-    → IsInStep largest ids birth ns (reads_answer limits choice now l.number (puback i code) r b) (after_answer limits choice now l.number (puback i code) r b)
-puback_in_step largest ids birth ns limits choice now i code rest r l s b k a up =
-    let served = answer_served r.client birth ns r l s b a limits choice now (wire_back r.client r.window (answers (puback i code))) (rules.puback i code (queue_on l.went s)) refl k.served in
+-- PUBACK, PUBREC and PUBCOMP on its line
+pub answers_in_step : (largest : ℕ) (ids : List CopyId) (birth : ℕ) (ns : List ℕ) (limits : Limits) (choice : MemberChoice) (now : ℕ) (x : Answer) (rest : List Back) (r : Receiver) (l : BrokerLine) (s : Session) (b : Broker)
+    → HasNoConnect (x ∷ []) → IsInStep largest ids birth ns r b → IsListening r l s b → r.line.up ≡ answers x ∷ rest
+    → IsInStep largest ids birth ns (reads_answer limits choice now l.number x r b) (after_answer limits choice now l.number x r b)
+answers_in_step largest ids birth ns limits choice now x rest r l s b none k a up =
+    let packet = wire_back r.client r.window (answers x) in
+    let reply = reply_to x (queue_on l.went s) in
+    let served = answer_served r.client birth ns r l s b a limits choice now packet reply (answered_by x r.client r.window (env_of limits choice b) l s (heard_of now l.number b) none) k.served in
     record {
-      runs = runs_for largest ids birth birth ns r (reads_answer limits choice now l.number (puback i code) r b) b (after_answer limits choice now l.number (puback i code) r b) k.runs served
-          (λ number h. puback_runs number largest h.after limits choice now i code rest r l s b h.run_is a up)
-          (λ number h. puback_receives number largest h.after limits choice now i code rest r l s b h.run_is a (session_is largest birth ids ns number r s b k.served a.session a.client h) up);
+      runs = runs_for largest ids birth birth ns r (reads_answer limits choice now l.number x r b) b (after_answer limits choice now l.number x r b) k.runs served
+          (λ number h. answers_run number largest h.after limits choice now x rest r l s b none h.run_is a up)
+          (λ number h. answers_receive number largest h.after limits choice now x rest r l s b none h.run_is a (session_is largest birth ids ns number r s b k.served a.session a.client h) up);
       served = served;
       lines = record { own = k.lines.own; old = k.lines.old };
     }
 
-pub pubrec_in_step : (largest : ℕ) (ids : List CopyId) (birth : ℕ) (ns : List ℕ) (limits : Limits) (choice : MemberChoice) (now i code : ℕ) (rest : List Back) (r : Receiver) (l : BrokerLine) (s : Session) (b : Broker)
-    → IsInStep largest ids birth ns r b → IsListening r l s b → r.line.up ≡ answers (pubrec i code) ∷ rest
-    → IsInStep largest ids birth ns (reads_answer limits choice now l.number (pubrec i code) r b) (after_answer limits choice now l.number (pubrec i code) r b)
-pubrec_in_step largest ids birth ns limits choice now i code rest r l s b k a up =
-    let served = answer_served r.client birth ns r l s b a limits choice now (wire_back r.client r.window (answers (pubrec i code))) (rules.pubrec i code (queue_on l.went s)) refl k.served in
+-- and on the line that it gave up
+pub old_answers_in_step : (largest : ℕ) (ids : List CopyId) (birth : ℕ) (ns : List ℕ) (limits : Limits) (choice : MemberChoice) (now : ℕ) (x : Answer) (rest : List Back) (r : Receiver) (l : BrokerLine) (s : Session) (b : Broker)
+    → HasNoConnect (x ∷ []) → IsInStep largest ids birth ns r b → IsLingering r l s b → r.line.old ≡ answers x ∷ rest
+    → IsInStep largest ids birth ns (reads_old_answer limits choice now l.number x r b) (after_answer limits choice now l.number x r b)
+old_answers_in_step largest ids birth ns limits choice now x rest r l s b none k a old =
+    let packet = wire_back r.client r.window (answers x) in
+    let reply = reply_to x (queue_on l.went s) in
+    let served = answer_served r.client birth ns (turned_back r) l s b a limits choice now packet reply (answered_by x r.client r.window (env_of limits choice b) l s (heard_of now l.number b) none) k.served in
     record {
-      runs = runs_for largest ids birth birth ns r (reads_answer limits choice now l.number (pubrec i code) r b) b (after_answer limits choice now l.number (pubrec i code) r b) k.runs served
-          (λ number h. pubrec_runs number largest h.after limits choice now i code rest r l s b h.run_is a up)
-          (λ number h. pubrec_receives number largest h.after limits choice now i code rest r l s b h.run_is a (session_is largest birth ids ns number r s b k.served a.session a.client h) up);
-      served = served;
-      lines = record { own = k.lines.own; old = k.lines.old };
-    }
-
-pub pubcomp_in_step : (largest : ℕ) (ids : List CopyId) (birth : ℕ) (ns : List ℕ) (limits : Limits) (choice : MemberChoice) (now i code : ℕ) (rest : List Back) (r : Receiver) (l : BrokerLine) (s : Session) (b : Broker)
-    → IsInStep largest ids birth ns r b → IsListening r l s b → r.line.up ≡ answers (pubcomp i code) ∷ rest
-    → IsInStep largest ids birth ns (reads_answer limits choice now l.number (pubcomp i code) r b) (after_answer limits choice now l.number (pubcomp i code) r b)
-pubcomp_in_step largest ids birth ns limits choice now i code rest r l s b k a up =
-    let served = answer_served r.client birth ns r l s b a limits choice now (wire_back r.client r.window (answers (pubcomp i code))) (rules.pubcomp i (queue_on l.went s)) refl k.served in
-    record {
-      runs = runs_for largest ids birth birth ns r (reads_answer limits choice now l.number (pubcomp i code) r b) b (after_answer limits choice now l.number (pubcomp i code) r b) k.runs served
-          (λ number h. pubcomp_runs number largest h.after limits choice now i code rest r l s b h.run_is a up)
-          (λ number h. pubcomp_receives number largest h.after limits choice now i code rest r l s b h.run_is a (session_is largest birth ids ns number r s b k.served a.session a.client h) up);
-      served = served;
-      lines = record { own = k.lines.own; old = k.lines.old };
-    }
-
--- ---- answers on the line that it gave up
-
-pub old_puback_in_step : (largest : ℕ) (ids : List CopyId) (birth : ℕ) (ns : List ℕ) (limits : Limits) (choice : MemberChoice) (now i code : ℕ) (rest : List Back) (r : Receiver) (l : BrokerLine) (s : Session) (b : Broker)
-    → IsInStep largest ids birth ns r b → IsLingering r l s b → r.line.old ≡ answers (puback i code) ∷ rest
-    → IsInStep largest ids birth ns (reads_old_answer limits choice now l.number (puback i code) r b) (after_answer limits choice now l.number (puback i code) r b)
-old_puback_in_step largest ids birth ns limits choice now i code rest r l s b k a old =
-    let served = answer_served r.client birth ns (turned_back r) l s b a limits choice now (wire_back r.client r.window (answers (puback i code))) (rules.puback i code (queue_on l.went s)) refl k.served in
-    record {
-      runs = runs_for largest ids birth birth ns r (reads_old_answer limits choice now l.number (puback i code) r b) b (after_answer limits choice now l.number (puback i code) r b) k.runs served
-          (λ number h. old_puback_runs number largest h.after limits choice now i code rest r l s b h.run_is a old)
-          (λ number h. old_puback_receives number largest h.after limits choice now i code rest r l s b h.run_is a (session_is largest birth ids ns number r s b k.served a.session a.client h) old);
-      served = served;
-      lines = record { own = k.lines.own; old = k.lines.old };
-    }
-
-pub old_pubrec_in_step : (largest : ℕ) (ids : List CopyId) (birth : ℕ) (ns : List ℕ) (limits : Limits) (choice : MemberChoice) (now i code : ℕ) (rest : List Back) (r : Receiver) (l : BrokerLine) (s : Session) (b : Broker)
-    → IsInStep largest ids birth ns r b → IsLingering r l s b → r.line.old ≡ answers (pubrec i code) ∷ rest
-    → IsInStep largest ids birth ns (reads_old_answer limits choice now l.number (pubrec i code) r b) (after_answer limits choice now l.number (pubrec i code) r b)
-old_pubrec_in_step largest ids birth ns limits choice now i code rest r l s b k a old =
-    let served = answer_served r.client birth ns (turned_back r) l s b a limits choice now (wire_back r.client r.window (answers (pubrec i code))) (rules.pubrec i code (queue_on l.went s)) refl k.served in
-    record {
-      runs = runs_for largest ids birth birth ns r (reads_old_answer limits choice now l.number (pubrec i code) r b) b (after_answer limits choice now l.number (pubrec i code) r b) k.runs served
-          (λ number h. old_pubrec_runs number largest h.after limits choice now i code rest r l s b h.run_is a old)
-          (λ number h. old_pubrec_receives number largest h.after limits choice now i code rest r l s b h.run_is a (session_is largest birth ids ns number r s b k.served a.session a.client h) old);
-      served = served;
-      lines = record { own = k.lines.own; old = k.lines.old };
-    }
-
-pub old_pubcomp_in_step : (largest : ℕ) (ids : List CopyId) (birth : ℕ) (ns : List ℕ) (limits : Limits) (choice : MemberChoice) (now i code : ℕ) (rest : List Back) (r : Receiver) (l : BrokerLine) (s : Session) (b : Broker)
-    → IsInStep largest ids birth ns r b → IsLingering r l s b → r.line.old ≡ answers (pubcomp i code) ∷ rest
-    → IsInStep largest ids birth ns (reads_old_answer limits choice now l.number (pubcomp i code) r b) (after_answer limits choice now l.number (pubcomp i code) r b)
-old_pubcomp_in_step largest ids birth ns limits choice now i code rest r l s b k a old =
-    let served = answer_served r.client birth ns (turned_back r) l s b a limits choice now (wire_back r.client r.window (answers (pubcomp i code))) (rules.pubcomp i (queue_on l.went s)) refl k.served in
-    record {
-      runs = runs_for largest ids birth birth ns r (reads_old_answer limits choice now l.number (pubcomp i code) r b) b (after_answer limits choice now l.number (pubcomp i code) r b) k.runs served
-          (λ number h. old_pubcomp_runs number largest h.after limits choice now i code rest r l s b h.run_is a old)
-          (λ number h. old_pubcomp_receives number largest h.after limits choice now i code rest r l s b h.run_is a (session_is largest birth ids ns number r s b k.served a.session a.client h) old);
+      runs = runs_for largest ids birth birth ns r (reads_old_answer limits choice now l.number x r b) b (after_answer limits choice now l.number x r b) k.runs served
+          (λ number h. old_answers_run number largest h.after limits choice now x rest r l s b none h.run_is a old)
+          (λ number h. old_answers_receive number largest h.after limits choice now x rest r l s b none h.run_is a (session_is largest birth ids ns number r s b k.served a.session a.client h) old);
       served = served;
       lines = record { own = k.lines.own; old = k.lines.old };
     }
