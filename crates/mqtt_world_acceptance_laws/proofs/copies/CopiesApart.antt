@@ -31,6 +31,7 @@ births_above : (n : ℕ) (ss : List Session) → IsAbove birth_of n ss → IsAbo
 births_above n [] h = tt
 births_above n (s ∷ ss) h = (h.0, births_above n ss h.1)
 
+-- subscribers are in the order of their births
 pub births_ascend : (ss : List Session) → IsAscending birth_of ss → IsAscending (λ (x : Subscriber). x.birth) (map subscriber_of ss)
 births_ascend [] h = tt
 births_ascend (s ∷ ss) h = (births_above s.birth ss h.0, births_ascend ss h.1)
@@ -60,6 +61,7 @@ routed_if true number now m (Some x) ds h e =
     let apart = h x refl in
     subst AreOfOne same (record { differ = copies_differ number now m Any x apart; caused = copies_caused number now m Any x apart })
 
+-- copies of a publication differ
 pub accepted_differ : (env : Env) (m : Message) (b : Broker) (ds : List CopyTo) → Orders b → accepted_copies env m b ≡ Some ds → AreOfOne ds
 accepted_differ env m b ds ordered e =
     let r = b.records in
@@ -67,6 +69,7 @@ accepted_differ env m b ds ordered e =
     (λ x is. routed_apart Any (answers env r) (publication_of m) (env.choice (next_publication r) m.sender) (subscribers r) x
     (births_ascend r.sessions ordered.sessions.ascending) (any_sessions r.sessions) is) e
 
+-- so do those that are queued
 pub queued_differ : (ds : List CopyTo) → AllDiffer (ids_to ds) → AllDiffer (queued_ids ds)
 queued_differ ds h = differ_filtered id_to is_queued ds h
 
@@ -110,8 +113,10 @@ module _ (number : ℕ) (s : Session) (w : sub.Wish) where
 abbrev brings_retained : sub.Wish → Session → Bool
 brings_retained w s = not (begins_share w.filter) && sub.wants_retained w.options.retain_handling (sub.has_filter w.filter s)
 
+-- so do those that a subscription brings
 pub brought_differ : (w : sub.Wish) (s : Session) (b : Broker) → AllDiffer (map number_of b.records.retained) → AllDiffer (ids_to (brought_to w s b))
 brought_differ w s b h = brought_if_differ (sub.next_number b.records) s w (brings_retained w s) b.now b.records.retained h
 
+-- which are of that subscription
 pub brought_for : (w : sub.Wish) (s : Session) (b : Broker) → AllByRecursion (λ d. d.copy.id.cause ≡ Retained (sub.next_number b.records)) (brought_to w s b)
 brought_for w s b = brought_if_for (sub.next_number b.records) s w (brings_retained w s) b.now b.records.retained

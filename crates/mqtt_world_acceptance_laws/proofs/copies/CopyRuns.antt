@@ -66,6 +66,7 @@ module _ (c : CopyId) (limits : Limits) (within : AreWithin limits) where
     open_again = λ choice now b s unspent. opening_balances choice now b s.coherent.ordered;
   }
 
+-- in every fair run what entered stands or has ended
 pub run_balances : (limits : Limits) (ts : List Turn) (w : World) → IsNew w → IsFair limits ts w → (c : CopyId) → IsBalanced c limits ts w
 run_balances limits ts w new fair c = run_walks (Balances c) limits ts w (balances c limits fair.within) new fair
 
@@ -89,6 +90,7 @@ numbers limits = record {
   open_again = λ choice now b s unspent. (opening_counts limits choice now b.records).1;
 }
 
+-- and publications are numbered one by one
 pub run_numbers : (limits : Limits) (ts : List Turn) (w : World) → IsNew w → IsFair limits ts w
     → CountsOn w.broker.records.publications (publications_from limits ts w) (run limits ts w).broker.records.publications
 run_numbers limits ts w new fair = run_walks Numbers limits ts w (numbers limits) new fair

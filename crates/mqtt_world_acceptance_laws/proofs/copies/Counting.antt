@@ -37,9 +37,11 @@ use Rattle.mqtt_world_acceptance_laws.proofs.copies.Here.{Has, Here, first_left}
 
 -- ---- counts of lists
 
+-- one more is counted if it is the copy
 pub count_cons : (c x : CopyId) (xs : List CopyId) → count_of c (x ∷ xs) ≡ cond (is_copy c x) 1 0 + count_of c xs
 count_cons c x xs = sum_by-cons (λ y. cond (is_copy c y) 1 0) x xs
 
+-- two lists are counted together
 pub count_append : (c : CopyId) (xs ys : List CopyId) → count_of c (xs ++ ys) ≡ count_of c xs + count_of c ys
 count_append c xs ys = sum_by-append (λ y. cond (is_copy c y) 1 0) xs ys
 

@@ -11,10 +11,12 @@ use Rattle.mqtt_rules.proofs.numbers.Copies.{each_append, each_map}
 abbrev pub AreApart : {X : Type 0} → List X → List X → Type 0
 AreApart xs ys = AllByRecursion (λ x. AllByRecursion (λ y. x ≢ y) ys) xs
 
+-- two lists whose items differ, and are apart, differ together
 pub differ_join : {X : Type 0} (xs ys : List X) → AllDiffer xs → AllDiffer ys → AreApart xs ys → AllDiffer (xs ++ ys)
 differ_join [] ys p q apart = q
 differ_join (x ∷ xs) ys p q apart = (each_append (λ y. x ≢ y) xs ys p.0 apart.0, differ_join xs ys p.1 q apart.1)
 
+-- what holds of what is made of each holds of those that are kept
 pub each_mapped : {X Y : Type 0} (P : Y → Type 0) (f : X → Y) (keep : X → Bool) (xs : List X) → AllByRecursion P (map f xs) → AllByRecursion P (map f (filter keep xs))
 each_mapped P f keep [] h = tt
 each_mapped P f keep (x ∷ xs) h = elim (cases_Bool (keep x)) [
@@ -22,6 +24,7 @@ each_mapped P f keep (x ∷ xs) h = elim (cases_Bool (keep x)) [
   | inr goes ↦ rw goes (each_mapped P f keep xs h.1)
 ]
 
+-- those that are kept still differ
 pub differ_filtered : {X Y : Type 0} (f : X → Y) (keep : X → Bool) (xs : List X) → AllDiffer (map f xs) → AllDiffer (map f (filter keep xs))
 differ_filtered f keep [] h = tt
 differ_filtered f keep (x ∷ xs) h = elim (cases_Bool (keep x)) [

@@ -45,6 +45,7 @@ brought_by env ds b = flat_map brings_at (moments_of env ds b)
 abbrev pub Tells : Env → List Deed → Broker → Type 0
 Tells env ds b = entered ds ≡ brought_by env ds b
 
+-- two lists of deeds enter the copies of both
 pub entered_append : (xs ys : List Deed) → entered (xs ++ ys) ≡ entered xs ++ entered ys
 entered_append xs ys = filter_map-append entered_in xs ys
 
@@ -54,6 +55,7 @@ brought_append env (x ∷ xs) ys b =
     ap (λ (cs : List CopyId). brings env x b ++ cs) (brought_append env xs ys (after x b))
     ∙ sym (append_assoc (brings env x b) (brought_by env xs (after x b)) (brought_by env ys (after_all xs (after x b))))
 
+-- and tell of both
 pub tells_append : (env : Env) (xs ys : List Deed) (b : Broker) → Tells env xs b → Tells env ys (after_all xs b) → Tells env (xs ++ ys) b
 tells_append env xs ys b p q =
     entered_append xs ys ∙ ap (λ (cs : List CopyId). cs ++ entered ys) p ∙ ap (λ (cs : List CopyId). brought_by env xs b ++ cs) q ∙ sym (brought_append env xs ys b)
@@ -92,6 +94,7 @@ still (Begin row will) h = absurd h
 still (At who (Open id)) h = absurd h
 still d h = h
 
+-- calm deeds are still
 pub stills : (ds : List Deed) → AreCalm ds → AreStill ds
 stills [] h = tt
 stills (d ∷ ds) h = (still d h.0, stills ds h.1)
@@ -108,6 +111,7 @@ mutes : (ds : List Deed) → AreStill ds → AreMute ds
 mutes [] h = tt
 mutes (d ∷ ds) h = (mute d h.0, mutes ds h.1)
 
+-- a still deed enters no copy
 pub no_entry : (d : Deed) → IsStill d → entered_in d ≡ None
 no_entry (Accept number origin m) h = absurd h
 no_entry (Count n) h = absurd h
@@ -124,23 +128,28 @@ brought_none : (env : Env) (ds : List Deed) (b : Broker) → AreMute ds → brou
 brought_none env [] b h = refl
 brought_none env (d ∷ ds) b h = ap (λ (cs : List CopyId). cs ++ brought_by env ds (after d b)) (h.0 env b) ∙ brought_none env ds (after d b) h.1
 
+-- nor do many
 pub entered_none : (ds : List Deed) → AreStill ds → entered ds ≡ []
 entered_none [] h = refl
 entered_none (d ∷ ds) h = ap (λ (o : Option CopyId). cons_option o (entered ds)) (no_entry d h.0) ∙ entered_none ds h.1
 
+-- they tell of all that enters, which is nothing
 pub still_tells : (env : Env) (ds : List Deed) (b : Broker) → AreStill ds → Tells env ds b
 still_tells env ds b h = entered_none ds h ∙ sym (brought_none env ds b (mutes ds h))
 
 -- ---- queues
 
+-- a choice between calm deeds is calm
 pub calm_cond : (t : Bool) (xs ys : List Deed) → AreCalm xs → AreCalm ys → AreCalm (cond t xs ys)
 calm_cond true xs ys p q = p
 calm_cond false xs ys p q = q
 
+-- what is done for a copy that may stand is calm
 pub calm_entry : (o : Option CopyRow) (f : CopyRow → List Deed) → ((e : CopyRow) → AreCalm (f e)) → AreCalm (of_entry o f)
 calm_entry None f h = tt
 calm_entry (Some e) f h = h e
 
+-- a copy's leaving is calm
 pub calm_leave : (s : Session) (t : Turn) → AreCalm (leave_deeds s t)
 calm_leave s (turns.Leave place ending) = calm_entry (row_at copy_place place s.queue) (λ e. At (whose s) (Leave e ending) ∷ []) (λ e. (tt, tt))
 calm_leave s (turns.Send place id) = tt
@@ -150,9 +159,11 @@ calm_leave s (turns.Outgrow place id order) = tt
 calm_leave s (turns.Repeat id) = tt
 calm_leave s (turns.Unknown id) = tt
 
+-- so is that of many
 pub calm_leaves : (s : Session) (ts : List Turn) → AreCalm (flat_map (leave_deeds s) ts)
 calm_leaves s ts = each_flat IsCalm (leave_deeds s) (calm_leave s) ts
 
+-- an offer to a line is calm
 pub calm_offer : (o : Option Line) (packet : Packet) → AreCalm (offer o packet)
 calm_offer None packet = tt
 calm_offer (Some l) packet = calm_cond _ (Send l.number packet ∷ []) [] (tt, tt) tt
@@ -266,11 +277,13 @@ all_stand env (d ∷ ds) r few = (
   all_stand env ds r (λ k. let less = fewer k d ds in let all = few k in omega (arith, less, all)),
 )
 
+-- the sessions of accepted copies stand
 pub accepted_stand : (env : Env) (m : Message) (b : Broker) (ds : List CopyTo) → Orders b → accepted_copies env m b ≡ Some ds → AllStand ds b.records
 accepted_stand env m b ds h e = all_stand env ds b.records (λ k. accepted_within env m b ds k e h.sessions.ascending)
 
 -- ---- a publication
 
+-- forgetting a retained message is calm
 pub calm_forgets : (o : Option RetainedMessage) → AreCalm (forgets o)
 calm_forgets None = tt
 calm_forgets (Some k) = (tt, tt)
@@ -305,6 +318,7 @@ published_all env origin m ds b h e =
     let d = after_all next c in
     deliver_all env ds d (stay ds b.records d.records (λ k has. for_stays k 0 next c (for_retain 0 m.retain (is_empty m.payload) number m c) has) (accepted_stand env m b ds h e))
 
+-- a publication enters the copies that are queued
 pub publish_enters : (env : Env) (origin : Origin) (m : Message) (ds : List CopyTo) (b : Broker) → Orders b → accepted_copies env m b ≡ Some ds → entered (publish env origin m ds b) ≡ queued_ids ds
 publish_enters env origin m ds b h e =
     let number = next_publication b.records in
@@ -314,6 +328,7 @@ publish_enters env origin m ds b h e =
     let all = series (map (deliver env) ds) d in
     entered_append next all ∙ ap (λ (cs : List CopyId). cs ++ entered all) (none_retained m.retain (is_empty m.payload) number m c) ∙ (published_all env origin m ds b h e).let_in
 
+-- and tells of them
 pub publish_tells : (env : Env) (origin : Origin) (m : Message) (ds : List CopyTo) (b : Broker) → Orders b → accepted_copies env m b ≡ Some ds → Tells env (publish env origin m ds b) b
 publish_tells env origin m ds b h e =
     let number = next_publication b.records in
@@ -361,10 +376,12 @@ granted_all env w s b e =
     let t = not (begins_share w.filter) && sub.wants_retained w.options.retain_handling (sub.has_filter w.filter s) in
     deliver_all env (filter is_queued (brought_to w s b)) d (brought_stand t b.now number s w b.records.retained d.records stays)
 
+-- a subscription enters the copies that it brings
 pub grant_enters : (env : Env) (w : sub.Wish) (s : Session) (b : Broker) → session_at s.birth b.records ≡ Some s
     → entered (sub.granted_filter env (sub.next_number b.records) s w (brought_to w s b) b).deeds ≡ queued_ids (brought_to w s b)
 grant_enters env w s b e = (granted_all env w s b e).let_in ∙ queued_again (brought_to w s b)
 
+-- and tells of them
 pub grant_tells : (env : Env) (w : sub.Wish) (s : Session) (b : Broker) → session_at s.birth b.records ≡ Some s → Tells env (sub.granted_filter env (sub.next_number b.records) s w (brought_to w s b) b).deeds b
 grant_tells env w s b e =
     let number = sub.next_number b.records in

@@ -129,6 +129,7 @@ put_has k row ss h = by (has_row birth_of row.birth ss) (has_row birth_of row.bi
     by false true = inserted_has k (fresh row) ss h
     by false false = h
 
+-- a counter changes no session
 pub counter_sessions : (c : Counter) (value : ℕ) (r : Records) → (with_counter c value r).sessions ≡ r.sessions
 counter_sessions Births value r = refl
 counter_sessions Publications value r = refl
@@ -225,6 +226,7 @@ deed_here k (On line part) b q h = tt
 deed_here k (Send line packet) b q h = tt
 deed_here k (Gone line) b q h = tt
 
+-- deeds for a session that stands find it
 pub for_here : (k : ℕ) (ds : List Deed) (b : Broker) → AreFor k ds → Has k b.records → AreGood Here ds b
 for_here k [] b q h = tt
 for_here k (d ∷ ds) b q h = (deed_here k d b q.0 h, for_here k ds (after d b) q.1 (deed_has k k d b q.0 h))
@@ -240,6 +242,7 @@ for_stays k j (d ∷ ds) b q h = for_stays k j ds (after d b) q.1 (deed_has k j 
 
 -- ---- lists of deeds of one session
 
+-- two lists for a session are for it
 pub for_append : (k : ℕ) (xs ys : List Deed) → AreFor k xs → AreFor k ys → AreFor k (xs ++ ys)
 for_append k [] ys p q = q
 for_append k (x ∷ xs) ys p q = (p.0, for_append k xs ys p.1 q)
@@ -272,6 +275,7 @@ for_turn now line s (turns.Outgrow place id order) = (refl, (tt, tt))
 for_turn now line s (turns.Repeat id) = (tt, tt)
 for_turn now line s (turns.Unknown id) = (tt, tt)
 
+-- entering a copy is for its session
 pub for_enter : (env : Env) (copy : MessageCopy) (s : Session) → AreFor s.birth (enter_deeds env copy s)
 for_enter env copy s = for_append s.birth (flat_map (leave_deeds s) (way_made (queue_limits env) (since env s) (queue_on [] s))) (At (whose s) (Enter copy) ∷ []) (for_flat s.birth (leave_deeds s) (way_made (queue_limits env) (since env s) (queue_on [] s)) (for_leave s)) (refl, tt)
 
@@ -344,6 +348,7 @@ pub above_left : (n : ℕ) (es : List CopyRow) → IsAbove copy_place n es → r
 above_left n [] a = refl
 above_left n (e ∷ es) a = let more = a.0 in let other = apart e.place n (λ same. omega (arith, same, more)) in rw other (ap (λ (xs : List CopyRow). e ∷ xs) (above_left n es a.1))
 
+-- the first copy leaves the others
 pub first_left : (e : CopyRow) (es : List CopyRow) → IsAbove copy_place e.place es → remove_row copy_place e.place (e ∷ es) ≡ es
 first_left e es a = let same = nat_eq_equiv.refl e.place in rw same (above_left e.place es a)
 
@@ -413,8 +418,10 @@ here_law env = record {
   sends = λ n packet b h its. led (Send n packet ∷ []) b h (tt, tt);
 }
 
+-- the deeds of a call find what they speak of
 pub here_call : (env : Env) (call : Call) (b : Broker) → IsOrdered b.records → AreGood Here (deeds_of env call b) b
 here_call env call b h = (leads_call env anyone Orders Here (here_law env) call b h (call_of_anyone call b)).0
 
+-- so do those of an opening
 pub here_opening : (env : Env) (b : Broker) → IsOrdered b.records → AreGood Here (opening env b) b
 here_opening env b h = (leads_opening env anyone Orders Here (here_law env) (λ s c g is. led (At (whose s) (Close c.now) ∷ []) c g (tt, tt)) (λ birth. tt) b h).0

@@ -30,11 +30,13 @@ use Rattle.mqtt_world_acceptance_laws.proofs.copies.Entering.{IsStill, AreStill}
 
 -- ---- parts of lists
 
+-- a part of a list is one behind another
 pub part_behind : {X : Type 0} (xs zs ys : List X) → IsPart xs ys → IsPart xs (zs ++ ys)
 part_behind [] zs ys h = tt
 part_behind (x ∷ xs) [] ys h = h
 part_behind (x ∷ xs) (z ∷ zs) ys h = inr (part_behind (x ∷ xs) zs ys h)
 
+-- parts of two lists are one of both
 pub part_append : {X : Type 0} (xs zs ys bs : List X) → IsPart xs zs → IsPart ys bs → IsPart (xs ++ ys) (zs ++ bs)
 part_append [] zs ys bs p q = part_behind ys zs bs q
 part_append (x ∷ xs) [] ys bs p q = absurd p
@@ -43,6 +45,7 @@ part_append (x ∷ xs) (z ∷ zs) ys bs p q = elim p [
   | inr later ↦ inr (part_append (x ∷ xs) zs ys bs later q)
 ]
 
+-- a list is a part of itself
 pub part_all : {X : Type 0} (xs : List X) → IsPart xs xs
 part_all [] = tt
 part_all (x ∷ xs) = inl (refl, part_all xs)
@@ -282,5 +285,6 @@ grants_give env w s b =
     let all = series (map (deliver env) (filter is_queued (brought_to w s b))) c in
     others_give env (first ++ all) b (tt, (tt, lights_other all (light_deliveries env (filter is_queued (brought_to w s b)) c)))
 
+-- every act tells no more copies of QoS 0 than are due
 pub giving : (env : Env) → Says env whatever Orders (Gives env)
 giving env = says_still env (Gives env) (λ ds b h. others_give env ds b (stills_other ds h)) (gives_append env) (publish_gives env) (λ w s b e. grants_give env w s b)

@@ -82,9 +82,11 @@ module _ (limits : Limits) (ts : List Turn) (w : World) (new : IsNew w) (fair : 
 
 -- ---- where a world begins
 
+-- at first all copies are apart
 pub start_apart : TellsApart start.broker.records
 start_apart = record { once = λ c. let none : count_of c (queued_in start.broker.records) ≡ 0 = refl in omega (arith, none); numbered = λ c e. refl; retained = tt }
 
+-- so they are behind an opening
 pub opened_apart : (limits : Limits) (choice : MemberChoice) (now : ℕ) (r : Records) → AreWithin limits → MayOpen limits choice now r → TellsApart r → TellsApart (opened_world limits choice now r).broker.records
 opened_apart limits choice now r within may apart = record {
   once = λ c. let x = after c in omega (arith, x);

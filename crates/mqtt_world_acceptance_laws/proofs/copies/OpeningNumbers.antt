@@ -15,6 +15,7 @@ use Rattle.mqtt_world_model.proofs.own.Publishes.{numbers_append}
 abbrev pub AcceptsNone : List Deed → Type 0
 AcceptsNone ds = numbers ds ≡ []
 
+-- two lists that accept nothing accept nothing
 pub none_append : (xs ys : List Deed) → AcceptsNone xs → AcceptsNone ys → AcceptsNone (xs ++ ys)
 none_append xs ys p q = numbers_append xs ys ∙ (ap (λ (ks : List ℕ). ks ++ numbers ys) p ∙ q)
 

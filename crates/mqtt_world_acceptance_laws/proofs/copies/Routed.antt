@@ -208,6 +208,7 @@ event_routed restart set w = opening_routed set w
 event_routed (stop_before a) set w = opening_routed set (before set a w)
 event_routed (stop_after a) set w = routed_append (read_first the_acceptances set a w) (read_opening the_acceptances set (first_step set a w)) (first_routed a set w) (opening_routed set (first_step set a w))
 
+-- in every run copies are routed as the definition says
 pub run_routed : (limits : Limits) (ts : List Turn) (w : World) → AreRouted limits ts w
 run_routed limits [] w = tt
 run_routed limits (t ∷ ts) w =

@@ -171,6 +171,7 @@ beside_apart Stands true at p all direct choices r h d e =
     with_served Stands direct (groups all) (serve at p all direct choices (groups all) []) r d (groups_differ [] all) (groups_stand Stands [] all h)
     (λ served is. serving_groups at p all direct choices (groups all) [] served is) e
 
+-- the copies of a route are apart
 pub routed_apart : (Stands : List ℕ → Type 0) (at : Answers) (p : Publication) (choices : List ℕ) (xs : List Subscriber) (r : Routed)
     → IsAscending (λ x. x.birth) xs → AllByRecursion (AreStanding Stands) xs → routed at p choices xs ≡ Some r → IsApart Stands r
 routed_apart Stands at p choices xs r up h e =

@@ -36,6 +36,7 @@ cut [] l m ls e = absurd cc
 cut (c ∷ cs) l m ls e =
     cut_by (is_slash c) c cs l m ls refl (λ x k. cut cs x m ls k) e ∙ ap (λ (rest : List ℕ). l ++ slash ∷ rest) (sym (after_cons (is_slash c) c cs refl))
 
+-- a shared filter is its share and its group
 pub share_whole : (text : List ℕ) → begins_share text ≡ true → text ≡ share ++ slash ∷ group_of text
 share_whole text e = by (levels text) refl e
   where
@@ -46,5 +47,6 @@ share_whole text e = by (levels text) refl e
         let same : l ≡ share = (bytes_eq-Decides l share).0 (and_left (bytes_eq l share) true e) in
         cut text l m ls is ∙ ap (λ (x : List ℕ). x ++ slash ∷ group_of text) same
 
+-- two shared filters with one group are one
 pub same_group : (x y : List ℕ) → begins_share x ≡ true → begins_share y ≡ true → group_of x ≡ group_of y → x ≡ y
 same_group x y p q same = share_whole x p ∙ ap (λ (g : List ℕ). share ++ slash ∷ g) same ∙ sym (share_whole y q)

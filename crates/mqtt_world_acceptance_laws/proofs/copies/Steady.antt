@@ -25,6 +25,7 @@ order_of b s = record { sessions = s.coherent.ordered.sessions.ascending; births
 pub sound_of : (limits : Limits) (client : List ℕ) (b : Broker) → AreWithin limits → IsSteady b → HasPlace limits client b.records → IsSound limits client b
 sound_of limits client b within s place = record { order = order_of b s; place = place; within = within.sessions }
 
+-- a step that spends nothing leaves a broker steady
 pub steady_step : (limits : Limits) (choice : MemberChoice) (now : ℕ) (call : Call) (b : Broker)
     → AreWithin limits → IsSteady b → is_step_spent limits choice now call b ≡ false
     → IsSteady (stepped limits choice now call b)
@@ -35,6 +36,7 @@ steady_step limits choice now call b within s unspent = record {
   lines = step_unique limits choice now call b within s.coherent s.timed s.moment unspent s.lines;
 }
 
+-- so does an opening of what may be opened
 pub steady_opened : (limits : Limits) (choice : MemberChoice) (now : ℕ) (r : Records)
     → AreWithin limits → MayOpen limits choice now r → IsSteady (opened limits choice now r)
 steady_opened limits choice now r within h = record {
@@ -44,12 +46,14 @@ steady_opened limits choice now r within h = record {
   lines = opening_unique limits choice now r;
 }
 
+-- and one of what a steady broker left
 pub steady_again : (limits : Limits) (choice : MemberChoice) (now : ℕ) (b : Broker)
     → AreWithin limits → IsSteady b → is_opening_spent limits choice now b.records ≡ false
     → IsSteady (opened limits choice now b.records)
 steady_again limits choice now b within s unspent =
     steady_opened limits choice now b.records within (record { coherent = s.coherent; unspent = unspent })
 
+-- the first broker is steady
 pub steady_start : IsSteady start.broker
 steady_start = record {
   coherent = nothing_coherent;
@@ -105,6 +109,7 @@ growing g env = record {
   gone = λ line b h. still b.given;
 }
 
+-- line numbers do not fall
 pub given_grows : (limits : Limits) (choice : MemberChoice) (now : ℕ) (call : Call) (b : Broker)
     → b.given ≤ (stepped limits choice now call b).given
 given_grows limits choice now call b =

@@ -147,6 +147,7 @@ entered_all (x ∷ xs) h =
     entered_append x.deeds (flat_map (λ (y : Step). y.deeds) xs) ∙ ap (λ (cs : List CopyId). cs ++ entered (flat_map (λ (y : Step). y.deeds) xs)) h.0
     ∙ ap (λ (cs : List CopyId). brought_in x ++ cs) (entered_all xs h.1)
 
+-- in every fair run each copy that is told of entered
 pub run_enters : (limits : Limits) (ts : List Turn) (w : World) → IsNew w → IsFair limits ts w → IsEntered limits ts w
 run_enters limits ts w new fair =
     let x = run_are Tells telling limits ts w new fair in
@@ -154,5 +155,6 @@ run_enters limits ts w new fair =
 
 -- ---- and what is due at once goes out
 
+-- and each that is due at once goes out
 pub run_goes_out : (limits : Limits) (ts : List Turn) (w : World) → IsNew w → IsFair limits ts w → AllGoOut limits ts w
 run_goes_out limits ts w new fair = (run_are Gives giving limits ts w new fair).each

@@ -26,6 +26,7 @@ cause_is (Retained number) (Retained other) e = ap (λ (n : ℕ). Retained n) (e
 abbrev made : ℕ → ℕ → Cause → CopyId
 made publication birth cause = record { publication = publication; birth = birth; cause = cause }
 
+-- what is the same copy is equal
 pub copy_is : (c d : CopyId) → is_copy c d ≡ true → c ≡ d
 copy_is c d e =
     let rest = and_right (nat_eq c.publication d.publication) (nat_eq c.birth d.birth && same_cause c.cause d.cause) e in
@@ -37,6 +38,7 @@ copy_is c d e =
 abbrev part : CopyId → CopyId → ℕ
 part c x = cond (is_copy c x) 1 0
 
+-- a copy that differs from each is not counted
 pub count_none : (c : CopyId) (xs : List CopyId) → AllByRecursion (λ x. c ≢ x) xs → count_of c xs ≡ 0
 count_none c [] h = refl
 count_none c (x ∷ xs) h =
@@ -47,6 +49,7 @@ count_none c (x ∷ xs) h =
       | inr other ↦ let zero : part c x ≡ 0 = rw other refl in omega (arith, first, rest, zero)
     ]
 
+-- of copies that differ each is counted once at most
 pub count_once : (c : CopyId) (xs : List CopyId) → AllDiffer xs → count_of c xs ≤ 1
 count_once c [] h = let none : count_of c [] ≡ 0 = refl in omega (arith, none)
 count_once c (x ∷ xs) h =

@@ -149,6 +149,7 @@ module _ (R : List Deed → Broker → Broker → Type 0) (set : Setting) (walk 
 
 -- ---- a turn, and a run
 
+-- a turn goes as its steps do
 pub turn_goes : (R : List Deed → Broker → Broker → Type 0) (limits : Limits) (walk : Walk limits R) (t : Turn) (w : World) → AreWithin limits → IsSteady w.broker → read_at spending (setting limits t) t.event w ≡ false
     → Steps limits R (deeds_at (setting limits t) t.event w) w (turned limits t w)
 turn_goes R limits walk t w within s unspent = by (is_bad t.event w) unspent
@@ -172,5 +173,6 @@ run_goes R limits walk (t ∷ ts) w within s unspent =
     let ys = deeds_over limits ts v in
     record { steady = rest.steady; said = walk.next xs ys w.broker v.broker (run limits ts v).broker first.said rest.said }
 
+-- what each step keeps, every fair run keeps
 pub run_walks : (R : List Deed → Broker → Broker → Type 0) (limits : Limits) (ts : List Turn) (w : World) → Walk limits R → IsNew w → IsFair limits ts w → R (deeds_over limits ts w) w.broker (run limits ts w).broker
 run_walks R limits ts w walk new fair = (run_goes R limits walk ts w fair.within new.steady fair.unspent).said

@@ -31,26 +31,32 @@ waiting_after es = length (under_way (receiver_named r1 (run usual (turns es) st
 abbrev due_after : List Event → ℕ
 due_after es = length (flat_map due_in (steps_over usual (turns es) start))
 
+-- before the publication
 pub nothing_is_under_way : waiting_after subscribed ≡ 0
 unfolding varint
 nothing_is_under_way = refl
 
+-- a copy of QoS 0 is due
 pub a_copy_is_due_at_once : due_after given ≡ 1
 unfolding varint
 a_copy_is_due_at_once = refl
 
+-- and on its way
 pub it_is_under_way : waiting_after given ≡ 1
 unfolding varint
 it_is_under_way = refl
 
+-- it enters no queue
 pub it_enters_no_queue : entered_from usual (turns given) start ≡ []
 unfolding varint
 it_enters_no_queue = refl
 
+-- also where the broker stops
 pub it_is_due_in_a_stopped_step : due_after stopped ≡ 1
 unfolding varint
 it_is_due_in_a_stopped_step = refl
 
+-- but then it is not sent
 pub a_stop_keeps_it_back : waiting_after stopped ≡ 0
 unfolding varint
 a_stop_keeps_it_back = refl

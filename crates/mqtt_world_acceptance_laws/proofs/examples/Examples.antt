@@ -39,40 +39,49 @@ after_it = asked ++ stop_after (to_broker p1) ∷ resent
 abbrev restarted : List Event
 restarted = asked ++ ask (to_broker p1) ∷ restart ∷ resent
 
+-- a stop before the commit is fair
 pub a_stop_before_is_fair : is_fair before_it ≡ true
 unfolding varint
 a_stop_before_is_fair = refl
 
+-- the message is accepted once
 pub a_stop_before_is_once : times before_it ≡ 1
 unfolding varint
 a_stop_before_is_once = refl
 
+-- and completes
 pub a_stop_before_completes : fate_of p1 0 (run usual (turns before_it) start) ≡ Some (ended completed)
 unfolding varint
 a_stop_before_completes = refl
 
+-- so is a stop behind it
 pub a_stop_after_is_fair : is_fair after_it ≡ true
 unfolding varint
 a_stop_after_is_fair = refl
 
+-- the message is accepted once
 pub a_stop_after_is_once : times after_it ≡ 1
 unfolding varint
 a_stop_after_is_once = refl
 
+-- and a restart
 pub a_restart_is_fair : is_fair restarted ≡ true
 unfolding varint
 a_restart_is_fair = refl
 
 -- ---- a late CONNECT on a line that was given up is fair; a Clean Start whose line is given up isn't
 
+-- and a CONNECT that comes late
 pub a_late_connect_is_fair : is_fair (publisher p1 ∷ connect_end p1 false ∷ give_up p1 ∷ connect_end p1 false ∷ ask (to_broker p1) ∷ ask (old_to_broker p1) ∷ []) ≡ true
 unfolding varint
 a_late_connect_is_fair = refl
 
+-- and a Clean Start on a line that begins
 pub a_clean_start_is_fair : is_fair (asked ++ ask (break p1) ∷ joins p1 true) ≡ true
 unfolding varint
 a_clean_start_is_fair = refl
 
+-- but not one that is given up
 pub a_clean_start_given_up_is_not : is_fair (publisher p1 ∷ connect_end p1 true ∷ give_up p1 ∷ []) ≡ false
 a_clean_start_given_up_is_not = refl
 
@@ -85,10 +94,12 @@ strangers (suc n) = ask (stranger (suc n ∷ []) []) ∷ strangers n
 abbrev line_after : List Event → Option (Option ℕ)
 line_after es = option_map (λ (p : Publisher). p.line.number) (publisher_named p1 (run usual (turns es) start))
 
+-- a broker with 64 lines gives none
 pub a_full_broker_gives_no_line : line_after (strangers 64 ++ publisher p1 ∷ connect_end p1 false ∷ []) ≡ Some None
 unfolding varint
 a_full_broker_gives_no_line = refl
 
+-- one with 63 gives the last
 pub a_last_line_is_given : line_after (strangers 63 ++ publisher p1 ∷ connect_end p1 false ∷ []) ≡ Some (Some 64)
 unfolding varint
 a_last_line_is_given = refl
@@ -113,18 +124,22 @@ lost = grouped ++ ask (break r1) ∷ connect_end r1 true ∷ ask (to_broker r1) 
 abbrev births : List CopyId → List ℕ
 births xs = map (λ (c : CopyId). c.birth) xs
 
+-- one member of a group gets the copy
 pub a_group_has_one_copy : births (entered_from usual (turns lost) start) ≡ 1 ∷ []
 unfolding varint
 a_group_has_one_copy = refl
 
+-- where it waits
 pub it_waits_for_its_member : births (standing (run usual (turns grouped) start).broker) ≡ 1 ∷ []
 unfolding varint
 it_waits_for_its_member = refl
 
+-- and ends with the member's session
 pub it_ends_with_its_member : births (ended_from usual (turns lost) start) ≡ 1 ∷ []
 unfolding varint
 it_ends_with_its_member = refl
 
+-- nobody else has it
 pub it_waits_for_no_other : births (standing (run usual (turns lost) start).broker) ≡ []
 unfolding varint
 it_waits_for_no_other = refl

@@ -44,14 +44,17 @@ refused_one = filled ++ publisher p1 ∷ joins p1 false ++ (publish p1 draft ∷
 abbrev direct : List CopyId
 direct = first_copy ∷ []
 
+-- a Will enters a queue with room
 pub a_will_enters : entered_from small (turns refused_one) start ≡ direct
 unfolding varint first_of size_at packet_at frame_at versioned_at lawful_at body_at connect_at fields_at will_at user_name_at password_at publish_at delivery_at layout_at block_at items_at items_in text_at blob_at is_utf8 chars encode varint_at groups_at prop_at value_at
 a_will_enters = refl
 
+-- as it is brought
 pub a_will_is_brought : brought_from small (turns refused_one) start ≡ direct
 unfolding varint first_of size_at packet_at frame_at versioned_at lawful_at body_at connect_at fields_at will_at user_name_at password_at publish_at delivery_at layout_at block_at items_at items_in text_at blob_at is_utf8 chars encode varint_at groups_at prop_at value_at
 a_will_is_brought = refl
 
+-- a publication to a full queue is refused
 pub a_full_queue_refuses : option_map (λ (p : Publisher). p.fates) (publisher_named p1 (run small (turns refused_one) start)) ≡ Some (ended refused ∷ [])
 unfolding varint first_of size_at packet_at frame_at versioned_at lawful_at body_at connect_at fields_at will_at user_name_at password_at publish_at delivery_at layout_at block_at items_at items_in text_at blob_at is_utf8 chars encode varint_at groups_at prop_at value_at
 a_full_queue_refuses = refl

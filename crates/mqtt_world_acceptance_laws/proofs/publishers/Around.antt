@@ -85,6 +85,7 @@ pub record Stays (c : List ℕ) (limits : Limits) (accepted : List ℕ) (w : Wor
 
 -- ---- all ends changed
 
+-- ends that change leave the world around the publisher as it was
 pub around_mapped : (c : List ℕ) (limits : Limits) (his new_his : List ℕ) (w : World) (b : Broker) (now : ℕ) (f : Publisher → Publisher) (g : Receiver → Receiver) (ss : List Stranger)
     → Around c limits his w → IsSteady b → (HasPlace limits c w.broker.records → HasPlace limits c b.records)
     → ((j : ℕ) → IsAmong j new_his → j ≤ b.given) → IsAmong 0 new_his
@@ -113,14 +114,17 @@ around_mapped c limits his new_his w b now f g ss a steady keeps known none f_sa
     each q (inl is) = inl (f_same q ∙ is)
     each q (inr free) = inr (f_free q free)
 
+-- a line that is free of his numbers stays so
 pub free_later : (his : List ℕ) (given more : ℕ) (x : Option ℕ) → given ≤ more → IsFree his given x → IsFree his more x
 free_later his given more x up h = λ j is. let both = h j is in (both.0, let le = both.1 in omega (arith, le, up))
 
+-- so do both lines of an end
 pub line_later : {U : Type 0} (his : List ℕ) (given more : ℕ) (l : Line U) → given ≤ more → HasFree his given l → HasFree his more l
 line_later his given more l up h = record { number = free_later his given more l.number up h.number; old_number = free_later his given more l.old_number up h.old_number }
 
 -- ---- a call
 
+-- a call leaves the world around him as it was
 pub calls_around : (c : List ℕ) (set : Setting) (his : List ℕ) (call : Call) (w : World) → Around c set.limits his w → read_if spending set (Some call) w ≡ false
     → Around c set.limits his (calls set call w)
 calls_around c set his call w a unspent =
@@ -168,9 +172,11 @@ outside_off his c (Some n) call h q = outside_line his c n call (h n refl) q
 
 -- ---- he goes on
 
+-- a run goes on behind a call that the hop sees as steps
 pub longer : (accepted more : List ℕ) (p q : Publisher) (b c : Broker) (es : List HopEvent) → IsRun accepted p b → seen more q c ≡ run es (seen accepted p b) → IsRun more q c
 longer accepted more p q b c es r e = record { events = r.events ++ es; seen_is = e ∙ (ap (run es) r.seen_is ∙ sym (run_append r.events es _)) }
 
+-- a line of his is one of his numbers
 pub among_line : (his : List ℕ) (p : Publisher) (k n : ℕ) → IsAmong k his → ((j : ℕ) → p.line.number ≡ Some j → IsAmong j his) → ((j : ℕ) → p.line.old_number ≡ Some j → IsAmong j his)
     → (n ≡ k) ⊎ ((p.line.number ≡ Some n) ⊎ (p.line.old_number ≡ Some n)) → IsAmong n his
 among_line his p k n its own old (inl e) = subst (λ (z : ℕ). IsAmong z his) (sym e) its
@@ -248,6 +254,7 @@ pub named_called : (c : List ℕ) (set : Setting) (call : Call) (w : World)
     → publisher_named c (calls set call w) ≡ option_map (publisher_told (stepped set.limits set.choice w.now call w.broker) (told set.limits set.choice w.now call w.broker)) (publisher_named c w)
 named_called c set call w = find_publisher c (publisher_told (stepped set.limits set.choice w.now call w.broker) (told set.limits set.choice w.now call w.broker)) (λ p. refl) w.publishers
 
+-- a call of another's leaves him in step
 pub calls_hold : (c : List ℕ) (set : Setting) (his accepted : List ℕ) (call : Call) (w : World) → Holds c set.limits his accepted w → read_if spending set (Some call) w ≡ false
     → (is_some (publisher_named c w) ≡ true → IsOutside his c call) → Holds c set.limits his accepted (calls set call w)
 calls_hold c set his accepted call w h unspent out = record {
@@ -258,11 +265,13 @@ calls_hold c set his accepted call w h unspent out = record {
 
 -- ---- a call that may be asked for
 
+-- so it is of a call that may be made
 pub if_around : (c : List ℕ) (set : Setting) (his : List ℕ) (call : Option Call) (w : World) → Around c set.limits his w → read_if spending set call w ≡ false
     → Around c set.limits his (calls_if set call w)
 if_around c set his None w a unspent = a
 if_around c set his (Some call) w a unspent = calls_around c set his call w a unspent
 
+-- and of him
 pub if_holds : (c : List ℕ) (set : Setting) (his accepted : List ℕ) (call : Option Call) (w : World) → Holds c set.limits his accepted w → read_if spending set call w ≡ false
     → (is_some (publisher_named c w) ≡ true → (x : Call) → call ≡ Some x → IsOutside his c x) → Holds c set.limits his accepted (calls_if set call w)
 if_holds c set his accepted None w h unspent out = h

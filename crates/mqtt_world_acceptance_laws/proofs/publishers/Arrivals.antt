@@ -43,6 +43,7 @@ told_receiver b out None = refl
 told_receiver b out (Some r) =
     packets_append r.line.down (sent_to r.line.number b out.outputs) ∙ ap (λ (ps : List Packet). packets r.line.down ++ ps) (sent_by r.line.number b out.outputs)
 
+-- what a call tells reaches the end on whose line it goes
 pub arrives : (set : Setting) (call : Call) (w : World) (client : List ℕ) → Arrives set call w client
 arrives set call w client =
     let b = stepped set.limits set.choice w.now call w.broker in
@@ -53,6 +54,7 @@ restarted_receiver : (o : Option Receiver) → under_way (option_map receiver_re
 restarted_receiver None = refl
 restarted_receiver (Some r) = refl
 
+-- what a step that is lost tells reaches nobody
 pub is_kept_back : (set : Setting) (a : Asking) (w : World) (client : List ℕ) → IsKeptBack set a w client
 is_kept_back set a w client =
     let v = first_step set a w in

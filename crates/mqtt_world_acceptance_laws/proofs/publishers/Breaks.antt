@@ -19,6 +19,7 @@ use Rattle.mqtt_world_acceptance_laws.proofs.publishers.Changes.{on_line, on_bac
 
 -- ---- a pump, and the clock
 
+-- a pump leaves the publisher in step
 pub pump_holds : (c d : List ℕ) (set : Setting) (his accepted : List ℕ) (w : World) → Holds c set.limits his accepted w → read_first spending set (pump d) w ≡ false → Holds c set.limits his accepted (first_step set (pump d) w)
 pump_holds c d set his accepted w h unspent = if_holds c set his accepted (pump_on (view_of d w).number) w h unspent (λ there x is. by (view_of d w).number x is)
   where
@@ -26,11 +27,13 @@ pump_holds c d set his accepted w h unspent = if_holds c set his accepted (pump_
     by None x is = absurd cc
     by (Some n) x is = let e : Pump n ≡ x = cc in subst (IsOutside his c) e tt
 
+-- so does the clock's turn
 pub tick_holds : (c : List ℕ) (set : Setting) (his accepted : List ℕ) (w : World) → Holds c set.limits his accepted w → read_first spending set tick w ≡ false → Holds c set.limits his accepted (first_step set tick w)
 tick_holds c set his accepted w h unspent = if_holds c set his accepted (Some Tick) w h unspent (λ there x is. let e : Tick ≡ x = cc in subst (IsOutside his c) e tt)
 
 -- ---- another end's line is lost
 
+-- a line that is left is free
 pub left_free : {U : Type 0} (his : List ℕ) (given : ℕ) (l : Line U) → HasFree his given l → HasFree his given (left l)
 left_free his given l h = record { number = λ j is. absurd cc; old_number = h.old_number }
 
@@ -93,6 +96,7 @@ he_breaks c set his accepted w p h e unspent =
     own_holds c set.limits his accepted (first_step set (break c) w) x.0 (on_line left) (on_back left) (λ q. refl) (λ q. refl) x.1
     (if_around c set his (lost_on (view_of c w).number) w h.around unspent) x.2
 
+-- a lost line leaves him in step
 pub break_holds : (c d : List ℕ) (set : Setting) (his accepted : List ℕ) (w : World) → Holds c set.limits his accepted w → read_first spending set (break d) w ≡ false → Holds c set.limits his accepted (asks set (break d) w)
 break_holds c d set his accepted w h unspent = elim (whose_name c d w) [
   | inr not_him ↦ other_breaks c d set his accepted w h not_him unspent

@@ -305,6 +305,7 @@ run_tells (t ∷ ts) c limits accepted from w h unspent carried =
 
 -- ---- from the beginning
 
+-- in every fair run what is accepted was sent so
 pub all_carried : (limits : Limits) (ts : List Turn) (w : World) → IsNew w → IsFair limits ts w → (c : List ℕ) → HasCarried c limits ts w
 all_carried limits ts w new fair c =
     let nobody : publisher_named c w ≡ None = ap (find (λ (p : Publisher). bytes_eq p.client c)) new.publishers in

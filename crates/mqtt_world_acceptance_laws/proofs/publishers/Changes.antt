@@ -54,6 +54,7 @@ module _ (c d : List ℕ) (limits : Limits) (his : List ℕ) (w : World) (f : Pu
 
 -- ---- another
 
+-- a change of an end leaves the world around the publisher
 pub end_around : (c d : List ℕ) (limits : Limits) (his : List ℕ) (w : World) (f : Publisher → Publisher) (g : Receiver → Receiver) → KeepsName f → KeepsTheName g
     → ((p : Publisher) → HasFree his w.broker.given p.line → HasFree his w.broker.given (f p).line)
     → ((r : Receiver) → HasFree his w.broker.given r.line → HasFree his w.broker.given (g r).line)
@@ -71,6 +72,7 @@ end_around c d limits his w f g f_same g_same f_free g_free a =
     receiver_other true r h = g_free r h
     receiver_other false r h = h
 
+-- a change of another end leaves him in step
 pub end_others : (c d : List ℕ) (limits : Limits) (his accepted : List ℕ) (w : World) (f : Publisher → Publisher) (g : Receiver → Receiver) → KeepsName f → KeepsTheName g
     → ((p : Publisher) → HasFree his w.broker.given p.line → HasFree his w.broker.given (f p).line)
     → ((r : Receiver) → HasFree his w.broker.given r.line → HasFree his w.broker.given (g r).line)
@@ -87,6 +89,7 @@ on_line f p = record p { line = f p.line }
 abbrev pub on_back : (Line Back → Line Back) → Receiver → Receiver
 on_back g r = record r { line = g r.line }
 
+-- so does a change of another's line
 pub line_others : (c d : List ℕ) (limits : Limits) (his accepted : List ℕ) (w : World) (f : Line Sent → Line Sent) (g : Line Back → Line Back)
     → ((l : Line Sent) → HasFree his w.broker.given l → HasFree his w.broker.given (f l)) → ((l : Line Back) → HasFree his w.broker.given l → HasFree his w.broker.given (g l))
     → IsNotHim c d w → Holds c limits his accepted w → Holds c limits his accepted (with_line d f g w)
@@ -105,6 +108,7 @@ nobody_changed his given c g (r ∷ rs) none a = elim (cases_Bool (bytes_eq r.cl
       (subst (OtherReceiver his given) same a.0, nobody_changed his given c g rs (rw other at none) a.1)
 ]
 
+-- a change of his own leaves the world around him
 pub own_around : (c : List ℕ) (limits : Limits) (his : List ℕ) (w : World) (p : Publisher) (f : Publisher → Publisher) (g : Receiver → Receiver) → KeepsName f → KeepsTheName g
     → publisher_named c w ≡ Some p → Around c limits his w → Around c limits his (with_end c f g w)
 own_around c limits his w p f g f_same g_same e a =
@@ -115,6 +119,7 @@ own_around c limits his w p f g f_same g_same e a =
     other true q its h = inl (f_same q ∙ (bytes_eq-Decides q.client c).0 its)
     other false q its h = h
 
+-- and him in step, if he is placed behind it
 pub own_holds : (c : List ℕ) (limits : Limits) (his accepted : List ℕ) (w : World) (p : Publisher) (f : Publisher → Publisher) (g : Receiver → Receiver) → KeepsName f → KeepsTheName g
     → publisher_named c w ≡ Some p → Around c limits his w → Placed his (f p) w.broker accepted → Holds c limits his accepted (with_end c f g w)
 own_holds c limits his accepted w p f g f_same g_same e a placed = record {

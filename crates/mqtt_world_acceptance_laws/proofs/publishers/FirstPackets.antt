@@ -28,12 +28,15 @@ pub record Takes {U : Type 0} (f : Line U → Line U) : Type 0 where
   pub old_number : (l : Line U) → (f l).old_number ≡ l.old_number
   pub link : (l : Line U) → (f l).link ≡ l.link
 
+-- a packet that the broker reads is taken from its line
 pub takes_up : {U : Type 0} → Takes (taken_up {U = U})
 takes_up = record { number = λ l. refl; old_number = λ l. refl; link = λ l. refl }
 
+-- or from the old one
 pub takes_old : {U : Type 0} → Takes (taken_old {U = U})
 takes_old = record { number = λ l. refl; old_number = λ l. refl; link = λ l. refl }
 
+-- that keeps a line free
 pub takes_free : {U : Type 0} (his : List ℕ) (given : ℕ) (f : Line U → Line U) → Takes f → (l : Line U) → HasFree his given l → HasFree his given (f l)
 takes_free his given f t l h = record {
   number = λ j is. h.number j (sym (t.number l) ∙ is);
@@ -116,6 +119,7 @@ empty_old l e = ap (λ (xs : List Sent). record l { old = xs }) (ap (drop 1) e �
 his_place : (c : List ℕ) (limits : Limits) (his : List ℕ) (w : World) (p : Publisher) → Around c limits his w → publisher_named c w ≡ Some p → HasPlace limits p.client w.broker.records
 his_place c limits his w p a e = subst (λ (x : List ℕ). HasPlace limits x w.broker.records) (sym (named_publisher c p w e)) (a.place (ap is_some e))
 
+-- a packet on his line is on his side
 pub side_up : (c : List ℕ) (set : Setting) (his accepted : List ℕ) (w : World) (p : Publisher) → Around c set.limits his w → publisher_named c w ≡ Some p → (placed : Placed his p w.broker accepted)
     → Side set his accepted p w.broker w.now placed.line taken_up p.line.number p.line.up
 side_up c set his accepted w p a e placed = record {
@@ -128,6 +132,7 @@ side_up c set his accepted w p a e placed = record {
       (order_of (stepped set.limits set.choice w.now call w.broker) steady) placed.apart placed.run is up;
 }
 
+-- so is one on the old line
 pub side_old : (c : List ℕ) (set : Setting) (his accepted : List ℕ) (w : World) (p : Publisher) → Around c set.limits his w → publisher_named c w ≡ Some p → (placed : Placed his p w.broker accepted)
     → Side set his accepted p w.broker w.now placed.line taken_old p.line.old_number p.line.old
 side_old c set his accepted w p a e placed = record {
@@ -156,6 +161,7 @@ asked_none c d w f none not_him = elim (cases_Bool (bytes_eq d c)) [
 pub none_accepted : (c : List ℕ) (limits : Limits) (his accepted : List ℕ) (w : World) (o : Option ℕ) (ds : List Deed) → o ≡ None → Holds c limits his accepted w → Holds c limits his (accepted ++ each_of o ds) w
 none_accepted c limits his accepted w o ds e h = subst (λ (ns : List ℕ). Holds c limits his ns w) (sym (ap (λ (x : Option ℕ). accepted ++ each_of x ds) e ∙ append-nil accepted)) h
 
+-- the broker's reading of his line leaves him in step
 pub reads_hold : (c d : List ℕ) (set : Setting) (his accepted : List ℕ) (w : World) → Holds c set.limits his accepted w → read_first spending set (to_broker d) w ≡ false
     → Holds c set.limits his (accepted ++ each_of (asked_from c (to_broker d) w) (read_first the_deeds set (to_broker d) w)) (first_step set (to_broker d) w)
 reads_hold c d set his accepted w h unspent = elim (whose_name c d w) [
@@ -191,6 +197,7 @@ reads_hold c d set his accepted w h unspent = elim (whose_name c d w) [
               (subst (λ (o : Option Publisher). Him his (calls_if set (input_on (view_by o r).number (view_by o r).up) w1).broker (accepted ++ each_of (front_of_line o) (read_if the_deeds set (input_on (view_by o r).number (view_by o r).up) w1)) (publisher_named c (calls_if set (input_on (view_by o r).number (view_by o r).up) w1))) (sym e) him);
         }
 
+-- so does that of the old one
 pub reads_old_hold : (c d : List ℕ) (set : Setting) (his accepted : List ℕ) (w : World) → Holds c set.limits his accepted w → read_first spending set (old_to_broker d) w ≡ false
     → Holds c set.limits his (accepted ++ each_of (asked_from c (old_to_broker d) w) (read_first the_deeds set (old_to_broker d) w)) (first_step set (old_to_broker d) w)
 reads_old_hold c d set his accepted w h unspent = elim (whose_name c d w) [

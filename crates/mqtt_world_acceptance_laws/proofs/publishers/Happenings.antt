@@ -64,12 +64,14 @@ new_placed c his b none named e = record {
   run = record { events = []; seen_is = new_seen c b e };
 }
 
+-- an end without a line is free
 pub unlined : {U : Type 0} (his : List ℕ) (given : ℕ) (l : Line U) → l.number ≡ None → l.old_number ≡ None → HasFree his given l
 unlined his given l e f = record {
   number = λ j is. let clash : None ≡ Some j = sym e ∙ is in absurd cc;
   old_number = λ j is. let clash : None ≡ Some j = sym f ∙ is in absurd cc;
 }
 
+-- a new publisher leaves him in step
 pub publisher_comes : (c d : List ℕ) (set : Setting) (his accepted : List ℕ) (w : World) → Holds c set.limits his accepted w → is_bad (publisher d) w ≡ false → begins_clean (publisher d) w ≡ true
     → Holds c set.limits his accepted (happens set (publisher d) w)
 publisher_comes c d set his accepted w h good clean = elim (cases_Bool (bytes_eq d c)) [
@@ -128,6 +130,7 @@ publisher_comes c d set his accepted w h good clean = elim (cases_Bool (bytes_eq
 
 -- ---- a receiver comes
 
+-- so does a new receiver
 pub receiver_comes : (c d : List ℕ) (window : ℕ) (set : Setting) (his accepted : List ℕ) (w : World) → Holds c set.limits his accepted w → is_bad (receiver d window) w ≡ false
     → Holds c set.limits his accepted (happens set (receiver d window) w)
 receiver_comes c d window set his accepted w h good =
@@ -164,6 +167,7 @@ may_give live clean h = tt
 may_give asked true h = absurd cc
 may_give asked false h = refl
 
+-- and an end that gives up
 pub given_up_holds : (c d : List ℕ) (set : Setting) (his accepted : List ℕ) (w : World) → Holds c set.limits his accepted w → begins_clean (give_up d) w ≡ true → Holds c set.limits his accepted (happens set (give_up d) w)
 given_up_holds c d set his accepted w h carried = elim (whose_name c d w) [
   | inr not_him ↦ line_others c d set.limits his accepted w gives_his gives_theirs (λ l. gives_free his w.broker.given l.link l) (λ l. gives_free his w.broker.given l.link l) not_him h
@@ -192,6 +196,7 @@ given_up_holds c d set his accepted w h carried = elim (whose_name c d w) [
 
 -- ---- an end publishes
 
+-- and a publication
 pub published_holds : (c d : List ℕ) (x : Draft) (set : Setting) (his accepted : List ℕ) (w : World) → Holds c set.limits his accepted w → Holds c set.limits his accepted (happens set (publish d x) w)
 published_holds c d x set his accepted w h = elim (whose_name c d w) [
   | inr not_him ↦ record { around = changed; him = subst (Him his w.broker accepted) (sym (changed_not c d F w (λ p. keeps p) not_him)) h.him }
@@ -239,6 +244,7 @@ published_holds c d x set his accepted w h = elim (whose_name c d w) [
 
 -- ---- an end reads
 
+-- and an end's reading
 pub read_holds : (c d : List ℕ) (set : Setting) (his accepted : List ℕ) (w : World) → Holds c set.limits his accepted w → Holds c set.limits his accepted (happens set (to_end d) w)
 read_holds c d set his accepted w h = elim (whose_name c d w) [
   | inr not_him ↦ end_others c d set.limits his accepted w F G keeps keeps_there free free_there not_him h
@@ -269,6 +275,7 @@ read_holds c d set his accepted w h = elim (whose_name c d w) [
 
 -- ---- a receiver subscribes
 
+-- and a subscription
 pub subscribed_holds : (c d : List ℕ) (x : Wish) (set : Setting) (his accepted : List ℕ) (w : World) → Holds c set.limits his accepted w → Holds c set.limits his accepted (happens set (subscribe d x) w)
 subscribed_holds c d x set his accepted w h = record {
   around = record {
@@ -298,6 +305,7 @@ subscribed_holds c d x set his accepted w h = record {
 
 -- ---- time passes
 
+-- and time that passes
 pub clock_holds : (c : List ℕ) (wait : ℕ) (set : Setting) (his accepted : List ℕ) (w : World) → Holds c set.limits his accepted w → Holds c set.limits his accepted (happens set (clock wait) w)
 clock_holds c wait set his accepted w h = record {
   around = record {

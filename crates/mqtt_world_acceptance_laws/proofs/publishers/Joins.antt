@@ -122,6 +122,7 @@ so_clean true was h is = refl
 so_clean false true h is = absurd cc
 so_clean false false h is = absurd cc
 
+-- an end that connects leaves him in step
 pub joined_stays : (c d : List ℕ) (clean : Bool) (set : Setting) (accepted : List ℕ) (w : World) → Stays c set.limits accepted w → is_bad (connect_end d clean) w ≡ false → begins_clean (connect_end d clean) w ≡ true
     → Stays c set.limits accepted (happens set (connect_end d clean) w)
 joined_stays c d clean set accepted w stay good carried = by (can_link w.broker) refl

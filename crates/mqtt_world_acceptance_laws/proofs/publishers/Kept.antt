@@ -19,6 +19,7 @@ pub record IsKept {U : Type 0} (x y : Line U) : Type 0 where
   pub number : (y.number ≡ x.number) ⊎ (y.number ≡ None)
   pub old_number : y.old_number ≡ x.old_number
 
+-- a line that is kept stays free
 pub kept_free : {U : Type 0} (his : List ℕ) (given : ℕ) (x y : Line U) → IsKept x y → HasFree his given x → HasFree his given y
 kept_free his given x y k h = record {
   number = λ j is. elim k.number [
@@ -62,6 +63,7 @@ sends_unsent t away p = (refl, refl, refl)
 sends_unsent t asked p = (refl, refl, refl)
 sends_unsent t live p = sends_all t p.unsent p
 
+-- a publication keeps his name and lines
 pub published_remains : (t : Bool) (d : Draft) (p : Publisher) → Remains p (published t d p)
 published_remains t d p =
     let s = sends_unsent t p.line.link (record p { unsent = p.unsent ++ d ∷ [] }) in
@@ -93,6 +95,7 @@ if_remains t (Some packet) rest p =
     let r = reads_remain t packet (record p { line = record p.line { down = rest } }) in
     record { client = r.client; line = record { number = r.line.number; old_number = r.line.old_number } }
 
+-- so does his reading
 pub read_remains : (t : Bool) (ds : List Down) (p : Publisher) → Remains p (publisher_reads t ds p)
 read_remains t [] p = same p
 read_remains t (d ∷ rest) p = if_remains t _ rest p
@@ -129,6 +132,7 @@ hears_there t copy (packets.Suback a) r = same_there r _ refl refl refl
 hears_there t copy (packets.Disconnect n) r = record { client = refl; line = record { number = inr refl; old_number = refl } }
 hears_there t copy packet r = same_there r r refl refl refl
 
+-- and a receiver's
 pub read_there : (t : Bool) (ds : List Down) (r : Receiver) → RemainsThere r (receiver_reads t ds r)
 read_there t [] r = same_there r r refl refl refl
 read_there t (d ∷ rest) r =
@@ -138,6 +142,7 @@ read_there t (d ∷ rest) r =
 
 -- ---- a line is given up
 
+-- a line that is given up is free
 pub gives_free : {U : Type 0} (his : List ℕ) (given : ℕ) (link : Link) (l : Line U) → HasFree his given l → HasFree his given (gives_up link l)
 gives_free his given away l h = h
 gives_free his given asked l h = record { number = λ j is. absurd cc; old_number = h.number }

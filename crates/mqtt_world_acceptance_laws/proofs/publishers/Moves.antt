@@ -16,10 +16,12 @@ abbrev pub Moved : Option Publisher → Option Publisher → Type 0
 Moved None y = y ≡ None
 Moved (Some p) y = (q : Publisher) × (y ≡ Some q) × Moves p q
 
+-- who does not move has moved by nothing
 pub moved_not : (o : Option Publisher) → Moved o o
 moved_not None = refl
 moved_not (Some p) = (p, refl, unmoved p)
 
+-- two moves are one
 pub moved_then : (x y z : Option Publisher) → Moved x y → Moved y z → Moved x z
 moved_then None y z e h = subst (λ (o : Option Publisher). Moved o z) e h
 moved_then (Some p) y z h g = (let more = subst (λ (o : Option Publisher). Moved o z) h.1 g in (more.0, more.1, moves_then p h.0 more.0 h.2 more.2))
@@ -28,6 +30,7 @@ mapped : (F : Publisher → Publisher) → ((p : Publisher) → Moves p (F p)) �
 mapped F h None = refl
 mapped F h (Some p) = (F p, refl, h p)
 
+-- where all may move, so may he
 pub all_moved : (c : List ℕ) (F : Publisher → Publisher) (ps : List Publisher) → ((p : Publisher) → Moves p (F p))
     → Moved (find (λ (p : Publisher). bytes_eq p.client c) ps) (find (λ (p : Publisher). bytes_eq p.client c) (map F ps))
 all_moved c F ps h =
@@ -38,6 +41,7 @@ if_moves : (t : Bool) (F : Publisher → Publisher) (p : Publisher) → Moves p 
 if_moves true F p h = h
 if_moves false F p h = unmoved p
 
+-- where one may move, so may he
 pub one_moved : (c d : List ℕ) (F : Publisher → Publisher) (ps : List Publisher) → ((p : Publisher) → Moves p (F p))
     → Moved (find (λ (p : Publisher). bytes_eq p.client c) ps) (find (λ (p : Publisher). bytes_eq p.client c) (map (λ p. cond (bytes_eq p.client d) (F p) p) ps))
 one_moved c d F ps h = all_moved c (λ p. cond (bytes_eq p.client d) (F p) p) ps (λ p. if_moves (bytes_eq p.client d) F p (h p))

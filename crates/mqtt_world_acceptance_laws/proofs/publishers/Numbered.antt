@@ -55,12 +55,15 @@ pub record Moves (p q : Publisher) : Type 0 where
   pub contents : q.contents ≡ p.contents ++ more
   pub numbered : IsNumbered p → IsNumbered q
 
+-- who keeps his name, his contents and his numbers has moved
 pub moved : (p q : Publisher) → q.client ≡ p.client → q.contents ≡ p.contents → (IsNumbered p → IsNumbered q) → Moves p q
 moved p q client contents h = record { client = client; more = []; contents = contents ∙ sym (append-nil p.contents); numbered = h }
 
+-- who stays has
 pub unmoved : (p : Publisher) → Moves p p
 unmoved p = moved p p refl refl (λ h. h)
 
+-- two moves are one
 pub moves_then : (p q r : Publisher) → Moves p q → Moves q r → Moves p r
 moves_then p q r x y = record {
   client = y.client ∙ x.client;
@@ -117,6 +120,7 @@ unsent_moves t away p = unmoved p
 unsent_moves t asked p = unmoved p
 unsent_moves t live p = all_moves t p.unsent p
 
+-- publishing is a move
 pub published_moves : (t : Bool) (d : Draft) (p : Publisher) → Moves p (published t d p)
 published_moves t d p =
     let q = record p { unsent = p.unsent ++ d ∷ [] } in
@@ -177,6 +181,7 @@ pub line_moves : (p : Publisher) (line : Line Sent) → ((n : ℕ) → AreOf n p
 line_moves p line up old =
     moved p (record p { line = line }) refl refl (λ h. record { same = h.same; up = up (length p.contents) h.up; old = old (length p.contents) h.up h.old })
 
+-- reading is
 pub read_moves : (t : Bool) (ds : List Down) (p : Publisher) → Moves p (publisher_reads t ds p)
 read_moves t [] p = unmoved p
 read_moves t (d ∷ rest) p =
@@ -185,6 +190,7 @@ read_moves t (d ∷ rest) p =
 
 -- ---- its line
 
+-- giving up is
 pub given_moves : (p : Publisher) → Moves p (record p { line = gives_up p.line.link p.line })
 given_moves p = by p.line.link
   where
@@ -193,20 +199,26 @@ given_moves p = by p.line.link
     by asked = line_moves p (given_up p.line) (λ n a. tt) (λ n a b. a)
     by live = line_moves p (given_up p.line) (λ n a. tt) (λ n a b. a)
 
+-- a line that is left is
 pub left_moves : (p : Publisher) → Moves p (record p { line = left p.line })
 left_moves p = line_moves p (left p.line) (λ n a. tt) (λ n a b. b)
 
+-- a line that is joined is
 pub joined_moves : (number : ℕ) (clean : Bool) (p : Publisher) → Moves p (record p { line = joined (shake (CONNECT clean)) number clean p.line })
 joined_moves number clean p = line_moves p (joined (shake (CONNECT clean)) number clean p.line) (λ n a. ((λ k e. absurd cc), tt)) (λ n a b. b)
 
+-- a restart is
 pub restarted_moves : (p : Publisher) → Moves p (record p { line = restarted p.line })
 restarted_moves p = line_moves p (restarted p.line) (λ n a. tt) (λ n a b. tt)
 
+-- a packet that was read is
 pub up_moves : (p : Publisher) → Moves p (record p { line = record p.line { up = drop 1 p.line.up } })
 up_moves p = line_moves p (record p.line { up = drop 1 p.line.up }) (λ n a. of_drop n p.line.up a) (λ n a b. b)
 
+-- also from the old line
 pub old_moves : (p : Publisher) → Moves p (record p { line = record p.line { old = drop 1 p.line.old } })
 old_moves p = line_moves p (record p.line { old = drop 1 p.line.old }) (λ n a. a) (λ n a b. of_drop n p.line.old b)
 
+-- and what the broker tells is
 pub told_moves : (p : Publisher) (b : Broker) (out : Outcome) → Moves p (record p { line = told_by b out p.line })
 told_moves p b out = line_moves p (told_by b out p.line) (λ n a. of_unless n _ p.line.up a) (λ n a b. of_unless n _ p.line.old b)

@@ -41,6 +41,7 @@ pub record IsForeign (c : List ℕ) (his : List ℕ) (given : ℕ) (v : View) : 
   pub old_number : IsFree his given v.old_number
   pub old : AllByRecursion (IsOthers c) v.old
 
+-- another end is a stranger to him
 pub foreign : (c d : List ℕ) (limits : Limits) (his : List ℕ) (w : World) → Around c limits his w → (d ≡ c → ⊥) → IsForeign c his w.broker.given (view_of d w)
 foreign c d limits his w a differ = by (publisher_named d w) (receiver_named d w) refl refl
   where
@@ -78,6 +79,7 @@ foreign c d limits his w a differ = by (publisher_named d w) (receiver_named d w
 
 -- ---- so their calls are others'
 
+-- a packet on a free line is none of his
 pub input_outside : (his c : List ℕ) (given : ℕ) (x : Option ℕ) (packets : List Packet) (call : Call) → IsFree his given x → AllByRecursion (IsOthers c) packets → input_on x packets ≡ Some call → IsOutside his c call
 input_outside his c given None packets call free all e = absurd cc
 input_outside his c given (Some n) [] call free all e = absurd cc
@@ -85,6 +87,7 @@ input_outside his c given (Some n) (packet ∷ rest) call free all e =
     let is : Input n packet ≡ call = cc in
     subst (IsOutside his c) is ((free n refl).0, all.0)
 
+-- so is its loss
 pub lost_outside : (his c : List ℕ) (given : ℕ) (x : Option ℕ) (call : Call) → IsFree his given x → lost_on x ≡ Some call → IsOutside his c call
 lost_outside his c given None call free e = absurd cc
 lost_outside his c given (Some n) call free e = let is : Lost n ≡ call = cc in subst (IsOutside his c) is (free n refl).0

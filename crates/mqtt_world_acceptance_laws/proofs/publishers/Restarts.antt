@@ -47,6 +47,7 @@ rests_of : (his : List ℕ) (b : Broker) (accepted : List ℕ) (o : Option Publi
 rests_of his b accepted None h = h
 rests_of his b accepted (Some p) h = record { his = his; before = p; placed = h; same = refl }
 
+-- who is in step may go through a restart
 pub may_restart : (c : List ℕ) (limits : Limits) (his accepted : List ℕ) (w : World) → Holds c limits his accepted w → MayRestart c limits accepted w
 may_restart c limits his accepted w h = record { his = his; around = h.around; him = rests_of his w.broker accepted (publisher_named c w) h.him }
 
@@ -107,6 +108,7 @@ all_restarted c set his accepted w h unspent known none = record {
     new : Broker
     new = opened set.limits set.choice w.now w.broker.records
 
+-- a restart leaves him in step
 pub restart_stays : (c : List ℕ) (set : Setting) (accepted : List ℕ) (w : World) → MayRestart c set.limits accepted w → read_opening spending set w ≡ false → Stays c set.limits accepted (restarts set w)
 restart_stays c set accepted w h unspent = by (publisher_named c w) h.him found
   where
@@ -162,6 +164,7 @@ taken_rests c d limits his accepted w f g f_takes g_takes lost h = record {
     by None x = x
     by (Some p) x = record { his = his; before = p; placed = x; same = same (bytes_eq p.client d) p }
 
+-- also with a stop before the commit
 pub before_rests : (c : List ℕ) (a : Asking) (set : Setting) (his accepted : List ℕ) (w : World) → Holds c set.limits his accepted w → MayRestart c set.limits accepted (before set a w)
 before_rests c (to_broker d) set his accepted w h = taken_rests c d set.limits his accepted w taken_up taken_up takes_up takes_up (λ p. refl) h
 before_rests c (old_to_broker d) set his accepted w h = taken_rests c d set.limits his accepted w taken_old taken_old takes_old takes_old (λ p. refl) h
@@ -194,6 +197,7 @@ lost_rests c d set his accepted w h unspent = elim (whose_name c d w) [
 abbrev pub first_accepted : List ℕ → Setting → Asking → World → List ℕ
 first_accepted c set a w = each_of (asked_from c a w) (read_first the_deeds set a w)
 
+-- and with one behind it
 pub after_rests : (c : List ℕ) (a : Asking) (set : Setting) (his accepted : List ℕ) (w : World) → Holds c set.limits his accepted w → is_bad_asking a w ≡ false → read_first spending set a w ≡ false
     → MayRestart c set.limits (accepted ++ first_accepted c set a w) (first_step set a w)
 after_rests c (to_broker d) set his accepted w h good unspent =

@@ -26,10 +26,12 @@ use Rattle.mqtt_world_acceptance_laws.proofs.publishers.Happenings.{publisher_co
 use Rattle.mqtt_world_acceptance_laws.proofs.publishers.Joins.{joined_stays}
 use Rattle.mqtt_world_acceptance_laws.proofs.publishers.Restarts.{may_restart, restart_stays, before_rests, after_rests, first_accepted, each_opened}
 
+-- where neither holds, both fail
 pub either : (a b : Bool) → (a || b) ≡ false → (a ≡ false) × (b ≡ false)
 either true b h = absurd cc
 either false b h = (refl, h)
 
+-- both parts of an "and" that holds hold
 pub both_true : (a b : Bool) → (a && b) ≡ true → (a ≡ true) × (b ≡ true)
 both_true true b h = (refl, h)
 both_true false b h = absurd cc
@@ -73,6 +75,7 @@ none_each : (o : Option ℕ) → each_of o [] ≡ []
 none_each None = refl
 none_each (Some n) = refl
 
+-- every turn leaves him in step
 pub turn_stays : (t : Turn) (c : List ℕ) (limits : Limits) (accepted : List ℕ) (w : World) → Stays c limits accepted w → begins_clean t.event w ≡ true → read_at spending (setting limits t) t.event w ≡ false
     → Stays c limits (accepted ++ accepted_at c (setting limits t) t.event w) (turned limits t w)
 turn_stays t c limits accepted w s carried unspent = by (is_bad t.event w) refl unspent
@@ -98,6 +101,7 @@ run_stays (t ∷ ts) c limits accepted w s unspent carried =
 
 -- ---- from the beginning
 
+-- a new world has him in step
 pub new_stays : (c : List ℕ) (limits : Limits) (w : World) → AreWithin limits → IsNew w → Stays c limits [] w
 new_stays c limits w within new = record {
   his = 0 ∷ [];
@@ -126,6 +130,7 @@ new_stays c limits w within new = record {
     nobody : is_some (publisher_named c w) ≡ true → ⊥
     nobody there = let clash : true ≡ false = sym there ∙ ap is_some none in absurd cc
 
+-- so does every fair run from there
 pub fair_run_stays : (limits : Limits) (ts : List Turn) (w : World) → IsNew w → IsFair limits ts w → (c : List ℕ) → Stays c limits (accepted_over c limits ts w) (run limits ts w)
 fair_run_stays limits ts w new fair c = run_stays ts c limits [] w (new_stays c limits w fair.within new) fair.unspent fair.clean
 
@@ -146,12 +151,14 @@ once_by n his b accepted None none =
 once_by n his b accepted (Some p) h =
     (at_most_once accepted p b h.run n, once_completed accepted p b h.run n, none_refused accepted p b h.run n, none_unsent accepted p b h.run n, some_acknowledged accepted p b h.run n)
 
+-- in every fair run a message is accepted at most once
 pub accepts_once : (limits : Limits) (ts : List Turn) (w : World) → IsNew w → IsFair limits ts w → (c : List ℕ) (n : ℕ) → IsAcceptedOnce c n limits ts w
 accepts_once limits ts w new fair c n =
     let s = fair_run_stays limits ts w new fair c in
     let x = once_by n s.his (run limits ts w).broker (accepted_over c limits ts w) (publisher_named c (run limits ts w)) s.holds.him in
     record { once = x.0; complete = x.1; refusal = x.2; unsent = x.3; acknowledged = x.4 }
 
+-- and no session has too many open identifiers
 pub few_open : (limits : Limits) (ts : List Turn) (w : World) → IsNew w → IsFair limits ts w → FewOpen (run limits ts w).broker.records
 few_open limits ts w new fair =
     let s = fair_run_stays limits ts w new fair [] in
@@ -159,8 +166,10 @@ few_open limits ts w new fair =
 
 -- ---- how a world may begin
 
+-- the first world is new
 pub start_new : IsNew start
 start_new = record { steady = steady_start; publishers = refl; receivers = refl; strangers = refl }
 
+-- so is one that opens over what was stored
 pub opened_new : (limits : Limits) (choice : MemberChoice) (now : ℕ) (r : Records) → AreWithin limits → MayOpen limits choice now r → IsNew (opened_world limits choice now r)
 opened_new limits choice now r within may = record { steady = steady_opened limits choice now r within may; publishers = refl; receivers = refl; strangers = refl }

@@ -153,6 +153,7 @@ module _ (env : Env) (l : BrokerLine) (s : Session) (d : Delivery) (c : Content)
 
 -- ---- a call with it: the session that is connected on its line is that client's
 
+-- what a PUBLISH is accepted with is what it said
 pub call_said : (limits : Limits) (choice : MemberChoice) (now n : ℕ) (d : Delivery) (c : Content) (client : List ℕ) (b : Broker)
     → ((l : BrokerLine) (birth : ℕ) (s : Session) → line_at n b ≡ Some l → l.session ≡ Some birth → session_at birth b.records ≡ Some s → s.client ≡ client)
     → AreSaid (Carries client c) (deeds limits choice now (Input n (publish_with d c)) b)

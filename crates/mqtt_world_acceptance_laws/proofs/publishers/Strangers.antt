@@ -72,6 +72,7 @@ held_holds c limits his accepted name w h =
 
 -- ---- it comes
 
+-- a new line gets the next number
 pub linked_given : (set : Setting) (now : ℕ) (b : Broker) → can_link b ≡ true → (stepped set.limits set.choice now NewLine b).given ≡ suc b.given
 linked_given set now b can =
     let ds = deeds set.limits set.choice now NewLine b in
@@ -79,6 +80,7 @@ linked_given set now b can =
     let is : ds ≡ Link (suc b.given) ∷ [] = ap (λ (t : Bool). cond t (Link (suc b.given) ∷ []) []) can in
     kept_given (rows_of_all ds begin.records) (after_all ds begin) ∙ ap (λ (xs : List Deed). (after_all xs begin).given) is
 
+-- a new line leaves him in step
 pub linking_holds : (c : List ℕ) (set : Setting) (his accepted : List ℕ) (w : World) → Holds c set.limits his accepted w → Holds c set.limits his accepted (calls set NewLine w)
 linking_holds c set his accepted w h = calls_hold c set his accepted NewLine w h (linking_spends_none set.limits set.choice w.now w.broker) (λ there. tt)
 
@@ -90,6 +92,7 @@ next_free c set his accepted w h can = λ j is.
     let given = linked_given set w.now w.broker can in
     ((λ among. let le = h.around.known j among in omega (arith, le, it)), omega (arith, it, given))
 
+-- so do bytes of a stranger
 pub comes_holds : (c : List ℕ) (set : Setting) (his accepted : List ℕ) (name bytes : List ℕ) (w : World) → Holds c set.limits his accepted w → Holds c set.limits his accepted (comes set name bytes w)
 comes_holds c set his accepted name bytes w h = by (is_some (stranger_named name w))
   where
@@ -213,6 +216,7 @@ good_then set name bytes w good =
     count_is None = refl
     count_is (Some s) = refl
 
+-- and all that they ask
 pub stranger_holds : (c name bytes : List ℕ) (set : Setting) (his accepted : List ℕ) (w : World) → Holds c set.limits his accepted w → is_bad_asking (stranger name bytes) w ≡ false → read_asked spending set (stranger name bytes) w ≡ false
     → Holds c set.limits his accepted (asks set (stranger name bytes) w)
 stranger_holds c name bytes set his accepted w h good unspent =
@@ -225,6 +229,7 @@ unfolding first_of fronts.size_at
 first_good [] w good = refl
 first_good (x ∷ xs) w good = (either_false (front_names (first_of (x ∷ xs)) w) (bytes_name (length xs) (held_after (x ∷ xs)) w) good).0
 
+-- and their first packet alone
 pub stranger_first : (c name bytes : List ℕ) (set : Setting) (his accepted : List ℕ) (w : World) → Holds c set.limits his accepted w → is_bad_asking (stranger name bytes) w ≡ false → read_first spending set (stranger name bytes) w ≡ false
     → Holds c set.limits his accepted (first_step set (stranger name bytes) w)
 stranger_first c name bytes set his accepted w h good unspent =

@@ -12,6 +12,7 @@ use Rattle.mqtt_world_acceptance_laws.specs.Spending.{spending}
 use Rattle.mqtt_world_acceptance_laws.proofs.copies.Walks.{Walk, run_walks, turn_goes}
 use Rattle.mqtt_world_delivery_laws.specs.Alone.{Carries, IsKept}
 
+-- what each step keeps is carried along a run
 pub carrying : (P : Broker → Type 0) (limits : Limits) → IsKept limits P → Walk limits (Carries P)
 carrying P limits k = record {
   none = λ b h. h;
@@ -22,6 +23,7 @@ carrying P limits k = record {
   open_again = λ choice now b s unspent h. k.reopened choice now b s unspent h;
 }
 
+-- an event keeps it
 pub event_keeps : (P : Broker → Type 0) (e : Event) (set : Setting) (w : World) → IsKept set.limits P → AreWithin set.limits → IsSteady w.broker
     → is_bad e w ≡ false → read_in spending set e w ≡ false → P w.broker → P (happens set e w).broker
 event_keeps P e set w k within s good unspent h =
@@ -30,6 +32,7 @@ event_keeps P e set w k within s good unspent h =
     let goes = turn_goes (Carries P) set.limits (carrying P set.limits k) t w within s cheap in
     subst (λ (bad : Bool). P (cond bad w (happens set e w)).broker) good (goes.said h)
 
+-- so does a run
 pub run_keeps : (P : Broker → Type 0) (limits : Limits) (ts : List Turn) (w : World) → IsKept limits P → IsNew w → IsFair limits ts w
     → P w.broker → P (run limits ts w).broker
 run_keeps P limits ts w k new fair h = run_walks (Carries P) limits ts w (carrying P limits k) new fair h
@@ -39,6 +42,7 @@ run_keeps P limits ts w k new fair h = run_walks (Carries P) limits ts w (carryi
 abbrev pub Distinct : Broker → Type 0
 Distinct b = HasDistinctIdentifiers b.records
 
+-- identifiers in flight stay apart
 pub distinct_kept : (limits : Limits) → IsKept limits Distinct
 distinct_kept limits = record {
   called = λ choice now call b s unspent h. step_keeps limits choice now call b h;

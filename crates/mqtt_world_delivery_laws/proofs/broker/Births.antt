@@ -194,6 +194,7 @@ up_more n m cs le h = each_more (CopyUpTo n) (CopyUpTo m) (λ c q. omega (arith,
 counted_enters : (ds : List Deed) (a b d : Broker) → AllByRecursion (λ (k : ℕ). k ≤ d.records.births) (filter_map birth_given ds) → b.records.births ≤ d.records.births → AreUpTo d.records.births a.records.sessions → EntersUpTo ds a → Enters ds b d
 counted_enters ds a b d given grow first said = record { grow = grow; each = said d.records.births (begin_upto d.records.births ds given) first }
 
+-- copies enter queues of sessions that were given
 pub entering : (limits : Limits) → Walk limits Enters
 entering limits = record {
   none = λ b. record { grow = omega arith; each = tt };

@@ -31,6 +31,7 @@ keeps limits = record {
   open_again = λ choice now b s unspent k. (opening_counted any_copy limits choice now b s.coherent.ordered k).kept;
 }
 
+-- a turn keeps retained messages apart
 pub turn_retains : (limits : Limits) (t : Turn) (w : World) → AreWithin limits → IsSteady w.broker → read_at spending (setting limits t) t.event w ≡ false → AreRetainedOnce w.broker.records
     → AreRetainedOnce (turned limits t w).broker.records
 turn_retains limits t w within steady unspent once =

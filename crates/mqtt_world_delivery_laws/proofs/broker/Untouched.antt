@@ -19,6 +19,7 @@ use Rattle.mqtt_world_delivery_laws.specs.Untouched.{IsUntouched}
 use Rattle.mqtt_world_delivery_laws.specs.Retaining.{AreRetainedOnce}
 use Rattle.mqtt_world_delivery_laws.proofs.broker.Unused.{opening_unused}
 
+-- at first the world is untouched
 pub start_untouched : (limits : Limits) → AreWithin limits → IsUntouched limits start
 start_untouched limits within =
     record {
@@ -29,6 +30,7 @@ start_untouched limits within =
       unused = tt;
     }
 
+-- so is one that opens over what was stored
 pub opened_untouched : (limits : Limits) (choice : MemberChoice) (now : ℕ) (r : Records) → AreWithin limits → MayOpen limits choice now r → HasDistinctIdentifiers r → AreRetainedOnce r
     → IsUntouched limits (opened_world limits choice now r)
 opened_untouched limits choice now r within may distinct once = record {

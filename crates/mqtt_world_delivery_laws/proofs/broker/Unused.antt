@@ -421,6 +421,7 @@ joined_given b n u one = by (row_at line_number n b.lines) refl
         let same = found_key line_number n l b.lines is in
         omega (arith, low, same)
 
+-- a step sends nothing on lines without a session
 pub step_unused : (limits : Limits) (choice : MemberChoice) (now : ℕ) (call : Call) (b : Broker) → HasUniqueLines b → HaveSentNothing b → HaveSentNothing (stepped limits choice now call b)
 step_unused limits choice now call b u h =
     let first = at_moment now b in
@@ -433,6 +434,7 @@ step_unused limits choice now call b u h =
 
 -- ---- an opening: no line stands
 
+-- nor does an opening
 pub opening_unused : (limits : Limits) (choice : MemberChoice) (now : ℕ) (r : Records) → HaveSentNothing (opened limits choice now r)
 opening_unused limits choice now r =
     let b = unopened now r in
@@ -443,6 +445,7 @@ opening_unused limits choice now r =
     let led_on = leads_opening env (everyone nobody) (Keep nobody) (IsSafe nobody) (safe_law nobody env) (λ s x g is. led nobody (At (whose s) (Close x.now) ∷ []) x g (tt, tt)) (λ birth. tt) b k in
     subst (AllByRecursion IsUnused) (sym (done_lines (rows_of_all ds b.records) (after_all ds b))) (unused_of nobody (after_all ds b) led_on.1)
 
+-- and that is kept
 pub unused_kept : (limits : Limits) → IsKept limits HaveSentNothing
 unused_kept limits = record {
   called = λ choice now call b s unspent h. step_unused limits choice now call b s.lines h;

@@ -344,6 +344,7 @@ module _ (base last : ℕ) (ds : List Deed) (counted : CountsOn base (filter_map
   all_carry : (es : List Entry) → AllByRecursion (EntrySaid base (accepted ds)) es → All (CarriesOn a) es
   all_carry es h = All-from_recursion (CarriesOn a) es (each_more (EntrySaid base (accepted ds)) (CarriesOn a) entry_carries es h)
 
+-- in every fair run a receiver reads what was published
 pub run_reads : (limits : Limits) (ts : List Turn) (w : World) → IsUntouched limits w → HasAcceptedNumbers w.broker.records → AreCountedOn limits ts w → IsFair limits ts w → (c : List ℕ) (r : Receiver) → receiver_named c (run limits ts w) ≡ Some r
     → All (CarriesEach r) (acceptances_over limits ts w)
 run_reads limits ts w u numbers counted fair c r e =

@@ -96,11 +96,13 @@ among_behind : (x : Numbered) (xs ys : List Numbered) → IsAmong x ys → IsAmo
 among_behind x [] ys h = h
 among_behind x (y ∷ xs) ys h = inr (among_behind x xs ys h)
 
+-- what was said stays said if more is
 pub said_more : (base : ℕ) (xs ys : List Numbered) (number : ℕ) (topic payload : List ℕ) → SaidAbove base xs number topic payload → SaidAbove base (xs ++ ys) number topic payload
 said_more base xs ys number topic payload h above =
     let x = h above in
     record { said = x.said; among = among_more x.said xs ys x.among; number_is = x.number_is; topic_is = x.topic_is; payload_is = x.payload_is }
 
+-- for all copies
 pub all_said_more : (base : ℕ) (xs ys : List Numbered) (r : Records) → AllSaid base xs r → AllSaid base (xs ++ ys) r
 all_said_more base xs ys r h = record {
   queues = each_more (QueueSaid base xs) (QueueSaid base (xs ++ ys)) (λ s q. each_more (RowSaid base xs) (RowSaid base (xs ++ ys)) (λ e x. said_more base xs ys e.copy.id.publication e.copy.content.topic e.copy.content.payload x) s.queue q) r.sessions h.queues;

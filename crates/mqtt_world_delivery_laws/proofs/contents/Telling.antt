@@ -187,6 +187,7 @@ module _ (come : List CopyId) where
 abbrev pub Each : (Receiver → Type 0) → List ℕ → World → Type 0
 Each P c w = (r : Receiver) → receiver_named c w ≡ Some r → P r
 
+-- what holds of the receiver holds behind a change of it
 pub each_mapped : (P Q : Receiver → Type 0) (c : List ℕ) (w v : World) (f : Receiver → Receiver) → ((r : Receiver) → (f r).client ≡ r.client) → v.receivers ≡ map f w.receivers
     → ((q : Receiver) → receiver_named c w ≡ Some q → receiver_named c v ≡ Some (f q) → P q → Q (f q)) → Each P c w → Each Q c v
 each_mapped P Q c w v f client same keeps h r e = by (receiver_named c w) refl

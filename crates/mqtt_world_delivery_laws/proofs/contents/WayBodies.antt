@@ -232,6 +232,7 @@ event_says largest w close h = sent_say w.linked w.copies w.down (disconnect ∷
 event_says largest w close_old h = h
 event_says largest w restart h = tt
 
+-- in every run of the hop packets say what their copies do
 pub run_says : (largest : ℕ) (events : List Event) (w : World) → WaySays w → WaySays (run largest events w)
 run_says largest [] w h = h
 run_says largest (x ∷ events) w h = run_says largest events (step largest w x) (event_says largest w x h)

@@ -156,6 +156,7 @@ both_tag : (n : ℕ) (b : Broker) (o : Option Entry) (es : List Entry) → TagsI
 both_tag n b None es p q = q
 both_tag n b (Some e) es p q = (p, q)
 
+-- what goes down a line is tagged with a copy that stands
 pub tags_stand : (n : ℕ) (b : Broker) (outputs : List (ℕ × Packet)) → AllByRecursion (TagStands n b) (way_entries (sent_to (Some n) b outputs))
 tags_stand n b [] = tt
 tags_stand n b (x ∷ xs) = by (nat_eq x.0 n) (tags_stand n b xs)
@@ -166,6 +167,7 @@ tags_stand n b (x ∷ xs) = by (nat_eq x.0 n) (tags_stand n b xs)
 
 -- ---- on its line that is the receiver's own session
 
+-- and with one of the receiver's own
 pub own_there : (largest : ℕ) (ids : List CopyId) (ns : List ℕ) (r : Receiver) (b : Broker) (n : ℕ) (c : CopyId) → IsPlaced largest ids ns r b → r.line.number ≡ Some n → (x : IsThere n c b) → session_named r.client b.records ≡ Some x.session
 own_there largest ids ns r b n c placed is x = by placed.birth placed.along
   where

@@ -301,6 +301,7 @@ module _ (c : List ℕ) (limits : Limits) (choice : MemberChoice) (v : World) (k
 
 -- ---- where answers alone may be under way from it
 
+-- a copy of a drained session ends as the definition says
 pub ends_later : (c : List ℕ) (limits : Limits) (choice : MemberChoice) (most : ℕ) (u : World) → MayBeDrained c any_size u → EndSo c (EndsAs answering (moment_of u)) u (drained limits choice c most u)
 ends_later c limits choice most u m =
     let x = m.may.connected.in_step.runs (place_of m.ids) (places_number m.ids m.differ) in

@@ -159,6 +159,7 @@ pub record MayBeDrained (c : List ℕ) (largest : ℕ) (v : World) : Type 0 wher
 abbrev pub TakesSome : List ℕ → ℕ → World → Type 0
 TakesSome c largest v = (r : Receiver) (n birth : ℕ) (l : BrokerLine) → receiver_named c v ≡ Some r → r.line.number ≡ Some n → line_at n v.broker ≡ Some l → l.session ≡ Some birth → (l.largest ≡ largest) × (1 ≤ l.window)
 
+-- a drain is over if one of its two reasons holds
 pub over_if : (a b : Bool) → b ≡ false → (a || not b) ≡ true
 over_if true b h = refl
 over_if false b h = ap not h
@@ -169,6 +170,7 @@ pub record Connection (largest : ℕ) (ids : List CopyId) (birth : ℕ) (ns : Li
   pub room : 1 ≤ window
   pub connected : IsConnected largest window ids birth ns r b
 
+-- a receiver in step has a connection to be drained on
 pub connection_of : (c : List ℕ) (largest : ℕ) (limits : Limits) (ids : List CopyId) (ns : List ℕ) (r : Receiver) (v : World) → StandsWith c largest limits ids ns v → receiver_named c v ≡ Some r → HasDistinctIdentifiers v.broker.records
     → TakesSome c largest v → (placed : IsPlaced largest ids ns r v.broker) (birth : ℕ) → placed.birth ≡ Some birth → r.line.number ≡ Some placed.line → connected_at placed.line v.broker.lines ≡ Some (Some birth)
     → Connection largest ids birth ns r v.broker
@@ -196,6 +198,7 @@ connection_of c largest limits ids ns r v s e distinct takes placed birth own at
       };
     }
 
+-- a drain is over, or goes on
 pub over_or_drains : (first : List CopyId) (c : List ℕ) (largest : ℕ) (limits : Limits) (v : World) → Stands first c largest limits v → HasDistinctIdentifiers v.broker.records → TakesSome c largest v → HasUp c 0 v
     → (is_over c v ≡ true) ⊎ MayBeDrained c largest v
 over_or_drains first c largest limits v s distinct takes none = by (receiver_named c v) refl

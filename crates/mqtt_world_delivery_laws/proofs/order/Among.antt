@@ -13,14 +13,17 @@ use Rattle.mqtt_world_delivery_laws.proofs.order.QueueOrder.{behind_one, none_fi
 
 -- ---- some among more
 
+-- a list stands in itself
 pub stand_self : (xs : List CopyId) → stand_among xs xs ≡ true
 stand_self [] = refl
 stand_self (x ∷ xs) = rw (copy_itself x) (stand_self xs)
 
+-- and in one with more before it
 pub stand_behind : (xs ys zs : List CopyId) → stand_among xs zs ≡ true → stand_among xs (ys ++ zs) ≡ true
 stand_behind xs [] zs h = h
 stand_behind xs (y ∷ ys) zs h = behind_one xs y (ys ++ zs) (stand_behind xs ys zs h)
 
+-- two lists stand in two
 pub stand_both : (xs vs ys zs : List CopyId) → stand_among xs ys ≡ true → stand_among vs zs ≡ true → stand_among (xs ++ vs) (ys ++ zs) ≡ true
 stand_both [] vs ys zs h k = stand_behind vs ys zs k
 stand_both (x ∷ xs) vs [] zs h k = absurd cc
@@ -29,6 +32,7 @@ stand_both (x ∷ xs) vs (y ∷ ys) zs h k = elim (cases_Bool (is_copy x y)) [
   | inr other ↦ rw other (stand_both (x ∷ xs) vs ys zs (rw other at h) k)
 ]
 
+-- and in one with more behind it
 pub stand_more : (xs ys zs : List CopyId) → stand_among xs ys ≡ true → stand_among xs (ys ++ zs) ≡ true
 stand_more [] ys zs h = none_first (ys ++ zs)
 stand_more (x ∷ xs) [] zs h = absurd cc
@@ -37,6 +41,7 @@ stand_more (x ∷ xs) (y ∷ ys) zs h = elim (cases_Bool (is_copy x y)) [
   | inr other ↦ rw other (stand_more (x ∷ xs) ys zs (rw other at h))
 ]
 
+-- what stands in a list stands in what that stands in
 pub stand_trans : (xs ys zs : List CopyId) → stand_among xs ys ≡ true → stand_among ys zs ≡ true → stand_among xs zs ≡ true
 stand_trans [] ys zs h k = none_first zs
 stand_trans (x ∷ xs) [] zs h k = absurd cc
@@ -53,6 +58,7 @@ stand_trans (x ∷ xs) (y ∷ ys) (z ∷ zs) h k = elim (cases_Bool (is_copy y z
 
 -- ---- picked
 
+-- what is picked from a list stands in it
 pub picked_stand : (p : CopyId → Bool) (xs : List CopyId) → stand_among (filter p xs) xs ≡ true
 picked_stand p [] = refl
 picked_stand p (x ∷ xs) = elim (cases_Bool (p x)) [
@@ -90,6 +96,7 @@ among_all : (y : CopyId) (ys xs : List CopyId) → AllByRecursion (λ (x : CopyI
 among_all y ys [] h = tt
 among_all y ys (x ∷ xs) h = (among_more x y ys h.0, among_all y ys xs h.1)
 
+-- each that stands in a list is among it
 pub stand_each : (xs ys : List CopyId) → stand_among xs ys ≡ true → AllByRecursion (λ (x : CopyId). is_among ys x ≡ true) xs
 stand_each [] ys h = tt
 stand_each (x ∷ xs) [] h = absurd cc
@@ -98,6 +105,7 @@ stand_each (x ∷ xs) (y ∷ ys) h = elim (cases_Bool (is_copy x y)) [
   | inr other ↦ among_all y ys (x ∷ xs) (stand_each (x ∷ xs) ys (rw other at h))
 ]
 
+-- being among two lists is being among one of them
 pub among_append : (x : CopyId) (ys zs : List CopyId) → is_among (ys ++ zs) x ≡ (is_among ys x || is_among zs x)
 among_append x [] zs = refl
 among_append x (y ∷ ys) zs = by (is_copy x y) (among_append x ys zs)
@@ -111,6 +119,7 @@ pub none_left : (come xs : List CopyId) → AllByRecursion (λ (x : CopyId). is_
 none_left come [] h = refl
 none_left come (x ∷ xs) h = let its = h.0 in rw its (none_left come xs h.1)
 
+-- what is picked from two lists is picked from each
 pub picked_append : (p : CopyId → Bool) (xs ys : List CopyId) → filter p (xs ++ ys) ≡ filter p xs ++ filter p ys
 picked_append p [] ys = refl
 picked_append p (x ∷ xs) ys = elim (cases_Bool (p x)) [
@@ -203,6 +212,7 @@ picks_same (x ∷ xs) (y ∷ ids) differ h = elim (cases_Bool (is_copy x y)) [
 
 -- ---- so often
 
+-- what is among a list counts once at least
 pub counts_once : (x : CopyId) (ys : List CopyId) → is_among ys x ≡ true → 1 ≤ count_of x ys
 counts_once x [] h = absurd cc
 counts_once x (y ∷ ys) h =
@@ -214,6 +224,7 @@ counts_once x (y ∷ ys) h =
 
 -- ---- copies that have come are one of these
 
+-- what holds of each holds of one among them
 pub all_one : (P : CopyId → Type 0) (x : CopyId) (ids : List CopyId) → AllByRecursion P ids → is_among ids x ≡ true → P x
 all_one P x [] all h = absurd cc
 all_one P x (y ∷ ids) all h = elim (cases_Bool (is_copy x y)) [

@@ -3,9 +3,11 @@ use Rattle.std.proofs.Common.{List, [], ◌++◌, sym, ap, ◌∙◌, append-nil
 use Rattle.mqtt_base.specs.declared.session.CopyId.{CopyId}
 use Rattle.mqtt_world_delivery_laws.specs.Standing.{BeginWith}
 
+-- a list begins with itself
 pub begin_same : (ids : List CopyId) → BeginWith ids ids
 begin_same ids = ([], sym (append-nil ids))
 
+-- and with its front
 pub begin_on : (ids more : List CopyId) → BeginWith ids (ids ++ more)
 begin_on ids more = (more, refl)
 

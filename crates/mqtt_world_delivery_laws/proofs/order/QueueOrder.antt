@@ -20,6 +20,7 @@ use Rattle.mqtt_world_delivery_laws.specs.HandedOver.{AreHandedInOrder, is_among
 
 -- ---- of what stands in order a part stands in the order of that part
 
+-- nothing stands in any list
 pub none_first : (ys : List CopyId) → stand_among [] ys ≡ true
 none_first [] = refl
 none_first (y ∷ ys) = refl
@@ -38,6 +39,7 @@ without x (v ∷ vs) (y ∷ ys) h =
       | inr other ↦ rw other behind
     ]
 
+-- what stands in a list stands behind one more
 pub behind_one : (xs : List CopyId) (y : CopyId) (ys : List CopyId) → stand_among xs ys ≡ true → stand_among xs (y ∷ ys) ≡ true
 behind_one [] y ys h = refl
 behind_one (x ∷ xs) y ys h = elim (cases_Bool (is_copy x y)) [
@@ -45,6 +47,7 @@ behind_one (x ∷ xs) y ys h = elim (cases_Bool (is_copy x y)) [
   | inr other ↦ rw other h
 ]
 
+-- what is picked from both still stands
 pub part_stands : (p : CopyId → Bool) (xs ys : List CopyId) → stand_among xs ys ≡ true → stand_among (filter p xs) (filter p ys) ≡ true
 part_stands p [] ys h = none_first (filter p ys)
 part_stands p (x ∷ xs) [] h = absurd cc
@@ -69,6 +72,7 @@ part_stands p (x ∷ xs) (y ∷ ys) h = elim (cases_Bool (is_copy x y)) [
 abbrev pub standing_ids : List Lot → List CopyId
 standing_ids lots = map id_of (still_standing lots)
 
+-- copies that differ are not the same
 pub other_copy : (c d : CopyId) → c ≢ d → is_copy c d ≡ false
 other_copy c d differ = elim (cases_Bool (is_copy c d)) [ inl same ↦ absurd (differ (copy_is c d same)) | inr other ↦ other ]
 
@@ -77,6 +81,7 @@ not_standing c [] more h = refl
 not_standing c (standing e m ∷ lots) more h = rw (other_copy c e.copy.id h.0) (not_standing c lots more h.1)
 not_standing c (past ending e m ∷ lots) more h = not_standing c lots more h.1
 
+-- of those that fail a test none is kept
 pub none_kept : (keep : CopyId → Bool) (more : List CopyId) → AllByRecursion (λ (c : CopyId). keep c ≡ false) more → filter keep more ≡ []
 none_kept keep [] h = refl
 none_kept keep (c ∷ more) h = rw h.0 (none_kept keep more h.1)
@@ -106,6 +111,7 @@ lots_ids : (went : List ℕ) (queue : List CopyRow) → map id_of (map (lot_on w
 lots_ids went [] = refl
 lots_ids went (e ∷ queue) = ap (λ (ids : List CopyId). e.copy.id ∷ ids) (lots_ids went queue)
 
+-- the copies that stand are those of the queue
 pub queue_ids : (lots : List Lot) (o : Option Session) (b : Broker) → AreQueued lots o b → standing_ids lots ≡ queued_by o
 queue_ids lots None b h = ap (map id_of) h
 queue_ids lots (Some s) b h = by (went_in s.birth b) h
@@ -120,6 +126,7 @@ all_so : (P : CopyId → Type 0) (ids : List CopyId) → ((c : CopyId) → P c) 
 all_so P [] h = tt
 all_so P (c ∷ ids) h = (h c, all_so P ids h)
 
+-- copies are handed over in the order of the queue
 pub handed_in_queue_order : (lots : List Lot) (more : List CopyId) (o : Option Session) (b : Broker) (r : Receiver) → AreQueued lots o b → AllDiffer (map id_of lots ++ more) → stand_among (copies_in r.ledger) (map id_of lots ++ more) ≡ true
     → AreHandedInOrder (queued_by o) r
 handed_in_queue_order lots more o b r queued differ stand =

@@ -19,12 +19,15 @@ use Rattle.mqtt_world_delivery_laws.specs.Standing.{HasOthers, IsAnothers, IsAro
 
 -- ---- lines of others
 
+-- no line is another's
 pub no_line_is : (ns : List ℕ) (given : ℕ) (x : Option ℕ) → x ≡ None → IsAnothers ns given x
 no_line_is ns given x none = λ n is. let clash : None ≡ Some n = sym none ∙ is in absurd cc
 
+-- so it is with an end without lines
 pub unlined : {U : Type 0} (ns : List ℕ) (given : ℕ) (l : Line U) → l.number ≡ None → l.old_number ≡ None → HasOthers ns given l
 unlined ns given l e f = record { number = no_line_is ns given l.number e; old_number = no_line_is ns given l.old_number f }
 
+-- lines that are kept stay another's
 pub others_kept : {U : Type 0} (ns : List ℕ) (given : ℕ) (x y : Line U) → IsKept x y → HasOthers ns given x → HasOthers ns given y
 others_kept ns given x y k h = record {
   number = λ n is. elim k.number [
@@ -34,9 +37,11 @@ others_kept ns given x y k h = record {
   old_number = λ n is. h.old_number n (sym k.old_number ∙ is);
 }
 
+-- also behind more lines
 pub given_later : (ns : List ℕ) (given more : ℕ) (x : Option ℕ) → given ≤ more → IsAnothers ns given x → IsAnothers ns more x
 given_later ns given more x up h = λ n is. let both = h n is in (both.0, let le = both.1 in omega (arith, le, up))
 
+-- for both lines of an end
 pub others_later : {U : Type 0} (ns : List ℕ) (given more : ℕ) (l : Line U) → given ≤ more → HasOthers ns given l → HasOthers ns more l
 others_later ns given more l up h = record { number = given_later ns given more l.number up h.number; old_number = given_later ns given more l.old_number up h.old_number }
 
@@ -46,6 +51,7 @@ others_later ns given more l up h = record { number = given_later ns given more 
 abbrev pub IsNotIts : List ℕ → List ℕ → World → Type 0
 IsNotIts c d w = is_some (receiver_named c w) ≡ true → d ≡ c → ⊥
 
+-- a name is its own, or not
 pub whose_name : (c d : List ℕ) (w : World) → ((r : Receiver) × (receiver_named c w ≡ Some r) × (d ≡ c)) ⊎ IsNotIts c d w
 whose_name c d w = by (receiver_named c w) refl
   where
@@ -56,6 +62,7 @@ whose_name c d w = by (receiver_named c w) refl
       | inr other ↦ inr (λ there is. let yes_ = (bytes_eq-Decides d c).1 is in let clash : true ≡ false = sym yes_ ∙ other in absurd cc)
     ]
 
+-- a change of another end leaves the receiver
 pub changed_not : (c d : List ℕ) (g : Receiver → Receiver) (w : World) → ((r : Receiver) → (g r).client ≡ r.client) → IsNotIts c d w → receiver_named c (with_receiver d g w) ≡ receiver_named c w
 changed_not c d g w same not_its =
     find_receiver c (λ r. cond (bytes_eq r.client d) (g r) r) (λ r. only_receiver (bytes_eq r.client d) g r (same r)) w.receivers ∙ by (receiver_named c w) refl
@@ -70,6 +77,7 @@ changed_not c d g w same not_its =
     by None e = refl
     by (Some r) e = ap Some (other r (named_receiver c r w e) (not_its (ap is_some e)))
 
+-- a change of its own is found
 pub changed_its : (c : List ℕ) (g : Receiver → Receiver) (w : World) (r : Receiver) → ((q : Receiver) → (g q).client ≡ q.client) → receiver_named c w ≡ Some r → receiver_named c (with_receiver c g w) ≡ Some (g r)
 changed_its c g w r same e =
     let its : bytes_eq r.client c ≡ true = (bytes_eq-Decides r.client c).1 (named_receiver c r w e) in
@@ -78,6 +86,7 @@ changed_its c g w r same e =
 
 -- ---- all ends are changed, at whatever broker
 
+-- ends that change leave the world around it
 pub around_mapped : (c : List ℕ) (limits : Limits) (ns ms : List ℕ) (w : World) (b : Broker) (now : ℕ) (f : Publisher → Publisher) (g : Receiver → Receiver) (ss : List Stranger)
     → IsAround c limits ns w → IsSteady b → (HasPlace limits c w.broker.records → HasPlace limits c b.records) → IsTidy limits b
     → ((n : ℕ) → is_one_of (Some n) ms ≡ true → n ≤ b.given)
@@ -144,6 +153,7 @@ end_around c d limits ns w f g f_same g_same f_others g_others a =
     receiver_other true r (inr h) = inr (g_others r h)
     receiver_other false r (inr h) = inr h
 
+-- a change of another end leaves it standing
 pub end_others : (c d : List ℕ) (largest : ℕ) (limits : Limits) (ids : List CopyId) (ns : List ℕ) (w : World) (f : Publisher → Publisher) (g : Receiver → Receiver) → KeepsName f → KeepsTheName g
     → ((p : Publisher) → HasOthers ns w.broker.given p.line → HasOthers ns w.broker.given (f p).line)
     → ((r : Receiver) → HasOthers ns w.broker.given r.line → HasOthers ns w.broker.given (g r).line)
@@ -164,6 +174,7 @@ none_changed P c f (p ∷ ps) none a = elim (cases_Bool (bytes_eq p.client c)) [
       (subst P same a.0, none_changed P c f ps (rw other at none) a.1)
 ]
 
+-- a change of its own leaves the world around it
 pub own_around : (c : List ℕ) (limits : Limits) (ns : List ℕ) (w : World) (f : Publisher → Publisher) (g : Receiver → Receiver) → KeepsName f → KeepsTheName g → publisher_named c w ≡ None
     → IsAround c limits ns w → IsAround c limits ns (with_end c f g w)
 own_around c limits ns w f g f_same g_same none a = record {
@@ -185,6 +196,7 @@ own_around c limits ns w f g f_same g_same none a = record {
     by true r its h = inl (g_same r ∙ (bytes_eq-Decides r.client c).0 its)
     by false r other h = h
 
+-- and it standing, if it is placed behind it
 pub own_stands : (c : List ℕ) (largest : ℕ) (limits : Limits) (ids : List CopyId) (ns : List ℕ) (w : World) (r : Receiver) (f : Publisher → Publisher) (g : Receiver → Receiver) → KeepsName f → KeepsTheName g
     → receiver_named c w ≡ Some r → IsAround c limits ns w → IsPlaced largest ids ns (g r) w.broker → StandsWith c largest limits ids ns (with_end c f g w)
 own_stands c largest limits ids ns w r f g f_same g_same e a placed = record {

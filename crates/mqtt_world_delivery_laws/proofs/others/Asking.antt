@@ -49,6 +49,7 @@ pub record IsForeign (c ns : List ℕ) (given : ℕ) (v : View) : Type 0 where
   pub old_number : IsAnothers ns given v.old_number
   pub old : AllByRecursion (IsOthers c) v.old
 
+-- another end is a stranger to it
 pub foreign : (c d : List ℕ) (limits : Limits) (ns : List ℕ) (w : World) → IsAround c limits ns w → (d ≡ c → ⊥) → IsForeign c ns w.broker.given (view_of d w)
 foreign c d limits ns w a differ = by (publisher_named d w) (receiver_named d w) refl refl
   where
@@ -77,6 +78,7 @@ foreign c d limits ns w a differ = by (publisher_named d w) (receiver_named d w)
         ]
     by None None e f = record { number = λ n is. absurd cc; up = tt; old_number = λ n is. absurd cc; old = tt }
 
+-- a packet on another's line is outside
 pub input_outside : (c ns : List ℕ) (given : ℕ) (x : Option ℕ) (packets : List Packet) (call : Call) → IsAnothers ns given x → AllByRecursion (IsOthers c) packets → input_on x packets ≡ Some call → IsOutside c ns call
 input_outside c ns given None packets call free all e = absurd cc
 input_outside c ns given (Some n) [] call free all e = absurd cc
@@ -94,6 +96,7 @@ pump_outside c ns given (Some n) call free e = let is : Pump n ≡ call = cc in 
 
 -- ---- another end's packet is read
 
+-- a packet that was read leaves a line another's
 pub takes_others : {U : Type 0} (ns : List ℕ) (given : ℕ) (f : Line U → Line U) → Takes f → (l : Line U) → HasOthers ns given l → HasOthers ns given (f l)
 takes_others ns given f t l h = record {
   number = λ n is. h.number n (sym (t.number l) ∙ is);
@@ -104,6 +107,7 @@ takes_others ns given f t l h = record {
 abbrev pub hidden : (first : List CopyId) (c : List ℕ) (largest : ℕ) (limits : Limits) (ids : List CopyId) (ns : List ℕ) (w : World) → BeginWith first ids → StandsWith c largest limits ids ns w → Stands first c largest limits w
 hidden first c largest limits ids ns w g h = record { ids = ids; grown = g; ns = ns; standing = h }
 
+-- the broker's reading of another's line leaves the receiver standing
 pub other_reads : (first : List CopyId) (c d : List ℕ) (largest : ℕ) (set : Setting) (w : World) → Stands first c largest set.limits w → IsNotIts c d w → read_first spending set (to_broker d) w ≡ false → Stands first c largest set.limits (first_step set (to_broker d) w)
 other_reads first c d largest set w s not_its unspent =
     let v = view_of d w in
@@ -114,6 +118,7 @@ other_reads first c d largest set w s not_its unspent =
     let f = foreign c d set.limits s.ns w s.standing.around (not_its (sym (ap is_some (changed_not c d (on_back taken_up) w (λ r. refl) not_its)) ∙ there)) in
     input_outside c s.ns w.broker.given v.number v.up call f.number f.up is)
 
+-- so does that of an old line
 pub other_reads_old : (first : List CopyId) (c d : List ℕ) (largest : ℕ) (set : Setting) (w : World) → Stands first c largest set.limits w → IsNotIts c d w → read_first spending set (old_to_broker d) w ≡ false → Stands first c largest set.limits (first_step set (old_to_broker d) w)
 other_reads_old first c d largest set w s not_its unspent =
     let v = view_of d w in
@@ -126,12 +131,14 @@ other_reads_old first c d largest set w s not_its unspent =
 
 -- ---- it is sent what waits for it, or its line is lost
 
+-- and a pump for another
 pub other_pumped : (first : List CopyId) (c d : List ℕ) (largest : ℕ) (set : Setting) (w : World) → Stands first c largest set.limits w → IsNotIts c d w → read_first spending set (pump d) w ≡ false → Stands first c largest set.limits (first_step set (pump d) w)
 other_pumped first c d largest set w s not_its unspent =
     let v = view_of d w in
     if_stands first c largest set (pump_on v.number) w s unspent
     (λ there call is. let f = foreign c d set.limits s.ns w s.standing.around (not_its there) in pump_outside c s.ns w.broker.given v.number call f.number is)
 
+-- and another's loss, where it is first
 pub other_lost : (first : List CopyId) (c d : List ℕ) (largest : ℕ) (set : Setting) (w : World) → Stands first c largest set.limits w → IsNotIts c d w → read_first spending set (break d) w ≡ false → Stands first c largest set.limits (first_step set (break d) w)
 other_lost first c d largest set w s not_its unspent =
     let v = view_of d w in
@@ -141,6 +148,7 @@ other_lost first c d largest set w s not_its unspent =
 left_others : {U : Type 0} (ns : List ℕ) (given : ℕ) (l : Line U) → HasOthers ns given l → HasOthers ns given (left l)
 left_others ns given l h = record { number = λ n is. absurd cc; old_number = h.old_number }
 
+-- and where it is whole
 pub other_breaks : (first : List CopyId) (c d : List ℕ) (largest : ℕ) (set : Setting) (w : World) → Stands first c largest set.limits w → IsNotIts c d w → read_first spending set (break d) w ≡ false → Stands first c largest set.limits (asks set (break d) w)
 other_breaks first c d largest set w s not_its unspent =
     let w1 = first_step set (break d) w in

@@ -122,6 +122,7 @@ happens_found set restart w good h = restarts_found set w h
 happens_found set (stop_before a) w good h = restarts_found set (before set a w) (before_found set a w h)
 happens_found set (stop_after a) w good h = restarts_found set (first_step set a w) (first_found set a w h)
 
+-- in every run receivers have found names
 pub run_found : (limits : Limits) (ts : List Turn) (w : World) → AreFound w.receivers → AreFound (run limits ts w).receivers
 run_found limits [] w h = h
 run_found limits (t ∷ ts) w h = run_found limits ts (turned limits t w) (by (is_bad t.event w) refl)

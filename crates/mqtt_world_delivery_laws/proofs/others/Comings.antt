@@ -29,6 +29,7 @@ use Rattle.mqtt_world_delivery_laws.proofs.others.Around.{changed_its, changed_n
 use Rattle.mqtt_world_delivery_laws.proofs.others.Like.{calm_up, closed_stands, connected_linked, joined_stands, moves_reading, none_stands, quiet_down, same_reading, seat_asked, seat_given, seat_read}
 use Rattle.mqtt_world_receiver_laws.proofs.queue.Numbers.{place_of, places_number}
 
+-- where neither holds, both fail
 pub either : (a b : Bool) → (a || b) ≡ false → (a ≡ false) × (b ≡ false)
 either true b h = absurd cc
 either false b h = (refl, h)
@@ -37,18 +38,21 @@ not_some : {X : Type 0} (o : Option X) → is_some o ≡ false → o ≡ None
 not_some None e = refl
 not_some (Some x) e = absurd cc
 
+-- what is none is nothing
 pub is_nothing : {X : Type 0} (o : Option X) → is_none o ≡ true → o ≡ None
 is_nothing None e = refl
 is_nothing (Some x) e = absurd cc
 
 -- ---- the run that it sees, by the places of its copies
 
+-- a receiver that goes along is in a run of the hop
 pub run_of : (o : Option ℕ) (largest : ℕ) (ids : List CopyId) (ns : List ℕ) (r : Receiver) (b : Broker) → GoesAlong o largest ids ns r b → AllDiffer ids → (copies : List Lot) × IsRun (place_of ids) largest copies r b
 run_of None largest ids ns r b k differ = let x = k.runs (place_of ids) (places_number ids differ) in (x.after, x.run_is)
 run_of (Some birth) largest ids ns r b k differ = let x = k.runs (place_of ids) (places_number ids differ) in (x.after, x.run_is)
 
 -- ---- a publisher comes
 
+-- a new publisher leaves it standing
 pub publisher_comes : (c d : List ℕ) (largest : ℕ) (set : Setting) (ids : List CopyId) (ns : List ℕ) (w : World) → StandsWith c largest set.limits ids ns w → is_bad (publisher d) w ≡ false
     → StandsWith c largest set.limits ids ns (happens set (publisher d) w)
 publisher_comes c d largest set ids ns w h good =
@@ -96,6 +100,7 @@ new_placed c largest window since b named none = record {
   told = record { come = tt; differ = tt };
 }
 
+-- so does a new receiver
 pub receiver_comes : (c d : List ℕ) (largest window : ℕ) (set : Setting) (ids : List CopyId) (ns : List ℕ) (w : World) → StandsWith c largest set.limits ids ns w → is_bad (receiver d window) w ≡ false → begins_clean (receiver d window) w ≡ true
     → StandsWith c largest set.limits ids ns (happens set (receiver d window) w)
 receiver_comes c d largest window set ids ns w h good clean = record {
@@ -178,6 +183,7 @@ given_apart away r h n e f = h n e f
 given_apart asked r h n e f = absurd cc
 given_apart live r h n e f = absurd cc
 
+-- and an end that gives up
 pub given_up_stands : (c d : List ℕ) (largest : ℕ) (set : Setting) (ids : List CopyId) (ns : List ℕ) (w : World) → StandsWith c largest set.limits ids ns w → begins_clean (give_up d) w ≡ true
     → StandsWith c largest set.limits ids ns (happens set (give_up d) w)
 given_up_stands c d largest set ids ns w h carried = elim (whose_name c d w) [
@@ -207,6 +213,7 @@ given_up_stands c d largest set ids ns w h carried = elim (whose_name c d w) [
 
 -- ---- an end publishes
 
+-- and a publication
 pub published_stands : (c d : List ℕ) (x : Draft) (largest : ℕ) (set : Setting) (ids : List CopyId) (ns : List ℕ) (w : World) → StandsWith c largest set.limits ids ns w
     → StandsWith c largest set.limits ids ns (happens set (publish d x) w)
 published_stands c d x largest set ids ns w h = record {
@@ -243,6 +250,7 @@ asked_along : (o : Option ℕ) (largest : ℕ) (ids : List CopyId) (ns : List �
 asked_along None largest ids ns t x r b k = asks_awaiting largest ids ns t x r b k
 asked_along (Some birth) largest ids ns t x r b k = asks_in_step largest ids birth ns t x r b k
 
+-- and a subscription
 pub subscribed_stands : (c d : List ℕ) (x : Wish) (largest : ℕ) (set : Setting) (ids : List CopyId) (ns : List ℕ) (w : World) → StandsWith c largest set.limits ids ns w → is_bad (subscribe d x) w ≡ false
     → StandsWith c largest set.limits ids ns (happens set (subscribe d x) w)
 subscribed_stands c d x largest set ids ns w h good = record {
@@ -311,6 +319,7 @@ read_apart t r h n e f =
       | inr kept ↦ h n (sym kept.0 ∙ e) (sym m.old_number ∙ f)
     ]
 
+-- and an end's reading
 pub read_stands : (c d : List ℕ) (largest : ℕ) (set : Setting) (ids : List CopyId) (ns : List ℕ) (w : World) → StandsWith c largest set.limits ids ns w → StandsWith c largest set.limits ids ns (happens set (to_end d) w)
 read_stands c d largest set ids ns w h = elim (whose_name c d w) [
   | inr not_its ↦ end_others c d largest set.limits ids ns w F G keeps keeps_there others others_there not_its h
@@ -344,6 +353,7 @@ read_stands c d largest set ids ns w h = elim (whose_name c d w) [
 
 -- ---- time passes
 
+-- and time that passes
 pub clock_stands : (c : List ℕ) (wait largest : ℕ) (set : Setting) (ids : List CopyId) (ns : List ℕ) (w : World) → StandsWith c largest set.limits ids ns w → StandsWith c largest set.limits ids ns (happens set (clock wait) w)
 clock_stands c wait largest set ids ns w h = record {
   around = record {

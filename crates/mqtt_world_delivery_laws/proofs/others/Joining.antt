@@ -159,6 +159,7 @@ so_clean true was h is = refl
 so_clean false true h is = absurd cc
 so_clean false false h is = absurd cc
 
+-- an end that connects leaves it standing
 pub joined_stands : (first : List CopyId) (c d : List ℕ) (clean : Bool) (largest : ℕ) (set : Setting) (w : World) → Stands first c largest set.limits w → is_bad (connect_end d clean) w ≡ false → begins_clean (connect_end d clean) w ≡ true
     → Stands first c largest set.limits (happens set (connect_end d clean) w)
 joined_stands first c d clean largest set w stay good carried = by (can_link w.broker) refl

@@ -55,6 +55,7 @@ calm_like (answers (puback i code) ∷ xs) h a = (tt, none_like xs a)
 calm_like (answers (pubrec i code) ∷ xs) h a = (tt, none_like xs a)
 calm_like (answers (pubcomp i code) ∷ xs) h a = (tt, none_like xs a)
 
+-- what looks like a CONNECT alone is one
 pub connect_like : (clean : Bool) (xs : List Back) → map packet_like xs ≡ shake (CONNECT clean) ∷ [] → xs ≡ answers (connect clean) ∷ []
 connect_like clean [] e = absurd cc
 connect_like clean (asks_for w ∷ xs) e = absurd cc
@@ -69,6 +70,7 @@ connect_like clean (answers (pubcomp i code) ∷ xs) e = absurd cc
 good_seen : (number : Numbering) (largest : ℕ) (copies : List Lot) (r : Receiver) (b : Broker) → IsRun number largest copies r b → Good (lives.seen (seen number copies r b))
 good_seen number largest copies r b h = subst (λ (w : Hop). Good (lives.seen w)) (sym h.seen_is) (good_run largest h.events)
 
+-- on a linked line no CONNECT is under way
 pub calm_up : (number : Numbering) (largest : ℕ) (copies : List Lot) (r : Receiver) (b : Broker) → IsRun number largest copies r b → is_linked r.line.number b ≡ true → AllByRecursion IsNoConnect (map packet_like r.line.up)
 calm_up number largest copies r b h linked =
     let w = seen number copies r b in
@@ -99,16 +101,19 @@ quiet_down number largest copies r b clean h up =
 
 -- ---- the line that it gave up, where that stayed
 
+-- what was on an old line may be looked at in another line like it
 pub former_as : (o : Option ℕ) (k : ℕ) (x y : Line Sent) (b : Broker) → y.old_number ≡ x.old_number → y.old ≡ x.old → Former o k x b → Former o k y b
 former_as o k x y b e f (over none) = over (f ∙ none)
 former_as o k x y b e f (late m is old idle there) = late m (e ∙ is) (f ∙ old) idle there
 former_as o k x y b e f (lingers birth own is calm there) = lingers birth own (e ∙ is) (subst (λ (xs : List Sent). AllByRecursion IsNoConnect xs) (sym f) calm) there
 
+-- what is his is the same for an equal name
 pub his_as : (client other : List ℕ) (o : Option ℕ) (k : ℕ) (b : Broker) → other ≡ client → IsHis client o k b → IsHis other o k b
 his_as client other o k b e h = subst (λ (c : List ℕ). IsHis c o k b) (sym e) h
 
 -- ---- a line of the broker
 
+-- a line with a session is linked
 pub connected_linked : (k birth : ℕ) (x : Option ℕ) (b : Broker) → x ≡ Some k → connected_at k b.lines ≡ Some (Some birth) → is_linked x b ≡ true
 connected_linked k birth x b is there = ap (λ (y : Option ℕ). is_linked y b) is ∙ (linked_is k b ∙ ap linked_of there)
 
@@ -119,17 +124,21 @@ stands_so f n b t e = by (line_at n b) e
     by None g = ap is_some g
     by (Some l) g = ap is_some g
 
+-- no line does not stand
 pub none_stands : (x : Option ℕ) (b : Broker) → x ≡ None → stands x b ≡ false
 none_stands x b e = ap (λ (y : Option ℕ). stands y b) e
 
+-- nor does one that is closed
 pub closed_stands : (x : Option ℕ) (n : ℕ) (b : Broker) → x ≡ Some n → glance_at n b.lines ≡ None → stands x b ≡ false
 closed_stands x n b e none = ap (λ (y : Option ℕ). stands y b) e ∙ stands_so glance n b None none
 
+-- one with a session stands
 pub joined_stands : (x : Option ℕ) (k birth : ℕ) (b : Broker) → x ≡ Some k → connected_at k b.lines ≡ Some (Some birth) → stands x b ≡ true
 joined_stands x k birth b e there = ap (λ (y : Option ℕ). stands y b) e ∙ stands_so (λ (l : BrokerLine). l.session) k b (Some (Some birth)) there
 
 -- ---- it gives its line up
 
+-- a receiver that gives up keeps its seat
 pub seat_given : (o : Option ℕ) (k : ℕ) (r : Receiver) (b : Broker) → Seat o k (publisher_like r) b → (is_linked r.line.number b ≡ true → AllByRecursion IsNoConnect (map packet_like r.line.up))
     → MayGiveUp r.line.link r.line.clean → Seat o k (publisher_like (record r { line = gives_up r.line.link r.line })) b
 seat_given o k r b s calm may = by r.line.link refl may
@@ -154,6 +163,7 @@ goes_none : {U : Type 0} (t : Bool) (xs ps : List U) → t ≡ false → sent_on
 goes_none true xs ps e = absurd cc
 goes_none false xs ps e = refl
 
+-- so does one that subscribes
 pub seat_asked : (o : Option ℕ) (k : ℕ) (x : Wish) (r : Receiver) (b : Broker) → Seat o k (publisher_like r) b → r.line.link ≡ live → Seat o k (publisher_like (asks_wish (stands r.line.number b) x r)) b
 seat_asked o k x r b s is_live_ = record {
   his = s.his;
@@ -204,6 +214,7 @@ moves_packet t copy (packet.Pubrel a) rest r = record { client = refl; old_numbe
 moves_packet t copy (packet.Disconnect a) rest r = record { client = refl; old_number = refl; old = refl; own = inl (refl, refl) }
 moves_packet t copy x rest r = record { client = refl; old_number = refl; old = refl; own = inr (refl, λ f. refl) }
 
+-- reading is a move
 pub moves_reading : (t : Bool) (ds : List Down) (r : Receiver) → Moves t r (receiver_reads t ds r)
 moves_reading t [] r = record { client = refl; old_number = refl; old = refl; own = inr (refl, λ f. refl) }
 moves_reading t (d ∷ rest) r = moves_packet t d.copy d.packet rest r
@@ -236,6 +247,7 @@ passes_packet number t u copy (packet.Pubrel a) rest r e = absurd cc
 passes_packet number t u copy (packet.Disconnect a) rest r e = absurd cc
 passes_packet number t u copy x rest r e = record { same = refl; line = refl; client = refl }
 
+-- where nothing is heard it does not matter whether the line stands
 pub same_reading : (number : Numbering) (t u : Bool) (ds : List Down) (r : Receiver) → filter_map (heard_in number) ds ≡ [] → receiver_reads t ds r ≡ receiver_reads u ds r
 same_reading number t u [] r e = refl
 same_reading number t u (d ∷ rest) r e = (passes_packet number t u d.copy d.packet rest r (none_first (heard number d.copy d.packet) (filter_map (heard_in number) rest) e).0).same
@@ -251,6 +263,7 @@ waits_reading number o k n clean t (d ∷ rest) r b ds_is none is link_is clean_
     (ap (λ (l : Line Back). map packet_like l.up) line ∙ up)
     (ap (λ (l : Line Back). filter_map heard_by_publishers l.down) line ∙ (none_first (heard_by_publishers d) (filter_map heard_by_publishers rest) down).1) idle there
 
+-- reading keeps the seat
 pub seat_read : (number : Numbering) (largest : ℕ) (copies : List Lot) (o : Option ℕ) (k : ℕ) (r : Receiver) (b : Broker) → IsRun number largest copies r b → Seat o k (publisher_like r) b
     → Seat o k (publisher_like (receiver_reads (stands r.line.number b) r.line.down r)) b
 seat_read number largest copies o k r b h s = record {
@@ -296,12 +309,14 @@ unless_like : (t : Bool) (xs : List Back) → unless_closed t (map packet_like x
 unless_like true xs = refl
 unless_like false xs = refl
 
+-- what a broker tells looks the same to both
 pub told_like : (b : Broker) (out : Outcome) (r : Receiver) → publisher_told b out (publisher_like r) ≡ publisher_like (receiver_told b out r)
 told_like b out r =
     let ups = unless_like (is_one_of r.line.number out.closed) r.line.up in
     let olds = unless_like (is_one_of r.line.old_number out.closed) r.line.old in
     λ i. record (publisher_like (receiver_told b out r)) { line = record (line_like (receiver_told b out r).line) { up = ups i; old = olds i } }
 
+-- a call of another's keeps the seat
 pub seat_of_others : (limits : Limits) (choice : MemberChoice) (now : ℕ) (call : Call) (o : Option ℕ) (k : ℕ) (r : Receiver) (b : Broker) → Seat o k (publisher_like r) b → IsNamed r.client
     → IsFarCall r.client k call → IsOff r.line.number call → IsOff r.line.old_number call
     → Seat o k (publisher_like (receiver_told (stepped limits choice now call b) (told limits choice now call b) r)) (stepped limits choice now call b)
@@ -334,6 +349,7 @@ fresh_glance : (n now : ℕ) (ls : List BrokerLine) → IsBelow line_number n ls
 fresh_glance n now [] low = let it = nat_eq_equiv.refl n in rw it refl
 fresh_glance n now (l ∷ ls) low = rw (unlike l.number n low.0) (fresh_glance n now ls low.1)
 
+-- connecting keeps it
 pub seat_joined : (limits : Limits) (choice : MemberChoice) (now : ℕ) (clean : Bool) (o : Option ℕ) (k : ℕ) (r : Receiver) (b : Broker) → Seat o k (publisher_like r) b → IsNamed r.client
     → can_link b ≡ true → IsBelow line_number (suc b.given) b.lines
     → Seat o k (publisher_like (receiver_joined limits choice now clean r b)) (stepped limits choice now NewLine b)

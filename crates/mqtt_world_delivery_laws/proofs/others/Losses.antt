@@ -91,6 +91,7 @@ left_placed largest ids ns r b placed = record {
 
 -- ---- whose session it is, where it is in step or awaits one
 
+-- a session of its name that is not found by its birth is none
 pub none_named : (client : List ℕ) (birth : ℕ) (s : Session) (ss : List Session) → find (λ (x : Session). nat_eq x.birth birth) ss ≡ Some s → s.client ≡ client → find (λ (x : Session). bytes_eq x.client client) ss ≡ None → ⊥
 none_named client birth s [] at is none = absurd cc
 none_named client birth s (x ∷ xs) at is none = elim (cases_Bool (bytes_eq x.client client)) [
@@ -161,6 +162,7 @@ lost_along o largest ids ns limits choice now n k r b along steady is apart (joi
     subst (λ (z : Option ℕ). GoesAlong z largest ids ns (receiver_lost limits choice now n r b) (stepped limits choice now (Lost n) b)) (sym own)
     (subst (λ (z : ℕ). IsInStep largest ids birth ns (receiver_lost limits choice now z r b) (stepped limits choice now (Lost z) b)) (x.3 ∙ same) lost)
 
+-- the loss of its line leaves the receiver placed
 pub lost_placed : (largest : ℕ) (ids : List CopyId) (ns : List ℕ) (limits : Limits) (choice : MemberChoice) (now n : ℕ) (r : Receiver) (b : Broker) → IsPlaced largest ids ns r b → IsSteady b → r.line.number ≡ Some n
     → IsPlaced largest ids ns (receiver_lost limits choice now n r b) (stepped limits choice now (Lost n) b)
 lost_placed largest ids ns limits choice now n r b placed steady is =
@@ -227,6 +229,7 @@ its_breaks first c largest set w s r e unspent = subst (λ (o : Option ℕ). rea
               (lost_placed largest s.ids s.ns set.limits set.choice w.now n r w.broker placed s.standing.around.steady is);
         }
 
+-- and standing
 pub broken_stands : (first : List CopyId) (c d : List ℕ) (largest : ℕ) (set : Setting) (w : World) → Stands first c largest set.limits w → read_first spending set (break d) w ≡ false → Stands first c largest set.limits (asks set (break d) w)
 broken_stands first c d largest set w s unspent = elim (whose_name c d w) [
   | inr not_its ↦ other_breaks first c d largest set w s not_its unspent

@@ -46,9 +46,11 @@ either_false : (a b : Bool) → (a || b) ≡ false → (a ≡ false) × (b ≡ f
 either_false true b h = absurd cc
 either_false false b h = (refl, h)
 
+-- what is not among these and nobody is not among these
 pub unlisted : (m : ℕ) (ns : List ℕ) → is_one_of (Some m) (0 ∷ ns) ≡ false → is_one_of (Some m) ns ≡ false
 unlisted m ns h = (either_false (nat_eq 0 m) (is_one_of (Some m) ns) h).1
 
+-- what is not among them differs from each
 pub apart_from : (m k : ℕ) (ns : List ℕ) → is_one_of (Some m) ns ≡ false → is_one_of (Some k) ns ≡ true → nat_eq m k ≡ false
 apart_from m k ns out inside = elim (cases_Bool (nat_eq m k)) [
   | inl same ↦
@@ -58,6 +60,7 @@ apart_from m k ns out inside = elim (cases_Bool (nat_eq m k)) [
   | inr other ↦ other
 ]
 
+-- what is among them is among them and nobody
 pub listed : (n : ℕ) (ns : List ℕ) → is_one_of (Some n) ns ≡ true → is_one_of (Some n) (0 ∷ ns) ≡ true
 listed n ns h = by (nat_eq 0 n)
   where
@@ -65,6 +68,7 @@ listed n ns h = by (nat_eq 0 n)
     by true = refl
     by false = h
 
+-- a call from outside is another's
 pub outside_others : (c ns : List ℕ) (call : Call) (b : Broker) → IsOutside c ns call → IsCallOfOthers c ns call b
 outside_others c ns NewLine b q = tt
 outside_others c ns (Input m packet) b q = (unlisted m ns q.0, q.1)
@@ -93,6 +97,7 @@ outside_off : (c ns : List ℕ) (x : Option ℕ) (call : Call) → ((n : ℕ) �
 outside_off c ns None call h q = tt
 outside_off c ns (Some n) call h q = outside_line c ns n call (listed n ns (h n refl)) q
 
+-- a receiver that goes along has its lines
 pub lines_of : (o : Option ℕ) (largest : ℕ) (ids : List CopyId) (ns : List ℕ) (r : Receiver) (b : Broker) → GoesAlong o largest ids ns r b → HasLines ns r
 lines_of None largest ids ns r b k = k.lines
 lines_of (Some birth) largest ids ns r b k = k.lines
@@ -154,6 +159,7 @@ placed_others largest ids ns limits choice now call r b placed tidy its seat = b
           placed = placed_on largest ids x.more ns ns birth placed.line (Some birth) r q b new placed grows refl x.new x.differ x.in_step seat placed.its_line (λ n e f. placed.apart n e f);
         }
 
+-- a call from outside leaves the receiver placed
 pub placed_called : (largest : ℕ) (ids : List CopyId) (ns : List ℕ) (limits : Limits) (choice : MemberChoice) (now : ℕ) (call : Call) (r : Receiver) (b : Broker) → IsPlaced largest ids ns r b → IsTidy limits b → IsOutside r.client ns call
     → GoesFurther largest ids ns (receiver_called limits choice now call r b) (stepped limits choice now call b)
 placed_called largest ids ns limits choice now call r b placed tidy out =
@@ -164,10 +170,12 @@ placed_called largest ids ns limits choice now call r b placed tidy out =
 
 -- ---- what it makes of the world
 
+-- a call tells the receiver what goes down its line
 pub named_called : (c : List ℕ) (set : Setting) (call : Call) (w : World)
     → receiver_named c (calls set call w) ≡ option_map (receiver_told (stepped set.limits set.choice w.now call w.broker) (told set.limits set.choice w.now call w.broker)) (receiver_named c w)
 named_called c set call w = find_receiver c (receiver_told (stepped set.limits set.choice w.now call w.broker) (told set.limits set.choice w.now call w.broker)) (λ r. refl) w.receivers
 
+-- and leaves the world around it
 pub calls_around : (c : List ℕ) (set : Setting) (ns : List ℕ) (call : Call) (w : World) → IsAround c set.limits ns w → read_if spending set (Some call) w ≡ false → IsAround c set.limits ns (calls set call w)
 calls_around c set ns call w a unspent =
     let b = stepped set.limits set.choice w.now call w.broker in
@@ -216,11 +224,13 @@ calls_with c largest set call ids ns w h unspent goes = by (receiver_named c w) 
           begin_on ids x.more,
         )
 
+-- a call from outside leaves it standing, with the copies that entered
 pub called_copies : (c : List ℕ) (largest : ℕ) (set : Setting) (call : Call) (ids : List CopyId) (ns : List ℕ) (w : World) → StandsWith c largest set.limits ids ns w → read_if spending set (Some call) w ≡ false
     → (is_some (receiver_named c w) ≡ true → IsOutside c ns call) → (all : List CopyId) × StandsWith c largest set.limits all ns (calls set call w) × BeginWith ids all
 called_copies c largest set call ids ns w h unspent out = calls_with c largest set call ids ns w h unspent (λ r e placed.
     placed_called largest ids ns set.limits set.choice w.now call r w.broker placed h.around.tidy (subst (λ (z : List ℕ). IsOutside z ns call) (sym (named_receiver c r w e)) (out (ap is_some e))))
 
+-- so it stands on
 pub calls_stand : (first : List CopyId) (c : List ℕ) (largest : ℕ) (set : Setting) (call : Call) (ids : List CopyId) (ns : List ℕ) (w : World) → BeginWith first ids → StandsWith c largest set.limits ids ns w → read_if spending set (Some call) w ≡ false
     → (is_some (receiver_named c w) ≡ true → IsOutside c ns call) → Stands first c largest set.limits (calls set call w)
 calls_stand first c largest set call ids ns w g h unspent out = let x = called_copies c largest set call ids ns w h unspent out in record { ids = x.0; grown = begin_then first ids x.0 g x.2; ns = ns; standing = x.1 }
@@ -241,6 +251,7 @@ pub if_stands : (first : List CopyId) (c : List ℕ) (largest : ℕ) (set : Sett
 if_stands first c largest set None w h unspent out = h
 if_stands first c largest set (Some call) w h unspent out = calls_stand first c largest set call h.ids h.ns w h.grown h.standing unspent (λ there. out there call refl)
 
+-- a call that may be made leaves who is there
 pub if_there : (c : List ℕ) (set : Setting) (call : Option Call) (w : World) → is_some (receiver_named c (calls_if set call w)) ≡ is_some (receiver_named c w)
 if_there c set None w = refl
 if_there c set (Some call) w = ap is_some (named_called c set call w) ∙ is_some_mapped _ (receiver_named c w)

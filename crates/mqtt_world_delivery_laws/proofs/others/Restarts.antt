@@ -41,6 +41,7 @@ none_free : (ls : List BrokerLine) → AllByRecursion (IsFreeLine []) ls
 none_free [] = tt
 none_free (l ∷ ls) = ((λ inside. absurd cc), none_free ls)
 
+-- a restart leaves the receiver placed
 pub placed_restarted : (largest : ℕ) (ids : List CopyId) (ns : List ℕ) (limits : Limits) (choice : MemberChoice) (now : ℕ) (r : Receiver) (b : Broker) → IsPlaced largest ids ns r b → IsTidy limits b
     → GoesFurther largest ids [] (receiver_restarted r) (reopened limits choice now b)
 placed_restarted largest ids ns limits choice now r b placed tidy = by placed.birth placed.along placed.seat.his
@@ -109,6 +110,7 @@ rests_of : (largest : ℕ) (ids : List CopyId) (ns : List ℕ) (b : Broker) (o :
 rests_of largest ids ns b None h = h
 rests_of largest ids ns b (Some r) h = record { before = r; placed = h; same = refl }
 
+-- who stands may go through a restart
 pub may_restart : (first : List CopyId) (c : List ℕ) (largest : ℕ) (limits : Limits) (w : World) → Stands first c largest limits w → MayRestart first c largest limits w
 may_restart first c largest limits w s = record {
   ids = s.ids;
@@ -120,6 +122,7 @@ may_restart first c largest limits w s = record {
 
 -- ---- the restart: nobody has a line
 
+-- and stands behind it
 pub restart_stands : (first : List CopyId) (c : List ℕ) (largest : ℕ) (set : Setting) (w : World) → MayRestart first c largest set.limits w → read_opening spending set w ≡ false → Stands first c largest set.limits (restarts set w)
 restart_stands first c largest set w h unspent = by (receiver_named c w) h.seen found
   where
@@ -178,6 +181,7 @@ taken_rests first c d largest limits w f g f_takes g_takes lost s = record {
     by None x = x
     by (Some r) x = record { before = r; placed = x; same = same (bytes_eq r.client d) r }
 
+-- also with a stop before the commit
 pub before_rests : (first : List CopyId) (c : List ℕ) (a : Asking) (largest : ℕ) (set : Setting) (w : World) → Stands first c largest set.limits w → MayRestart first c largest set.limits (before set a w)
 before_rests first c (to_broker d) largest set w h = taken_rests first c d largest set.limits w taken_up taken_up takes_up takes_up (λ r. refl) h
 before_rests first c (old_to_broker d) largest set w h = taken_rests first c d largest set.limits w taken_old taken_old takes_old takes_old (λ r. refl) h
@@ -188,8 +192,10 @@ before_rests first c (stranger name bytes) largest set w h = may_restart first c
 
 -- ---- as events
 
+-- so it is for a restart as an event
 pub restarted_stands : (first : List CopyId) (c : List ℕ) (largest : ℕ) (set : Setting) (w : World) → Stands first c largest set.limits w → read_opening spending set w ≡ false → Stands first c largest set.limits (happens set restart w)
 restarted_stands first c largest set w h unspent = restart_stands first c largest set w (may_restart first c largest set.limits w h) unspent
 
+-- and for such a stop
 pub stopped_stands : (first : List CopyId) (c : List ℕ) (a : Asking) (largest : ℕ) (set : Setting) (w : World) → Stands first c largest set.limits w → read_opening spending set (before set a w) ≡ false → Stands first c largest set.limits (happens set (stop_before a) w)
 stopped_stands first c a largest set w h unspent = restart_stands first c largest set (before set a w) (before_rests first c a largest set w h) unspent

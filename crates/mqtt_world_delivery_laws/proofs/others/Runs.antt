@@ -43,6 +43,7 @@ module _ (first : List CopyId) (c : List ℕ) where
 
 -- ---- a turn, and a run
 
+-- behind a turn copies fit the receiver's line
 pub fit_after : (first : List CopyId) (c : List ℕ) (limits : Limits) (t : Turn) (w : World) → Stands first c any_size limits w → IsFit c w → read_at spending (setting limits t) t.event w ≡ false → IsFit c (turned limits t w)
 fit_after first c limits t w s f unspent =
     let a = s.standing.around in
@@ -58,6 +59,7 @@ pub record IsKept (first : List CopyId) (c : List ℕ) (limits : Limits) (w : Wo
   pub stands : Stands first c any_size limits w
   pub fit : IsFit c w
 
+-- a turn keeps what is asked of a receiver
 pub turn_kept : (first : List CopyId) (c : List ℕ) (limits : Limits) (t : Turn) (w : World) → IsKept first c limits w → begins_clean t.event w ≡ true → read_at spending (setting limits t) t.event w ≡ false → IsKept first c limits (turned limits t w)
 turn_kept first c limits t w k carried unspent = record { stands = by (is_bad t.event w) refl unspent; fit = fit_after first c limits t w k.stands k.fit unspent }
   where
@@ -68,6 +70,7 @@ turn_kept first c limits t w k carried unspent = record { stands = by (is_bad t.
     by true is u = k.stands
     by false is u = happens_stands first c t.event set w k.stands k.fit is carried u
 
+-- so does a run
 pub run_kept : (first : List CopyId) (c : List ℕ) (limits : Limits) (ts : List Turn) (w : World) → IsKept first c limits w → run_spends limits ts w ≡ false → are_beginnings_clean limits ts w ≡ true → IsKept first c limits (run limits ts w)
 run_kept first c limits [] w k unspent carried = k
 run_kept first c limits (t ∷ ts) w k unspent carried =

@@ -19,6 +19,7 @@ use Rattle.mqtt_world_receiver_laws.proofs.queue.Numbers.{place_of, places_numbe
 use Rattle.mqtt_records_rows.specs.Distinct.{AllDiffer}
 use Rattle.mqtt_rules.specs.State.{Broker}
 
+-- in a new world a receiver stands
 pub new_stands : (c : List ℕ) (largest : ℕ) (limits : Limits) (w : World) → AreWithin limits → IsTidy limits w.broker → IsNew w → Stands [] c largest limits w
 new_stands c largest limits w within tidy new = record {
   ids = [];

@@ -45,6 +45,7 @@ lost_rests first c largest set w s r e unspent = subst (λ (o : Option ℕ). rea
               (record { before = record q { line = left q.line }; placed = lost_placed largest s.ids s.ns set.limits set.choice w.now n r w.broker placed s.standing.around.steady is; same = refl });
         }
 
+-- a stop behind another's step may be gone through
 pub after_rests : (first : List CopyId) (c : List ℕ) (a : Asking) (largest : ℕ) (set : Setting) (w : World) → Stands first c largest set.limits w → IsForOthers c a → is_bad_asking a w ≡ false → read_first spending set a w ≡ false → MayRestart first c largest set.limits (first_step set a w)
 after_rests first c (to_broker d) largest set w s other good unspent = may_restart first c largest set.limits (first_step set (to_broker d) w) (other_reads first c d largest set w s (λ there. other) unspent)
 after_rests first c (old_to_broker d) largest set w s other good unspent = may_restart first c largest set.limits (first_step set (old_to_broker d) w) (other_reads_old first c d largest set w s (λ there. other) unspent)
@@ -57,6 +58,7 @@ after_rests first c (break d) largest set w s other good unspent = elim (whose_n
       (lost_rests first c largest set w s own.0 own.1 (subst (λ (x : List ℕ). read_first spending set (break x) w ≡ false) own.2 unspent))
 ]
 
+-- and leaves the receiver standing
 pub stopped_after_stands : (first : List CopyId) (c : List ℕ) (a : Asking) (largest : ℕ) (set : Setting) (w : World) → Stands first c largest set.limits w → IsForOthers c a → is_bad_asking a w ≡ false → read_first spending set a w ≡ false
     → read_opening spending set (first_step set a w) ≡ false → Stands first c largest set.limits (happens set (stop_after a) w)
 stopped_after_stands first c a largest set w s other good unspent opens = restart_stands first c largest set (first_step set a w) (after_rests first c a largest set w s other good unspent) opens

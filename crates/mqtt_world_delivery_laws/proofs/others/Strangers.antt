@@ -30,6 +30,7 @@ use Rattle.mqtt_world_delivery_laws.proofs.order.Growing.{begin_then}
 abbrev pub changed : List ℕ → (Stranger → Stranger) → Stranger → Stranger
 changed name f s = cond (bytes_eq s.name name) (f s) s
 
+-- who is found is changed
 pub find_changed : (name : List ℕ) (f : Stranger → Stranger) (ss : List Stranger) → ((s : Stranger) → (f s).name ≡ s.name)
     → find (λ (s : Stranger). bytes_eq s.name name) (map (changed name f) ss) ≡ option_map f (find (λ (s : Stranger). bytes_eq s.name name) ss)
 find_changed name f [] h = refl
@@ -40,6 +41,7 @@ find_changed name f (s ∷ ss) h = elim (cases_Bool (bytes_eq s.name name)) [
   | inr other ↦ rw (other, other) (find_changed name f ss h)
 ]
 
+-- what holds of all holds behind the change
 pub all_changed : (P : Stranger → Type 0) (name : List ℕ) (f : Stranger → Stranger) (ss : List Stranger) → ((s : Stranger) → P s → P (f s)) → AllByRecursion P ss → AllByRecursion P (map (changed name f) ss)
 all_changed P name f ss h a = all_mapped P P (changed name f) ss (λ s q. by (bytes_eq s.name name) s q) a
   where
@@ -80,6 +82,7 @@ held_stands first c largest limits name w s =
 
 -- ---- it comes
 
+-- a new line leaves the receiver standing
 pub linking_stands : (c : List ℕ) (largest : ℕ) (set : Setting) (ids : List CopyId) (ns : List ℕ) (w : World) → StandsWith c largest set.limits ids ns w → (all : List CopyId) × StandsWith c largest set.limits all ns (calls set NewLine w) × BeginWith ids all
 linking_stands c largest set ids ns w h = called_copies c largest set NewLine ids ns w h (linking_spends_none set.limits set.choice w.now w.broker) (λ there. tt)
 
@@ -91,6 +94,7 @@ next_free c largest set ids ns w h can = λ n is.
     let given = linked_given set w.now w.broker can in
     (fresh_unlisted n ns w.broker.given it h.around.known, omega (arith, it, given))
 
+-- so do bytes of a stranger
 pub comes_stands : (first : List CopyId) (c : List ℕ) (largest : ℕ) (set : Setting) (name bytes : List ℕ) (w : World) → Stands first c largest set.limits w → Stands first c largest set.limits (comes set name bytes w)
 comes_stands first c largest set name bytes w s = by (is_some (stranger_named name w))
   where
@@ -132,6 +136,7 @@ comes_held set name bytes w = by (stranger_named name w) refl
 
 -- ---- its packets
 
+-- where neither holds, both fail
 pub either_false : (a b : Bool) → (a || b) ≡ false → (a ≡ false) × (b ≡ false)
 either_false true b h = absurd cc
 either_false false b h = (refl, h)
@@ -175,6 +180,7 @@ next_outside first c largest limits name w v h there good found x is = by (stran
         let free = (all_find (IsOtherStranger h.ns v.broker.given) (λ (z : Stranger). bytes_eq z.name name) s v.strangers h.standing.around.strangers e).0 in
         held_outside c h.ns v.broker.given w s x (sym there ∙ found) free (sym (ap (λ (z : Option Stranger). front_names (first_of (bytes_held z)) w) e) ∙ good) (sym (ap call_of_stranger e) ∙ is)
 
+-- what a stranger holds costs nothing
 pub same_cost : (set : Setting) (name : List ℕ) (v : World) (x : Option Call) → read_if spending set x v ≡ false → read_if spending set x (next_held name v) ≡ false
 same_cost set name v None e = refl
 same_cost set name v (Some x) e = e
@@ -191,6 +197,7 @@ held_once name v = ap bytes_held (find_changed name (λ (s : Stranger). record s
     by None = sym nothing_held
     by (Some s) = refl
 
+-- behind an answer he holds what is behind the packet
 pub held_next : (set : Setting) (name : List ℕ) (v : World) (x : Option Call) → bytes_held (stranger_named name (calls_if set x (next_held name v))) ≡ held_after (bytes_held (stranger_named name v))
 held_next set name v None = held_once name v
 held_next set name v (Some x) = held_once name v
@@ -208,6 +215,7 @@ rest_stands first (suc more) c largest set name w v h there good unspent =
 
 -- ---- its bytes are answered, whole or the first packet alone
 
+-- bytes that name no end name none when they have come
 pub good_then : (set : Setting) (name bytes : List ℕ) (w : World) → is_bad_asking (stranger name bytes) w ≡ false
     → bytes_name (held_count (stranger_named name (comes set name bytes w))) (bytes_held (stranger_named name (comes set name bytes w))) w ≡ false
 good_then set name bytes w good =
@@ -218,6 +226,7 @@ good_then set name bytes w good =
     count_is None = refl
     count_is (Some s) = refl
 
+-- what strangers ask leaves the receiver standing
 pub stranger_stands : (first : List CopyId) (c name bytes : List ℕ) (largest : ℕ) (set : Setting) (w : World) → Stands first c largest set.limits w → is_bad_asking (stranger name bytes) w ≡ false → read_asked spending set (stranger name bytes) w ≡ false
     → Stands first c largest set.limits (asks set (stranger name bytes) w)
 stranger_stands first c name bytes largest set w h good unspent =
@@ -238,6 +247,7 @@ first_outside first c largest set name bytes w h good =
     next_outside first c largest set.limits name w (comes set name bytes w) h (comes_there c set name bytes w)
     (ap (λ (xs : List ℕ). front_names (first_of xs) w) (comes_held set name bytes w) ∙ first_good all w good)
 
+-- so does the first of it alone
 pub stranger_first : (first : List CopyId) (c name bytes : List ℕ) (largest : ℕ) (set : Setting) (w : World) → Stands first c largest set.limits w → is_bad_asking (stranger name bytes) w ≡ false → read_first spending set (stranger name bytes) w ≡ false
     → Stands first c largest set.limits (first_step set (stranger name bytes) w)
 stranger_first first c name bytes largest set w h good unspent =

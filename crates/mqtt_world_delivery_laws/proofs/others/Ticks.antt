@@ -118,6 +118,7 @@ placed_ticked largest ids ns limits choice now r b placed tidy = by (find (λ (x
           (λ x f. let both : Some l ≡ Some x = sym e ∙ f in let same : l ≡ x = cc in ap (λ (y : BrokerLine). is_one_of (Some y.number) ns) (sym same) ∙ outside) seat
     ]
 
+-- and the clock's turn
 pub ticked_stands : (first : List CopyId) (c : List ℕ) (largest : ℕ) (set : Setting) (w : World) → Stands first c largest set.limits w → read_first spending set tick w ≡ false → Stands first c largest set.limits (asks set tick w)
 ticked_stands first c largest set w s unspent =
     let x = calls_with c largest set Tick s.ids s.ns w s.standing unspent (λ r e placed. placed_ticked largest s.ids s.ns set.limits set.choice w.now r w.broker placed s.standing.around.tidy) in

@@ -161,6 +161,7 @@ spared_left client birth k r b own (lingers it of is calm there) =
     ∙ (ap (λ (t : Bool). filter_map answered (unless_closed t r.line.old)) (left_own client birth k b own (there ∙ ap (λ (n : ℕ). Some (Some n)) same))
     ∙ sym (spared_calm r.line.old calm))
 
+-- a line without a session spares all
 pub spared_none : (k : ℕ) (r : Receiver) (b : Broker) → Former None k (line_like r.line) b → filter_map answered r.line.old ≡ spared (filter_map answered r.line.old)
 spared_none k r b (over none) = let empty = none_like r.line.old none in ap (filter_map answered) empty ∙ sym (ap (λ (xs : List Back). spared (filter_map answered xs)) empty)
 spared_none k r b (late m is old idle there) = let alone_is = connect_like false r.line.old old in ap (filter_map answered) alone_is ∙ sym (ap (λ (xs : List Back). spared (filter_map answered xs)) alone_is)
@@ -168,6 +169,7 @@ spared_none k r b (lingers birth of is calm there) = absurd cc
 
 -- ---- what the broker may make of the CONNECT, on whichever line it comes
 
+-- a receiver's first CONNECT may begin a session
 pub may_begin : (limits : Limits) (r : Receiver) (l : BrokerLine) (b : Broker) → AreWithin limits → IsSteady b → HaveSentNothing b → IsNamed r.client → Awaits r.line.number l b → session_named r.client b.records ≡ None
     → filter_map answered r.line.old ≡ spared (filter_map answered r.line.old) → IsBeginning limits r l b
 may_begin limits r l b within steady unsent named here none old = record {
@@ -196,6 +198,7 @@ may_renew limits r l s b within steady place named a = record {
   some = named.some;
 }
 
+-- a later one may resume it
 pub may_resume : (k : ℕ) (r : Receiver) (l : BrokerLine) (s : Session) (b : Broker) → HaveSentNothing b → Awaits r.line.number l b → IsKept r.client s b → Own r.client s.birth k b
     → filter_map answered (unless_closed (is_one_of r.line.old_number (lines_left (line_of s.birth b))) r.line.old) ≡ spared (filter_map answered r.line.old) → IsResuming r l s b
 may_resume k r l s b unsent here kept own old = record {

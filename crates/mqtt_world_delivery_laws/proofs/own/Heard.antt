@@ -28,6 +28,7 @@ use Rattle.mqtt_world_delivery_laws.specs.Standing.{GoesAlong, IsPlaced, line_li
 use Rattle.mqtt_world_delivery_laws.proofs.others.Like.{former_as, told_like}
 use Rattle.mqtt_world_delivery_laws.proofs.others.Losses.{none_named}
 
+-- a receiver in step has a session
 pub named_there : (largest : ℕ) (ids : List CopyId) (birth : ℕ) (ns : List ℕ) (r : Receiver) (b : Broker) → IsInStep largest ids birth ns r b → AllDiffer ids → is_some (session_named r.client b.records) ≡ true
 named_there largest ids birth ns r b k differ = by (session_named r.client b.records) refl
   where
@@ -37,6 +38,7 @@ named_there largest ids birth ns r b k differ = by (session_named r.client b.rec
 
 -- ---- a packet is taken off the line that it gave up
 
+-- a packet that was read from the old line leaves the receiver present
 pub present_taken : (o : Option ℕ) (k : ℕ) (r : Receiver) (b : Broker) → Present o k (line_like r.line) b → Present o k (line_like (taken_old r.line)) b
 present_taken o k r b (absent none up) = absent none up
 present_taken o k r b (waiting n clean is link_is clean_is up down idle there) = waiting n clean is link_is clean_is up down idle there
@@ -49,6 +51,7 @@ calm_drop (x ∷ xs) h = h.1
 
 -- ---- a packet was taken off one of its lines, which leaves these there, and this is where its session is and what becomes of its lines
 
+-- a call on its line leaves the receiver placed
 pub placed_with : (largest : ℕ) (ids all : List CopyId) (ns : List ℕ) (limits : Limits) (choice : MemberChoice) (now : ℕ) (call : Call) (o : Option ℕ) (k : ℕ) (up old : List Back) (r : Receiver) (b : Broker) → IsPlaced largest ids ns r b
     → AreToldApart all (stepped limits choice now call b).records → IsHis r.client o k (stepped limits choice now call b)
     → Present o k (told_by (stepped limits choice now call b) (told limits choice now call b) (line_like (record r.line { up = up; old = old }))) (stepped limits choice now call b)

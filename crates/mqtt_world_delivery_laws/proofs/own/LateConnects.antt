@@ -154,6 +154,7 @@ module _ (largest : ℕ) (ids : List CopyId) (ns : List ℕ) (limits : Limits) (
 
 -- ---- as an event
 
+-- a CONNECT on the old line leaves the receiver standing
 pub old_connected_stands : (first : List CopyId) (c : List ℕ) (clean : Bool) (rest : List Back) (largest : ℕ) (set : Setting) (r : Receiver) (w : World) → Stands first c largest set.limits w → receiver_named c w ≡ Some r → HaveSentNothing w.broker
     → r.line.old ≡ answers (connect clean) ∷ rest → read_first spending set (old_to_broker c) w ≡ false → Stands first c largest set.limits (asks set (old_to_broker c) w)
 old_connected_stands first c clean rest largest set r w s e unused old unspent = elim (front_there placed.birth placed.line (answers (connect clean)) rest r w.broker placed.seat.former old) [

@@ -45,6 +45,7 @@ read_placed largest ids ns limits choice now x rest r b placed steady j calm non
 
 -- ---- as an event
 
+-- so does an answer there
 pub old_answered_stands : (first : List CopyId) (c : List ℕ) (x : Answer) (rest : List Back) (largest : ℕ) (set : Setting) (r : Receiver) (w : World) → Stands first c largest set.limits w → receiver_named c w ≡ Some r → HasNoConnect (x ∷ []) → r.line.old ≡ answers x ∷ rest
     → read_first spending set (old_to_broker c) w ≡ false → Stands first c largest set.limits (asks set (old_to_broker c) w)
 old_answered_stands first c x rest largest set r w s e none up unspent = elim (front_there placed.birth placed.line (answers x) rest r w.broker placed.seat.former up) [

@@ -190,6 +190,7 @@ read_placed largest ids ns limits choice now clean rest r l b placed within stea
 
 -- ---- as an event
 
+-- so does a CONNECT on its line
 pub connected_stands : (first : List CopyId) (c : List ℕ) (clean : Bool) (rest : List Back) (largest : ℕ) (set : Setting) (r : Receiver) (w : World) → Stands first c largest set.limits w → receiver_named c w ≡ Some r → HaveSentNothing w.broker
     → r.line.up ≡ answers (connect clean) ∷ rest → read_first spending set (to_broker c) w ≡ false → Stands first c largest set.limits (asks set (to_broker c) w)
 connected_stands first c clean rest largest set r w s e unsent up unspent = elim (front placed.birth placed.line (answers (connect clean)) rest r w.broker placed.seat.present up) [

@@ -69,6 +69,7 @@ sent_placed largest ids ns limits choice now n r b placed steady distinct is fit
           placed.its_line (λ m e f. placed.apart m e f);
     }
 
+-- and a pump
 pub sent_stands : (first : List CopyId) (c : List ℕ) (largest : ℕ) (set : Setting) (r : Receiver) (w : World) → Stands first c largest set.limits w → receiver_named c w ≡ Some r → HasDistinctIdentifiers w.broker.records
     → ((n : ℕ) (l : BrokerLine) (birth : ℕ) → r.line.number ≡ Some n → line_at n w.broker ≡ Some l → l.session ≡ Some birth → l.largest ≡ largest)
     → read_first spending set (pump c) w ≡ false → Stands first c largest set.limits (asks set (pump c) w)

@@ -104,6 +104,7 @@ read_placed largest ids ns limits choice now x rest r b placed steady j none up 
 
 -- ---- as an event
 
+-- and an answer
 pub answered_stands : (first : List CopyId) (c : List ℕ) (x : Answer) (rest : List Back) (largest : ℕ) (set : Setting) (r : Receiver) (w : World) → Stands first c largest set.limits w → receiver_named c w ≡ Some r → HasNoConnect (x ∷ []) → r.line.up ≡ answers x ∷ rest
     → read_first spending set (to_broker c) w ≡ false → Stands first c largest set.limits (asks set (to_broker c) w)
 answered_stands first c x rest largest set r w s e none up unspent = elim (front placed.birth placed.line (answers x) rest r w.broker placed.seat.present up) [

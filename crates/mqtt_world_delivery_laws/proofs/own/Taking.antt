@@ -441,6 +441,7 @@ happens_takes first restart c largest set w s h good = restarts_take c set w h
 happens_takes first (stop_before a) c largest set w s h good = restarts_take c set (before set a w) (before_takes a c set w h)
 happens_takes first (stop_after a) c largest set w s h good = restarts_take c set (first_step set a w) (first_takes first a c largest set w s h)
 
+-- a turn leaves its line taking packets of any size
 pub turn_takes : (first : List CopyId) (c : List ℕ) (largest : ℕ) (limits : Limits) (t : Turn) (w : World) → Stands first c largest limits w → ItsLineTakes c w → ItsLineTakes c (turned limits t w)
 turn_takes first c largest limits t w s h = by (is_bad t.event w) refl
   where
@@ -450,9 +451,11 @@ turn_takes first c largest limits t w s h = by (is_bad t.event w) refl
 
 -- ---- at the beginning, and in the words of a look-up
 
+-- so it is in a new world
 pub new_takes : (c : List ℕ) (w : World) → IsNew w → ItsLineTakes c w
 new_takes c w new = subst (λ (rs : List Receiver). EachTakes (named c rs) w.broker) (sym new.receivers) tt
 
+-- its line takes what its CONNECT asked for
 pub takes_there : (c : List ℕ) (r : Receiver) (n birth : ℕ) (l : BrokerLine) (w : World) → ItsLineTakes c w → receiver_named c w ≡ Some r → r.line.number ≡ Some n → line_at n w.broker ≡ Some l → l.session ≡ Some birth → TakesAsAsked r.window l
 takes_there c r n birth l w h e is at on =
     let mine : ReceiverTakes r w.broker = subst (λ (o : Option Receiver). EachTakes o w.broker) e h in

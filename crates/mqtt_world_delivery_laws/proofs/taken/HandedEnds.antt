@@ -55,6 +55,7 @@ run_got c limits (t ∷ ts) v q r k e f unspent carried most =
     let ds = deeds_at (setting limits t) t.event v in
     ends_append (IsGot c r) ds (deeds_over limits ts u) (got_later c q r (filter_map ended_in ds) (run_keeps_ledger limits (t ∷ ts) v c q r e f) most first) rest
 
+-- each copy that ends as taken in the rest of a fair run was handed over
 pub run_takes : (limits : Limits) (xs ys : List Turn) (w : World) → IsUntouched limits w → IsFair limits (xs ++ ys) w → (c : List ℕ) (q : Receiver) → receiver_named c (run limits xs w) ≡ Some q → (r : Receiver) → receiver_named c (run limits (xs ++ ys) w) ≡ Some r
     → All (WasHanded c r) (filter_map ended_in (deeds_over limits ys (run limits xs w)))
 run_takes limits xs ys w u fair c q e r f =

@@ -715,6 +715,7 @@ abbrev pub SendsNone : Call → Type 0
 SendsNone (Pump n) = ⊥
 SendsNone call = ⊤
 
+-- a call that takes no answer ends no copy as taken
 pub untaken_of : (env : Env) (call : Call) (b : Broker) → TakesNone call → AllByRecursion IsUntaken (deeds_of env call b)
 untaken_of env (Pump n) b h = untaken_pump env n b
 untaken_of env (Input n packet) b h = all_untaken (deeds_of env (Input n packet) b) (plain_call env (Input n packet) h b)
@@ -725,12 +726,15 @@ silent_of env (Pump n) b h = absurd h
 silent_of env (Input n packet) b h = silent_input env n packet b
 silent_of env call b h = all_silent (deeds_of env call b) (plain_call env call tt b)
 
+-- nor do its deeds
 pub untaken_deeds : (limits : Limits) (choice : MemberChoice) (now : ℕ) (call : Call) (b : Broker) → TakesNone call → AllByRecursion IsUntaken (deeds limits choice now call b)
 untaken_deeds limits choice now call b h = untaken_of (env_of limits choice b) call (at_moment now b) h
 
+-- a call that sends nothing is silent
 pub silent_deeds : (limits : Limits) (choice : MemberChoice) (now : ℕ) (call : Call) (b : Broker) → SendsNone call → AllByRecursion IsSilent (deeds limits choice now call b)
 silent_deeds limits choice now call b h = silent_of (env_of limits choice b) call (at_moment now b) h
 
+-- an opening ends no copy as taken
 pub untaken_opening : (env : Env) (b : Broker) → AllByRecursion IsUntaken (opening env b)
 untaken_opening env b = all_untaken (opening env b) (plain_opening env b)
 

@@ -12,6 +12,7 @@ use Rattle.mqtt_world_delivery_laws.specs.HandedOver.{WasHandedOver}
 use Rattle.mqtt_world_delivery_laws.specs.Standing.{IsPlaced, IsSeen, Stands}
 use Rattle.mqtt_world_delivery_laws.proofs.others.Standings.{runs_so}
 
+-- a receiver that stands was handed copies that entered, each once
 pub handed_over : (first : List CopyId) (c : List ℕ) (largest : ℕ) (limits : Limits) (r : Receiver) (w : World) → Stands first c largest limits w → receiver_named c w ≡ Some r → WasHandedOver r w.broker
 handed_over first c largest limits r w s e = record {
   copies = x.after;

@@ -199,6 +199,7 @@ module _ (c : List ℕ) where
 
 -- ---- so what was handed over once, and no more than once, was so for good
 
+-- what was handed over stays so
 pub handed_for_good : (c : List ℕ) (limits : Limits) (ys : List Turn) (v : World) (q r : Receiver) (copy : CopyId) → receiver_named c v ≡ Some q → receiver_named c (run limits ys v) ≡ Some r → handed_count copy q ≡ 1 → handed_count copy r ≤ 1
     → handed_count copy r ≡ 1
 handed_for_good c limits ys v q r copy e f one most =

@@ -163,6 +163,7 @@ entered_parts limits (t ∷ xs) ys w =
     ∙ (sym (append_assoc first (entered_from limits xs u) (entered_from limits ys (run limits xs u)))
     ∙ ap (λ (ids : List CopyId). ids ++ entered_from limits ys (run limits xs u)) (sym (filter_map-append entered_in ds (deeds_over limits xs u)))))
 
+-- in every fair run all that a new receiver was handed had entered, in that order
 pub run_hands_all : (limits : Limits) (ts : List Turn) (w : World) → IsUntouched limits w → IsFair limits ts w → (c : List ℕ) (r : Receiver) → receiver_named c (run limits ts w) ≡ Some r → stand_among (copies_in r.ledger) (entered_from limits ts w) ≡ true
 run_hands_all limits ts w u fair c r e =
     let nobody : receiver_named c w ≡ None = ap (find (λ (x : Receiver). bytes_eq x.client c)) u.new.receivers in

@@ -24,6 +24,7 @@ use Rattle.mqtt_world_delivery_laws.proofs.taken.HandedEnds.{run_takes}
 use Rattle.mqtt_world_delivery_laws.proofs.whole.Newcomers.{run_hands_all}
 use Rattle.mqtt_world_delivery_laws.proofs.broker.Untouched.{start_untouched}
 
+-- every fair run delivers exactly once
 pub run_delivers : (limits : Limits) (ts : List Turn) (w : World) → IsUntouched limits w → TellsApart w.broker.records → IsFair limits ts w → DeliversOnce limits ts w
 run_delivers limits ts w u apart fair = record {
   accepted = accepts_once limits ts w u.new fair;
@@ -102,13 +103,16 @@ all_end limits (d ∷ ds) w k unspent carried =
     let clean = carried_append limits turns (all_turns limits ds v) w carried in
     (doing_ends limits d w k costs.0, all_end limits ds v (λ c. run_kept [] c limits turns w (k c) costs.0 clean.0) costs.1 clean.1)
 
+-- and every drain of a script ends
 pub script_drains : (limits : Limits) (ds : List Doing) (w : World) → IsUntouched limits w → IsFair limits (all_turns limits ds w) w → AllDrainsEnd limits ds w
 script_drains limits ds w u fair = all_end limits ds w (λ c. untouched_kept c limits w fair.within u) fair.unspent fair.clean
 
 -- ---- from nothing
 
+-- also from the start
 pub start_delivers : (limits : Limits) (ds : List Doing) → IsFair limits (all_turns limits ds start) start → DeliversOnce limits (all_turns limits ds start) start
 start_delivers limits ds fair = run_delivers limits (all_turns limits ds start) start (start_untouched limits fair.within) start_apart fair
 
+-- also from the start
 pub start_drains : (limits : Limits) (ds : List Doing) → IsFair limits (all_turns limits ds start) start → AllDrainsEnd limits ds start
 start_drains limits ds fair = script_drains limits ds start (start_untouched limits fair.within) fair

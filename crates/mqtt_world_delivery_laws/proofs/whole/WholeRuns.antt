@@ -145,6 +145,7 @@ module _ (limits : Limits) (ts : List Turn) (fair : IsFair limits ts start) (r :
 
 -- ---- each of them
 
+-- in every fair run from the start all are handed copies once
 pub all_handed_whole : (limits : Limits) (ts : List Turn) → IsFair limits ts start → AllHandedOnce limits ts
 all_handed_whole limits ts fair =
     let rs = (after limits ts).receivers in

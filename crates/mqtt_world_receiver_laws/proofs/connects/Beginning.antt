@@ -61,6 +61,7 @@ still_cut [] = refl
 still_cut (standing e m ∷ ls) = still_cut ls
 still_cut (past ending e m ∷ ls) = still_cut ls
 
+-- copies that were cut off are the same copies
 pub cut_ids : (copies : List Lot) → map id_of (map cut copies) ≡ map id_of copies
 cut_ids [] = refl
 cut_ids (standing e m ∷ ls) = ap (λ (cs : List CopyId). e.copy.id ∷ cs) (cut_ids ls)
@@ -256,6 +257,7 @@ first_beside number ids limits choice now clean r l b c m other =
       line_is = aside_lines m ds (at_moment now b) aside;
     }
 
+-- for a client without a session nothing is prepared
 pub prepare_none : (env : Env) (clean : Bool) (client : List ℕ) (window : ℕ) (b : Broker) → session_named client b.records ≡ None → prepare env (greeting clean client window) b ≡ []
 prepare_none env clean client window b none =
     let first : Act = of_client client (take_over env) in
@@ -287,6 +289,7 @@ none_closed : (o : Option ℕ) → is_one_of o [] ≡ false
 none_closed None = refl
 none_closed (Some m) = refl
 
+-- hearing a line keeps a session off it
 pub off_heard : (k now n : ℕ) (ls : List BrokerLine) → AllByRecursion (IsOffIt k) ls → AllByRecursion (IsOffIt k) (on_line now n Hear ls)
 off_heard k now n [] h = tt
 off_heard k now n (l ∷ ls) h = by (nat_eq l.number n) (off_heard k now n ls h.1)
@@ -295,6 +298,7 @@ off_heard k now n (l ∷ ls) h = by (nat_eq l.number n) (off_heard k now n ls h.
     by true g = (h.0, h.1)
     by false g = (h.0, g)
 
+-- a first CONNECT leaves a new, empty session on its line
 pub first_clears : (limits : Limits) (choice : MemberChoice) (now : ℕ) (clean : Bool) (r : Receiver) (l : BrokerLine) (b : Broker)
     → IsBeginning limits r l b → nat_lt (length b.records.sessions) limits.sessions ≡ true → Clears limits choice now clean r l b [] []
 first_clears limits choice now clean r l b a room =
@@ -324,6 +328,7 @@ first_clears limits choice now clean r l b a room =
       old = ap (λ (t : Bool). filter_map answered (unless_closed t r.line.old)) (none_closed r.line.old_number) ∙ a.old;
     }
 
+-- a first CONNECT goes on as a new run of the hop
 pub first_begins : (number : Numbering) (largest : ℕ) (copies : List Lot) (limits : Limits) (choice : MemberChoice) (now : ℕ) (clean : Bool) (rest : List Back) (r : Receiver) (l : BrokerLine) (b : Broker)
     → IsRun number largest copies r b → IsBeginning limits r l b → nat_lt (length b.records.sessions) limits.sessions ≡ true → r.line.up ≡ answers (connect clean) ∷ rest
     → RunsOn number largest copies (reads_answer limits choice now l.number (connect clean) r b) (after_answer limits choice now l.number (connect clean) r b)

@@ -78,6 +78,7 @@ module _ (number : Numbering) (largest : ℕ) (copies : List Lot) (limits : Limi
   begins_receives : Receives (reads_old_answer limits choice now l.number (connect clean) r b) (after_answer limits choice now l.number (connect clean) r b)
   begins_receives = late_receives number largest copies (map cut copies) limits choice now clean rest r l.number (suc b.records.births) [] b old a.number apart linked_is_one refl (cut_ids copies) takes
 
+-- a first CONNECT on the old line leaves the receiver in step
 pub late_first_in_step : (largest : ℕ) (ids : List CopyId) (ns : List ℕ) (limits : Limits) (choice : MemberChoice) (now : ℕ) (clean : Bool) (rest : List Back) (r : Receiver) (l : BrokerLine) (b : Broker)
     → IsAwaiting largest ids ns r b → IsBeginning limits (left_alone r) l b → is_one_of r.line.number (l.number ∷ []) ≡ false → nat_lt (length b.records.sessions) limits.sessions ≡ true
     → r.line.old ≡ answers (connect clean) ∷ rest
@@ -135,6 +136,7 @@ module _ (number : Numbering) (largest : ℕ) (copies : List Lot) (limits : Limi
   renews_receives : Receives (reads_old_answer limits choice now l.number (connect true) r b) (after_answer limits choice now l.number (connect true) r b)
   renews_receives = late_receives number largest copies (map cut copies) limits choice now true rest r l.number birth ns b old a.resuming.number apart linked open_still (cut_ids copies) renews_takes
 
+-- so does one with Clean Start there
 pub late_renewal_in_step : (largest : ℕ) (ids : List CopyId) (birth : ℕ) (ns : List ℕ) (limits : Limits) (choice : MemberChoice) (now : ℕ) (rest : List Back) (r : Receiver) (l : BrokerLine) (s : Session) (b : Broker)
     → IsInStep largest ids birth ns r b → IsRenewing limits (left_alone r) l s b → is_one_of r.line.number (l.number ∷ []) ≡ false
     → is_linked r.line.number b ≡ is_one_of r.line.number (lines_left (line_of s.birth b)) → r.line.old ≡ answers (connect true) ∷ rest
@@ -221,6 +223,7 @@ module _ (limits : Limits) (choice : MemberChoice) (now : ℕ) (clean : Bool) (r
         };
       }
 
+-- one that is refused there leaves it waiting
 pub late_refused_awaiting : (largest : ℕ) (ids : List CopyId) (ns : List ℕ) (limits : Limits) (choice : MemberChoice) (now : ℕ) (clean : Bool) (rest : List Back) (r : Receiver) (l : BrokerLine) (b : Broker)
     → IsAwaiting largest ids ns r b → IsBeginning limits (left_alone r) l b → is_one_of r.line.number (l.number ∷ []) ≡ false → nat_lt (length b.records.sessions) limits.sessions ≡ false
     → r.line.old ≡ answers (connect clean) ∷ rest

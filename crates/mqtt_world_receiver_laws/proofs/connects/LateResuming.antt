@@ -64,6 +64,7 @@ module _ (number : Numbering) (largest : ℕ) (copies : List Lot) (limits : Limi
   resumed_receives : Receives (reads_old_answer limits choice now l.number (connect false) r b) (after_answer limits choice now l.number (connect false) r b)
   resumed_receives = late_receives number largest copies (map renewed copies) limits choice now false rest r n s.birth ns b old a.number a.apart a.linked open_still (renewed_ids copies) takes
 
+-- a CONNECT on the old line to a session that stands goes on with the hop
 pub late_connect_runs : (number : Numbering) (largest : ℕ) (copies : List Lot) (limits : Limits) (choice : MemberChoice) (now : ℕ) (rest : List Back) (r : Receiver) (l : BrokerLine) (s : Session) (b : Broker)
     → IsRun number largest copies r b → IsLate r l s b → r.line.old ≡ answers (connect false) ∷ rest
     → RunsOn number largest copies (reads_old_answer limits choice now l.number (connect false) r b) (after_answer limits choice now l.number (connect false) r b)
@@ -73,6 +74,7 @@ late_connect_runs number largest copies limits choice now rest r l s b h a old =
 
 -- ---- and so the two are in step
 
+-- and leaves the receiver in step
 pub late_resume_in_step : (largest : ℕ) (ids : List CopyId) (birth : ℕ) (ns : List ℕ) (limits : Limits) (choice : MemberChoice) (now : ℕ) (rest : List Back) (r : Receiver) (l : BrokerLine) (s : Session) (b : Broker)
     → IsInStep largest ids birth ns r b → IsLate r l s b → r.line.old ≡ answers (connect false) ∷ rest
     → IsInStep largest ids birth ns (reads_old_answer limits choice now l.number (connect false) r b) (after_answer limits choice now l.number (connect false) r b)

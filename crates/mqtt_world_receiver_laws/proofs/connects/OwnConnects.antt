@@ -72,6 +72,7 @@ module _ (client : List ℕ) (birth : ℕ) (ns : List ℕ) where
       call_served client birth ns limits choice now (Input n (wire_back r.client r.window (answers (connect false)))) b
       (subst (AreSafe client birth ns) (sym is) (tt, each_append (IsSafe client birth ns) (front ++ back) [] safe tt)) v
 
+-- a CONNECT to a session that stands leaves the receiver in step
 pub resume_in_step : (largest : ℕ) (ids : List CopyId) (birth : ℕ) (ns : List ℕ) (limits : Limits) (choice : MemberChoice) (now : ℕ) (rest : List Back) (r : Receiver) (l : BrokerLine) (s : Session) (b : Broker)
     → IsInStep largest ids birth ns r b → IsResuming r l s b → r.line.up ≡ answers (connect false) ∷ rest
     → IsInStep largest ids birth ns (reads_answer limits choice now l.number (connect false) r b) (after_answer limits choice now l.number (connect false) r b)
@@ -136,6 +137,7 @@ module _ (client : List ℕ) (ns : List ℕ) (clean : Bool) (window : ℕ) (l : 
       safe_served client new_birth ns (greet l (greeting clean client window) new_birth ∷ Send l.number (packets_of.connack false success (connack_properties false client)) ∷ []) (after (Begin row None) c)
       ((refl, inside), (tt, tt)) first
 
+-- a new, empty session is served
 pub clears_served : (limits : Limits) (choice : MemberChoice) (now : ℕ) (clean : Bool) (r : Receiver) (l : BrokerLine) (b : Broker) (front : List Deed) (closed ns : List ℕ) → Clears limits choice now clean r l b front closed
     → AllByRecursion (IsFreeLine ns) (after_all front (heard_of now l.number b)).lines → ((n : ℕ) → is_one_of (Some n) ns ≡ true → n ≤ (after_all front (heard_of now l.number b)).given)
     → is_one_of (Some l.number) ns ≡ true
@@ -152,6 +154,7 @@ clears_served limits choice now clean r l b front closed ns c free given inside 
     moment_served r.client birth ns (rows_of_all ds first.records) (after_all ds first)
     (subst (IsServed r.client birth ns) (sym end) (begun_served r.client ns clean r.window l d c.none c.births free c.off given inside))
 
+-- hearing a line keeps the others free
 pub free_heard : (ns : List ℕ) (now n : ℕ) (ls : List BrokerLine) → AllByRecursion (IsFreeLine ns) ls → AllByRecursion (IsFreeLine ns) (on_line now n Hear ls)
 free_heard ns now n [] h = tt
 free_heard ns now n (l ∷ ls) h = by (nat_eq l.number n) (free_heard ns now n ls h.1)
@@ -160,6 +163,7 @@ free_heard ns now n (l ∷ ls) h = by (nat_eq l.number n) (free_heard ns now n l
     by true g = (h.0, h.1)
     by false g = (h.0, g)
 
+-- a first CONNECT leaves the receiver in step
 pub first_in_step : (largest : ℕ) (ids : List CopyId) (ns : List ℕ) (limits : Limits) (choice : MemberChoice) (now : ℕ) (clean : Bool) (rest : List Back) (r : Receiver) (l : BrokerLine) (b : Broker)
     → IsAwaiting largest ids ns r b → IsBeginning limits r l b → nat_lt (length b.records.sessions) limits.sessions ≡ true → r.line.up ≡ answers (connect clean) ∷ rest
     → IsInStep largest ids (suc b.records.births) ns (reads_answer limits choice now l.number (connect clean) r b) (after_answer limits choice now l.number (connect clean) r b)
@@ -206,6 +210,7 @@ own_free birth ns (l ∷ ls) own off = (λ inside. by l.session refl inside, own
         let clash : true ≡ false = sym (nat_eq_equiv.refl birth) ∙ (ap (λ (j : ℕ). nat_eq j birth) (sym same) ∙ (ap (λ (o : Option ℕ). is_of o birth) (sym e) ∙ off.0)) in
         absurd cc
 
+-- a session that a Clean Start begins is served
 pub renewal_served : (birth : ℕ) (ns : List ℕ) (limits : Limits) (choice : MemberChoice) (now : ℕ) (r : Receiver) (l : BrokerLine) (s : Session) (b : Broker)
     → IsServed r.client birth ns b → is_one_of (Some l.number) ns ≡ true → IsRenewing limits r l s b
     → IsServed r.client (suc b.records.births) ns (after_answer limits choice now l.number (connect true) r b)
@@ -231,6 +236,7 @@ renewal_served birth ns limits choice now r l s b v inside a =
     subst (λ (j : ℕ). IsServed r.client (suc j) ns (after_answer limits choice now n (connect true) r b)) x.births_are
     (clears_served limits choice now true r l b front (lines_left (line_of s.birth b)) ns x.clears free ended.given inside)
 
+-- a CONNECT with Clean Start leaves the receiver in step
 pub renewal_in_step : (largest : ℕ) (ids : List CopyId) (birth : ℕ) (ns : List ℕ) (limits : Limits) (choice : MemberChoice) (now : ℕ) (rest : List Back) (r : Receiver) (l : BrokerLine) (s : Session) (b : Broker)
     → IsInStep largest ids birth ns r b → IsRenewing limits r l s b → r.line.up ≡ answers (connect true) ∷ rest
     → IsInStep largest ids (suc b.records.births) ns (reads_answer limits choice now l.number (connect true) r b) (after_answer limits choice now l.number (connect true) r b)

@@ -51,10 +51,12 @@ connect_refused env l clean client window b none short plain full =
     ∙ (ap (λ (z : Option Session). joins env l c b.now [] b.records z) none
     ∙ ap (λ (t : Bool). cond t ([] ++ begin_named (is_empty client) l c b.records) (refused l c quota_exceeded)) full))
 
+-- the stored moment gives no line
 pub moment_given : (rows : List Change) (b : Broker) → (with_moment rows b).given ≡ b.given
 moment_given [] b = refl
 moment_given (row ∷ rows) b = refl
 
+-- the loss of a line keeps the others free
 pub free_gone : (ns : List ℕ) (n : ℕ) (ls : List BrokerLine) → AllByRecursion (IsFreeLine ns) ls → AllByRecursion (IsFreeLine ns) (filter (λ (l : BrokerLine). not (nat_eq l.number n)) ls)
 free_gone ns n [] h = tt
 free_gone ns n (l ∷ ls) h = elim (cases_Bool (nat_eq l.number n)) [
@@ -62,6 +64,7 @@ free_gone ns n (l ∷ ls) h = elim (cases_Bool (nat_eq l.number n)) [
   | inr stays ↦ rw stays (h.0, free_gone ns n ls h.1)
 ]
 
+-- a closed line has nothing under way
 pub unless_true : (t : Bool) (xs : List Back) → t ≡ true → filter_map answered (unless_closed t xs) ≡ []
 unless_true true xs e = refl
 unless_true false xs e = absurd cc
@@ -166,6 +169,7 @@ module _ (limits : Limits) (choice : MemberChoice) (now : ℕ) (clean : Bool) (r
       };
     }
 
+-- a CONNECT that is refused leaves the receiver waiting
 pub refused_awaiting : (largest : ℕ) (ids : List CopyId) (ns : List ℕ) (limits : Limits) (choice : MemberChoice) (now : ℕ) (clean : Bool) (rest : List Back) (r : Receiver) (l : BrokerLine) (b : Broker)
     → IsAwaiting largest ids ns r b → IsBeginning limits r l b → is_one_of r.line.old_number (l.number ∷ []) ≡ false → nat_lt (length b.records.sessions) limits.sessions ≡ false
     → r.line.up ≡ answers (connect clean) ∷ rest

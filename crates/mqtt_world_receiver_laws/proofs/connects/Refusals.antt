@@ -16,6 +16,7 @@ use Rattle.mqtt_flow.proofs.outbound.SessionLives.{seen}
 use Rattle.mqtt_flow.proofs.outbound.Stages.{Blank, Calm, Good, is_asked, is_away, is_connect, is_live, is_read, is_sent, is_shut, no_line, was_shut}
 use Rattle.mqtt_flow_inbound.specs.Line.{Link, asked, away, live, sent_on}
 
+-- two runs one behind the other are one
 pub run_append : (largest : ℕ) (es fs : List Event) (w : Hop) → run largest (es ++ fs) w ≡ run largest fs (run largest es w)
 run_append largest [] fs w = refl
 run_append largest (e ∷ es) fs w = run_append largest es fs (step largest w e)
@@ -256,5 +257,6 @@ from_here largest before (e ∷ es) t =
     let is : run largest (before ++ e ∷ []) start ≡ step largest (run largest before start) e = run_append largest before (e ∷ []) start in
     subst (λ (w : Hop). Tame (run largest es w)) is (from_here largest (before ++ e ∷ []) es (subst Tame (sym is) one))
 
+-- in every run no refusal of a CONNECT is behind the CONNACK that is awaited
 pub tame_run : (largest : ℕ) (es : List Event) → Tame (run largest es start)
 tame_run largest es = from_here largest [] es (record { greeted = λ e. refl; plain = tt })

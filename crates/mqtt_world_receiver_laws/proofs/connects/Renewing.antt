@@ -84,6 +84,7 @@ on_place n k place (l ∷ ls) = elim (cases_Bool (is_of l.session k)) [
   | inr other ↦ elim (cases_Bool (nat_eq l.number n)) [ inl here ↦ rw (other, here) refl | inr further ↦ rw (other, further) (on_place n k place ls) ]
 ]
 
+-- a copy's leaving keeps a session off its lines
 pub off_place : (birth k place : ℕ) (ls : List BrokerLine) → AllByRecursion (IsOffIt birth) ls → AllByRecursion (IsOffIt birth) (map (without_place k place) ls)
 off_place birth k place [] h = tt
 off_place birth k place (l ∷ ls) h = (by (is_of l.session k), off_place birth k place ls h.1)
@@ -177,6 +178,7 @@ pub record Renews (limits : Limits) (choice : MemberChoice) (now : ℕ) (r : Rec
   pub clears : Clears limits choice now true r l b (ended_by its s (heard_of now l.number b).now) (lines_left (line_of s.birth b))
   pub births_are : (after_all (ended_by its s (heard_of now l.number b).now) (heard_of now l.number b)).records.births ≡ b.records.births
 
+-- a Clean Start leaves a new, empty session on its line
 pub renewed_clears : (limits : Limits) (choice : MemberChoice) (now : ℕ) (r : Receiver) (l : BrokerLine) (s : Session) (b : Broker) → IsRenewing limits r l s b → Renews limits choice now r l s b
 renewed_clears limits choice now r l s b a =
     let n = l.number in
@@ -267,6 +269,7 @@ renewal_is_run number largest copies limits choice now rest r l s b h a up =
     (ap (λ (xs : List Answer). up_comes false xs w) (ap (filter_map answered) up)
     ∙ ap (λ (z : Bool). connects z true false (filter_map answered rest) w) stands)
 
+-- a Clean Start goes on as a new run of the hop
 pub renewal_runs : (number : Numbering) (largest : ℕ) (copies : List Lot) (limits : Limits) (choice : MemberChoice) (now : ℕ) (rest : List Back) (r : Receiver) (l : BrokerLine) (s : Session) (b : Broker)
     → IsRun number largest copies r b → IsRenewing limits r l s b → r.line.up ≡ answers (connect true) ∷ rest
     → RunsOn number largest copies (reads_answer limits choice now l.number (connect true) r b) (after_answer limits choice now l.number (connect true) r b)

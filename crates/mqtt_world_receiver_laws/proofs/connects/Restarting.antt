@@ -81,6 +81,7 @@ lost_all number largest all birth r now b h =
 lost_served : (client : List ℕ) (birth : ℕ) (ns : List ℕ) (now : ℕ) (b : Broker) → IsServed client birth ns b → IsServed client birth [] (unopened now b.records)
 lost_served client birth ns now b v = record { sessions = v.sessions; lines = tt; births = v.births; given = λ n inside. absurd cc }
 
+-- behind a restart the receiver has no line
 pub lost_lines : (r : Receiver) → HasLines [] (receiver_restarted r)
 lost_lines r = record { own = λ n e. absurd cc; old = λ n e. absurd cc }
 
@@ -179,6 +180,7 @@ module _ (largest : ℕ) (env : Env) (small : env.limits.queue ≤ QUEUE_LIMIT) 
 
 -- ---- the restart
 
+-- a restart leaves the hop going on
 pub restart_goes_on : (largest : ℕ) (ids : List CopyId) (limits : Limits) (choice : MemberChoice) (now birth : ℕ) (ns : List ℕ) (r : Receiver) (b : Broker)
     → RunsFor largest ids birth r b → IsServed r.client birth ns b → IsTidy limits b → starts_with nat_eq r.client auto ≡ false
     → GoesOn largest ids birth [] b.records.publications (receiver_restarted r) (reopened limits choice now b)
@@ -219,6 +221,7 @@ none_opened limits choice now client b none =
     let same = ap (λ (w : InboundHop). w.stands) (empty_restart_is_hop limits choice now (new_publisher client) b [] none) in
     no_session (session_named client (opened limits choice now b.records).records) (same ∙ ap is_some none)
 
+-- also where the receiver has no session
 pub restart_without : (number : Numbering) (largest : ℕ) (copies : List Lot) (limits : Limits) (choice : MemberChoice) (now : ℕ) (r : Receiver) (b : Broker)
     → IsRun number largest copies r b → session_named r.client b.records ≡ None
     → RunsOn number largest copies (receiver_restarted r) (reopened limits choice now b) × (session_named r.client (reopened limits choice now b).records ≡ None)

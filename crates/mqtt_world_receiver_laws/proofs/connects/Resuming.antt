@@ -60,15 +60,18 @@ use Rattle.mqtt_world_receiver_laws.proofs.queue.Turns.{renewed_lots, same_entri
 
 -- ---- copies on a new connection
 
+-- the copies that stand on a new connection are those that stood
 pub still_renewed : (copies : List Lot) → still_standing (map renewed copies) ≡ map renewed (still_standing copies)
 still_renewed [] = refl
 still_renewed (standing e m ∷ ls) = ap (λ (xs : List Lot). standing (unsent e) m ∷ xs) (still_renewed ls)
 still_renewed (past ending e m ∷ ls) = still_renewed ls
 
+-- and none of them was sent on it
 pub renewed_standing : (copies : List Lot) (queue : List CopyRow) (o : Option (List ℕ)) → StandOn copies queue o → still_standing (map renewed copies) ≡ map (lot_on []) queue
 renewed_standing copies queue None h = still_renewed copies ∙ h
 renewed_standing copies queue (Some went) h = still_renewed copies ∙ (ap (map renewed) h ∙ renewed_lots went queue)
 
+-- they are the same copies
 pub renewed_ids : (copies : List Lot) → map id_of (map renewed copies) ≡ map id_of copies
 renewed_ids [] = refl
 renewed_ids (standing e m ∷ ls) = ap (λ (cs : List CopyId). e.copy.id ∷ cs) (renewed_ids ls)
@@ -97,6 +100,7 @@ abbrev pub lines_without : Option BrokerLine → List BrokerLine → List Broker
 lines_without None ls = ls
 lines_without (Some x) ls = filter (λ (l : BrokerLine). not (nat_eq l.number x.number)) ls
 
+-- a takeover drops the line that the session stood on
 pub left_lines : (o : Option BrokerLine) (s : Session) (b : Broker) → (after_all (left_by o s b.now) b).lines ≡ lines_without o b.lines
 left_lines None s b = refl
 left_lines (Some x) s b = refl
@@ -133,6 +137,7 @@ none_has (Some x) birth (l ∷ ls) h = elim (cases_Bool (nat_eq l.number x.numbe
 abbrev pub went_at : ℕ → List BrokerLine → Option (List ℕ)
 went_at n ls = option_map (λ (l : BrokerLine). l.went) (find (λ (l : BrokerLine). nat_eq l.number n) ls)
 
+-- hearing a line keeps what went out on it
 pub went_at_heard : (now n : ℕ) (ls : List BrokerLine) → went_at n (on_line now n Hear ls) ≡ went_at n ls
 went_at_heard now n [] = refl
 went_at_heard now n (l ∷ ls) = elim (cases_Bool (nat_eq l.number n)) [
@@ -140,6 +145,7 @@ went_at_heard now n (l ∷ ls) = elim (cases_Bool (nat_eq l.number n)) [
   | inr further ↦ rw (further, further) (went_at_heard now n ls)
 ]
 
+-- so does the drop of another line
 pub went_at_left : (o : Option BrokerLine) (birth n : ℕ) (ls : List BrokerLine) → IsTaken o birth n → went_at n (lines_without o ls) ≡ went_at n ls
 went_at_left None birth n ls t = refl
 went_at_left (Some x) birth n ls t = all ls
@@ -229,9 +235,11 @@ greeting clean client window = record {
   password = None;
 }
 
+-- a receiver's CONNECT is not refused for its name
 pub refused_not : (clean : Bool) (client : List ℕ) (window : ℕ) (r : Records) → nat_lt 64 (length client) ≡ false → starts_with nat_eq client auto ≡ false → refusal (greeting clean client window) r ≡ None
 refused_not clean client window r short plain = rw (short, plain) refl
 
+-- a CONNECT to a session that stands is the takeover and the resumption
 pub connect_is : (o : Option BrokerLine) (env : Env) (l : BrokerLine) (client : List ℕ) (window : ℕ) (s : Session) (b : Broker) → line_of s.birth b ≡ o → IsTaken o s.birth l.number → IsKept client s b
     → on_connect env l (greeting false client window) b ≡ left_by o s b.now ++ resume l (greeting false client window) b.now (taken_from o b.now s)
 connect_is o env l client window s b e t k =
@@ -242,6 +250,7 @@ connect_is o env l client window s b e t k =
     ∙ (ap (λ (ds : List Deed). joins_after env l c b.now ds (after_all ds b).records) prepared
     ∙ ap (λ (z : Option Session). joins env l c b.now (left_by o s b.now) (after_all (left_by o s b.now) b).records z) (named_taken o client s b k))
 
+-- the call of a CONNECT is to hear it and to connect
 pub call_is : (limits : Limits) (choice : MemberChoice) (now : ℕ) (clean : Bool) (client : List ℕ) (window : ℕ) (l : BrokerLine) (b : Broker) → line_at l.number b ≡ Some l → l.session ≡ None
     → deeds limits choice now (Input l.number (Connect (greeting clean client window))) b
     ≡ On l.number Hear ∷ (on_connect (env_of limits choice b) l (greeting clean client window) (heard_of now l.number b) ++ [])
@@ -257,11 +266,13 @@ taken_queue (Some l) now s = refl
 
 -- ---- what is told and closed where the session was taken over
 
+-- what a takeover tells goes to the old line
 pub left_untold : (o : Option BrokerLine) (s : Session) (now n : ℕ) (new : Broker) (ds : List Deed) → IsTaken o s.birth n
     → sent_to (Some n) new (filter_map output (left_by o s now ++ ds)) ≡ sent_to (Some n) new (filter_map output ds)
 left_untold None s now n new ds t = refl
 left_untold (Some x) s now n new ds t = let other = t.another x refl in rw other refl
 
+-- and it closes that one alone
 pub left_closes : (o : Option BrokerLine) (s : Session) (now : ℕ) (ds : List Deed) → filter_map closing ds ≡ [] → filter_map closing (left_by o s now ++ ds) ≡ lines_left o
 left_closes None s now ds h = h
 left_closes (Some x) s now ds h = ap (λ (ns : List ℕ). x.number ∷ ns) h
@@ -581,6 +592,7 @@ pub connect_is_run : (number : Numbering) (largest : ℕ) (copies : List Lot) (l
     → IsRun number largest (map renewed copies) (reads_answer limits choice now l.number (connect false) r b) (after_answer limits choice now l.number (connect false) r b)
 connect_is_run number largest copies limits choice now rest r l s b h a up = resumed_is number largest copies limits choice now rest r l s b h.queue_is a up h
 
+-- a CONNECT to a session that stands goes on with the hop
 pub connect_runs : (number : Numbering) (largest : ℕ) (copies : List Lot) (limits : Limits) (choice : MemberChoice) (now : ℕ) (rest : List Back) (r : Receiver) (l : BrokerLine) (s : Session) (b : Broker)
     → IsRun number largest copies r b → IsResuming r l s b → r.line.up ≡ answers (connect false) ∷ rest
     → RunsOn number largest copies (reads_answer limits choice now l.number (connect false) r b) (after_answer limits choice now l.number (connect false) r b)

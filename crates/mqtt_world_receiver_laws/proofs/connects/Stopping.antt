@@ -24,12 +24,14 @@ use Rattle.mqtt_world_receiver_laws.proofs.connects.Restarting.{restart_goes_on}
 
 -- ---- the tables stay in order
 
+-- a step leaves a tidy broker tidy
 pub step_tidy : (limits : Limits) (choice : MemberChoice) (now : ℕ) (call : Call) (b : Broker) → IsTidy limits b → IsTidy limits (stepped limits choice now call b)
 step_tidy limits choice now call b t = record {
   ordered = step-ordered limits choice now call b t.ordered;
   within = t.within;
 }
 
+-- so does a broker that opens again
 pub opening_tidy : (limits : Limits) (choice : MemberChoice) (now : ℕ) (b : Broker) → IsTidy limits b → IsTidy limits (reopened limits choice now b)
 opening_tidy limits choice now b t = record {
   ordered = opening-ordered limits choice now b.records t.ordered;
@@ -45,6 +47,7 @@ apart_from birth before b c xs ys p q =
     (λ x h. all_more (IsNewCopy birth b.records.publications c.records.publications) (λ y. x ≢ y) ys
     (λ y g e. let same = ap (λ (id : CopyId). id.publication) e in let less = h.within in let more = g.above in omega (arith, same, less, more)) q) p
 
+-- what goes on further goes on
 pub goes_further : (largest : ℕ) (ids : List CopyId) (birth : ℕ) (ns ms : List ℕ) (before : ℕ) (q r : Receiver) (b c : Broker)
     → (g : GoesOn largest ids birth ns before q b) → before ≤ b.records.publications → b.records.publications ≤ c.records.publications
     → GoesOn largest (ids ++ g.more) birth ms b.records.publications r c → GoesOn largest ids birth ms before r c
@@ -64,6 +67,7 @@ goes_further largest ids birth ns ms before q r b c g first last h = record {
 
 -- ---- after the commit of a call of others
 
+-- a step whose answers are lost leaves the hop going on
 pub stopped_goes_on : (largest : ℕ) (ids : List CopyId) (limits : Limits) (choice : MemberChoice) (now : ℕ) (call : Call) (birth : ℕ) (ns : List ℕ) (r : Receiver) (b : Broker)
     → RunsFor largest ids birth r b → IsServed r.client birth ns b → HasLines ns r → IsTidy limits b → starts_with nat_eq r.client auto ≡ false
     → IsCallOfOthers r.client ns call (at_moment now b)
@@ -109,6 +113,7 @@ called_receivers : (set : Setting) (o : Option Call) (w : World) → map receive
 called_receivers set None w = refl
 called_receivers set (Some call) w = same_restarted (receiver_told (stepped set.limits set.choice w.now call w.broker) (told set.limits set.choice w.now call w.broker)) (λ r. refl) w.receivers
 
+-- behind a stop receivers are as behind a restart
 pub receivers_after : (set : Setting) (a : Asking) (w : World) → (happens set (stop_after a) w).receivers ≡ (happens set restart w).receivers
 receivers_after set a w = called_receivers set (call_of set a w) (before set a w) ∙ before_receivers set a w
 
@@ -144,6 +149,7 @@ before_now set (stranger name bytes) w = by (is_some (stranger_named name w))
     by true = refl
     by false = refl
 
+-- a stop before the commit is like a restart
 pub alike_before : (set : Setting) (a : Asking) (w : World) → AreAlike (happens set (stop_before a) w) (happens set restart w)
 alike_before set a w =
     let moment = before_now set a w in
@@ -152,6 +158,7 @@ alike_before set a w =
 
 -- ---- what a receiver sees where the call was for itself
 
+-- a stop in a step on its own line leaves the hop going on
 pub own_stop_goes_on : (largest : ℕ) (ids : List CopyId) (limits : Limits) (choice : MemberChoice) (now : ℕ) (call : Call) (birth : ℕ) (ns : List ℕ) (q : Receiver) (b : Broker)
     → IsInStep largest ids birth ns q (stepped limits choice now call b) → IsTidy limits b → starts_with nat_eq q.client auto ≡ false
     → GoesOn largest ids birth [] b.records.publications (receiver_restarted q) (stopped_after limits choice now call b)

@@ -99,6 +99,7 @@ told_so largest moments (Some (past x e m)) None a h = h
 told_so largest moments (Some (past x e m)) (Some (standing f k)) a h = h
 told_so largest moments (Some (past x e m)) (Some (past y f k)) a h = h.0
 
+-- a copy that ends at some of these moments ends at one of more
 pub ends_by_more : (largest : ℕ) (moments more : List ℕ) (o p : Option Lot) → ((f : ℕ → Bool) → Has f moments → Has f more) → EndsBy largest moments o p → EndsBy largest more o p
 ends_by_more largest moments more None p has a = tt
 ends_by_more largest moments more (Some (standing e m)) None has a = a
@@ -364,6 +365,7 @@ drain_run largest window (now ∷ moments) w = ⊎_elim
     (round_events largest window now w ++ d.0, rw o (d.1 ∙ sym (run_after largest (round_events largest window now w) d.0 w))))
     (test_cases (is_over w))
 
+-- a drain of the hop goes on
 pub drain_goes_on : (largest window : ℕ) (moments : List ℕ) (w : World) → Reached largest w → GoOn w (drained largest window moments w)
 drain_goes_on largest window moments w r = let d = drain_run largest window moments w in subst (GoOn w) (sym d.1) (goes_on largest w r d.0)
 
@@ -387,6 +389,7 @@ drain_ends largest window (now ∷ moments) w r room n = ⊎_elim
     rw o (all_trans largest (now ∷ rest) w v z first later on n))
     (test_cases (is_over w))
 
+-- a copy that ends in a drain ends by a cause of one of its rounds
 pub causes_of_run : (largest window : ℕ) (moments : List ℕ) (events : List Event) (n : ℕ) → 1 ≤ window
     → EndsBy largest (take (rounds_taken largest window moments (run largest events start)) moments) (slice_get (run largest events start).copies n) (slice_get (drained largest window moments (run largest events start)).copies n)
 causes_of_run largest window moments events n room =
@@ -397,6 +400,7 @@ causes_of_run largest window moments events n room =
 
 -- ---- with copies that make way
 
+-- two passings one behind the other are one
 pub passes_trans : (largest : ℕ) (moments : List ℕ) (o p q : Option Lot) → EndsOrDrops largest moments o p → EndsOrDrops largest moments p q → EndsOrDrops largest moments o q
 passes_trans largest moments None p q a b = tt
 passes_trans largest moments (Some (standing e m)) None q a b = absurd a
@@ -422,6 +426,7 @@ drops_none largest moments (Some (past x e m)) None a = a
 drops_none largest moments (Some (past x e m)) (Some (standing f k)) a = a
 drops_none largest moments (Some (past x e m)) (Some (past y f k)) a = a
 
+-- a copy that has ended rests
 pub ended_rests : (largest : ℕ) (moments : List ℕ) (o p : Option Lot) → EndsBy largest moments o p → Rests o p
 ended_rests largest moments None p a = tt
 ended_rests largest moments (Some (standing e m)) p a = tt
@@ -432,6 +437,7 @@ ended_rests largest moments (Some (past x e m)) (Some (past y f k)) a = tt
 passes_run : (largest : ℕ) (moments : List ℕ) (o p : Option Lot) → EndsOn largest moments o p → GoesOn o p → EndsOrDrops largest moments o p
 passes_run largest moments o p a h = drops_none largest moments o p (told_so largest moments o p a h)
 
+-- one that made way was dropped
 pub passes_way : (largest : ℕ) (moments : List ℕ) (o p : Option Lot) → MakesWay o p → EndsOrDrops largest moments o p
 passes_way largest moments None p a = tt
 passes_way largest moments (Some (standing e m)) None a = a
@@ -441,10 +447,12 @@ passes_way largest moments (Some (past x e m)) None a = a
 passes_way largest moments (Some (past x e m)) (Some (standing f k)) a = a
 passes_way largest moments (Some (past x e m)) (Some (past y f k)) a = a
 
+-- so does one that ends by a pump
 pub pump_passes : (largest window now n : ℕ) (w : World) → Reached largest w → EndsOrDrops largest (now ∷ []) (slice_get w.copies n) (slice_get (step largest w (hop.pump window now)).copies n)
 pump_passes largest window now n w r =
     passes_run largest (now ∷ []) (slice_get w.copies n) (slice_get (step largest w (hop.pump window now)).copies n) (pump_ends largest window now w (sound_at largest w r) n) (goes_on largest w r (hop.pump window now ∷ []) n)
 
+-- a copy that ends by answers ends by a cause, or was dropped
 pub answers_pass : (largest : ℕ) (moments : List ℕ) (k n : ℕ) (w : World) → Reached largest w → w.linked ≡ true → EndsOrDrops largest moments (slice_get w.copies n) (slice_get (run largest (times k (to_broker false)) w).copies n)
 answers_pass largest moments k n w r h =
     passes_run largest moments (slice_get w.copies n) (slice_get (run largest (times k (to_broker false)) w).copies n) (brokers_end largest moments k w r h n) (goes_on largest w r (times k (to_broker false)) n)

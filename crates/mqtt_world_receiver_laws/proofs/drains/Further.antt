@@ -23,12 +23,14 @@ use Rattle.mqtt_world_receiver_laws.proofs.queue.UnderWay.{at_up, blank_linked, 
 
 -- ---- a copy never has further to go than before
 
+-- a copy has at most two steps to go
 pub two_most : (p : Phase) → phases_left p ≤ 2
 two_most Waiting = omega arith
 two_most (Sent i) = omega arith
 two_most (Released i order) = omega arith
 two_most (Oversize i order) = omega arith
 
+-- one that stands has at least one
 pub one_least : (p : Phase) → 1 ≤ phases_left p
 one_least Waiting = omega arith
 one_least (Sent i) = omega arith
@@ -56,6 +58,7 @@ next_left (past x e m) (past y f n) h = omega arith
 abbrev Onward : List Lot → List Lot → Type 0
 Onward ls ks = (n : ℕ) → GoesOn (slice_get ls n) (slice_get ks n)
 
+-- going on leaves no more steps to go
 pub no_more_left : (ls ks : List Lot) → length ks ≡ length ls → Onward ls ks → all_left ks ≤ all_left ls
 no_more_left [] [] e h = omega arith
 no_more_left [] (k ∷ ks) e h = absurd (omega arith)
@@ -77,6 +80,7 @@ rests_on (Some (past x e m)) None h = tt
 rests_on (Some (past x e m)) (Some (standing f k)) h = h
 rests_on (Some (past x e m)) (Some (past y f k)) h = tt
 
+-- copies that rest leave no more standing
 pub no_more_rest : (ls ks : List Lot) → length ks ≡ length ls → ((n : ℕ) → Rests (slice_get ls n) (slice_get ks n)) → length (queue_of ks) ≤ length (queue_of ls)
 no_more_rest [] [] e h = omega arith
 no_more_rest [] (k ∷ ks) e h = absurd (omega arith)
@@ -86,9 +90,11 @@ no_more_rest (standing x m ∷ ls) (past a y n ∷ ks) e h = let rest = no_more_
 no_more_rest (past a x m ∷ ls) (standing y n ∷ ks) e h = absurd (h 0)
 no_more_rest (past a x m ∷ ls) (past c y n ∷ ks) e h = no_more_rest ls ks (omega arith) (λ n. h (suc n))
 
+-- going on leaves no more copies standing
 pub no_more_stand : (ls ks : List Lot) → length ks ≡ length ls → Onward ls ks → length (queue_of ks) ≤ length (queue_of ls)
 no_more_stand ls ks e h = no_more_rest ls ks e (λ n. rests_on (slice_get ls n) (slice_get ks n) (h n))
 
+-- one copy that goes further leaves fewer steps to go
 pub less_left : (ls ks : List Lot) → length ks ≡ length ls → Onward ls ks → (n : ℕ) (l k : Lot) → slice_get ls n ≡ Some l → slice_get ks n ≡ Some k → way_left k < way_left l → all_left ks < all_left ls
 less_left [] ks e h n l k a b f = absurd (cc)
 less_left (x ∷ ls) [] e h n l k a b f = absurd (omega arith)
@@ -112,21 +118,27 @@ run_append : (largest : ℕ) (es later : List Event) (w : World) → run largest
 run_append largest [] later w = refl
 run_append largest (e ∷ es) later w = run_append largest es later (step largest w e)
 
+-- two runs one behind the other are one
 pub run_after : (largest : ℕ) (es later : List Event) (w : World) → run largest (es ++ later) w ≡ run largest later (run largest es w)
 run_after largest es later w = run_append largest es later w
 
+-- what is reached goes on being so
 pub reached_on : (largest : ℕ) (w : World) → Reached largest w → (later : List Event) → Reached largest (run largest later w)
 reached_on largest w r later = (r.0 ++ later, run_append largest r.0 later start ∙ ap (run largest later) r.1)
 
+-- and its copies go on
 pub goes_on : (largest : ℕ) (w : World) → Reached largest w → (later : List Event) → GoOn w (run largest later w)
 goes_on largest w r later = subst (λ v. GoOn v (run largest later v)) r.1 (course_run largest r.0 later)
 
+-- a hop that is reached is good
 pub good_at : (largest : ℕ) (w : World) → Reached largest w → Good (seen w)
 good_at largest w r = subst (λ v. Good (seen v)) r.1 (good_run largest r.0)
 
+-- and sound
 pub sound_at : (largest : ℕ) (w : World) → Reached largest w → Sound largest w
 sound_at largest w r = subst (Sound largest) r.1 (run_leads largest r.0 start (sound_start largest) begins).sound
 
+-- and in order while it is linked
 pub norm_at : (largest : ℕ) (w : World) → Reached largest w → w.linked ≡ true → Norm (seen w)
 norm_at largest w r h = go (good_at largest w r)
   where
@@ -189,6 +201,7 @@ falls i k n g (in_flight j q c ∷ fs) m b h f = ⊎_elim
     (λ (t : nat_eq i j ≡ false). let r = falls i (suc k) n g fs m b (rw t at h) f in rw t (omega arith))
     (test_cases (nat_eq i j))
 
+-- an identifier that one copy holds is its own
 pub one_unique : (i n : ℕ) (m : Mark) (b : Body) (w : World) → held i 0 (map life w.copies) ≡ Copy n m b ∷ [] → Unique i w
 one_unique i n m b w h = let e = ap length h in omega arith
 
@@ -207,9 +220,11 @@ settled_further i g r ps a rest w said h agrees f =
     let y = left_lives (replied a rest w).copies in
     (sym l ∙ h, omega arith)
 
+-- a copy of QoS 1 that was sent is acknowledged
 pub puback_said : (o : Option (Mark × Body)) (b : Body) → o ≡ Some (sent true, b) → b.twice ≡ false → puback_reply o ≡ says []
 puback_said o b e t = rw (e, t) refl
 
+-- one that was released is completed
 pub pubcomp_said : (o : Option (Mark × Body)) (h t : Bool) (b : Body) → o ≡ Some (released h t, b) → pubcomp_reply o ≡ says []
 pubcomp_said o h t b e = rw e refl
 
@@ -254,6 +269,7 @@ up_further largest (pubcomp i code ∷ rest) w u some h heard inv s =
 pub heard_up : (largest : ℕ) (w : World) → Reached largest w → IsHeard w.linked w.up
 heard_up largest w r = heard_of w (good_at largest w r)
 
+-- an answer brings the hop further
 pub an_answer_further : (largest : ℕ) (w : World) → Reached largest w → w.linked ≡ true → Has (λ a. true) w.up → Onto w (step largest w (to_broker false))
 an_answer_further largest w r h some =
     up_further largest w.up w refl some h (heard_up largest w r) (norm_at largest w r h) (sound_at largest w r)

@@ -29,6 +29,7 @@ due_lives i (past ending e m ∷ ls) (inr h) = inr (due_lives i ls h)
 none_due : Owed lives.start
 none_due h i x = absurd x
 
+-- on a linked line each copy of which something is due has it, or its answer, under way
 pub all_under_way : (largest : ℕ) (es : List Event) → (run largest es start).linked ≡ true → IsUnderWay (run largest es start)
 all_under_way largest es h i x =
     let l = run_leads largest es start (sound_start largest) begins in

@@ -203,6 +203,7 @@ idle_pump way k room p xs e m ys w q h linked on (outgrows i order z) =
     (inl (turns_busy (pump_from way (queue_of ys) (paced (Outgrow e.place i order) e.phase p)) (take_turn (Outgrow e.place i order) w)
     (says_busy (pubrel i success) (record w { copies = lots_after (Outgrow e.place i order) w.copies }) refl linked)))
 
+-- copies that wait are not on the line, and those that outgrew it are too large for it
 pub unsent_at : (largest : ℕ) (w : World) → Reached largest w → AllUnsent largest w.copies
 unsent_at largest w r = subst (λ v. AllUnsent largest v.copies) r.1 (run_unsent largest r.0 start (sound_start largest) begins tt)
 
@@ -244,6 +245,7 @@ pump_further largest window now w r h room some = ⊎_elim
 
 -- ---- a round
 
+-- a round is a run of the hop
 pub round_run : (largest window now : ℕ) (w : World) → after_round largest window now w ≡ run largest (all_to_broker (run largest (all_to_end (step largest w (hop.pump window now))) (step largest w (hop.pump window now)))) (run largest (all_to_end (step largest w (hop.pump window now))) (step largest w (hop.pump window now)))
 round_run largest window now w =
     let v = step largest w (hop.pump window now) in
@@ -276,6 +278,7 @@ round_onto largest window now w r h room some =
 
 -- ---- a drain
 
+-- where neither holds, both fail
 pub either_false : (a b : Bool) → (a || not b) ≡ false → (a ≡ false) × (b ≡ true)
 either_false false true h = (refl, refl)
 either_false false false h = absurd (cc)
@@ -291,15 +294,18 @@ some_left [] h = absurd (cc)
 some_left (past x e m ∷ ls) h = let r = some_left ls h in omega arith
 some_left (standing e m ∷ ls) h = let one = one_least e.phase in omega arith
 
+-- a round leaves the hop reached
 pub reached_round : (largest window now : ℕ) (w : World) → Reached largest w → Reached largest (after_round largest window now w)
 reached_round largest window now w r = reached_on largest w r (round_events largest window now w)
 
+-- a round of a drain that is not over goes further
 pub round_further : (largest window now : ℕ) (w : World) → Reached largest w → 1 ≤ window → is_over w ≡ false → IsFurther w (after_round largest window now w)
 round_further largest window now w r room o =
     let both = either_false (is_none_left (length (queue_of w.copies))) w.linked o in
     let f = round_onto largest window now w r both.1 room both.0 in
     record { linked = f.0; less = f.1 }
 
+-- a drain takes no more rounds than there are steps to go
 pub rounds_within : (largest window : ℕ) (moments : List ℕ) (w : World) → Reached largest w → 1 ≤ window → rounds_taken largest window moments w ≤ all_left w.copies
 rounds_within largest window [] w r room = omega arith
 rounds_within largest window (now ∷ moments) w r room = ⊎_elim
@@ -321,6 +327,7 @@ over_empty w h o = go (queue_of w.copies) (rw h at o)
 abbrev pub Emptied : World → Type 0
 Emptied w = (w.linked ≡ true) × (queue_of w.copies ≡ [])
 
+-- and leaves the queue empty
 pub drain_empties : (largest window : ℕ) (moments : List ℕ) (w : World) → Reached largest w → 1 ≤ window → w.linked ≡ true → all_left w.copies ≤ length moments → Emptied (drained largest window moments w)
 drain_empties largest window [] w r room h few =
     let none : all_left w.copies ≡ 0 = omega arith in
@@ -334,6 +341,7 @@ drain_empties largest window (now ∷ moments) w r room h few = ⊎_elim
     rw o (drain_empties largest window moments v (reached_round largest window now w r) room y.linked (omega arith)))
     (test_cases (is_over w))
 
+-- at most two steps for each copy
 pub two_each : (ls : List Lot) → all_left ls ≤ 2 * length (queue_of ls)
 two_each [] = omega arith
 two_each (past x e m ∷ ls) = let r = two_each ls in omega arith
@@ -341,9 +349,11 @@ two_each (standing e m ∷ ls) = let a = two_most e.phase in let b = two_each ls
 
 -- ---- of every run
 
+-- so it is in every run of the hop: a round goes further
 pub round_of_run : (largest window now : ℕ) (events : List Event) → 1 ≤ window → is_over (run largest events start) ≡ false → IsFurther (run largest events start) (after_round largest window now (run largest events start))
 round_of_run largest window now events room o = round_further largest window now (run largest events start) (events, refl) room o
 
+-- the rounds are at most twice the copies
 pub rounds_of_run : (largest window : ℕ) (moments : List ℕ) (events : List Event) → 1 ≤ window → rounds_taken largest window moments (run largest events start) ≤ 2 * length (queue_of (run largest events start).copies)
 rounds_of_run largest window moments events room =
     let w = run largest events start in
@@ -357,8 +367,10 @@ emptied_run largest window moments events room h few =
     let b = two_each w.copies in
     drain_empties largest window moments w (events, refl) room h (omega arith)
 
+-- and behind them the queue is empty
 pub empty_of_run : (largest window : ℕ) (moments : List ℕ) (events : List Event) → 1 ≤ window → (run largest events start).linked ≡ true → 2 * length (queue_of (run largest events start).copies) ≤ length moments → queue_of (drained largest window moments (run largest events start)).copies ≡ []
 empty_of_run largest window moments events room h few = (emptied_run largest window moments events room h few).1
 
+-- while the line stays
 pub linked_of_run : (largest window : ℕ) (moments : List ℕ) (events : List Event) → 1 ≤ window → (run largest events start).linked ≡ true → 2 * length (queue_of (run largest events start).copies) ≤ length moments → (drained largest window moments (run largest events start)).linked ≡ true
 linked_of_run largest window moments events room h few = (emptied_run largest window moments events room h few).0

@@ -16,32 +16,39 @@ use Rattle.mqtt_world_receiver_laws.proofs.drains.Further.{Onto, Reached, an_ans
 
 -- ---- what a round leaves as it is
 
+-- what is told leaves the copies
 pub told_copies : (ps : List Output) (w : World) → (told ps w).copies ≡ w.copies
 told_copies [] w = refl
 told_copies (p ∷ ps) w = refl
 
+-- and the line
 pub told_linked : (ps : List Output) (w : World) → (told ps w).linked ≡ w.linked
 told_linked [] w = refl
 told_linked (p ∷ ps) w = refl
 
+-- mapping a list keeps the count
 pub length_map : {X Y : Type 0} (f : X → Y) (xs : List X) → length (map f xs) ≡ length xs
 length_map f [] = refl
 length_map f (x ∷ xs) = let r = length_map f xs in omega arith
 
+-- a turn does to the copies what it does to each
 pub turn_copies : (t : Turn) (w : World) → (take_turn t w).copies ≡ lots_after t w.copies
 turn_copies t w = told_copies (packets t w.copies) (record w { copies = lots_after t w.copies })
 
 turn_length : (t : Turn) (w : World) → length (take_turn t w).copies ≡ length w.copies
 turn_length t w = ap length (turn_copies t w) ∙ length_map (lot_after t) w.copies
 
+-- turns keep the count of copies
 pub turns_length : (ts : List Turn) (w : World) → length (take_turns ts w).copies ≡ length w.copies
 turns_length [] w = refl
 turns_length (t ∷ ts) w = turns_length ts (take_turn t w) ∙ turn_length t w
 
+-- and the line
 pub turns_linked : (ts : List Turn) (w : World) → (take_turns ts w).linked ≡ w.linked
 turns_linked [] w = refl
 turns_linked (t ∷ ts) w = turns_linked ts (take_turn t w) ∙ told_linked (packets t w.copies) (record w { copies = lots_after t w.copies })
 
+-- the receiver's reading leaves the copies
 pub reads_copies : (ps : List Output) (w : World) → (down_comes ps w).copies ≡ w.copies
 reads_copies [] w = refl
 reads_copies (connack p ∷ rest) w = go w.link
@@ -59,6 +66,7 @@ reads_copies (publish i n dup b ∷ rest) w = go b.twice
     go true = refl
     go false = refl
 
+-- so does all of it
 pub ends_copies : (largest k : ℕ) (w : World) → (run largest (times k to_end) w).copies ≡ w.copies
 ends_copies largest zero w = refl
 ends_copies largest (suc k) w = ends_copies largest k (down_comes w.down w) ∙ reads_copies w.down w
@@ -84,6 +92,7 @@ up_length r (puback i code ∷ rest) w = replied_length (rules.puback i code (qu
 up_length r (pubrec i code ∷ rest) w = replied_length (rules.pubrec i code (queue_of w.copies)) rest w
 up_length r (pubcomp i code ∷ rest) w = replied_length (rules.pubcomp i (queue_of w.copies)) rest w
 
+-- the broker's reading keeps their count
 pub brokers_length : (largest k : ℕ) (w : World) → length (run largest (times k (to_broker false)) w).copies ≡ length w.copies
 brokers_length largest zero w = refl
 brokers_length largest (suc k) w = brokers_length largest k (up_comes false w.up w) ∙ up_length false w.up w
@@ -148,11 +157,13 @@ ends_walk largest (publish i n dup b ∷ rest) w q h none =
     subst (λ ps. Comes largest (publish i n dup b ∷ rest) w.up (run largest (times (length rest) to_end) (down_comes ps w))) (sym q)
     (y.0, λ z. y.1)
 
+-- behind the receiver's reading its answers are under way
 pub ends_back : (largest : ℕ) (w : World) → Reached largest w → w.linked ≡ true → ((run largest (times (length w.down) to_end) w).linked ≡ true) × (Busy w → Has any (run largest (times (length w.down) to_end) w).up)
 ends_back largest w r h = ends_walk largest w.down w refl h (subst (λ v. Open (seen v)) r.1 (none_ends largest r.0) h)
 
 -- ---- the session reads all that is under way back
 
+-- an answer leaves the line
 pub up_linked : (largest : ℕ) (up : List Answer) (w : World) → w.up ≡ up → Reached largest w → w.linked ≡ true → (step largest w (to_broker false)).linked ≡ true
 up_linked largest [] w u r h = subst (λ us. (up_comes false us w).linked ≡ true) (sym u) h
 up_linked largest (a ∷ rest) w u r h = (an_answer_further largest w r h (subst (Has any) (sym u) (inl refl))).0
@@ -162,6 +173,7 @@ brokers_linked largest zero w r h = h
 brokers_linked largest (suc k) w r h =
     brokers_linked largest k (step largest w (to_broker false)) (reached_on largest w r (to_broker false ∷ [])) (up_linked largest w.up w refl r h)
 
+-- so do all
 pub brokers_keep : (largest : ℕ) (w : World) → Reached largest w → w.linked ≡ true → (run largest (times (length w.up) (to_broker false)) w).linked ≡ true
 brokers_keep largest w r h = brokers_linked largest (length w.up) w r h
 

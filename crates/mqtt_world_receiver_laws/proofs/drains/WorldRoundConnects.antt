@@ -186,6 +186,7 @@ module _ (limits : Limits) (choice : MemberChoice) (clean : Bool) (client : List
       } in
       subst (DrainsFrom number r.window ids birth ns client copies) (sym round_came) z
 
+-- a round on a line that begins with a resumption is one of the hop
 pub resumed_round : (number : Numbering) (ids : List CopyId) (birth : ℕ) (ns : List ℕ) (limits : Limits) (choice : MemberChoice) (client : List ℕ) (copies : List Lot) (r : Receiver) (l : BrokerLine) (s : Session) (w : World)
     → MayResume limits choice ids birth ns client r l s w → IsRun number any_size copies r w.broker
     → DrainsFrom number r.window ids birth ns client (map renewed copies) (after_round limits choice client w)
@@ -198,6 +199,7 @@ resumed_round number ids birth ns limits choice client copies r l s w m h =
     (subst (λ (k : ℕ). HasGreeted l.number k r.window (after_answer limits choice w.now l.number (connect false) r b)) its (resumed_line limits choice w.now r l s b a))
     (connect_is_run number any_size copies limits choice w.now [] r l s b h a j.up)
 
+-- so is one that begins with a Clean Start
 pub renewed_round : (number : Numbering) (ids : List CopyId) (birth : ℕ) (ns : List ℕ) (limits : Limits) (choice : MemberChoice) (client : List ℕ) (copies : List Lot) (r : Receiver) (l : BrokerLine) (s : Session) (w : World)
     → MayRenew limits choice ids birth ns client r l s w → IsRun number any_size copies r w.broker
     → DrainsFrom number r.window ids (suc w.broker.records.births) ns client (map cut copies) (after_round limits choice client w)
@@ -249,10 +251,12 @@ module _ (ids : List CopyId) (birth : ℕ) (ns : List ℕ) (limits : Limits) (ch
   resumed_over most room enough =
       drain_over_later any_size r.window ids birth ns limits choice client most after_it.receiver w room differ after_it.may (subst (λ (k : ℕ). enough_rounds k ≤ most) (sym as_many) enough)
 
+-- a drain behind a CONNECT ends within its bound
 pub connect_is_within : (ids : List CopyId) (birth : ℕ) (ns : List ℕ) (limits : Limits) (choice : MemberChoice) (client : List ℕ) (most : ℕ) (r : Receiver) (l : BrokerLine) (s : Session) (w : World) → 1 ≤ r.window → AllDiffer ids
     → MayResume limits choice ids birth ns client r l s w → rounds_taken limits choice client most w ≤ enough_rounds (copies_left client w)
 connect_is_within ids birth ns limits choice client most r l s w room differ m = resumed_within ids birth ns limits choice client r l s w differ m most room
 
+-- and is over then
 pub connect_is_over : (ids : List CopyId) (birth : ℕ) (ns : List ℕ) (limits : Limits) (choice : MemberChoice) (client : List ℕ) (most : ℕ) (r : Receiver) (l : BrokerLine) (s : Session) (w : World) → 1 ≤ r.window → AllDiffer ids
     → MayResume limits choice ids birth ns client r l s w → enough_rounds (copies_left client w) ≤ most → is_over client (drained limits choice client most w) ≡ true
 connect_is_over ids birth ns limits choice client most r l s w room differ m enough = resumed_over ids birth ns limits choice client r l s w differ m most room enough
@@ -267,6 +271,7 @@ renewed_from largest moments (Some (past x e m)) None a = a
 renewed_from largest moments (Some (past x e m)) (Some (standing f k)) a = a
 renewed_from largest moments (Some (past x e m)) (Some (past y f k)) a = a
 
+-- with an empty queue
 pub connect_is_drained : (number : Numbering) (ids : List CopyId) (birth : ℕ) (ns : List ℕ) (limits : Limits) (choice : MemberChoice) (client : List ℕ) (copies : List Lot) (most : ℕ) (r : Receiver) (l : BrokerLine) (s : Session) (w : World)
     → 1 ≤ r.window → MayResume limits choice ids birth ns client r l s w → map id_of copies ≡ ids → IsRun number any_size copies r w.broker → is_over client w ≡ false
     → IsDrained number any_size r.window ids birth ns client (moment_of w) copies (drained limits choice client (suc most) w)
@@ -301,6 +306,7 @@ module _ (limits : Limits) (choice : MemberChoice) (client : List ℕ) (v : Worl
 none_over : (client : List ℕ) (w : World) → copies_left client w ≡ 0 → is_over client w ≡ true
 none_over client w none = ap (λ (k : ℕ). is_none_left k || not (line_stands (receiver_named client w) w)) none
 
+-- so is one behind a Clean Start
 pub renewal_is_over : (ids : List CopyId) (birth : ℕ) (ns : List ℕ) (limits : Limits) (choice : MemberChoice) (client : List ℕ) (most : ℕ) (r : Receiver) (l : BrokerLine) (s : Session) (w : World) → AllDiffer ids
     → MayRenew limits choice ids birth ns client r l s w → is_over client w ≡ false
     → (rounds_taken limits choice client (suc most) w ≡ 1) × (drained limits choice client (suc most) w ≡ after_round limits choice client w) × (is_over client (after_round limits choice client w) ≡ true)
@@ -313,6 +319,7 @@ renewal_is_over ids birth ns limits choice client most r l s w differ m o =
     let over = none_over client v none in
     (rw o (ap suc (over_rounds limits choice client v over most)), more_rounds limits choice client most w o ∙ over_drained limits choice client v over most, over)
 
+-- a client without a session has nothing to drain
 pub none_drained : (limits : Limits) (choice : MemberChoice) (client : List ℕ) (most : ℕ) (w : World) → session_named client w.broker.records ≡ None
     → (rounds_taken limits choice client most w ≡ 0) × (drained limits choice client most w ≡ w)
 none_drained limits choice client most w none =

@@ -97,12 +97,14 @@ closes_none : (d : Deed) (b : Broker) → IsQuiet d b → closing d ≡ None
 closes_none (Gone n) b q = absurd q
 closes_none d b q = refl
 
+-- quiet deeds close no line
 pub none_closed : (ds : List Deed) (b : Broker) → AreGood IsQuiet ds b → filter_map closing ds ≡ []
 none_closed [] b q = refl
 none_closed (d ∷ ds) b q = rw (closes_none d b q.0) (none_closed ds (after d b) q.1)
 
 -- ---- a call of such deeds
 
+-- and keep what a line lets through
 pub quiet_way : (n : ℕ) (limits : Limits) (choice : MemberChoice) (now : ℕ) (call : Call) (b : Broker) → AreGood IsQuiet (deeds limits choice now call b) (at_moment now b)
     → way_on n (stepped limits choice now call b).lines ≡ way_on n b.lines
 quiet_way n limits choice now call b q =
@@ -114,6 +116,7 @@ moment_unique : (rows : List Change) (b : Broker) → HasUniqueLines b → HasUn
 moment_unique [] b u = u
 moment_unique (row ∷ rows) b u = record { ascending = u.ascending; given = u.given; once = u.once; stands = u.stands; connected = u.connected }
 
+-- and each session on one line
 pub quiet_unique : (limits : Limits) (choice : MemberChoice) (now : ℕ) (call : Call) (b : Broker) → AreGood IsQuiet (deeds limits choice now call b) (at_moment now b)
     → HasUniqueLines b → HasUniqueLines (stepped limits choice now call b)
 quiet_unique limits choice now call b q u =
@@ -131,6 +134,7 @@ moment_now : (rows : List Change) (b : Broker) → (with_moment rows b).now ≡ 
 moment_now [] b = refl
 moment_now (row ∷ rows) b = refl
 
+-- a step's moment is the one that it begins with
 pub step_now : (limits : Limits) (choice : MemberChoice) (now : ℕ) (call : Call) (b : Broker) → (stepped limits choice now call b).now ≡ (at_moment now b).now
 step_now limits choice now call b =
     let first = at_moment now b in
@@ -154,6 +158,7 @@ turn_entry : (o : Option CopyRow) (f : CopyRow → List Deed) → ((e : CopyRow)
 turn_entry None f h = tt
 turn_entry (Some e) f h = h e
 
+-- the deeds of a turn are such
 pub of_turn : (now line : ℕ) (s : Session) (t : Turn) → AllByRecursion IsOfTurn (turn_deeds now line s t)
 of_turn now line s (turns.Send place i) = turn_entry (row_at copy_place place s.queue) _ (λ e. (tt, (tt, (tt, tt))))
 of_turn now line s (turns.Resend place i) = turn_entry (row_at copy_place place s.queue) _ (λ e. (tt, (tt, tt)))
@@ -163,6 +168,7 @@ of_turn now line s (turns.Repeat i) = (tt, tt)
 of_turn now line s (turns.Unknown i) = (tt, tt)
 of_turn now line s (turns.Leave place ending) = turn_entry (row_at copy_place place s.queue) _ (λ e. (tt, tt))
 
+-- so are those of many
 pub of_turns : (now line : ℕ) (s : Session) (ts : List Turn) → AllByRecursion IsOfTurn (all_turn_deeds now line s ts)
 of_turns now line s [] = tt
 of_turns now line s (t ∷ ts) = each_append IsOfTurn (turn_deeds now line s t) (all_turn_deeds now line s ts) (of_turn now line s t) (of_turns now line s ts)
@@ -193,6 +199,7 @@ moment_same : (rows : List Change) (b : Broker) → HasSame b (with_moment rows 
 moment_same [] b = record { retained = refl; subscribes = refl }
 moment_same (row ∷ rows) b = record { retained = refl; subscribes = refl }
 
+-- a call of such deeds keeps sessions and lines
 pub call_same : (limits : Limits) (choice : MemberChoice) (now : ℕ) (call : Call) (b : Broker) → AllByRecursion IsOfTurn (deeds limits choice now call b) → HasSame b (stepped limits choice now call b)
 call_same limits choice now call b q =
     let first = at_moment now b in

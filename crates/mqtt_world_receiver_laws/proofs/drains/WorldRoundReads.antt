@@ -188,6 +188,7 @@ pub record HasRead (number : Numbering) (largest window : ℕ) (ids : List CopyI
   pub at : At number largest window ids birth ns hop q b
   pub answering : P r.line.up → P q.line.up
 
+-- the receiver's reading in a round is the hop's
 pub reads_at : (number : Numbering) (largest window : ℕ) (ids : List CopyId) (birth : ℕ) (ns : List ℕ) (P : List Back → Type 0) (grows : Grows P) (hop : Hop) (r : Receiver) (b : Broker) → At number largest window ids birth ns hop r b
     → HasRead number largest window ids birth ns P (run largest (times (length hop.down) to_end) hop) r (all_read number largest window ids birth ns P grows r b (length r.line.down) r) b
 reads_at number largest window ids birth ns P grows hop r b x =

@@ -51,6 +51,7 @@ use Rattle.mqtt_world_receiver_laws.proofs.drains.WorldRoundSteps.{At, answer_at
 
 -- ---- who is found by the name, where one is changed
 
+-- where nobody is found nobody is changed
 pub none_changed : {X : Type 0} (test : X → Bool) (f : X → X) (xs : List X) → find test xs ≡ None → find test (map (λ (x : X). cond (test x) (f x) x) xs) ≡ None
 none_changed test f [] e = refl
 none_changed test f (x ∷ xs) e = elim (cases_Bool (test x)) [
@@ -58,6 +59,7 @@ none_changed test f (x ∷ xs) e = elim (cases_Bool (test x)) [
   | inr other ↦ rw (other, other) (none_changed test f xs (rw other at e))
 ]
 
+-- the receiver that is found is changed
 pub receiver_changed : (client : List ℕ) (f : Receiver → Receiver) (r : Receiver) (rs : List Receiver) → ((q : Receiver) → (f q).client ≡ q.client) → find (λ (q : Receiver). bytes_eq q.client client) rs ≡ Some r
     → find (λ (q : Receiver). bytes_eq q.client client) (map (λ (q : Receiver). cond (bytes_eq q.client client) (f q) q) rs) ≡ Some (f r)
 receiver_changed client f r rs same e =
@@ -599,6 +601,7 @@ first_round_of number largest window ids birth ns limits choice client copies r 
       ends = z.ends;
     })
 
+-- a round in the world is one of the hop
 pub first_round : (largest window : ℕ) (ids : List CopyId) (birth : ℕ) (ns : List ℕ) (limits : Limits) (choice : MemberChoice) (client : List ℕ) (r : Receiver) (w : World) → MayAsk limits largest window ids birth ns client r w
     → DrainsWith largest window ids birth ns client (suc w.broker.records.subscribes) (copies_left client w) (after_round limits choice client w)
 first_round largest window ids birth ns limits choice client r w may =
@@ -717,6 +720,7 @@ left_of number largest window ids birth ns limits choice client copies r w may s
 
 -- ---- the whole drain, where a SUBSCRIBE is under way
 
+-- a subscription under way does not hinder a drain
 pub subscribe_is_drained : (number : Numbering) (largest window : ℕ) (ids : List CopyId) (birth : ℕ) (ns : List ℕ) (limits : Limits) (choice : MemberChoice) (client : List ℕ) (copies : List Lot) (most : ℕ) (r : Receiver) (w : World)
     → 1 ≤ window → MayAsk limits largest window ids birth ns client r w → map id_of copies ≡ ids → IsRun number largest copies r w.broker → is_over client w ≡ false
     → DrainsBehind largest window ids birth ns client (suc w.broker.records.subscribes) (copies_left client w) (moment_of w) copies (drained limits choice client (suc most) w)

@@ -64,11 +64,13 @@ both_wait window =
     receiver r1 window ∷ publisher p1 ∷ joins r1 false ++ (subscribes r1 ++ (joins p1 false
     ++ (publish p1 draft ∷ publish p1 draft ∷ ask (to_broker p1) ∷ ask (to_broker p1) ∷ [])))
 
+-- two copies through a window of one take four rounds
 pub two_through_a_window_of_one : drains_after (both_wait 1)
     ≡ record { most = 5; rounds = 4; ended = Ended (copy 1) r1 Taken ∷ Ended (copy 2) r1 Taken ∷ []; out = 4; left = 0 }
 unfolding varint
 two_through_a_window_of_one = refl
 
+-- and are handed over in order
 pub two_are_handed_over_in_order : sum_after (both_wait 1)
     ≡ record { handed = 1 ∷ 2 ∷ []; queue = 0; messages = 2; done = 0; publications = 2; sessions = 2 }
 unfolding varint
@@ -93,6 +95,7 @@ all_kinds =
     both_wait 10 ++ round r1 ++ (give_up r1 ∷ joins r1 false
     ++ (publish p1 draft ∷ ask (to_broker p1) ∷ expires_soon ∷ clock 2000 ∷ []))
 
+-- copies that expire, are taken, and end otherwise
 pub each_in_its_way : drains_after all_kinds
     ≡ record {
       most = 9;
@@ -109,6 +112,7 @@ each_in_its_way = refl
 abbrev starts_anew : List Event
 starts_anew = both_wait 10 ++ give_up r1 ∷ connect_end r1 true ∷ []
 
+-- a Clean Start ends what waits
 pub a_clean_start_ends_them : drains_after starts_anew
     ≡ record { most = 5; rounds = 1; ended = Ended (copy 1) r1 SessionEnded ∷ Ended (copy 2) r1 SessionEnded ∷ []; out = 2; left = 0 }
 unfolding varint
@@ -131,6 +135,7 @@ asks_while_full =
 abbrev brought : CopyId
 brought = record { publication = 2; birth = 1; cause = Retained 2 }
 
+-- a copy that makes way for a retained one
 pub one_makes_way : drains_from dropping (enough_rounds (2 + 1)) (after dropping (turns asks_while_full))
     ≡ record {
       most = 7;
@@ -153,15 +158,18 @@ opened_smaller limits =
     let w = after usual (turns (both_wait 1 ++ publish p1 draft ∷ ask (to_broker p1) ∷ [])) in
     run limits (turns (receiver r1 1 ∷ joins r1 false)) (opened_world limits first 0 w.broker.records)
 
+-- a broker with a smaller limit than what waits
 pub more_wait_than_may : copies_left r1 (opened_smaller refusing) ≡ 3
 unfolding varint
 more_wait_than_may = refl
 
+-- hands all over
 pub all_three_are_taken : drains_from refusing (enough_rounds 3) (opened_smaller refusing)
     ≡ record { most = 7; rounds = 6; ended = Ended (copy 1) r1 Taken ∷ Ended (copy 2) r1 Taken ∷ Ended (copy 3) r1 Taken ∷ []; out = 6; left = 0 }
 unfolding varint
 all_three_are_taken = refl
 
+-- also if its full queues drop
 pub none_of_three_makes_way : drains_from dropping (enough_rounds 3) (opened_smaller dropping)
     ≡ record { most = 7; rounds = 6; ended = Ended (copy 1) r1 Taken ∷ Ended (copy 2) r1 Taken ∷ Ended (copy 3) r1 Taken ∷ []; out = 6; left = 0 }
 unfolding varint
@@ -169,14 +177,17 @@ none_of_three_makes_way = refl
 
 -- ---- an empty queue takes no round; nobody drains a publisher, or an end without a line
 
+-- nothing to drain takes no round
 pub nothing_waits : rounds_taken usual first r1 1 (after usual (turns (receiver r1 10 ∷ joins r1 false))) ≡ 0
 unfolding varint
 nothing_waits = refl
 
+-- a publisher cannot be drained
 pub a_publisher_is_not_drained : is_bad_drain p1 (after usual (turns (both_wait 10))) ≡ true
 unfolding varint
 a_publisher_is_not_drained = refl
 
+-- nor can a receiver without a line
 pub one_without_a_line_is_not_drained : is_bad_drain r1 (after usual (turns (both_wait 10 ++ give_up r1 ∷ []))) ≡ true
 unfolding varint
 one_without_a_line_is_not_drained = refl

@@ -60,18 +60,22 @@ went_by (Some went) = went
 abbrev queued : List Event → Option (List Lot)
 queued es = option_map (λ (s : Session). map (lot_on (went_by (went_in s.birth (world es).broker))) s.queue) (session_named r1 (world es).broker.records)
 
+-- the hop sees a copy that entered
 pub an_entered_copy_is_seen : sees accepted (makes entering).copies ≡ Some (makes entering)
 unfolding varint
 an_entered_copy_is_seen = refl
 
+-- and it stands
 pub an_entered_copy_stands : queued accepted ≡ Some (still_standing (makes entering).copies)
 unfolding varint
 an_entered_copy_stands = refl
 
+-- so it is with one that was sent
 pub a_sent_copy_is_seen : sees pumped (makes sending).copies ≡ Some (makes sending)
 unfolding varint
 a_sent_copy_is_seen = refl
 
+-- which stands too
 pub a_sent_copy_stands : queued pumped ≡ Some (still_standing (makes sending).copies)
 unfolding varint
 a_sent_copy_stands = refl

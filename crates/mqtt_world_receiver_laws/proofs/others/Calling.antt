@@ -55,6 +55,7 @@ inside_begins_none client birth (On m part) h = tt
 inside_begins_none client birth (Send m packet) h = tt
 inside_begins_none client birth d h = absurd h
 
+-- deeds inside a session begin none
 pub inside_begins : (client : List ℕ) (birth : ℕ) (ds : List Deed) → AreInside ds → BeginNone client birth ds
 inside_begins client birth [] h = tt
 inside_begins client birth (d ∷ ds) h = (inside_begins_none client birth d h.0, inside_begins client birth ds h.1)
@@ -65,6 +66,7 @@ inside_closes_none (On m part) h = refl
 inside_closes_none (Send m packet) h = refl
 inside_closes_none d h = absurd h
 
+-- they close no line
 pub inside_closes : (ds : List Deed) → AreInside ds → filter_map closing ds ≡ []
 inside_closes [] h = refl
 inside_closes (d ∷ ds) h = rw (inside_closes_none d h.0) (inside_closes ds h.1)
@@ -73,6 +75,7 @@ inside_entry : (o : Option CopyRow) (f : CopyRow → List Deed) → ((e : CopyRo
 inside_entry None f h = tt
 inside_entry (Some e) f h = h e
 
+-- the deeds of a turn are inside
 pub inside_turn : (now line : ℕ) (s : Session) (t : Turn) → AreInside (turn_deeds now line s t)
 inside_turn now line s (turns.Send place i) = inside_entry (row_at copy_place place s.queue) _ (λ e. (tt, (tt, (tt, tt))))
 inside_turn now line s (turns.Resend place i) = inside_entry (row_at copy_place place s.queue) _ (λ e. (tt, (tt, tt)))
@@ -82,6 +85,7 @@ inside_turn now line s (turns.Repeat i) = (tt, tt)
 inside_turn now line s (turns.Unknown i) = (tt, tt)
 inside_turn now line s (turns.Leave place ending) = inside_entry (row_at copy_place place s.queue) _ (λ e. (tt, tt))
 
+-- so are those of many
 pub inside_turns : (now line : ℕ) (s : Session) (ts : List Turn) → AreInside (all_turn_deeds now line s ts)
 inside_turns now line s [] = tt
 inside_turns now line s (t ∷ ts) = all_join IsInside (turn_deeds now line s t) (all_turn_deeds now line s ts) (inside_turn now line s t) (inside_turns now line s ts)
@@ -124,6 +128,7 @@ line_there : (n birth : ℕ) (o : Option BrokerLine) → option_map (λ (l : Bro
 line_there n birth None h = absurd cc
 line_there n birth (Some l) h = (l, refl, cc)
 
+-- a session on a line is found there
 pub finds : (n birth : ℕ) (new : Broker) (t : Session) → session_on n new.lines ≡ Some (Some birth) → session_at birth new.records ≡ Some t → IsFlight t.queue → Finds n new t.queue
 finds n birth new t on at flight place id e there has =
     let line = line_there n birth (find (λ (l : BrokerLine). nat_eq l.number n) new.lines) on in

@@ -184,6 +184,7 @@ spared_on number ids ns (Some m) new ds b inside q =
 
 -- ---- the moment of a step
 
+-- where lines are the same, so is which are linked
 pub linked_on : (o : Option ℕ) (b c : Broker) → c.lines ≡ b.lines → is_linked o c ≡ is_linked o b
 linked_on o b c lines = linked_same o b c (λ m. ap (session_on m) lines)
 
@@ -207,6 +208,7 @@ carried_run number largest copies r b c sessions lines h =
       tagged = h.tagged;
     }
 
+-- the stored moment goes on with the hop
 pub moment_runs : (number : Numbering) (largest : ℕ) (copies : List Lot) (r : Receiver) (rows : List Change) (b : Broker) → IsRun number largest copies r b → IsRun number largest copies r (with_moment rows b)
 moment_runs number largest copies r rows b h = carried_run number largest copies r b (with_moment rows b) (done_sessions rows b) (done_lines rows b) h
 
@@ -214,10 +216,12 @@ moment_receives : (r : Receiver) (s : Session) (rows : List Change) (b : Broker)
 moment_receives r s [] b h = h
 moment_receives r s (row ∷ rows) b h = record { session = h.session; client = h.client; only = h.only; known = h.known }
 
+-- and leaves who is served
 pub moment_served : (client : List ℕ) (birth : ℕ) (ns : List ℕ) (rows : List Change) (b : Broker) → IsServed client birth ns b → IsServed client birth ns (with_moment rows b)
 moment_served client birth ns [] b h = h
 moment_served client birth ns (row ∷ rows) b h = record { sessions = h.sessions; lines = h.lines; births = h.births; given = h.given }
 
+-- what is stored leaves all copies running
 pub done_all : (number : Numbering) (largest : ℕ) (all : List CopyId) (birth : ℕ) (r : Receiver) (rows : List Change) (b : Broker) → RunsWithAll number largest all birth r b → RunsWithAll number largest all birth r (with_moment rows b)
 done_all number largest all birth r rows b h = record {
   after = h.after;
@@ -228,10 +232,12 @@ done_all number largest all birth r rows b h = record {
   receiving = moment_receives r h.session rows b h.receiving;
 }
 
+-- and no publication more
 pub moment_numbers : (rows : List Change) (b : Broker) → (with_moment rows b).records.publications ≡ b.records.publications
 moment_numbers [] b = refl
 moment_numbers (row ∷ rows) b = refl
 
+-- the moment of a step leaves all copies running
 pub first_runs : (number : Numbering) (largest : ℕ) (all : List CopyId) (birth : ℕ) (r : Receiver) (now : ℕ) (b : Broker) → RunsWithAll number largest all birth r b → RunsWithAll number largest all birth r (at_moment now b)
 first_runs number largest all birth r now b h =
     let x = h.receiving in
@@ -246,6 +252,7 @@ first_runs number largest all birth r now b h =
 
 -- ---- the call
 
+-- what others are told goes on with the hop
 pub told_run : (number : Numbering) (largest : ℕ) (copies : List Lot) (ns : List ℕ) (r : Receiver) (call : Call) (ds : List Deed) (b new : Broker) → HasLines ns r → AreGood (IsMuteHere ns) ds b
     → IsRun number largest copies r new → IsRun number largest copies (receiver_told new (outcome_of call ds) r) new
 told_run number largest copies ns r call ds b new has mute h =
@@ -275,6 +282,7 @@ told_run number largest copies ns r call ds b new has mute h =
       };
     }
 
+-- for all copies
 pub told_all : (number : Numbering) (largest : ℕ) (all : List CopyId) (birth : ℕ) (ns : List ℕ) (r : Receiver) (call : Call) (ds : List Deed) (b new : Broker) → HasLines ns r → AreGood (IsMuteHere ns) ds b
     → RunsWithAll number largest all birth r new → RunsWithAll number largest all birth (receiver_told new (outcome_of call ds) r) new
 told_all number largest all birth ns r call ds b new has mute h = record {
@@ -286,6 +294,7 @@ told_all number largest all birth ns r call ds b new has mute h = record {
   receiving = record { session = h.receiving.session; client = h.receiving.client; only = h.receiving.only; known = h.receiving.known };
 }
 
+-- a call of another's leaves the hop going on
 pub others_go_on : (largest : ℕ) (ids : List CopyId) (limits : Limits) (choice : MemberChoice) (now : ℕ) (call : Call) (birth : ℕ) (ns : List ℕ) (r : Receiver) (b : Broker)
     → RunsFor largest ids birth r b → IsServed r.client birth ns b → HasLines ns r → IsTidy limits b → starts_with nat_eq r.client auto ≡ false
     → IsCallOfOthers r.client ns call (at_moment now b)

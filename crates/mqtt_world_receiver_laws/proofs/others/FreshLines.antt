@@ -181,6 +181,7 @@ module _ (n : ℕ) where
         | inr other ↦ walks env Tick b h (record { silent = λ l e. other_silent x l other (sym is ∙ e); wills = λ s e. tt; ends = λ s e. tt })
       ]
 
+-- an idle line stays under calls on others
 pub idle_line_stays : (limits : Limits) (choice : MemberChoice) (now n : ℕ) (call : Call) (l : BrokerLine) (b : Broker) → IsIdle n b → IsElsewhere n call
     → line_at n (stepped limits choice now call b) ≡ Some l → line_at n b ≡ Some l
 idle_line_stays limits choice now n call l b idle other e =

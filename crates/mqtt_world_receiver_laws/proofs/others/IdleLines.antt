@@ -27,6 +27,7 @@ use Rattle.mqtt_world_receiver_laws.proofs.connects.Refusals.{run_append}
 
 -- ---- the deeds
 
+-- a pump on an idle line does nothing
 pub pump_none : (env : Env) (n : ℕ) (b : Broker) → IsIdle n b → deeds_of env (Pump n) b ≡ []
 pump_none env n b idle = by (line_at n b) refl
   where
@@ -46,6 +47,7 @@ lost_none env n b idle = by (line_at n b) refl
         let is = eqb-true l.number n both.1 in
         inr (ap (λ (o : Option ℕ). Gone l.number ∷ (close_connected env true o (after (Gone l.number) b) ++ [])) (both.0 is) ∙ ap (λ (k : ℕ). Gone k ∷ []) is)
 
+-- the moment of a step leaves it idle
 pub first_idle : (now n : ℕ) (b : Broker) → IsIdle n b → IsIdle n (at_moment now b)
 first_idle now n b idle = record { lines = idle.lines; given = idle.given }
 
@@ -77,6 +79,7 @@ left_for largest ids birth q c f = λ number m.
 first_served : (client : List ℕ) (birth : ℕ) (ns : List ℕ) (now : ℕ) (b : Broker) → IsServed client birth ns b → IsServed client birth ns (at_moment now b)
 first_served client birth ns now b v = record { sessions = v.sessions; lines = v.lines; births = v.births; given = v.given }
 
+-- such a pump leaves the receiver in step
 pub idle_pump_in_step : (largest : ℕ) (ids : List CopyId) (birth : ℕ) (ns : List ℕ) (limits : Limits) (choice : MemberChoice) (now n : ℕ) (r : Receiver) (b : Broker)
     → IsInStep largest ids birth ns r b → IsIdle n b → IsInStep largest ids birth ns (receiver_called limits choice now (Pump n) r b) (stepped limits choice now (Pump n) b)
 idle_pump_in_step largest ids birth ns limits choice now n r b k idle =
@@ -88,6 +91,7 @@ idle_pump_in_step largest ids birth ns limits choice now n r b k idle =
     } in
     subst (λ (ds : List Deed). IsInStep largest ids birth ns (receiver_told (done ds first) (outcome_of (Pump n) ds) r) (done ds first)) (sym (pump_none (env_of limits choice b) n first (first_idle now n b idle))) base
 
+-- so does the loss of such a line
 pub idle_loss_in_step : (largest : ℕ) (ids : List CopyId) (birth : ℕ) (ns : List ℕ) (limits : Limits) (choice : MemberChoice) (now n : ℕ) (r : Receiver) (b : Broker)
     → IsInStep largest ids birth ns r b → IsIdle n b → IsInStep largest ids birth ns (receiver_lost limits choice now n r b) (stepped limits choice now (Lost n) b)
 idle_loss_in_step largest ids birth ns limits choice now n r b k idle =
@@ -118,6 +122,7 @@ idle_loss_in_step largest ids birth ns limits choice now n r b k idle =
 
 -- ---- before its session begins
 
+-- and the pump leaves it waiting
 pub idle_pump_awaiting : (largest : ℕ) (ids : List CopyId) (ns : List ℕ) (limits : Limits) (choice : MemberChoice) (now n : ℕ) (r : Receiver) (b : Broker)
     → IsAwaiting largest ids ns r b → IsIdle n b → IsAwaiting largest ids ns (receiver_called limits choice now (Pump n) r b) (stepped limits choice now (Pump n) b)
 idle_pump_awaiting largest ids ns limits choice now n r b k idle =
@@ -132,6 +137,7 @@ idle_pump_awaiting largest ids ns limits choice now n r b k idle =
     } in
     subst (λ (ds : List Deed). IsAwaiting largest ids ns (receiver_told (done ds first) (outcome_of (Pump n) ds) r) (done ds first)) (sym (pump_none (env_of limits choice b) n first (first_idle now n b idle))) base
 
+-- so does the loss
 pub idle_loss_awaiting : (largest : ℕ) (ids : List CopyId) (ns : List ℕ) (limits : Limits) (choice : MemberChoice) (now n : ℕ) (r : Receiver) (b : Broker)
     → IsAwaiting largest ids ns r b → IsIdle n b → IsAwaiting largest ids ns (receiver_lost limits choice now n r b) (stepped limits choice now (Lost n) b)
 idle_loss_awaiting largest ids ns limits choice now n r b k idle =

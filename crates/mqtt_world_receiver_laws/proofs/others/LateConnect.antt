@@ -36,6 +36,7 @@ use Rattle.mqtt_world_receiver_laws.proofs.others.Serving.{gone_own}
 
 -- ---- the deeds of the tick
 
+-- the clock closes a line on which no CONNECT came in time
 pub late_deeds : (env : Env) (n : ℕ) (l : BrokerLine) (b : Broker) → IsIdle n b → find (λ (x : BrokerLine). is_silent b.now x.session x) b.lines ≡ Some l → l.number ≡ n → deeds_of env Tick b ≡ Gone n ∷ []
 late_deeds env n l b idle e is =
     let both = all_find (HasNobody n) (λ (y : BrokerLine). is_silent b.now y.session y) l b.lines idle.lines e in
@@ -99,12 +100,14 @@ gone_on n (Some m) b idle = elim (cases_Bool (nat_eq n m)) [
 abbrev pub closes : Bool → Bool → List HopEvent
 closes t u = cond t (close ∷ []) [] ++ cond u (close_old ∷ []) []
 
+-- lines that close drop what is under way there
 pub closes_are : (largest : ℕ) (t u : Bool) (w : Hop) → (t ≡ true → w.linked ≡ false) → run largest (closes t u) w ≡ record w { up = cond t [] w.up; old = cond u [] w.old }
 closes_are largest true true w h = λ i. record w { up = []; old = []; linked = sym (h refl) i; down = sent_on (h refl i) w.down (disconnect ∷ []) }
 closes_are largest true false w h = λ i. record w { up = []; linked = sym (h refl) i; down = sent_on (h refl i) w.down (disconnect ∷ []) }
 closes_are largest false true w h = refl
 closes_are largest false false w h = refl
 
+-- a closed line has nothing under way
 pub unless_is : (t : Bool) (packets : List Back) → filter_map answered (unless_closed t packets) ≡ cond t [] (filter_map answered packets)
 unless_is true packets = refl
 unless_is false packets = refl
@@ -118,6 +121,7 @@ sent_none (Some m) b = refl
 abbrev pub shut : ℕ → Receiver → Broker → Receiver
 shut n r b = receiver_told (after (Gone n) b) (outcome_of Tick (Gone n ∷ [])) r
 
+-- such a close goes on with the hop
 pub closing_runs : (number : Numbering) (largest : ℕ) (copies : List Lot) (n : ℕ) (r : Receiver) (b : Broker) → IsIdle n b → IsRun number largest copies r b → IsRun number largest copies (shut n r b) (after (Gone n) b)
 closing_runs number largest copies n r b idle h =
     let new = after (Gone n) b in
@@ -156,6 +160,7 @@ closing_receives n r s b idle x = record {
   known = subst (AreKnown s.queue) (sym (gone_went s.birth n b.lines idle.lines)) x.known;
 }
 
+-- for the receiver's session
 pub closing_goes_on : (largest : ℕ) (ids : List CopyId) (birth n : ℕ) (r : Receiver) (b : Broker) → IsIdle n b → RunsFor largest ids birth r b → RunsFor largest ids birth (shut n r b) (after (Gone n) b)
 closing_goes_on largest ids birth n r b idle f = λ number numbered.
     let h = f number numbered in
@@ -168,11 +173,13 @@ closing_goes_on largest ids birth n r b idle f = λ number numbered.
       receiving = closing_receives n r h.session b idle h.receiving;
     }
 
+-- and leaves who is served
 pub closing_served : (client : List ℕ) (birth : ℕ) (ns : List ℕ) (n : ℕ) (b : Broker) → IsServed client birth ns b → IsServed client birth ns (after (Gone n) b)
 closing_served client birth ns n b v = record { sessions = v.sessions; lines = gone_own client birth ns n b.lines v.lines; births = v.births; given = v.given }
 
 -- ---- the tick
 
+-- so the clock's turn goes on
 pub late_goes_on : (largest : ℕ) (ids : List CopyId) (limits : Limits) (choice : MemberChoice) (now birth : ℕ) (ns : List ℕ) (n : ℕ) (r : Receiver) (b : Broker)
     → RunsFor largest ids birth r b → IsServed r.client birth ns b → IsOverdue n (at_moment now b)
     → RunsFor largest ids birth (receiver_called limits choice now Tick r b) (stepped limits choice now Tick b) × IsServed r.client birth ns (stepped limits choice now Tick b)

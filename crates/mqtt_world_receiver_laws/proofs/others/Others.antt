@@ -141,6 +141,7 @@ begins_other client birth ns (Gone m) q = tt
 
 -- ---- other lines
 
+-- another line is another number
 pub differ : (k m : ℕ) (ns : List ℕ) → is_one_of (Some k) ns ≡ false → is_one_of (Some m) ns ≡ true → nat_eq k m ≡ false
 differ k m ns outside inside = elim (cases_Bool (nat_eq k m)) [
   | inl same ↦
@@ -317,14 +318,17 @@ unseen_deeds : (number : Numbering) (largest : ℕ) (copies : List Lot) (ns : Li
 unseen_deeds number largest copies ns r s b [] q h = h
 unseen_deeds number largest copies ns r s b (d ∷ ds) q h = unseen_deeds number largest copies ns r s (after d b) ds q.1 (unseen_deed number largest copies ns r s b d q.0 h)
 
+-- what others do goes on with the hop
 pub others_run : (number : Numbering) (largest : ℕ) (copies : List Lot) (ns : List ℕ) (r : Receiver) (s : Session) (b : Broker) (ds : List Deed)
     → IsRun number largest copies r b → IsReceiving r s b → IsWithin ns r s b → AreOfOthers r.client s.birth ns ds → IsRun number largest copies r (after_all ds b)
 others_run number largest copies ns r s b ds h x i q = (unseen_deeds number largest copies ns r s b ds q (record { run_is = h; receiving = x; within = i })).run_is
 
+-- and leaves the receiver's copies
 pub others_leave : (number : Numbering) (largest : ℕ) (copies : List Lot) (ns : List ℕ) (r : Receiver) (s : Session) (b : Broker) (ds : List Deed)
     → IsRun number largest copies r b → IsReceiving r s b → IsWithin ns r s b → AreOfOthers r.client s.birth ns ds → IsReceiving r s (after_all ds b)
 others_leave number largest copies ns r s b ds h x i q = (unseen_deeds number largest copies ns r s b ds q (record { run_is = h; receiving = x; within = i })).receiving
 
+-- within their numbers
 pub others_within : (number : Numbering) (largest : ℕ) (copies : List Lot) (ns : List ℕ) (r : Receiver) (s : Session) (b : Broker) (ds : List Deed)
     → IsRun number largest copies r b → IsReceiving r s b → IsWithin ns r s b → AreOfOthers r.client s.birth ns ds → IsWithin ns r s (after_all ds b)
 others_within number largest copies ns r s b ds h x i q = (unseen_deeds number largest copies ns r s b ds q (record { run_is = h; receiving = x; within = i })).within

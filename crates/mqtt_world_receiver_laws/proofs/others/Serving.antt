@@ -176,6 +176,7 @@ module _ (client : List ℕ) (birth : ℕ) (ns : List ℕ) where
   publications_stay (d ∷ ds) b q =
       publications_stay ds (after d b) q.1 ∙ (ap (λ (c : Counts). c.publications) (counts_deed d b.records) ∙ none_accepted d (counts b.records) q.0)
 
+-- deeds of a queue accept nothing
 pub parts_stay : (ds : List Deed) (b : Broker) → AreOfQueue ds → (after_all ds b).records.publications ≡ b.records.publications
 parts_stay [] b q = refl
 parts_stay (At who part ∷ ds) b q = parts_stay ds (after (At who part) b) q.1 ∙ ap (λ (c : Counts). c.publications) (counts_deed (At who part) b.records)

@@ -83,6 +83,7 @@ of_others client birth ns (d ∷ ds) q = (q.0.0, of_others client birth ns ds q.
 
 -- ---- deeds of a queue
 
+-- a copy's leaving is of a queue
 pub queue_leave : (s : Session) (t : Turn) → AreOfQueue (leave_deeds s t)
 queue_leave s (turns.Leave place ending) = by (row_at copy_place place s.queue)
   where
@@ -96,9 +97,11 @@ queue_leave s (turns.Outgrow place id order) = tt
 queue_leave s (turns.Repeat id) = tt
 queue_leave s (turns.Unknown id) = tt
 
+-- so is that of many
 pub queue_leaves : (s : Session) (ts : List Turn) → AreOfQueue (flat_map (leave_deeds s) ts)
 queue_leaves s ts = each_flat IsOfQueue (leave_deeds s) (queue_leave s) ts
 
+-- and an entering
 pub queue_enter : (env : Env) (copy : MessageCopy) (s : Session) → AreOfQueue (enter_deeds env copy s)
 queue_enter env copy s =
     let ts = way_made (queue_limits env) (since env s) (queue_on [] s) in
@@ -143,6 +146,7 @@ at_enter env copy s =
 
 -- ---- numbers: fewer copies have theirs
 
+-- the front of numbered copies is numbered
 pub numbered_front : (number : Numbering) (xs ys : List CopyId) → AreNumbered number (xs ++ ys) → AreNumbered number xs
 numbered_front number xs ys h = λ n copy at. h n copy (slice_more xs ys n copy at)
 
@@ -151,6 +155,7 @@ granted_of qos.AtMostOnce h = h
 granted_of qos.AtLeastOnce h = refl
 granted_of qos.ExactlyOnce h = refl
 
+-- a copy that is not queued goes out at QoS 0
 pub unheard_of : (q : Qos) → is_queued_at q ≡ false → delivery_by q false 0 ≡ delivery.AtMostOnce
 unheard_of qos.AtMostOnce h = refl
 unheard_of qos.AtLeastOnce h = absurd cc

@@ -56,6 +56,7 @@ use Rattle.mqtt_world_receiver_laws.proofs.queue.Turns.{ids_after, left_lots, no
 
 -- ---- lists
 
+-- two lists are heard one behind the other
 pub heard_append : (number : Numbering) (xs ys : List Down) → filter_map (heard_in number) (xs ++ ys) ≡ filter_map (heard_in number) xs ++ filter_map (heard_in number) ys
 heard_append number [] ys = refl
 heard_append number (x ∷ xs) ys = by (heard_in number x) (heard_append number xs ys)
@@ -65,6 +66,7 @@ heard_append number (x ∷ xs) ys = by (heard_in number x) (heard_append number 
     by None h = h
     by (Some p) h = ap (λ (ps : List Output). p ∷ ps) h
 
+-- what holds of two lists holds of both together
 pub all_join : {X : Type 0} (P : X → Type 0) (xs ys : List X) → AllByRecursion P xs → AllByRecursion P ys → AllByRecursion P (xs ++ ys)
 all_join P xs ys h g = each_append P xs ys h g
 
@@ -112,6 +114,7 @@ is_of_some : (o : Option ℕ) (birth : ℕ) → is_of o birth ≡ true → o ≡
 is_of_some None birth h = absurd cc
 is_of_some (Some x) birth h = ap Some (eqb-true x birth h)
 
+-- behind the loss of its line nothing went out
 pub went_gone : (birth n : ℕ) (ls : List BrokerLine) → AllByRecursion (IsAloneOn birth n) ls → its_went birth (filter (λ (l : BrokerLine). not (nat_eq l.number n)) ls) ≡ None
 went_gone birth n [] h = refl
 went_gone birth n (l ∷ ls) h = elim (cases_Bool (nat_eq l.number n)) [
@@ -141,6 +144,7 @@ session_left s e ending r at =
 abbrev pub closed_row : ℕ → Session → Columns
 closed_row now s = record (columns_of s) { closed = Some now }
 
+-- a session that was closed is found closed
 pub session_closed : (s : Session) (now : ℕ) (r : Records) → session_at s.birth r ≡ Some s → session_at s.birth (stored_after (At (whose s) (Close now)) r) ≡ Some (with_columns (closed_row now s) s)
 session_closed s now r at =
     ap (λ (o : Option Session). session_at s.birth (changed_all (part_rows_of (Close now) o) r)) at
@@ -167,6 +171,7 @@ IsReply (Ok None) = ⊤
 IsReply (Ok (Some t)) = IsReplyTurn t
 IsReply (Err fault) = ⊤
 
+-- what a PUBACK asks for is a reply
 pub reply_puback : (code : ℕ) (o : Option FlowEntry) → IsReply (puback_at code o)
 reply_puback code None = tt
 reply_puback code (Some e) = by e.phase
@@ -182,6 +187,7 @@ reply_puback code (Some e) = by e.phase
     by (Released i order) = tt
     by (Oversize i order) = tt
 
+-- so is what a PUBREC asks for
 pub reply_pubrec : (i code order : ℕ) (o : Option FlowEntry) → IsReply (pubrec_at i code order o)
 reply_pubrec i code order None = tt
 reply_pubrec i code order (Some e) = by e.phase
@@ -201,6 +207,7 @@ reply_pubrec i code order (Some e) = by e.phase
     by (Released j x) = tt
     by (Oversize j x) = tt
 
+-- and a PUBCOMP
 pub reply_pubcomp : (o : Option FlowEntry) → IsReply (pubcomp_at o)
 reply_pubcomp None = tt
 reply_pubcomp (Some e) = by e.phase
@@ -213,17 +220,21 @@ reply_pubcomp (Some e) = by e.phase
 
 -- ---- a receiver whose line is connected to its session
 
+-- a receiver that listens has a line that stands
 pub linked_now : (r : Receiver) (l : BrokerLine) (s : Session) (b : Broker) → IsListening r l s b → is_linked r.line.number b ≡ true
 linked_now r l s b c =
     ap (λ (o : Option ℕ). is_linked o b) c.number
     ∙ (linked_is l.number b ∙ (ap (λ (o : Option BrokerLine). linked_of (option_map (λ (x : BrokerLine). x.session) o)) c.line ∙ ap is_some c.connected))
 
+-- and a session
 pub named_now : (r : Receiver) (l : BrokerLine) (s : Session) (b : Broker) → IsListening r l s b → session_named r.client b.records ≡ Some s
 named_now r l s b c = named_is r.client s.birth b.records s c.only c.session c.client
 
+-- with what went out on it
 pub went_now : (r : Receiver) (l : BrokerLine) (s : Session) (b : Broker) → IsListening r l s b → went_in s.birth b ≡ Some l.went
 went_now r l s b c = ap (option_map (λ (x : BrokerLine). x.went)) c.its_line
 
+-- and the copies that stand there
 pub standing_by : (copies : List Lot) (r : Receiver) (l : BrokerLine) (s : Session) (b : Broker) → AreQueued copies (session_named r.client b.records) b → IsListening r l s b
     → still_standing copies ≡ map (lot_on l.went) s.queue
 standing_by copies r l s b h c =
@@ -262,6 +273,7 @@ told_by (Ok None) = []
 told_by (Ok (Some t)) = told_turn t
 told_by (Err fault) = disconnect ∷ []
 
+-- an answer leaves the same copies
 pub ids_by : (x : rules.Answer) (copies : List Lot) → map id_of (copies_by x copies) ≡ map id_of copies
 ids_by (Ok None) copies = refl
 ids_by (Ok (Some t)) copies = ids_after t copies

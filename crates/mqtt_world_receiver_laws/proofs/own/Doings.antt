@@ -30,9 +30,11 @@ use Rattle.mqtt_world_receiver_laws.specs.Tags.{AreTagged, IsTagged, IsTaggedBy,
 
 -- ---- lists
 
+-- what holds of each holds of one more
 pub all_push : {X : Type 0} (P : X → Type 0) (xs : List X) (x : X) → AllByRecursion P xs → P x → AllByRecursion P (xs ++ x ∷ [])
 all_push P xs x h it = each_append P xs (x ∷ []) h (it, tt)
 
+-- two lists are answered one behind the other
 pub answered_append : (xs ys : List Back) → filter_map answered (xs ++ ys) ≡ filter_map answered xs ++ filter_map answered ys
 answered_append xs ys = filter_map-append answered xs ys
 
@@ -300,6 +302,7 @@ module _ (number : Numbering) (largest : ℕ) (copies : List Lot) (t : Bool) (r 
   pub doing_reads : IsRun number largest copies (receiver_reads t r.line.down r) b
   doing_reads = runs_on number largest copies r (receiver_reads t r.line.down r) b h (first_reads number r.line.down) read_is.client read_is.seen_is read_is.tagged
 
+-- giving up goes on with the hop
 pub doing_gives_up : (number : Numbering) (largest : ℕ) (copies : List Lot) (r : Receiver) (b : Broker)
     → IsRun number largest copies r b → MayGiveUp r.line.link r.line.clean → IsRun number largest copies (record r { line = gives_up r.line.link r.line }) b
 doing_gives_up number largest copies r b h may =
@@ -319,6 +322,7 @@ doing_gives_up number largest copies r b h may =
     tags asked = record { down = tt; ledger = h.tagged.ledger; once = h.tagged.once }
     tags live = record { down = tt; ledger = h.tagged.ledger; once = h.tagged.once }
 
+-- so does asking for a subscription
 pub doing_asks : (number : Numbering) (largest : ℕ) (copies : List Lot) (t : Bool) (w : Wish) (r : Receiver) (b : Broker) → IsRun number largest copies r b → IsRun number largest copies (asks_wish t w r) b
 doing_asks number largest copies t w r b h =
     let ups = wish_goes t r.line.up w in
@@ -327,6 +331,7 @@ doing_asks number largest copies t w r b h =
 
 -- ---- it comes, where no session of its name stands
 
+-- and a new receiver
 pub doing_comes : (number : Numbering) (largest : ℕ) (client : List ℕ) (window since : ℕ) (b : Broker) → session_named client b.records ≡ None → IsRun number largest [] (new_receiver client window since) b
 doing_comes number largest client window since b none =
     let stands : is_some (session_named client b.records) ≡ false = ap is_some none in

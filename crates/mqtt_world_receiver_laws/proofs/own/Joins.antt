@@ -17,6 +17,7 @@ use Rattle.mqtt_world_receiver_laws.specs.Handing.{IsRun, MayComeBack, receiver_
 use Rattle.mqtt_world_receiver_laws.specs.Seen.{AreQueued, Numbering, StandOn, answered, handed_in, seen}
 use Rattle.mqtt_world_receiver_laws.proofs.connects.Refusals.{run_append}
 
+-- a new line has nobody on it
 pub fresh_of_none : (birth n now : ℕ) (ls : List BrokerLine) → find (λ (l : BrokerLine). is_of l.session birth) (ls ++ fresh_line n now ∷ []) ≡ find (λ (l : BrokerLine). is_of l.session birth) ls
 fresh_of_none birth n now [] = refl
 fresh_of_none birth n now (l ∷ ls) = by (is_of l.session birth) (fresh_of_none birth n now ls)
@@ -29,6 +30,7 @@ queued_same : (copies : List Lot) (n now : ℕ) (b : Broker) (o : Option Session
 queued_same copies n now b None h = h
 queued_same copies n now b (Some s) h = subst (λ (l : Option BrokerLine). StandOn copies s.queue (option_map (λ (x : BrokerLine). x.went) l)) (sym (fresh_of_none s.birth n (at_moment now b).now b.lines)) h
 
+-- connecting on it goes on with the hop
 pub doing_joins : (number : Numbering) (largest : ℕ) (copies : List Lot) (limits : Limits) (choice : MemberChoice) (now : ℕ) (clean : Bool) (r : Receiver) (b : Broker)
     → IsRun number largest copies r b → MayComeBack clean r b → IsRun number largest copies (receiver_joined limits choice now clean r b) (stepped limits choice now NewLine b)
 doing_joins number largest copies limits choice now clean r b h may =

@@ -83,11 +83,13 @@ listens_on birth ns n other r l b v unique ordered number inside at on apart =
       };
     }
 
+-- a receiver on whose line its session stands, and that is in step, listens
 pub listens_in_step : (largest : ℕ) (ids : List CopyId) (birth : ℕ) (ns : List ℕ) (n other : ℕ) (r : Receiver) (l : BrokerLine) (b : Broker) → IsInStep largest ids birth ns r b → HasUniqueLines b → IsOrdered b.records
     → r.line.number ≡ Some n → line_at n b ≡ Some l → l.session ≡ Some other → is_one_of r.line.old_number (n ∷ []) ≡ false → Listens r l birth b
 listens_in_step largest ids birth ns n other r l b k unique ordered number at on apart =
     listens_on birth ns n other r l b k.served unique ordered number (k.lines.own n number) at on apart
 
+-- one with an old line lingers there
 pub lingers_in_step : (largest : ℕ) (ids : List CopyId) (birth : ℕ) (ns : List ℕ) (n other : ℕ) (r : Receiver) (l : BrokerLine) (b : Broker) → IsInStep largest ids birth ns r b → HasUniqueLines b → IsOrdered b.records
     → r.line.old_number ≡ Some n → line_at n b ≡ Some l → l.session ≡ Some other → is_one_of r.line.number (n ∷ []) ≡ false → Listens (turned_back r) l birth b
 lingers_in_step largest ids birth ns n other r l b k unique ordered number at on apart =

@@ -22,6 +22,7 @@ use Rattle.mqtt_world_receiver_laws.proofs.own.Answering.{closed_row, its_went, 
 use Rattle.mqtt_world_receiver_laws.proofs.queue.Known.{receives_after}
 use Rattle.mqtt_world_receiver_laws.proofs.queue.Turns.{renewed_lots}
 
+-- the loss of its line goes on with the hop
 pub losing_runs : (number : Numbering) (largest : ℕ) (copies : List Lot) (limits : Limits) (choice : MemberChoice) (now : ℕ) (r : Receiver) (l : BrokerLine) (s : Session) (b : Broker)
     → IsRun number largest copies r b → IsListening r l s b
     → IsRun number largest copies (receiver_lost limits choice now l.number r b) (stepped limits choice now (Lost l.number) b)

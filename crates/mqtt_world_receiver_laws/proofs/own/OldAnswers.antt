@@ -49,6 +49,7 @@ aside_line m now (On k part) ls q = line_on now m k part ls (inl q)
 aside_line m now (Send k packet) ls q = refl
 aside_line m now (Gone k) ls q = line_gone m k ls q
 
+-- deeds aside of a line keep who stands there
 pub aside_lines : (m : ℕ) (ds : List Deed) (b : Broker) → AllByRecursion (IsAsideOf m) ds → session_on m (after_all ds b).lines ≡ session_on m b.lines
 aside_lines m [] b q = refl
 aside_lines m (d ∷ ds) b q = aside_lines m ds (after d b) q.1 ∙ aside_line m b.now d b.lines q.0
@@ -58,6 +59,7 @@ pub record IsUntold (m : ℕ) (new : Broker) (ds : List Deed) : Type 0 where
   pub told : sent_to (Some m) new (filter_map output ds) ≡ []
   pub stays : is_one_of (Some m) (filter_map closing ds) ≡ false
 
+-- and tell nothing there
 pub untold : (m : ℕ) (new : Broker) (ds : List Deed) → AllByRecursion (IsAsideOf m) ds → IsUntold m new ds
 untold m new [] q = record { told = refl; stays = refl }
 untold m new (d ∷ ds) q = by d q.0 (untold m new ds q.1)

@@ -185,6 +185,7 @@ module _ (client : List ℕ) (birth : ℕ) (ns : List ℕ) where
 pub birth_is : (birth : ℕ) (ns : List ℕ) (r : Receiver) (t : Session) (b : Broker) → IsServed r.client birth ns b → IsReceiving r t b → t.birth ≡ birth
 birth_is birth ns r t b v x = (all_at birth_of (IsOurs r.client birth) t.birth t b.records.sessions v.sessions x.session).named x.client
 
+-- what is found twice in one look is the same
 pub some_is : (x y : Session) → Some x ≡ Some y → x ≡ y
 some_is x y e = cc
 
@@ -197,6 +198,7 @@ session_is largest birth ids ns number r s b v at client h =
     let same : h.session ≡ s = some_is h.session s (sym h.receiving.session ∙ found) in
     subst (λ (y : Session). IsReceiving r y b) same h.receiving
 
+-- what runs for a session runs for who is served by it
 pub runs_for : (largest : ℕ) (ids : List CopyId) (birth birth2 : ℕ) (ns : List ℕ) (r q : Receiver) (b c : Broker) → RunsFor largest ids birth r b → IsServed q.client birth2 ns c
     → ((number : Numbering) (h : RunsWithAll number largest ids birth r b) → RunsOn number largest h.after q c) → ((number : Numbering) (h : RunsWithAll number largest ids birth r b) → Receives q c)
     → RunsFor largest ids birth2 q c

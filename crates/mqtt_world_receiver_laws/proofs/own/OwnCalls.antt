@@ -79,6 +79,7 @@ old_answers_in_step largest ids birth ns limits choice now x rest r l s b none k
 
 -- ---- sending, and the loss of its line
 
+-- a pump leaves it in step
 pub pump_in_step : (largest : ℕ) (ids : List CopyId) (birth : ℕ) (ns : List ℕ) (limits : Limits) (choice : MemberChoice) (now : ℕ) (r : Receiver) (l : BrokerLine) (s : Session) (b : Broker)
     → IsInStep largest ids birth ns r b → IsListening r l s b → l.largest ≡ largest → HasDistinctIdentifiers b.records
     → IsInStep largest ids birth ns (receiver_called limits choice now (Pump l.number) r b) (stepped limits choice now (Pump l.number) b)
@@ -94,6 +95,7 @@ pump_in_step largest ids birth ns limits choice now r l s b k a fits distinct =
       lines = record { own = k.lines.own; old = k.lines.old };
     }
 
+-- so does the loss of its line
 pub loss_in_step : (largest : ℕ) (ids : List CopyId) (birth : ℕ) (ns : List ℕ) (limits : Limits) (choice : MemberChoice) (now : ℕ) (r : Receiver) (l : BrokerLine) (s : Session) (b : Broker)
     → IsInStep largest ids birth ns r b → IsListening r l s b
     → IsInStep largest ids birth ns (receiver_lost limits choice now l.number r b) (stepped limits choice now (Lost l.number) b)

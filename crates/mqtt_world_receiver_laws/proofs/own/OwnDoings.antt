@@ -63,6 +63,7 @@ keeps_packet t copy (packet.Publish p) rest r = keeps_publish t copy p p.deliver
 keeps_packet t copy (packet.Disconnect a) rest r = record { client = refl; number = λ n e. absurd cc; old_number = λ n e. e }
 keeps_packet t copy x rest r = record { client = refl; number = λ n e. e; old_number = λ n e. e }
 
+-- reading keeps its name and lines
 pub keeps_reading : (t : Bool) (ds : List Down) (r : Receiver) → Keeps r (receiver_reads t ds r)
 keeps_reading t [] r = record { client = refl; number = λ n e. e; old_number = λ n e. e }
 keeps_reading t (d ∷ rest) r = keeps_packet t d.copy d.packet rest r
@@ -114,6 +115,7 @@ done_awaiting largest ids ns r q b does has k = record {
   lines = has;
 }
 
+-- reading leaves it in step
 pub reads_in_step : (largest : ℕ) (ids : List CopyId) (birth : ℕ) (ns : List ℕ) (t : Bool) (r : Receiver) (b : Broker) → IsInStep largest ids birth ns r b → is_linked r.line.number b ≡ t
     → IsInStep largest ids birth ns (receiver_reads t r.line.down r) b
 reads_in_step largest ids birth ns t r b k e =
@@ -121,15 +123,18 @@ reads_in_step largest ids birth ns t r b k e =
     let x = keeps_reading t r.line.down r in
     done_in_step largest ids birth ns r q b (λ number size copies h. doing_reads number size copies t r b h e) x.client (lines_kept ns r q x k.lines) k
 
+-- so does giving up
 pub gives_up_in_step : (largest : ℕ) (ids : List CopyId) (birth : ℕ) (ns : List ℕ) (r : Receiver) (b : Broker) → IsInStep largest ids birth ns r b → MayGiveUp r.line.link r.line.clean
     → IsInStep largest ids birth ns (record r { line = gives_up r.line.link r.line }) b
 gives_up_in_step largest ids birth ns r b k may =
     done_in_step largest ids birth ns r (record r { line = gives_up r.line.link r.line }) b (λ number size copies h. doing_gives_up number size copies r b h may) refl (lines_given_up ns r k.lines) k
 
+-- and asking for a subscription
 pub asks_in_step : (largest : ℕ) (ids : List CopyId) (birth : ℕ) (ns : List ℕ) (t : Bool) (w : Wish) (r : Receiver) (b : Broker) → IsInStep largest ids birth ns r b → IsInStep largest ids birth ns (asks_wish t w r) b
 asks_in_step largest ids birth ns t w r b k =
     done_in_step largest ids birth ns r (asks_wish t w r) b (λ number size copies h. doing_asks number size copies t w r b h) refl (record { own = k.lines.own; old = k.lines.old }) k
 
+-- a new receiver waits for its session
 pub comes_awaiting : (largest : ℕ) (client : List ℕ) (window since : ℕ) (b : Broker) → session_named client b.records ≡ None → IsAwaiting largest [] [] (new_receiver client window since) b
 comes_awaiting largest client window since b none = record {
   runs = λ number numbered. record { after = []; same = refl; run_is = doing_comes number largest client window since b none };
@@ -142,17 +147,20 @@ comes_awaiting largest client window since b none = record {
     none_own [] = tt
     none_own (l ∷ ls) = ((λ inside. absurd cc), none_own ls)
 
+-- reading leaves it waiting
 pub reads_awaiting : (largest : ℕ) (ids : List CopyId) (ns : List ℕ) (t : Bool) (r : Receiver) (b : Broker) → IsAwaiting largest ids ns r b → is_linked r.line.number b ≡ t
     → IsAwaiting largest ids ns (receiver_reads t r.line.down r) b
 reads_awaiting largest ids ns t r b k e =
     let q = receiver_reads t r.line.down r in
     done_awaiting largest ids ns r q b (λ number size copies h. doing_reads number size copies t r b h e) (lines_kept ns r q (keeps_reading t r.line.down r) k.lines) k
 
+-- so does giving up
 pub gives_up_awaiting : (largest : ℕ) (ids : List CopyId) (ns : List ℕ) (r : Receiver) (b : Broker) → IsAwaiting largest ids ns r b → MayGiveUp r.line.link r.line.clean
     → IsAwaiting largest ids ns (record r { line = gives_up r.line.link r.line }) b
 gives_up_awaiting largest ids ns r b k may =
     done_awaiting largest ids ns r (record r { line = gives_up r.line.link r.line }) b (λ number size copies h. doing_gives_up number size copies r b h may) (lines_given_up ns r k.lines) k
 
+-- and asking for a subscription
 pub asks_awaiting : (largest : ℕ) (ids : List CopyId) (ns : List ℕ) (t : Bool) (w : Wish) (r : Receiver) (b : Broker) → IsAwaiting largest ids ns r b → IsAwaiting largest ids ns (asks_wish t w r) b
 asks_awaiting largest ids ns t w r b k =
     done_awaiting largest ids ns r (asks_wish t w r) b (λ number size copies h. doing_asks number size copies t w r b h) (record { own = k.lines.own; old = k.lines.old }) k
@@ -207,6 +215,7 @@ module _ (ns : List ℕ) (m : ℕ) where
       first : is_one_of (Some m) wider ≡ true
       first = rw (nat_eq_equiv.refl m) refl
 
+-- connecting leaves it in step
 pub joins_in_step : (largest : ℕ) (ids : List CopyId) (birth : ℕ) (ns : List ℕ) (limits : Limits) (choice : MemberChoice) (now : ℕ) (clean : Bool) (r : Receiver) (b : Broker)
     → IsInStep largest ids birth ns r b → MayComeBack clean r b
     → IsInStep largest ids birth (suc b.given ∷ ns) (receiver_joined limits choice now clean r b) (stepped limits choice now NewLine b)
@@ -244,6 +253,7 @@ joins_in_step largest ids birth ns limits choice now clean r b k may =
       lines = lines_joined ns m limits choice now clean r b refl k.lines;
     }
 
+-- or waiting, if it was
 pub joins_awaiting : (largest : ℕ) (ids : List CopyId) (ns : List ℕ) (limits : Limits) (choice : MemberChoice) (now : ℕ) (clean : Bool) (r : Receiver) (b : Broker)
     → IsAwaiting largest ids ns r b → MayComeBack clean r b
     → IsAwaiting largest ids (suc b.given ∷ ns) (receiver_joined limits choice now clean r b) (stepped limits choice now NewLine b)

@@ -13,6 +13,7 @@ use Rattle.mqtt_world_receiver_laws.specs.Served.{IsCallOfOthers, IsOverdue, IsT
 use Rattle.mqtt_world_receiver_laws.proofs.others.CallsOfOthers.{others_go_on}
 use Rattle.mqtt_world_receiver_laws.proofs.others.LateConnect.{late_goes_on}
 
+-- a call of another's leaves it in step
 pub others_in_step : (largest : ℕ) (ids : List CopyId) (limits : Limits) (choice : MemberChoice) (now : ℕ) (call : Call) (birth : ℕ) (ns : List ℕ) (r : Receiver) (b : Broker)
     → IsInStep largest ids birth ns r b → IsTidy limits b → starts_with nat_eq r.client auto ≡ false → IsCallOfOthers r.client ns call (at_moment now b)
     → StepsOn largest ids birth ns b.records.publications (receiver_called limits choice now call r b) (stepped limits choice now call b)
@@ -20,6 +21,7 @@ others_in_step largest ids limits choice now call birth ns r b k tidy plain its 
     let x = others_go_on largest ids limits choice now call birth ns r b k.runs k.served k.lines tidy plain its in
     record { more = x.more; new = x.new; differ = x.differ; in_step = record { runs = x.runs; served = x.served; lines = record { own = k.lines.own; old = k.lines.old } } }
 
+-- so does a line that closes before its CONNECT
 pub late_in_step : (largest : ℕ) (ids : List CopyId) (limits : Limits) (choice : MemberChoice) (now birth : ℕ) (ns : List ℕ) (n : ℕ) (r : Receiver) (b : Broker)
     → IsInStep largest ids birth ns r b → IsOverdue n (at_moment now b)
     → IsInStep largest ids birth ns (receiver_called limits choice now Tick r b) (stepped limits choice now Tick b)

@@ -701,6 +701,7 @@ pub record Wished (largest : ℕ) (ids : List CopyId) (limits : Limits) (choice 
   pub differ : AllDiffer (map number_of b.records.retained) → AllDiffer after.more
   pub apart : AreRetainedApart b → AreToldApart after.more (stepped limits choice now (Input n (wire_back r.client r.window (asks_for w))) b).records
 
+-- a subscription brings the copies that the definition has
 pub wished : (largest : ℕ) (ids : List CopyId) (limits : Limits) (choice : MemberChoice) (now birth : ℕ) (ns : List ℕ) (w : Wish) (rest : List Back) (r : Receiver) (l : BrokerLine) (s : Session) (b : Broker)
     → IsInStep largest ids birth ns r b → IsListening r l s b → IsTidy limits b → r.line.up ≡ asks_for w ∷ rest → Wished largest ids limits choice now birth ns w r l.number b
 wished largest ids limits choice now birth ns w rest r l s b k a tidy up =
@@ -734,6 +735,7 @@ subscribes_apart largest ids limits choice now birth ns w rest r l s b k a tidy 
     let x = wished largest ids limits choice now birth ns w rest r l s b k a tidy up in
     (x.after, x.apart)
 
+-- and leaves the receiver in step
 pub subscribes_in_step : (largest : ℕ) (ids : List CopyId) (limits : Limits) (choice : MemberChoice) (now birth : ℕ) (ns : List ℕ) (w : Wish) (rest : List Back) (r : Receiver) (l : BrokerLine) (s : Session) (b : Broker)
     → IsInStep largest ids birth ns r b → IsListening r l s b → IsTidy limits b → r.line.up ≡ asks_for w ∷ rest
     → Subscribed largest ids birth ns (suc b.records.subscribes) (receiver_after limits choice now (Input l.number (wire_back r.client r.window (asks_for w))) r b) (stepped limits choice now (Input l.number (wire_back r.client r.window (asks_for w))) b)
@@ -760,6 +762,7 @@ old_subscribes_apart largest ids limits choice now birth ns w rest r l s b k a t
       x.apart,
     )
 
+-- also on the old line
 pub old_subscribes_in_step : (largest : ℕ) (ids : List CopyId) (limits : Limits) (choice : MemberChoice) (now birth : ℕ) (ns : List ℕ) (w : Wish) (rest : List Back) (r : Receiver) (l : BrokerLine) (s : Session) (b : Broker)
     → IsInStep largest ids birth ns r b → IsLingering r l s b → IsTidy limits b → r.line.old ≡ asks_for w ∷ rest
     → Subscribed largest ids birth ns (suc b.records.subscribes) (reads_old_wish limits choice now l.number w r b) (stepped limits choice now (Input l.number (wire_back r.client r.window (asks_for w))) b)

@@ -33,9 +33,11 @@ come_still publications subscribes publications2 subscribes2 ids le more h =
     all_more (HasCome publications subscribes) (HasCome publications2 subscribes2) ids
     (λ id x. record { publication = let p = x.publication in omega (arith, p, le); subscribe = let q = x.subscribe in omega (arith, q, more) }) h
 
+-- copies that are told apart stay so while no counter falls
 pub apart_still : (ids : List CopyId) (old new : Records) → AreToldApart ids old → NoneFell old new → AreToldApart ids new
 apart_still ids old new h fell = record { come = come_still old.publications old.subscribes new.publications new.subscribes ids fell.1 fell.2 h.come; differ = h.differ }
 
+-- so they are with new copies
 pub apart_entered : (birth : ℕ) (ids more : List CopyId) (old new : Records) → AreToldApart ids old → NoneFell old new → AllByRecursion (IsNewCopy birth old.publications new.publications) more → AllDiffer more
     → AreToldApart (ids ++ more) new
 apart_entered birth ids more old new h fell entered differ =
@@ -58,6 +60,7 @@ apart_brought birth ids more old new h fell brought apart =
     (λ y late e. let le = come.subscribe in let is = ap subscribe_in late.cause_is in let same = ap (λ (i : CopyId). subscribe_in i.cause) e in absurd (omega (arith, le, is, same))) brought) h.come in
     record { come = each_append (HasCome new.publications new.subscribes) ids more first apart.come; differ = differ_join ids more h.differ apart.differ others }
 
+-- a subscription leaves copies told apart
 pub apart_subscribed : (largest : ℕ) (ids : List CopyId) (limits : Limits) (choice : MemberChoice) (now birth : ℕ) (ns : List ℕ) (w : Wish) (rest : List Back) (r : Receiver) (l : BrokerLine) (s : Session) (b : Broker)
     → IsInStep largest ids birth ns r b → IsListening r l s b → IsTidy limits b → r.line.up ≡ asks_for w ∷ rest
     → AreToldApart ids b.records → AllDiffer (map (λ (k : RetainedMessage). k.publication) b.records.retained) → HasAcceptedNumbers b.records
@@ -69,6 +72,7 @@ apart_subscribed largest ids limits choice now birth ns w rest r l s b k a tidy 
     let told = both.1 (record { differ = differ; upto = accepted.1 }) in
     (both.0, apart_brought birth ids both.0.more b.records (stepped limits choice now call b).records apart (step_fell limits choice now call b) both.0.new told)
 
+-- also on the old line
 pub apart_old_subscribed : (largest : ℕ) (ids : List CopyId) (limits : Limits) (choice : MemberChoice) (now birth : ℕ) (ns : List ℕ) (w : Wish) (rest : List Back) (r : Receiver) (l : BrokerLine) (s : Session) (b : Broker)
     → IsInStep largest ids birth ns r b → IsLingering r l s b → IsTidy limits b → r.line.old ≡ asks_for w ∷ rest
     → AreToldApart ids b.records → AllDiffer (map (λ (k : RetainedMessage). k.publication) b.records.retained) → HasAcceptedNumbers b.records

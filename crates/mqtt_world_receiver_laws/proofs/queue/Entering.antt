@@ -65,6 +65,7 @@ use Rattle.mqtt_world_receiver_laws.proofs.queue.Turns.{ids_after, left_lots, sa
 
 -- ---- room, and who makes way: whether a PUBLISH went out on a line is not looked at
 
+-- a new connection keeps the count of copies
 pub long_renewed : (lots : List Lot) → length (queue_of (map renewed lots)) ≡ length (queue_of lots)
 long_renewed [] = refl
 long_renewed (standing e m ∷ ls) = ap suc (long_renewed ls)
@@ -154,6 +155,7 @@ next_is lots queue o h =
     let same : greatest_place (queue_of lots) ≡ greatest (map copy_place queue) = sym (greatest_renewed lots) ∙ (ap greatest_place rows ∙ greatest_rows queue) in
     ap (λ (n : ℕ). n + 1) same ∙ omega arith
 
+-- a queue has as many as stand
 pub long_is : (lots : List Lot) (queue : List CopyRow) (o : Option (List ℕ)) → StandOn lots queue o → length queue ≡ length (queue_of lots)
 long_is lots queue o h =
     let rows : queue_of (map renewed lots) ≡ map (entry_on []) queue = same_entries (map renewed lots) [] queue (renewed_standing lots queue o h) in
@@ -201,6 +203,7 @@ map_push : {X Y : Type 0} (f : X → Y) (xs : List X) (x : X) → map f (xs ++ x
 map_push f [] x = refl
 map_push f (y ∷ ys) x = ap (λ (zs : List _). f y ∷ zs) (map_push f ys x)
 
+-- a copy keeps its place if more come behind
 pub slice_more : (ids more : List CopyId) (n : ℕ) (c : CopyId) → slice_get ids n ≡ Some c → slice_get (ids ++ more) n ≡ Some c
 slice_more [] more n c h = absurd cc
 slice_more (x ∷ xs) more zero c h = h
@@ -348,11 +351,13 @@ all_dropped k since [] = tt
 all_dropped zero since (e ∷ es) = tt
 all_dropped (suc k) since (e ∷ es) = dropped_one (gives_way since e) e (dropped k since es) (dropped (suc k) since es) (all_dropped k since es) (all_dropped (suc k) since es)
 
+-- a copy may make way by staying
 pub way_same : (o : Option Lot) → MakesWay o o
 way_same None = tt
 way_same (Some (standing e m)) = refl
 way_same (Some (past x e m)) = refl
 
+-- two makings of way are one
 pub way_trans : (o p q : Option Lot) → MakesWay o p → MakesWay p q → MakesWay o q
 way_trans None p q a b = tt
 way_trans (Some (standing e m)) None q a b = absurd a
@@ -395,10 +400,12 @@ way_behind (Some (past y e m)) (l ∷ ls) x (suc n) h = way_behind (Some (past y
 
 -- ---- what the receiver sees of it
 
+-- where the same stand on lines, the same are linked
 pub linked_same : (o : Option ℕ) (b c : Broker) → ((m : ℕ) → session_on m c.lines ≡ session_on m b.lines) → is_linked o c ≡ is_linked o b
 linked_same None b c h = refl
 linked_same (Some m) b c h = linked_is m c ∙ (ap linked_of (h m) ∙ sym (linked_is m b))
 
+-- a copy that enters goes on with the hop
 pub entering_runs : (number : Numbering) (largest : ℕ) (copies : List Lot) (env : Env) (copy : MessageCopy) (r : Receiver) (s : Session) (b : Broker)
     → IsRun number largest copies r b → IsReceiving r s b → MayEnter env copy s → AreNumbered number (map id_of copies ++ copy.id ∷ [])
     → RunsWith number largest copies copy.id r (after_all (enter_deeds env copy s) b)
@@ -494,6 +501,7 @@ expired_gives now first whole (e ∷ es) h =
     by true rest = (h e.place (rw (nat_eq_equiv.refl e.place) refl), rest)
     by false rest = rest
 
+-- so do copies that expire
 pub lapsing_runs : (number : Numbering) (largest : ℕ) (copies : List Lot) (now : ℕ) (r : Receiver) (s : Session) (b : Broker)
     → IsRun number largest copies r b → IsReceiving r s b → RunsStill number largest copies r (after_all (lapse_deeds now s) b)
 lapsing_runs number largest copies now r s b h x =

@@ -17,6 +17,7 @@ pub record Follows (number : Numbering) (largest : ℕ) (copies : List Lot) (e :
   pub queue_is : AreQueued after (session_named q.client c.records) c
   pub tagged : AreTagged number (map id_of copies) q
 
+-- a broker that follows an event of the hop runs on with it
 pub run_follows : (number : Numbering) (largest : ℕ) (copies : List Lot) (e : Event) (r : Receiver) (b : Broker) (q : Receiver) (c : Broker)
     → IsRun number largest copies r b → (f : Follows number largest copies e r b q c) → IsRun number largest f.after q c
 run_follows number largest copies e r b q c h f = record {
@@ -27,6 +28,7 @@ run_follows number largest copies e r b q c h f = record {
   tagged = subst (λ (cs : List CopyId). AreTagged number cs q) (sym f.same) f.tagged;
 }
 
+-- and its run is that event's
 pub runs_follow : (number : Numbering) (largest : ℕ) (copies : List Lot) (e : Event) (r : Receiver) (b : Broker) (q : Receiver) (c : Broker)
     → IsRun number largest copies r b → Follows number largest copies e r b q c → RunsOn number largest copies q c
 runs_follow number largest copies e r b q c h f = record { after = f.after; same = f.same; run_is = run_follows number largest copies e r b q c h f }

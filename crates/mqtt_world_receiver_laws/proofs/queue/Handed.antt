@@ -51,6 +51,7 @@ same_as_itself Direct = refl
 same_as_itself (Share group) = (bytes_eq-Decides group group).1 refl
 same_as_itself (Retained n) = nat_eq_equiv.refl n
 
+-- what is the same copy is equal
 pub copy_is : (c d : CopyId) → is_copy c d ≡ true → c ≡ d
 copy_is c d h =
     let x = both (nat_eq c.publication d.publication) (nat_eq c.birth d.birth && same_cause c.cause d.cause) h in
@@ -60,6 +61,7 @@ copy_is c d h =
     let s = cause_is c.cause d.cause y.1 in
     λ i. record { publication = p i; birth = q i; cause = s i }
 
+-- a copy is itself
 pub copy_itself : (c : CopyId) → is_copy c c ≡ true
 copy_itself c = rw (nat_eq_equiv.refl c.publication, nat_eq_equiv.refl c.birth, same_as_itself c.cause) refl
 

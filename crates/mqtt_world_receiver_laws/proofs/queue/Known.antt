@@ -50,6 +50,7 @@ has_marked place p phase (e ∷ es) there = elim (cases_Bool (nat_eq e.place pla
   ]
 ]
 
+-- a mark leaves what is known of a queue
 pub known_marked : (place : ℕ) (phase : Phase) (queue : List CopyRow) (o : Option (List ℕ)) → AreKnown queue o → AreKnown (change_row copy_place place (in_phase phase) queue) o
 known_marked place phase queue None h = tt
 known_marked place phase queue (Some []) h = tt
@@ -62,6 +63,7 @@ known_sent place queue (p ∷ ps) there h = (h.0, known_sent place queue ps ther
 
 -- ---- after a call
 
+-- behind a call the receiver's session is known
 pub receives_after : (r : Receiver) (birth : ℕ) (limits : Limits) (choice : MemberChoice) (now : ℕ) (call : Call) (b : Broker) (t : Session)
     → session_at birth (after_all (deeds limits choice now call b) (at_moment now b)).records ≡ Some t → t.client ≡ r.client → t.birth ≡ birth
     → IsOnly r.client birth (after_all (deeds limits choice now call b) (at_moment now b)).records

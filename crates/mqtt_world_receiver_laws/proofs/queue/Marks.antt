@@ -93,6 +93,7 @@ itself e place is = ap (λ (n : ℕ). nat_eq n place) is ∙ nat_eq_equiv.refl p
 abbrev also_on : Bool → CopyRow → Lot
 also_on here e = standing (record (entry_on [] e) { here = here }) (content_of e.copy)
 
+-- sending a copy marks it in both views
 pub sent_lots : (lots : List Lot) (went : List ℕ) (place i : ℕ) (queue : List CopyRow) → IsAscending copy_place queue → still_standing lots ≡ map (lot_on went) queue
     → still_standing (lots_after (Send place i) lots) ≡ map (lot_on (went ++ place ∷ [])) (change_row copy_place place (in_phase (Sent i)) queue)
 sent_lots lots went place i queue up h =
@@ -113,6 +114,7 @@ same_rows place (e ∷ es) = by (nat_eq e.place place) (same_rows place es)
     by true h = refl
     by false h = ap (λ (xs : List CopyRow). e ∷ xs) h
 
+-- so does sending it again
 pub resent_lots : (lots : List Lot) (went : List ℕ) (place i : ℕ) (queue : List CopyRow) → IsAscending copy_place queue → still_standing lots ≡ map (lot_on went) queue
     → still_standing (lots_after (Resend place i) lots) ≡ map (lot_on (went ++ place ∷ [])) queue
 resent_lots lots went place i queue up h =
@@ -125,6 +127,7 @@ resent_lots lots went place i queue up h =
     other : (e : CopyRow) → nat_eq e.place place ≡ false → lot_after (Resend place i) (lot_on went e) ≡ lot_on (went ++ place ∷ []) e
     other e differs = rw differs (ap (λ (t : Bool). also_on t e) (sym (went_other e place went differs)))
 
+-- and its outgrowing the line
 pub outgrown_lots : (lots : List Lot) (went : List ℕ) (place i order : ℕ) (queue : List CopyRow) → IsAscending copy_place queue → still_standing lots ≡ map (lot_on went) queue
     → still_standing (lots_after (Outgrow place i order) lots) ≡ map (lot_on went) (change_row copy_place place (in_phase (Oversize i order)) queue)
 outgrown_lots lots went place i order queue up h =
@@ -139,6 +142,7 @@ pub record IsSentAs (dup : Bool) (i place k : ℕ) (went : List ℕ) (lots : Lis
   pub found : slice_get lots at ≡ Some (lot_on went e)
   pub packets_are : sends dup i place k lots ≡ publish i (k + at) dup (body (entry_on went e) (content_of e.copy)) ∷ []
 
+-- what goes out is the copy's packet
 pub sent_as : (dup : Bool) (i place k : ℕ) (went : List ℕ) (lots : List Lot) (queue : List CopyRow) (e : CopyRow) → still_standing lots ≡ map (lot_on went) queue
     → row_at copy_place place queue ≡ Some e → IsSentAs dup i place k went lots e
 sent_as dup i place k went [] [] e h at = absurd cc

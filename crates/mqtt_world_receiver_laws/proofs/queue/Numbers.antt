@@ -19,6 +19,7 @@ at_place P [] n c h e = absurd cc
 at_place P (x ∷ xs) zero c h e = let is : x ≡ c = cc in subst P is h.0
 at_place P (x ∷ xs) (suc n) c h e = at_place P xs n c h.1 e
 
+-- copies that differ are numbered by their places
 pub places_number : (ids : List CopyId) → AllDiffer ids → AreNumbered (place_of ids) ids
 places_number [] h n c e = absurd cc
 places_number (x ∷ xs) h zero c e =

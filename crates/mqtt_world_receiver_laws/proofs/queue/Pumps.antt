@@ -57,6 +57,7 @@ use Rattle.mqtt_world_receiver_laws.proofs.queue.Turns.{ids_after, left_lots}
 still_its : (birth n : ℕ) (l : BrokerLine) → l.session ≡ Some birth → is_of l.session birth ≡ true
 still_its birth n l its = ap (λ (o : Option ℕ). is_of o birth) its ∙ nat_eq_equiv.refl birth
 
+-- the session of a line is the one on it
 pub its_session : (o : Option ℕ) (birth : ℕ) → is_of o birth ≡ true → o ≡ Some birth
 its_session None birth h = absurd cc
 its_session (Some x) birth h = ap Some (eqb-true x birth h)
@@ -152,6 +153,7 @@ fits way copy here (Oversize i order) = tt
 abbrev pub Finds : ℕ → Broker → List CopyRow → Type 0
 Finds n new queue = (place id : ℕ) (e : CopyRow) → row_at copy_place place queue ≡ Some e → identifier_of e.phase ≡ Some id → copy_of n id new ≡ Some e.copy.id
 
+-- what goes down first is under way first
 pub down_first : (n : ℕ) (new : Broker) (packet : Packet) (rest : List (ℕ × Packet)) → sent_to (Some n) new ((n, packet) ∷ rest) ≡ record { packet = packet; copy = copy_in n new packet } ∷ sent_to (Some n) new rest
 down_first n new packet rest = rw (nat_eq_equiv.refl n) refl
 

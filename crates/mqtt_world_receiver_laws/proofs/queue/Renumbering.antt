@@ -70,6 +70,7 @@ module _ (number other : Numbering) (ids : List CopyId) (numbered : AreNumbered 
   read_tagged [] h = tt
   read_tagged (e ∷ es) h = (names_other e.copy h.0, read_tagged es h.1)
 
+-- a run may be numbered anew
 pub renumbered : (number other : Numbering) (largest : ℕ) (copies : List Lot) (r : Receiver) (b : Broker) → AreNumbered other (map id_of copies) → IsRun number largest copies r b → IsRun other largest copies r b
 renumbered number other largest copies r b numbered h =
     let ids = map id_of copies in

@@ -63,6 +63,7 @@ granted_rows : (went : List ℕ) (queue : List CopyRow) → AllByRecursion IsLot
 granted_rows went [] h = tt
 granted_rows went (e ∷ es) h = (h.0, granted_rows went es h.1)
 
+-- queued copies are of QoS 1 or 2
 pub queue_granted : (number : Numbering) (largest : ℕ) (copies : List Lot) (went : List ℕ) (queue : List CopyRow) (r : Receiver) (b : Broker) → IsRun number largest copies r b
     → still_standing copies ≡ map (lot_on went) queue → AllByRecursion IsRowGranted queue
 queue_granted number largest copies went queue r b h still =
@@ -71,6 +72,7 @@ queue_granted number largest copies went queue r b h still =
 
 -- ---- the step
 
+-- a pump's deeds are those of its turns
 pub pump_is : (limits : Limits) (choice : MemberChoice) (now : ℕ) (l : BrokerLine) (s : Session) (b : Broker) → line_at l.number b ≡ Some l → l.session ≡ Some s.birth → session_at s.birth b.records ≡ Some s
     → deeds limits choice now (Pump l.number) b ≡ pump_deeds l (at_moment now b).now s
 pump_is limits choice now l s b line connected at =

@@ -77,6 +77,7 @@ release_queue went place i order (e ∷ es) up = elim (cases_Bool (nat_eq e.plac
   | inr other ↦ rw other (ap (λ (ls : List Lot). lot_on went e ∷ ls) (release_queue went place i order es up.1))
 ]
 
+-- a release marks a copy in both views
 pub released_lots : (copies : List Lot) (went : List ℕ) (place i order : ℕ) (queue : List CopyRow) → IsAscending copy_place queue → still_standing copies ≡ map (lot_on went) queue
     → still_standing (lots_after (Release place i order) copies) ≡ map (lot_on went) (change_row copy_place place (in_phase (Released i order)) queue)
 released_lots copies went place i order queue up h =
@@ -96,6 +97,7 @@ leave_queue went place ending (e ∷ es) = elim (cases_Bool (nat_eq e.place plac
       rw other (same_cons first rest)
 ]
 
+-- a leaving takes it out of both
 pub left_lots : (copies : List Lot) (went : List ℕ) (place : ℕ) (ending : Ending) (queue : List CopyRow) → still_standing copies ≡ map (lot_on went) queue
     → still_standing (lots_after (Leave place ending) copies) ≡ map (lot_on (ids_without place went)) (remove_row copy_place place queue)
 left_lots copies went place ending queue h =
@@ -110,6 +112,7 @@ none_leaves went place ending (e ∷ es) none = elim (cases_Bool (nat_eq e.place
   | inr other ↦ let further = rw other at none in rw other (ap (λ (ls : List Lot). lot_on went e ∷ ls) (none_leaves went place ending es further))
 ]
 
+-- or changes nothing if it does not stand
 pub none_left : (copies : List Lot) (went : List ℕ) (place : ℕ) (ending : Ending) (queue : List CopyRow) → row_at copy_place place queue ≡ None → still_standing copies ≡ map (lot_on went) queue
     → still_standing (lots_after (Leave place ending) copies) ≡ map (lot_on went) queue
 none_left copies went place ending queue none h =
@@ -128,14 +131,17 @@ same_lots t (past ending e m ∷ ls) f =
     let rest = same_lots t ls f in
     λ j. first j ∷ rest j
 
+-- a PUBREL that goes out again changes no copy
 pub repeated_lots : (i : ℕ) (copies : List Lot) → lots_after (Repeat i) copies ≡ copies
 repeated_lots i copies = same_lots (Repeat i) copies (λ e m. refl)
 
+-- nor does one for an unknown identifier
 pub unknown_lots : (i : ℕ) (copies : List Lot) → lots_after (Unknown i) copies ≡ copies
 unknown_lots i copies = same_lots (Unknown i) copies (λ e m. refl)
 
 -- ---- the line is lost: what went out on it is not looked at
 
+-- on a new connection nothing was sent
 pub renewed_lots : (went : List ℕ) (queue : List CopyRow) → map renewed (map (lot_on went) queue) ≡ map (lot_on []) queue
 renewed_lots went [] = refl
 renewed_lots went (e ∷ es) = ap (λ (ls : List Lot). lot_on [] e ∷ ls) (renewed_lots went es)
@@ -160,6 +166,7 @@ id_after (Repeat i) (standing e m) = refl
 id_after (Unknown i) (standing e m) = refl
 id_after (Leave place ending) (standing e m) = ended_id (nat_eq e.place place) ending e m
 
+-- a turn leaves the same copies
 pub ids_after : (t : Turn) (copies : List Lot) → map id_of (lots_after t copies) ≡ map id_of copies
 ids_after t [] = refl
 ids_after t (l ∷ ls) =

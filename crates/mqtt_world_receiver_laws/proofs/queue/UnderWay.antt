@@ -17,11 +17,13 @@ use Rattle.mqtt_world_receiver_laws.specs.Rounds.{Has, is_told, is_answered}
 
 -- ---- one of a list
 
+-- what is in the first of two lists is in both
 pub has_left : {X : Type 0} (f : X → Bool) (xs ys : List X) → Has f xs → Has f (xs ++ ys)
 has_left f [] ys h = absurd h
 has_left f (x ∷ xs) ys (inl e) = inl e
 has_left f (x ∷ xs) ys (inr h) = inr (has_left f xs ys h)
 
+-- so is what is in the second
 pub has_right : {X : Type 0} (f : X → Bool) (xs ys : List X) → Has f ys → Has f (xs ++ ys)
 has_right f [] ys h = h
 has_right f (x ∷ xs) ys h = inr (has_right f xs ys h)
@@ -218,9 +220,11 @@ settling j a g (says ps) rest w u other own o = λ h i due.
 ended_away : (b : Body) (code : ℕ) → code ≡ 0 → b.twice ≡ false → on_puback code (sent true) b ≡ over Taken
 ended_away b code z t = rw (z, t) refl
 
+-- a copy of QoS 2 that was sent is answered by a PUBREC
 pub pubrec_said : (j code : ℕ) (o : Option (Mark × Body)) (b : Body) → o ≡ Some (sent true, b) → code ≡ 0 → b.twice ≡ true → pubrec_reply j code o ≡ says (pubrel j 0 ∷ [])
 pubrec_said j code o b e z t = rw (e, z, t) refl
 
+-- each identifier is at one stage of its handshake
 pub at_up : (w : World) (up : List Answer) → w.up ≡ up → Norm w → (i : ℕ) → (s : Stage) × At i w.copies w.linked w.old up w.down (effective w.link w.down w.kept) w.reads s
 at_up w up u inv i = ((inv.each i).0, subst (λ x. At i w.copies w.linked w.old x w.down (effective w.link w.down w.kept) w.reads (inv.each i).0) u (inv.each i).1)
 
@@ -280,6 +284,7 @@ old_owed r (pubcomp j code ∷ rest) w u inv o = unlinked (old_comes r (pubcomp 
 
 -- ---- while a Clean Start goes on, the session is not connected on the receiver's line
 
+-- a fresh hop is not linked
 pub blank_linked : (w : World) → Fresh w → w.linked ≡ false
 blank_linked w f = go f.lines
   where
@@ -532,6 +537,7 @@ step_open w close g o = λ h. absurd (cc)
 step_open w close_old g o = o
 step_open w restart g o = λ h. absurd (cc)
 
+-- on a linked line nothing is under way by which it ends
 pub run_open : (es : List Event) (w : World) → Good w → Open w → Open (run es w)
 run_open [] w g o = o
 run_open (e ∷ es) w g o = run_open es (step w e) (keeps w e g) (step_open w e g o)
@@ -554,6 +560,7 @@ step_owed w close g o = λ h. absurd (cc)
 step_owed w close_old g o = o
 step_owed w restart g o = λ h. absurd (cc)
 
+-- so what is due of a copy, or its answer, is under way behind every run
 pub run_owed : (es : List Event) (w : World) → Good w → Owed w → Owed (run es w)
 run_owed [] w g o = o
 run_owed (e ∷ es) w g o = run_owed es (step w e) (keeps w e g) (step_owed w e g o)

@@ -263,6 +263,7 @@ resending way e m i j ph = record { at = refl; caused = tt; keeps = λ u. go (na
     go true u = subst (λ p. UnsentBy way.largest e.copy p true) (sym ph) tt
     go false u = u
 
+-- what a pump does at a copy is a turn for that copy, or none
 pub looks : (way : Way) (p : Pacing) (e : Entry) (m : TopicAndPayload) → Looks way p e m
 looks way p e m = go p.left refl
   where
@@ -338,6 +339,7 @@ joins_same away c w = refl
 joins_same asked c w = refl
 joins_same live c w = refl
 
+-- a step leaves it so
 pub step_unsent : (largest : ℕ) (w : World) (e : Event) → Sound largest w → AllUnsent largest w.copies → AllUnsent largest (step largest w e).copies
 step_unsent largest w (enter limits since copy m) s u = enters_unsent largest w.stands (is_granted copy.qos) (has_room limits since (queue_of w.copies)) limits since copy m w u
 step_unsent largest w (expire now) s u = sendless_turns largest (expired now (queue_of w.copies)) w (expired_sendless largest now (queue_of w.copies)) u
@@ -352,6 +354,7 @@ step_unsent largest w close s u = u
 step_unsent largest w close_old s u = u
 step_unsent largest w restart s u = all_map largest renewed (renewed_unsent largest) w.copies u
 
+-- so does a run
 pub run_unsent : (largest : ℕ) (es : List Event) (w : World) → Sound largest w → Good (seen w) → AllUnsent largest w.copies → AllUnsent largest (run largest es w).copies
 run_unsent largest [] w s g u = u
 run_unsent largest (e ∷ es) w s g u =
