@@ -13,7 +13,7 @@ ghost use Rattle.mqtt_broker_queue.specs.Turning.{is_sending, pumps};
 use crate::queue::OnLine;
 use crate::turns::take_turns;
 use mqtt_base::{LAST_NUMBER, PUMP_LIMIT};
-use mqtt_broker_step::{Step, StepFault};
+use mqtt_broker_step::{Places, Step, StepFault};
 use mqtt_flow::{Turn, Way, look_pump};
 use mqtt_records::Session;
 use std::alloc::Global;
@@ -50,7 +50,7 @@ fn pump_turns(
     alloc: Global,
     session: &Session,
     way: Way,
-    went: &[u64],
+    went: &Places,
 ) -> Result<Vec<Turn>, StepFault>
     requires { greatest_order (queue_on [] session.now) ≤ LAST_NUMBER }
     ensures turns { IfOk result (λ turns. turns.items ≡ pump way (queue_on went.now session.now)) }

@@ -1,11 +1,11 @@
 //! A session's queue as a look sees it: its rows where they stand, with what a line knows of them (MQTT 5.0, 4.4, 4.6).
 ghost use Rattle.std.specs.Prelude.{◌≡◌, ℕ, List};
-ghost use Rattle.mqtt_flow_inbound.specs.Identifiers.{is_among};
 ghost use Rattle.mqtt_rules.specs.State.{entry_on};
 
 use mqtt_base::{Phase, Qos};
 use mqtt_broker_decisions::number_at;
 use mqtt_broker_packets::row_len;
+use mqtt_broker_step::Places;
 use mqtt_flow::QueueView;
 use mqtt_props::PropName;
 use mqtt_records_message::CopyRow;
@@ -16,7 +16,7 @@ use std::marker::Model;
 #[derive(Drop)]
 pub(crate) struct OnLine<'a> {
     /// The places.
-    pub(crate) went: &'a [u64],
+    pub(crate) went: &'a Places,
 }
 
 impl<'a> Model for OnLine<'a> {
@@ -25,13 +25,6 @@ impl<'a> Model for OnLine<'a> {
     ghost Value = { List ℕ };
 
     ghost view = { λ a. a.went.now };
-}
-
-/// Whether a place is among those whose PUBLISH went out. It looks at each of them.
-fn is_here(went: &[u64], place: u64) -> bool
-    ensures { result ≡ is_among place went.now }
-{
-    went.contains(&place)
 }
 
 impl<'a> QueueView for OnLine<'a> {
@@ -80,6 +73,6 @@ impl<'a> QueueView for OnLine<'a> {
     }
 
     fn here(&self, row: &Boxed<CopyRow>) -> bool {
-        is_here(self.went, row.get().place())
+        self.went.contains(row.get().place())
     }
 }
