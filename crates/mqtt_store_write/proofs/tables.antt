@@ -3,4 +3,5 @@ pub mod Commands
 pub mod Fresh
 pub mod Parts
 pub mod Rows
+pub mod Spared
 pub mod Whole

@@ -18,7 +18,7 @@ pub record PutsInto (tree : ℕ) (put : Row) (gone : Row → Bool) (old new : Tr
 abbrev pub numbered : ℕ → Row → Trees → Row
 numbered tree row db = Int (next_rowid (db tree)) ∷ row
 
--- so the row is put
+-- the row is put behind the number that the table gives it
 abbrev pub PutsNumbered : ℕ → Row → (Row → Bool) → Trees → Trees → Type 0
 PutsNumbered tree row gone old new = PutsInto tree (numbered tree row old) gone old new
 

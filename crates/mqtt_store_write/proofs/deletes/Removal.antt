@@ -1,13 +1,11 @@
 -- DELETE by key from a table to which no other refers, from its text on.
-use Rattle.std.proofs.Common.{◌≡◌, ◌≢◌, ℕ, ℤ, Bool, true, false, not, ◌&&◌, List, [], ◌∷◌, filter, map, slice_get, codes, Some, None, Ok, Err, Result, OnOk, refl, sym, ap, ◌∙◌, subst, inl, inr, IsTrue, arith}
+use Rattle.std.proofs.Common.{◌≡◌, ℕ, Bool, not, List, [], ◌∷◌, filter, map, slice_get, Some, None, Ok, Err, Result, OnOk, refl, sym, ap, ◌∙◌, subst, inl, inr, IsTrue}
 use Rattle.std.proofs.lemmas.List.Sorted.{IsPermutation-sym}
 use Rattle.sqlite_value.specs.declared.value.Value.TheVariants.{Null, Int}
-use Rattle.sqlite_value.specs.Keys.{joined}
 use Rattle.sqlite_value.specs.Order.{Row}
 use Rattle.sqlite_trees.specs.Tree.{Trees, rowid}
 use Rattle.sqlite_trees.specs.declared.store.Shape.TheVariants.{Table as TableShape}
 use Rattle.sqlite_trees.proofs.TreeLemmas.{IsShaped-filter}
-use Rattle.sqlite_schema.specs.Names.{same_name}
 use Rattle.sqlite_schema.specs.Rules.{Obeys}
 use Rattle.sqlite_schema.specs.declared.schema.Table.{Table}
 use Rattle.sqlite_schema.specs.declared.schema.Keys.TheVariants.{Enforced}
@@ -26,16 +24,14 @@ use Rattle.sqlite.specs.declared.error.Error.{Error}
 use Rattle.sqlite.specs.Does.{Does}
 use Rattle.sqlite.specs.Listing.{understood}
 use Rattle.sqlite.specs.State.{State, ExecutesInside, mode_of}
-use Rattle.sqlite_tied.specs.Compute.{everything}
 use Rattle.sqlite.proofs.Callers.{IsPlain, command_of, statement_of, runs_as, one_step}
-use Rattle.mqtt_store_schema.specs.Tables.{keep_schema, inbound, copy}
-use Rattle.mqtt_store_write.specs.Content.{is_of, IsShapedAt, IsReady}
-use Rattle.mqtt_store_write.specs.Removal.{is_keyed, RemovesFrom}
+use Rattle.mqtt_store_schema.specs.Tables.{keep_schema}
+use Rattle.mqtt_store_write.specs.Content.{IsShapedAt, IsReady, IsWhole}
+use Rattle.mqtt_store_write.specs.Removal.{RemovesFrom}
 use Rattle.mqtt_store_write.proofs.tables.Rows.{without_those, has_permuted, filter_alike}
-use Rattle.mqtt_store_write.proofs.tables.Commands.{over, program, equals}
+use Rattle.mqtt_store_write.proofs.tables.Commands.{over, program}
 use Rattle.mqtt_store_write.proofs.tables.Parts.{passes, shows, answers_over, deleted}
-use Rattle.mqtt_store_write.proofs.deletes.RemovesSession.{not_tree}
-use Rattle.mqtt_store_write.proofs.tables.Whole.{at_tree}
+use Rattle.mqtt_store_write.proofs.tables.Whole.{ready_after, whole_after}
 
 pub has_map : {X Y : Type 0} (f : X → Y) (xs : List X) (y : Y) → Has (map f xs) y → (x : X) × Has xs x × (y ≡ f x)
 has_map f [] y h = absurd h
@@ -47,7 +43,8 @@ map_has f [] x h = absurd h
 map_has f (y ∷ ys) x (inl here) = inl (ap f here)
 map_has f (y ∷ ys) x (inr later) = inr (map_has f ys x later)
 
-abbrev numbers : List Term
+-- a DELETE asks for the rowids
+abbrev pub numbers : List Term
 numbers = col 1 0 ∷ []
 
 -- the rowids that the query gives are those of the rows that pass
@@ -96,100 +93,26 @@ module _ (text : List ℕ) (at : ℕ) (table : Table) (tests : List Term) (param
         obeys = rw d.schema at w.sound.obeys;
       }
 
-abbrev keyed : List Term
-keyed = equals 1 0 ∷ equals 2 1 ∷ []
+  -- the tests pass the rows that go
+  module _ (gone : Row → Bool) (same : (r : Row) → passes params tests r ≡ gone r) where
+    gone_from : (old new : State) → Removed old new → RemovesFrom table.tree gone old.now.trees new.now.trees
+    gone_from old new it = record {
+      rows = it.removes.rows ∙ filter_alike (λ r. not (passes params tests r)) (λ r. not (gone r)) (old.now.trees table.tree) (λ r has. ap not (same r));
+      others = it.removes.others;
+    }
 
-abbrev pub remove_copy_text : List ℕ
-remove_copy_text = codes "DELETE FROM copy WHERE birth = ?1 AND place = ?2"
+    pub deletes_ready : (old new : State) (r : Result ℕ Error) → IsReady old → IsShapedAt old.now.trees table.tree → ExecutesInside 0 text params old new r
+        → OnOk r (RemovesFrom table.tree gone old.now.trees new.now.trees) × OnOk r (IsReady new)
+    deletes_ready old new (Err e) ready shaped h = (tt, tt)
+    deletes_ready old new (Ok count) ready shaped h =
+        let it = removed old new count ready shaped h in
+        let from = gone_from old new it in
+        (from, ready_after table.tree old new ready from.others (shaped_left old.now.trees new.now.trees table.tree gone from.rows shaped) it.schema it.inside it.obeys)
 
-abbrev pub remove_open_text : List ℕ
-remove_open_text = codes "DELETE FROM inbound WHERE birth = ?1 AND ident = ?2"
-
-copy_is : command_of (understood keep_schema remove_copy_text) ≡ Delete 5 (program (over 9 keyed numbers))
-unfolding understood everything
-copy_is = refl
-
-copy_plain : IsPlain (understood keep_schema remove_copy_text)
-unfolding understood everything
-copy_plain = (refl, refl)
-
-open_is : command_of (understood keep_schema remove_open_text) ≡ Delete 4 (program (over 7 keyed numbers))
-unfolding understood everything
-open_is = refl
-
-open_plain : IsPlain (understood keep_schema remove_open_text)
-unfolding understood everything
-open_plain = (refl, refl)
-
-copy_childless : (olds : List Row) → works keep_schema Enforced 0 9 olds [] ≡ []
-unfolding same_name joined
-copy_childless olds = refl
-
-open_childless : (olds : List Row) → works keep_schema Enforced 0 7 olds [] ≡ []
-unfolding same_name joined
-open_childless olds = refl
-
-and_true : (b c : Bool) → (b && (c && true)) ≡ (b && c)
-and_true true true = refl
-and_true true false = refl
-and_true false c = refl
-
-by_key : (birth n : ℤ) (tree : ℕ) (old new : Trees) → RemovesFrom tree (passes (Int birth ∷ Int n ∷ []) keyed) old new → RemovesFrom tree (is_keyed birth n) old new
-by_key birth n tree old new h = record {
-  rows = h.rows ∙ filter_alike (λ r. not (passes (Int birth ∷ Int n ∷ []) keyed r)) (λ r. not (is_keyed birth n r)) (old tree) (λ r has. ap not (and_true (is_of 1 birth r) (is_of 2 n r)));
-  others = h.others;
-}
-
-abbrev NotIndex : ℕ → Type 0
-NotIndex t = (t ≢ 1) × (t ≢ 3) × (t ≢ 6) × (t ≢ 8) × (t ≢ 10) × (t ≢ 12)
-
-kept_at : (tree t : ℕ) (gone : Row → Bool) (old new : Trees) → RemovesFrom tree gone old new → t ≢ tree → NotIndex t → IsShapedAt old t → IsShapedAt new t
-kept_at tree t gone old new h other n shaped = at_tree old new t (h.others t other (not_tree t n.0 n.1 n.2 n.3 n.4 n.5)) shaped
-
-pub removes_copy : (birth n : ℤ) (old new : State) (r : Result ℕ Error) → IsReady old → ExecutesInside 0 remove_copy_text (Int birth ∷ Int n ∷ []) old new r
-    → OnOk r (RemovesFrom 9 (is_keyed birth n) old.now.trees new.now.trees) × OnOk r (IsReady new)
-removes_copy birth n old new (Err e) ready h = (tt, tt)
-removes_copy birth n old new (Ok count) ready h =
-    let s = ready.shaped in
-    let params = Int birth ∷ Int n ∷ [] in
-    let it = removed remove_copy_text 5 copy keyed params copy_is copy_plain refl copy_childless old new count ready s.copy h in
-    let k = by_key birth n 9 old.now.trees new.now.trees it.removes in
-    let at = λ (t : ℕ) (other : t ≢ 9) (no : NotIndex t) (shaped : IsShapedAt old.now.trees t). kept_at 9 t (is_keyed birth n) old.now.trees new.now.trees k other no shaped in (
-      k,
-      record {
-        schema = it.schema;
-        inside = it.inside;
-        shaped = record {
-          session = at 2 (omega arith) (omega arith, omega arith, omega arith, omega arith, omega arith, omega arith) s.session;
-          will = at 4 (omega arith) (omega arith, omega arith, omega arith, omega arith, omega arith, omega arith) s.will;
-          sub = at 5 (omega arith) (omega arith, omega arith, omega arith, omega arith, omega arith, omega arith) s.sub;
-          inbound = at 7 (omega arith) (omega arith, omega arith, omega arith, omega arith, omega arith, omega arith) s.inbound;
-          copy = shaped_left old.now.trees new.now.trees 9 (is_keyed birth n) k.rows s.copy;
-        };
-        obeys = it.obeys;
-      },
-    )
-
-pub removes_open : (birth n : ℤ) (old new : State) (r : Result ℕ Error) → IsReady old → ExecutesInside 0 remove_open_text (Int birth ∷ Int n ∷ []) old new r
-    → OnOk r (RemovesFrom 7 (is_keyed birth n) old.now.trees new.now.trees) × OnOk r (IsReady new)
-removes_open birth n old new (Err e) ready h = (tt, tt)
-removes_open birth n old new (Ok count) ready h =
-    let s = ready.shaped in
-    let params = Int birth ∷ Int n ∷ [] in
-    let it = removed remove_open_text 4 inbound keyed params open_is open_plain refl open_childless old new count ready s.inbound h in
-    let k = by_key birth n 7 old.now.trees new.now.trees it.removes in
-    let at = λ (t : ℕ) (other : t ≢ 7) (no : NotIndex t) (shaped : IsShapedAt old.now.trees t). kept_at 7 t (is_keyed birth n) old.now.trees new.now.trees k other no shaped in (
-      k,
-      record {
-        schema = it.schema;
-        inside = it.inside;
-        shaped = record {
-          session = at 2 (omega arith) (omega arith, omega arith, omega arith, omega arith, omega arith, omega arith) s.session;
-          will = at 4 (omega arith) (omega arith, omega arith, omega arith, omega arith, omega arith, omega arith) s.will;
-          sub = at 5 (omega arith) (omega arith, omega arith, omega arith, omega arith, omega arith, omega arith) s.sub;
-          inbound = shaped_left old.now.trees new.now.trees 7 (is_keyed birth n) k.rows s.inbound;
-          copy = at 9 (omega arith) (omega arith, omega arith, omega arith, omega arith, omega arith, omega arith) s.copy;
-        };
-        obeys = it.obeys;
-      },
-    )
+    pub deletes : (old new : State) (r : Result ℕ Error) → IsWhole old → IsShapedAt old.now.trees table.tree → ExecutesInside 0 text params old new r
+        → OnOk r (RemovesFrom table.tree gone old.now.trees new.now.trees) × OnOk r (IsWhole new)
+    deletes old new (Err e) whole shaped h = (tt, tt)
+    deletes old new (Ok count) whole shaped h =
+        let it = removed old new count whole.ready shaped h in
+        let from = gone_from old new it in
+        (from, whole_after table.tree old new whole from.others (shaped_left old.now.trees new.now.trees table.tree gone from.rows shaped) it.schema it.inside it.obeys)

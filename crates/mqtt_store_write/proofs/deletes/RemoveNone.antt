@@ -35,7 +35,8 @@ use Rattle.mqtt_store_schema.specs.Tables.{keep_schema, to_session, session, wil
 use Rattle.mqtt_store_write.specs.Content.{is_of, without, RemovesSession, IsReady}
 use Rattle.mqtt_store_write.proofs.tables.Commands.{over, program, equals, remove_session_is}
 use Rattle.mqtt_store_write.proofs.tables.Parts.{passes, shows, answers_over, deleted}
-use Rattle.mqtt_store_write.proofs.deletes.RemovesSession.{and_true, not_tree, remove_session_text, remove_session_plain}
+use Rattle.mqtt_store_write.proofs.tables.Spared.{meta_spared, will_spared, sub_spared, inbound_spared, copy_spared, retained_spared}
+use Rattle.mqtt_store_write.proofs.deletes.RemovesSession.{and_true, remove_session_text, remove_session_plain}
 use Rattle.mqtt_store_write.proofs.deletes.RemoveSessionRuns.{removes_inside, shaped_after}
 use Rattle.mqtt_store_write.proofs.puts.PutSession.{own_number}
 
@@ -85,13 +86,13 @@ module _ (birth : ℤ) (db : Trees) (obeys : Obeys keep_schema db) (none : (p : 
       let a = one_step keep_schema Enforced db after edit no_works h in
       let at = λ (t : ℕ) (other : t ≢ 2) (no_index : IsNoIndex keep_schema t). a.others t other no_index in
       record {
-        meta = at 0 (omega arith) (not_tree 0 (omega arith) (omega arith) (omega arith) (omega arith) (omega arith) (omega arith));
+        meta = at 0 (omega arith) meta_spared;
         session = a.rows ∙ sym (filter_all (λ r. not (is_of 0 birth r)) (db 2) (all_from _ (db 2) (λ r h. ap not (false_from_ne_true _ (none r h)))));
-        will = at 4 (omega arith) (not_tree 4 (omega arith) (omega arith) (omega arith) (omega arith) (omega arith) (omega arith)) ∙ spared will 0 (inr (inr (inl refl))) refl;
-        sub = at 5 (omega arith) (not_tree 5 (omega arith) (omega arith) (omega arith) (omega arith) (omega arith) (omega arith)) ∙ spared sub 1 (inr (inr (inr (inl refl)))) refl;
-        inbound = at 7 (omega arith) (not_tree 7 (omega arith) (omega arith) (omega arith) (omega arith) (omega arith) (omega arith)) ∙ spared inbound 1 (inr (inr (inr (inr (inl refl))))) refl;
-        copy = at 9 (omega arith) (not_tree 9 (omega arith) (omega arith) (omega arith) (omega arith) (omega arith) (omega arith)) ∙ spared copy 1 (inr (inr (inr (inr (inr (inl refl)))))) refl;
-        retained = at 11 (omega arith) (not_tree 11 (omega arith) (omega arith) (omega arith) (omega arith) (omega arith) (omega arith));
+        will = at 4 (omega arith) will_spared ∙ spared will 0 (inr (inr (inl refl))) refl;
+        sub = at 5 (omega arith) sub_spared ∙ spared sub 1 (inr (inr (inr (inl refl)))) refl;
+        inbound = at 7 (omega arith) inbound_spared ∙ spared inbound 1 (inr (inr (inr (inr (inl refl))))) refl;
+        copy = at 9 (omega arith) copy_spared ∙ spared copy 1 (inr (inr (inr (inr (inr (inl refl)))))) refl;
+        retained = at 11 (omega arith) retained_spared;
       }
 
 removes_none : (birth : ℤ) (old new : State) (count : ℕ) → IsReady old → ((p : Row) → Has (old.now.trees 2) p → is_of 0 birth p ≡ true → ⊥) → ExecutesInside 0 remove_session_text (Int birth ∷ []) old new (Ok count)

@@ -22,15 +22,13 @@ use Rattle.sqlite.proofs.Callers.{IsPlain}
 use Rattle.mqtt_store_schema.specs.Tables.{keep_schema, will, sub, inbound, copy, session}
 use Rattle.mqtt_store_write.specs.Content.{is_of, without, RemovesSession, AreShaped}
 use Rattle.mqtt_store_write.proofs.tables.Rows.{filter_alike, equal_is}
+use Rattle.mqtt_store_write.proofs.tables.Spared.{meta_spared, session_spared, will_spared, sub_spared, inbound_spared, copy_spared, retained_spared}
 use Rattle.mqtt_store_write.proofs.deletes.Cascade.{work, stepped, will_childless, sub_childless, inbound_childless, copy_childless}
 use Rattle.mqtt_store_write.proofs.deletes.RemoveSession.{equal_ids, children_are}
 
 pub and_true : (b : Bool) → (b && true) ≡ b
 and_true true = refl
 and_true false = refl
-
-pub not_tree : (t : ℕ) → t ≢ 1 → t ≢ 3 → t ≢ 6 → t ≢ 8 → t ≢ 10 → t ≢ 12 → IsNoIndex keep_schema t
-not_tree t a b c d e f = (λ h. a (sym h), (λ h. b (sym h), (λ h. c (sym h), (λ h. d (sym h), (λ h. e (sym h), (λ h. f (sym h), tt))))))
 
 -- its row, whose number is the session's
 pub tied_ids : (a b : Value) (n : ℤ) → is_int a ≡ true → is_int b ≡ true → equal Rattle.sqlite_value.specs.declared.keys.Collation.TheVariants.Binary a (Int n) ≡ true
@@ -55,41 +53,31 @@ unfolding first_key binary
 lost one birth is = rw is (rw (ap is_eq (tied_itself value_cmp_total (Int birth))))
 
 module _ (birth : ℤ) (db after : Trees) (one : Row) (shaped : AreShaped db) (has : Has (db 2) one) (is : rowid one ≡ Int birth) where
-  others_at : (t : ℕ) → t ≢ 1 → t ≢ 3 → t ≢ 6 → t ≢ 8 → t ≢ 10 → t ≢ 12 → IsNoIndex keep_schema t
-  others_at = not_tree
-
   -- from the step that takes the session out, through its four actions
   pub cascades : (mid : Trees) → mid 2 ≡ without 0 birth (db 2) → ((t : ℕ) → t ≢ 2 → IsNoIndex keep_schema t → mid t ≡ db t)
       → Settles keep_schema Enforced mid (work will 0 one ∷ work sub 1 one ∷ work inbound 1 one ∷ work copy 1 one ∷ []) (Ok after) → RemovesSession birth db after
   cascades mid session kept h =
       let away = lost one birth is in
-      let no0 = not_tree 0 (omega arith) (omega arith) (omega arith) (omega arith) (omega arith) (omega arith) in
-      let no2 = not_tree 2 (omega arith) (omega arith) (omega arith) (omega arith) (omega arith) (omega arith) in
-      let no4 = not_tree 4 (omega arith) (omega arith) (omega arith) (omega arith) (omega arith) (omega arith) in
-      let no5 = not_tree 5 (omega arith) (omega arith) (omega arith) (omega arith) (omega arith) (omega arith) in
-      let no7 = not_tree 7 (omega arith) (omega arith) (omega arith) (omega arith) (omega arith) (omega arith) in
-      let no9 = not_tree 9 (omega arith) (omega arith) (omega arith) (omega arith) (omega arith) (omega arith) in
-      let no11 = not_tree 11 (omega arith) (omega arith) (omega arith) (omega arith) (omega arith) (omega arith) in
-      let at9 : mid 9 ≡ db 9 = kept 9 (omega arith) no9 in
+      let at9 : mid 9 ≡ db 9 = kept 9 (omega arith) copy_spared in
       let s1 = stepped copy 1 one mid (work will 0 one ∷ work sub 1 one ∷ work inbound 1 one ∷ []) after copy_childless (rw at9 shaped.copy.up) (rw at9 shaped.copy.ints) h.0 h.1 in
-      let at7 : s1.mid 7 ≡ db 7 = s1.others 7 (omega arith) no7 ∙ kept 7 (omega arith) no7 in
+      let at7 : s1.mid 7 ≡ db 7 = s1.others 7 (omega arith) inbound_spared ∙ kept 7 (omega arith) inbound_spared in
       let s2 = stepped inbound 1 one s1.mid (work will 0 one ∷ work sub 1 one ∷ []) after inbound_childless (rw at7 shaped.inbound.up) (rw at7 shaped.inbound.ints) s1.left s1.leads in
-      let at5 : s2.mid 5 ≡ db 5 = s2.others 5 (omega arith) no5 ∙ (s1.others 5 (omega arith) no5 ∙ kept 5 (omega arith) no5) in
+      let at5 : s2.mid 5 ≡ db 5 = s2.others 5 (omega arith) sub_spared ∙ (s1.others 5 (omega arith) sub_spared ∙ kept 5 (omega arith) sub_spared) in
       let s3 = stepped sub 1 one s2.mid (work will 0 one ∷ []) after sub_childless (rw at5 shaped.sub.up) (rw at5 shaped.sub.ints) s2.left s2.leads in
-      let at4 : s3.mid 4 ≡ db 4 = s3.others 4 (omega arith) no4 ∙ (s2.others 4 (omega arith) no4 ∙ (s1.others 4 (omega arith) no4 ∙ kept 4 (omega arith) no4)) in
+      let at4 : s3.mid 4 ≡ db 4 = s3.others 4 (omega arith) will_spared ∙ (s2.others 4 (omega arith) will_spared ∙ (s1.others 4 (omega arith) will_spared ∙ kept 4 (omega arith) will_spared)) in
       let s4 = stepped will 0 one s3.mid [] after will_childless (rw at4 shaped.will.up) (rw at4 shaped.will.ints) s3.left s3.leads in
       let end : s4.mid ≡ after = settled s4.left s4.mid s4.leads in
       let filtered = λ (child : Rattle.sqlite_schema.specs.declared.schema.Table.Table) (at : ℕ) (rows : List Row). filter_alike (λ r. not (list_any (is_child_of (work child at one) r) (work child at one).moves)) (λ r. not (is_of at birth r)) rows
       (λ r h. ap not (children_are child at one birth r is away)) in
       let e = λ (t : ℕ). ap (λ (x : Trees). x t) (sym end) in
       record {
-        meta = e 0 ∙ (s4.others 0 (omega arith) no0 ∙ (s3.others 0 (omega arith) no0 ∙ (s2.others 0 (omega arith) no0 ∙ (s1.others 0 (omega arith) no0 ∙ kept 0 (omega arith) no0))));
-        session = e 2 ∙ (s4.others 2 (omega arith) no2 ∙ (s3.others 2 (omega arith) no2 ∙ (s2.others 2 (omega arith) no2 ∙ (s1.others 2 (omega arith) no2 ∙ session))));
+        meta = e 0 ∙ (s4.others 0 (omega arith) meta_spared ∙ (s3.others 0 (omega arith) meta_spared ∙ (s2.others 0 (omega arith) meta_spared ∙ (s1.others 0 (omega arith) meta_spared ∙ kept 0 (omega arith) meta_spared))));
+        session = e 2 ∙ (s4.others 2 (omega arith) session_spared ∙ (s3.others 2 (omega arith) session_spared ∙ (s2.others 2 (omega arith) session_spared ∙ (s1.others 2 (omega arith) session_spared ∙ session))));
         will = e 4 ∙ (s4.rows ∙ (ap (filter (λ r. not (list_any (is_child_of (work will 0 one) r) (work will 0 one).moves))) at4 ∙ filtered will 0 (db 4)));
-        sub = e 5 ∙ (s4.others 5 (omega arith) no5 ∙ (s3.rows ∙ (ap (filter (λ r. not (list_any (is_child_of (work sub 1 one) r) (work sub 1 one).moves))) at5 ∙ filtered sub 1 (db 5))));
-        inbound = e 7 ∙ (s4.others 7 (omega arith) no7 ∙ (s3.others 7 (omega arith) no7 ∙ (s2.rows ∙ (ap (filter (λ r. not (list_any (is_child_of (work inbound 1 one) r) (work inbound 1 one).moves))) at7 ∙ filtered inbound 1 (db 7)))));
-        copy = e 9 ∙ (s4.others 9 (omega arith) no9 ∙ (s3.others 9 (omega arith) no9 ∙ (s2.others 9 (omega arith) no9 ∙ (s1.rows ∙ (ap (filter (λ r. not (list_any (is_child_of (work copy 1 one) r) (work copy 1 one).moves))) at9 ∙ filtered copy 1 (db 9))))));
-        retained = e 11 ∙ (s4.others 11 (omega arith) no11 ∙ (s3.others 11 (omega arith) no11 ∙ (s2.others 11 (omega arith) no11 ∙ (s1.others 11 (omega arith) no11 ∙ kept 11 (omega arith) no11))));
+        sub = e 5 ∙ (s4.others 5 (omega arith) sub_spared ∙ (s3.rows ∙ (ap (filter (λ r. not (list_any (is_child_of (work sub 1 one) r) (work sub 1 one).moves))) at5 ∙ filtered sub 1 (db 5))));
+        inbound = e 7 ∙ (s4.others 7 (omega arith) inbound_spared ∙ (s3.others 7 (omega arith) inbound_spared ∙ (s2.rows ∙ (ap (filter (λ r. not (list_any (is_child_of (work inbound 1 one) r) (work inbound 1 one).moves))) at7 ∙ filtered inbound 1 (db 7)))));
+        copy = e 9 ∙ (s4.others 9 (omega arith) copy_spared ∙ (s3.others 9 (omega arith) copy_spared ∙ (s2.others 9 (omega arith) copy_spared ∙ (s1.rows ∙ (ap (filter (λ r. not (list_any (is_child_of (work copy 1 one) r) (work copy 1 one).moves))) at9 ∙ filtered copy 1 (db 9))))));
+        retained = e 11 ∙ (s4.others 11 (omega arith) retained_spared ∙ (s3.others 11 (omega arith) retained_spared ∙ (s2.others 11 (omega arith) retained_spared ∙ (s1.others 11 (omega arith) retained_spared ∙ kept 11 (omega arith) retained_spared))));
       }
     where
       settled : (n : ℕ) (end : Trees) → Leads keep_schema Enforced n end [] (Ok after) → end ≡ after

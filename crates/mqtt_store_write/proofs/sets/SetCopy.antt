@@ -1,5 +1,5 @@
 -- UPDATE copy, from its text on.
-use Rattle.std.proofs.Common.{◌≡◌, ◌≢◌, ℕ, ℤ, pos, Bool, true, false, not, ◌&&◌, cond, List, [], ◌∷◌, filter, map, option_map, Option, Some, None, Ok, Err, Result, OnOk, refl, sym, ap, ◌∙◌, subst, inl, inr, arith, codes, true≢false, Equal}
+use Rattle.std.proofs.Common.{◌≡◌, ℕ, ℤ, pos, Bool, true, false, not, ◌&&◌, cond, List, [], ◌∷◌, filter, map, option_map, Option, Some, None, Ok, Err, Result, OnOk, refl, sym, ap, ◌∙◌, subst, inl, inr, codes, true≢false, Equal}
 use Rattle.std.specs.Ordering.{is_eq}
 use Rattle.std.specs.List.Sorted.{IsPermutation}
 use Rattle.std.proofs.lemmas.Cmp.{tied_itself}
@@ -18,7 +18,7 @@ use Rattle.sqlite_schema.specs.Rules.{equal, Obeys}
 use Rattle.sqlite_schema.specs.declared.schema.Keys.TheVariants.{Enforced}
 use Rattle.sqlite_rules.specs.Lists.{Has}
 use Rattle.sqlite_rules.specs.Cast.{cast_row}
-use Rattle.sqlite_rules.specs.Edit.{Edit, IsNoIndex, edit_of, taken_by, without_all}
+use Rattle.sqlite_rules.specs.Edit.{Edit, edit_of, taken_by, without_all}
 use Rattle.sqlite_rules.specs.Calls.{ids_of}
 use Rattle.sqlite_rules.specs.Action.{works, Writes}
 use Rattle.sqlite_rules.proofs.ListLemmas.{all_has}
@@ -34,7 +34,6 @@ use Rattle.sqlite.specs.State.{State, mode_of}
 use Rattle.sqlite.specs.Does.{Does}
 use Rattle.sqlite_tied.specs.Compute.{everything}
 use Rattle.sqlite.proofs.Callers.{IsPlain, statement_of, runs_as, one_permutation, one_step}
-use Rattle.std.specs.List.{AllByRecursion, list_any}
 use Rattle.sqlite_value.specs.Keys.{plain, first_key}
 use Rattle.sqlite_sql.specs.Ops.{unary, binary}
 use Rattle.sqlite_schema.specs.Rules.{differ, agree}
@@ -55,9 +54,8 @@ use Rattle.mqtt_store_write.specs.Copy.{CopyColumns, set_copy, number_or_null, c
 use Rattle.mqtt_store_write.proofs.tables.Commands.{over, program, equals}
 use Rattle.mqtt_store_write.proofs.tables.Parts.{passes, shows, answers_over, updated}
 use Rattle.mqtt_store_write.proofs.deletes.RemoveSession.{equal_ids, only_row}
-use Rattle.mqtt_store_write.proofs.deletes.RemovesSession.{not_tree}
 use Rattle.mqtt_store_write.proofs.sets.SetAny.{any_whole}
-use Rattle.mqtt_store_write.proofs.tables.Whole.{at_tree}
+use Rattle.mqtt_store_write.proofs.tables.Whole.{ready_after}
 
 abbrev pub set_copy_text : List ℕ
 set_copy_text = codes "UPDATE copy SET pid = ?3, phase = ?4, rel = ?5 WHERE birth = ?1 AND place = ?2"
@@ -184,21 +182,7 @@ sets_copy birth place phase pid rel old new id c (Ok count) ready there h =
     let shown = found birth place phase pid rel old.now.trees new.now.trees c id shaped.copy obeys there d.rows (d.answers.answer Null) in
     let s = goes birth place phase pid rel old.now.trees new.now.trees c id shaped.copy obeys
     (subst (λ l. Writes keep_schema Enforced old.now.trees (edit_of old.now.trees copy (ids_of l) Given 1 l) (Ok new.now.trees)) shown d.writes) in
-    let other = λ (t : ℕ) (n9 : t ≢ 9) (no : IsNoIndex keep_schema t) (k : IsShapedAt old.now.trees t). at_tree old.now.trees new.now.trees t (s.others t n9 no) k in (
-      s,
-      record {
-        schema = d.schema;
-        inside = h.1.mode;
-        shaped = record {
-          session = other 2 (omega arith) (not_tree 2 (omega arith) (omega arith) (omega arith) (omega arith) (omega arith) (omega arith)) shaped.session;
-          will = other 4 (omega arith) (not_tree 4 (omega arith) (omega arith) (omega arith) (omega arith) (omega arith) (omega arith)) shaped.will;
-          sub = other 5 (omega arith) (not_tree 5 (omega arith) (omega arith) (omega arith) (omega arith) (omega arith) (omega arith)) shaped.sub;
-          inbound = other 7 (omega arith) (not_tree 7 (omega arith) (omega arith) (omega arith) (omega arith) (omega arith) (omega arith)) shaped.inbound;
-          copy = set_shaped birth place phase pid rel old.now.trees new.now.trees c id shaped.copy obeys s;
-        };
-        obeys = rw d.schema at w.sound.obeys;
-      },
-    )
+    (s, ready_after 9 old new ready s.others (set_shaped birth place phase pid rel old.now.trees new.now.trees c id shaped.copy obeys s) d.schema h.1.mode (rw d.schema at w.sound.obeys))
 
 -- what is bound where there may be no number
 pub bound_is : (n : Option ℕ) → bound_value (or_null Int (option_map pos n)) ≡ number_or_null n

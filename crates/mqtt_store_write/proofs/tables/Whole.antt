@@ -1,13 +1,13 @@
 -- A statement on one table leaves the shape of all.
-use Rattle.std.proofs.Common.{◌≡◌, ◌≢◌, ℕ, ◌==◌, sym, subst, inl, inr, arith, IsTrue}
+use Rattle.std.proofs.Common.{◌≡◌, ◌≢◌, ℕ, ◌==◌, sym, subst, inl, inr, IsTrue}
 use Rattle.std.proofs.lemmas.Bool.{cases_Bool, eqb-true, eqb-false}
 use Rattle.sqlite_trees.specs.Tree.{Trees}
 use Rattle.sqlite_schema.specs.Rules.{Obeys}
 use Rattle.sqlite_rules.specs.Edit.{IsNoIndex}
 use Rattle.sqlite.specs.State.{State}
 use Rattle.mqtt_store_schema.specs.Tables.{keep_schema}
-use Rattle.mqtt_store_write.specs.Content.{IsShapedAt, IsWhole}
-use Rattle.mqtt_store_write.proofs.deletes.RemovesSession.{not_tree}
+use Rattle.mqtt_store_write.specs.Content.{IsShapedAt, IsReady, IsWhole}
+use Rattle.mqtt_store_write.proofs.tables.Spared.{meta_spared, session_spared, will_spared, sub_spared, inbound_spared, copy_spared, retained_spared}
 
 abbrev pub Spares : ℕ → Trees → Trees → Type 0
 Spares tree old new = (t : ℕ) → t ≢ tree → IsNoIndex keep_schema t → new t ≡ old t
@@ -23,24 +23,32 @@ kept_shape tree t old new others own spared was = elim (cases_Bool (t == tree)) 
   | inr other ↦ at_tree old new t (others t (eqb-false t tree other) spared) was
 ]
 
+-- what a statement on one table leaves is ready where it was
+pub ready_after : (tree : ℕ) (old new : State) → IsReady old → Spares tree old.now.trees new.now.trees → IsShapedAt new.now.trees tree → new.now.schema ≡ keep_schema → IsTrue new.in_transaction
+    → Obeys keep_schema new.now.trees → IsReady new
+ready_after tree old new ready others own schema inside obeys =
+    let s = ready.shaped in
+    let at = λ (t : ℕ) (spared : IsNoIndex keep_schema t) (was : IsShapedAt old.now.trees t). kept_shape tree t old.now.trees new.now.trees others own spared was in
+    record {
+      schema = schema;
+      inside = inside;
+      shaped = record {
+        session = at 2 session_spared s.session;
+        will = at 4 will_spared s.will;
+        sub = at 5 sub_spared s.sub;
+        inbound = at 7 inbound_spared s.inbound;
+        copy = at 9 copy_spared s.copy;
+      };
+      obeys = obeys;
+    }
+
+-- and whole where it was
 pub whole_after : (tree : ℕ) (old new : State) → IsWhole old → Spares tree old.now.trees new.now.trees → IsShapedAt new.now.trees tree → new.now.schema ≡ keep_schema → IsTrue new.in_transaction
     → Obeys keep_schema new.now.trees → IsWhole new
 whole_after tree old new whole others own schema inside obeys =
-    let s = whole.ready.shaped in
     let at = λ (t : ℕ) (spared : IsNoIndex keep_schema t) (was : IsShapedAt old.now.trees t). kept_shape tree t old.now.trees new.now.trees others own spared was in
     record {
-      ready = record {
-        schema = schema;
-        inside = inside;
-        shaped = record {
-          session = at 2 (not_tree 2 (omega arith) (omega arith) (omega arith) (omega arith) (omega arith) (omega arith)) s.session;
-          will = at 4 (not_tree 4 (omega arith) (omega arith) (omega arith) (omega arith) (omega arith) (omega arith)) s.will;
-          sub = at 5 (not_tree 5 (omega arith) (omega arith) (omega arith) (omega arith) (omega arith) (omega arith)) s.sub;
-          inbound = at 7 (not_tree 7 (omega arith) (omega arith) (omega arith) (omega arith) (omega arith) (omega arith)) s.inbound;
-          copy = at 9 (not_tree 9 (omega arith) (omega arith) (omega arith) (omega arith) (omega arith) (omega arith)) s.copy;
-        };
-        obeys = obeys;
-      };
-      meta = at 0 (not_tree 0 (omega arith) (omega arith) (omega arith) (omega arith) (omega arith) (omega arith)) whole.meta;
-      retained = at 11 (not_tree 11 (omega arith) (omega arith) (omega arith) (omega arith) (omega arith) (omega arith)) whole.retained;
+      ready = ready_after tree old new whole.ready others own schema inside obeys;
+      meta = at 0 meta_spared whole.meta;
+      retained = at 11 retained_spared whole.retained;
     }

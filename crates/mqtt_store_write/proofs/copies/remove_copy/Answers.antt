@@ -2,7 +2,7 @@ use Rattle.std.proofs.Common.{arith, w64, pos}
 use Rattle.std.proofs.lemmas.Int.{to_z-of_z}
 use Rattle.sqlite.specs.Held.{state}
 use Rattle.mqtt_store_schema.proofs.Kept.{stays_inside}
-use Rattle.mqtt_store_write.proofs.deletes.Removal.{removes_copy}
+use Rattle.mqtt_store_write.proofs.deletes.Deletes.{removes_copy}
 use Rattle.mqtt_store_write.proofs.copies.remove_copy.Goals as goal
 
 pub returns-clause-removed : goal.returns-clause-removed
