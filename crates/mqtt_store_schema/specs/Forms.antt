@@ -10,10 +10,12 @@ use Rattle.mqtt_store_schema.specs.declared.tables.IndexForm.{IndexForm}
 use Rattle.mqtt_store_schema.specs.declared.columns.ColumnForm.{ColumnForm}
 use Rattle.mqtt_store_schema.specs.declared.columns.ColumnForm.TheVariants.{Wanted, Optional}
 
+-- the column of that name and kind
 abbrev pub column_of : ColumnForm → Column
 column_of (Wanted name kind) = wanted name.now kind
 column_of (Optional name kind) = optional name.now kind
 
+-- a STRICT table that has no more than the form says
 abbrev pub table_of : TableForm → Table
 table_of f = record {
   name = f.name.now;
@@ -30,6 +32,7 @@ table_of f = record {
   is_counted = false;
 }
 
+-- a unique index, in ascending order
 abbrev pub index_of : IndexForm → Index
 index_of f = record { name = f.name.now; tree = f.tree; table = f.table; columns = f.places.now; order = plain; is_unique = true }
 
@@ -40,10 +43,12 @@ pub record IsBare (t : Table) : Type 0 where
   pub stamps : t.stamps ≡ record { places = []; terms = []; formats = [] }
   pub is_counted : t.is_counted ≡ false
 
+-- its primary key is the form's
 pub record HasKey (t : Table) (f : TableForm) : Type 0 where
   pub key : t.key ≡ f.key
   pub primary : t.primary ≡ f.primary.now
 
+-- the columns that are unique together are the form's, in ascending order
 pub record HasUniques (t : Table) (f : TableForm) : Type 0 where
   pub uniques : t.uniques ≡ map (λ places. places.now) f.uniques.now
   pub orders : t.orders ≡ map (λ _. plain) f.uniques.now

@@ -84,7 +84,7 @@ impl Formed for Items<usize> {
     }
 }
 
-/// Columns that are unique together are in ascending order, each.
+/// Each of the columns that are unique together ascends.
 impl Formed for Order {
     type Form = &'static [usize];
 

@@ -6,7 +6,8 @@ use crate::columns::{ColumnForm, Formed, all_have};
 use sqlite_schema::code::Terms;
 use sqlite_schema::schema::{Index, Stamps, Table};
 
-/// A table, with references to sessions.
+/// A table, with references to sessions. A place is one in a row: the rowid is at 0, the columns
+/// behind it.
 #[derive(Clone, Copy, Debug)]
 pub struct TableForm {
     /// Its name.
@@ -15,11 +16,11 @@ pub struct TableForm {
     pub tree: u32,
     /// Its columns.
     pub columns: &'static [ColumnForm],
-    /// The column that is the rowid.
+    /// Which column is the rowid, counted from 0; none if the rowid is hidden.
     pub key: Option<usize>,
-    /// The places of the primary key, counted behind the rowid unless that is the key.
+    /// The places of the primary key.
     pub primary: &'static [usize],
-    /// The places of columns that are unique together, counted so too.
+    /// The places of columns that are unique together.
     pub uniques: &'static [&'static [usize]],
     /// The places of the birth of a session.
     pub parents: &'static [usize],
@@ -90,7 +91,7 @@ pub struct IndexForm {
     pub tree: u32,
     /// Where the rows of its table are.
     pub table: u32,
-    /// The places of its columns.
+    /// The places of its columns in a row of the table.
     pub places: &'static [usize],
 }
 
