@@ -31,6 +31,7 @@ fn statement_with<'a>(change: &'a Change, bytes: &'a [u8]) -> Statement<'a>
     requires block { bytes.now ≡ block_in change.now }
     ensures { IsStatementFor change.now result }
 {
+    // An arm that lends of the change returns by itself: arms that join have to hold the same.
     match change {
         Change::SetCounter { counter, value } => Statement::SetNumber {
             name: counter_name(*counter),
