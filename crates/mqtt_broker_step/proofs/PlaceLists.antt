@@ -1,21 +1,19 @@
 -- Lists of places: their order and their room, as they change.
-use Rattle.std.proofs.Common.{◌≡◌, ℕ, zero, suc, ◌+◌, ◌-◌, ◌<◌, ◌≤◌, Bool, true, false, cond, not, ◌&&◌, List, [], ◌∷◌, ◌++◌, length, get_or, take, drop, nat_eq, nat_le, nat_lt, refl, ap, sym, subst, ◌∙◌, arith, Result, Ok, Err, inl, inr}
-use Rattle.std.specs.Prelude.{Option, Some, None, slice_get, is_ok, IfSome}
+use Rattle.std.proofs.Common.{◌≡◌, ℕ, zero, suc, ◌+◌, ◌-◌, ◌<◌, ◌≤◌, Bool, true, false, cond, not, ◌&&◌, List, [], ◌∷◌, ◌++◌, length, get_or, take, nat_eq, nat_le, refl, ap, sym, subst, ◌∙◌, arith, Result, Ok, Err}
+use Rattle.std.specs.Prelude.{Some, slice_get, is_ok, IfSome}
 use Rattle.std.specs.Result.{result_ok}
 use Rattle.std.specs.List.{insert, remove}
 use Rattle.std.specs.List.Sorted.{IsStrictlyIncreasing, IsBinarySearchResult}
 use Rattle.std.specs.Ordering.{nat_cmp}
-use Rattle.std.proofs.lemmas.Bool.{cases_Bool, le-leb}
+use Rattle.std.proofs.lemmas.Bool.{le-leb}
 use Rattle.std.proofs.lemmas.Bool.Decides.{nat_tests}
 use Rattle.std.proofs.lemmas.List.{take_at, length_push, length-take}
 use Rattle.std.proofs.lemmas.List.Edits.{length-remove}
 use Rattle.std.proofs.lemmas.List.Sorted.{searched}
-use Rattle.mqtt_base.specs.declared.limits.TheConstants.{QUEUE_LIMIT}
 use Rattle.mqtt_flow_inbound.specs.Identifiers.{is_among, ids_without}
 use Rattle.mqtt_flow_inbound.proofs.inbound.Places.{OfPlace, placed}
 use Rattle.mqtt_records_rows.specs.Order.{IsAbove, last_row}
 use Rattle.mqtt_records_rows.proofs.OrderLemmas.{above_less, ascending_rises, filter-ascending, last-read, remove-length}
-use Rattle.mqtt_broker_step.specs.declared.places.TheConstants.{FEW}
 use Rattle.mqtt_broker_step.specs.Places.{AreAscending, IsIndexOf, IsKept, room_for, has_room_behind, has_room, with_inserted, without_last}
 
 abbrev own : ℕ → ℕ

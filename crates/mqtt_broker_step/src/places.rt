@@ -87,6 +87,14 @@ fn copied(alloc: Global, places: &[u64]) -> Result<Vec<u64>, AllocError>
     Ok(copy)
 }
 
+/// A place leaves others, wherever it stands among them. It looks at each of them.
+fn drop_place(places: &mut Vec<u64>, place: u64)
+    ensures items { places.new.items ≡ ids_without place places.old.items }
+    ensures room { vec_capacity places.new ≡ vec_capacity places.old }
+{
+    places.retain(|other| *other != place);
+}
+
 /// Places, in the order in which they went. Those of a queue ascend, and it remembers whether they do.
 #[derive(Drop)]
 pub struct Places {
@@ -224,7 +232,7 @@ impl Places {
         ensures { IfOk result (λ others. others ≡ ids_without place self.now) }
     {
         let mut places = copied(alloc, &self.places)?;
-        places.retain(|other| *other != place);
+        drop_place(&mut places, place);
         Ok(Places {
             places,
             ascends: self.ascends,
