@@ -1,6 +1,6 @@
 use Rattle.std.proofs.Common.{sym, subst, ap, ◌∙◌}
 use Rattle.mqtt_records.specs.declared.change.Change.{Change}
-use Rattle.mqtt_records.specs.declared.change.Change.TheVariants.{PutSubscription, RemoveSubscription}
+use Rattle.mqtt_records.specs.declared.change.Change.TheVariants.{PutSubscription}
 use Rattle.mqtt_records.specs.declared.subscription.Subscription.{Subscription}
 use Rattle.mqtt_broker_step.specs.Backs.{TakesBack}
 use Rattle.mqtt_broker_step.proofs.Doing.{if_ok}
