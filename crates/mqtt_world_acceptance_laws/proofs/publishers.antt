@@ -15,4 +15,5 @@ pub mod Others
 pub mod Restarts
 pub mod Runs
 pub mod Said
+pub mod StrangerBytes
 pub mod Strangers

@@ -22,13 +22,17 @@ use Rattle.mqtt_world_model.specs.Run.{read_if}
 use Rattle.mqtt_world_acceptance_laws.specs.Fair.{IsSteady}
 use Rattle.mqtt_world_acceptance_laws.specs.Spending.{spending}
 use Rattle.mqtt_world_acceptance_laws.proofs.copies.Steady.{steady_step, given_grows}
-use Rattle.mqtt_world_acceptance_laws.proofs.publishers.Ends.{all_mapped, all_turned, find_publisher, find_receiver, is_some_mapped, named_publisher}
+use Rattle.mqtt_world_acceptance_laws.proofs.publishers.Ends.{all_mapped, all_turned, find_publisher, find_receiver, is_some_mapped, named_publisher, IsApartFrom, given_later}
 
 -- ---- whose a line's number is
 
+-- he never had that line
+abbrev pub IsOutOf : List ℕ → ℕ → Type 0
+IsOutOf his j = IsAmong j his → ⊥
+
 -- it was given, and to another than him
 abbrev pub IsFree : List ℕ → ℕ → Option ℕ → Type 0
-IsFree his given x = (j : ℕ) → x ≡ Some j → (IsAmong j his → ⊥) × (j ≤ given)
+IsFree his given x = IsApartFrom (IsOutOf his) given x
 
 pub record HasFree {U : Type 0} (his : List ℕ) (given : ℕ) (l : Line U) : Type 0 where
   pub number : IsFree his given l.number
@@ -114,13 +118,12 @@ around_mapped c limits his new_his w b now f g ss a steady keeps known none f_sa
     each q (inl is) = inl (f_same q ∙ is)
     each q (inr free) = inr (f_free q free)
 
--- a line that is free of his numbers stays so
-pub free_later : (his : List ℕ) (given more : ℕ) (x : Option ℕ) → given ≤ more → IsFree his given x → IsFree his more x
-free_later his given more x up h = λ j is. let both = h j is in (both.0, let le = both.1 in omega (arith, le, up))
-
--- so do both lines of an end
+-- more lines are given
 pub line_later : {U : Type 0} (his : List ℕ) (given more : ℕ) (l : Line U) → given ≤ more → HasFree his given l → HasFree his more l
-line_later his given more l up h = record { number = free_later his given more l.number up h.number; old_number = free_later his given more l.old_number up h.old_number }
+line_later his given more l up h = record {
+  number = given_later (IsOutOf his) given more l.number up h.number;
+  old_number = given_later (IsOutOf his) given more l.old_number up h.old_number;
+}
 
 -- ---- a call
 
@@ -136,7 +139,7 @@ calls_around c set his call w a unspent =
     (λ j among. let le = a.known j among in omega (arith, le, up)) a.none (λ p. refl) (λ r. refl)
     (λ p free. let f = line_later his w.broker.given b.given p.line up free in record { number = f.number; old_number = f.old_number })
     (λ r free. let f = line_later his w.broker.given b.given r.line up free in record { number = f.number; old_number = f.old_number })
-    (all_turned (OtherStranger his w.broker.given) (OtherStranger his b.given) w.strangers (λ s free. free_later his w.broker.given b.given s.number up free) a.strangers)
+    (all_turned (OtherStranger his w.broker.given) (OtherStranger his b.given) w.strangers (λ s free. given_later (IsOutOf his) w.broker.given b.given s.number up free) a.strangers)
 
 -- a call that is on none of his lines, and no CONNECT of his client
 abbrev pub IsOutside : List ℕ → List ℕ → Call → Type 0

@@ -1,5 +1,5 @@
 -- Lists of ends: who is found by a name, where each end is changed, one end is, or a new one comes.
-use Rattle.std.proofs.Common.{◌≡◌, ℕ, Bool, true, false, cond, ◌⊎◌, List, [], ◌∷◌, ◌++◌, map, Option, Some, None, bytes_eq, refl, sym, ap, ◌∙◌, inl, inr}
+use Rattle.std.proofs.Common.{◌≡◌, ℕ, ◌≤◌, Bool, true, false, cond, ◌||◌, ◌⊎◌, List, [], ◌∷◌, ◌++◌, map, Option, Some, None, bytes_eq, refl, sym, ap, ◌∙◌, arith, inl, inr}
 use Rattle.std.specs.Prelude.{⊤, option_map, find, is_some}
 use Rattle.std.specs.List.{AllByRecursion}
 use Rattle.std.proofs.lemmas.Bool.{cases_Bool}
@@ -140,3 +140,24 @@ find_first test x y (z ∷ zs) e = elim (cases_Bool (test z)) [
   | inl its ↦ let it : Some z ≡ Some y = rw its at e in rw its it
   | inr other ↦ rw other (find_first test x y zs (rw other at e))
 ]
+
+-- ---- two tests
+
+-- neither holds
+pub either : (a b : Bool) → (a || b) ≡ false → (a ≡ false) × (b ≡ false)
+either true b h = absurd cc
+either false b h = (refl, h)
+
+-- ---- whose a line's number is
+
+-- it was given, and is out of the numbers of some end
+abbrev pub IsApartFrom : (ℕ → Type 0) → ℕ → Option ℕ → Type 0
+IsApartFrom Out given x = (n : ℕ) → x ≡ Some n → Out n × (n ≤ given)
+
+-- no line has no number
+pub no_line_is : (Out : ℕ → Type 0) (given : ℕ) (x : Option ℕ) → x ≡ None → IsApartFrom Out given x
+no_line_is Out given x none = λ n is. let clash : None ≡ Some n = sym none ∙ is in absurd cc
+
+-- more lines are given
+pub given_later : (Out : ℕ → Type 0) (given more : ℕ) (x : Option ℕ) → given ≤ more → IsApartFrom Out given x → IsApartFrom Out more x
+given_later Out given more x up h = λ n is. let both = h n is in (both.0, let le = both.1 in omega (arith, le, up))

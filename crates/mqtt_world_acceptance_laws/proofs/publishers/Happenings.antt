@@ -19,27 +19,26 @@ use Rattle.mqtt_world_model.specs.Hops.{MayGiveUp}
 use Rattle.mqtt_world_model.specs.Seats.{IsNamed, absent, over}
 use Rattle.mqtt_world_model.proofs.seats.Places.{no_place_asked}
 use Rattle.mqtt_world_model.proofs.seats.Doings.{publishes, hears, gives}
-use Rattle.mqtt_world_acceptance_laws.proofs.publishers.Ends.{all_mapped, all_appended, find_last, find_no_more, whose_name, changed_not, changed_his, find_publisher, find_receiver, is_some_mapped}
-use Rattle.mqtt_world_acceptance_laws.proofs.publishers.Around.{HasFree, OtherPublisher, OtherReceiver, Around, Placed, Him, Holds, placed_does}
+use Rattle.mqtt_world_acceptance_laws.proofs.publishers.Ends.{all_mapped, all_appended, find_last, find_no_more, whose_name, changed_not, changed_his, find_publisher, find_receiver, is_some_mapped, either, no_line_is}
+use Rattle.mqtt_world_acceptance_laws.proofs.publishers.Around.{IsOutOf, HasFree, OtherPublisher, OtherReceiver, Around, Placed, Him, Holds, placed_does}
 use Rattle.mqtt_world_acceptance_laws.proofs.publishers.Changes.{on_line, on_back, end_others, line_others, own_holds}
 use Rattle.mqtt_world_acceptance_laws.proofs.publishers.Kept.{kept_free, published_remains, read_remains, read_there, gives_free}
 use Rattle.mqtt_records.specs.Session.{auto}
 
-either : (a b : Bool) → (a || b) ≡ false → (a ≡ false) × (b ≡ false)
-either true b h = absurd cc
-either false b h = (refl, h)
-
-not_some : {X : Type 0} (o : Option X) → is_some o ≡ false → o ≡ None
+-- nothing is there
+pub not_some : {X : Type 0} (o : Option X) → is_some o ≡ false → o ≡ None
 not_some None e = refl
 not_some (Some x) e = absurd cc
 
-is_nothing : {X : Type 0} (o : Option X) → is_none o ≡ true → o ≡ None
+-- which two tests tell
+pub is_nothing : {X : Type 0} (o : Option X) → is_none o ≡ true → o ≡ None
 is_nothing None e = refl
 is_nothing (Some x) e = absurd cc
 
 -- ---- a publisher comes
 
-named_so : (c : List ℕ) → is_bad_name c ≡ false → IsNamed c
+-- a name that may be given
+pub named_so : (c : List ℕ) → is_bad_name c ≡ false → IsNamed c
 named_so [] h = absurd cc
 named_so (x ∷ xs) h =
     let some_ = either (nat_eq (length (x ∷ xs)) 0) (nat_lt CLIENT_LIMIT (length (x ∷ xs)) || starts_with nat_eq (x ∷ xs) auto) h in
@@ -64,11 +63,11 @@ new_placed c his b none named e = record {
   run = record { events = []; seen_is = new_seen c b e };
 }
 
--- an end without a line is free
+-- an end without a line has none of his
 pub unlined : {U : Type 0} (his : List ℕ) (given : ℕ) (l : Line U) → l.number ≡ None → l.old_number ≡ None → HasFree his given l
 unlined his given l e f = record {
-  number = λ j is. let clash : None ≡ Some j = sym e ∙ is in absurd cc;
-  old_number = λ j is. let clash : None ≡ Some j = sym f ∙ is in absurd cc;
+  number = no_line_is (IsOutOf his) given l.number e;
+  old_number = no_line_is (IsOutOf his) given l.old_number f;
 }
 
 -- a new publisher leaves him in step
@@ -161,7 +160,8 @@ receiver_comes c d window set his accepted w h good =
 
 -- ---- an end gives its line up
 
-may_give : (link : Link) (clean : Bool) → not (is_asked (Some link) && clean) ≡ true → MayGiveUp link clean
+-- an end that carries no Clean Start through may give its line up
+pub may_give : (link : Link) (clean : Bool) → not (is_asked (Some link) && clean) ≡ true → MayGiveUp link clean
 may_give away clean h = tt
 may_give live clean h = tt
 may_give asked true h = absurd cc

@@ -19,7 +19,8 @@ use Rattle.mqtt_world_acceptance_laws.proofs.copies.Steady.{linking_spends_none,
 use Rattle.mqtt_world_acceptance_laws.proofs.publishers.Ends.{all_turned, IsNotHim, whose_name}
 use Rattle.mqtt_world_acceptance_laws.proofs.publishers.Around.{IsFree, HasFree, OtherStranger, Around, Placed, Him, Holds, Stays, around_mapped, longer, among_line, named_called, if_there}
 use Rattle.mqtt_world_acceptance_laws.proofs.publishers.Changes.{on_line, on_back, line_others, own_holds}
-use Rattle.mqtt_world_acceptance_laws.proofs.publishers.Strangers.{linked_given, linking_holds, next_free}
+use Rattle.mqtt_world_acceptance_laws.proofs.publishers.StrangerBytes.{linked_given}
+use Rattle.mqtt_world_acceptance_laws.proofs.publishers.Strangers.{linking_holds, next_free}
 
 -- ---- another
 

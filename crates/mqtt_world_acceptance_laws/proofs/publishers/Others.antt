@@ -7,15 +7,17 @@ use Rattle.mqtt_flow_inbound.specs.Publisher.{CONNECT, PUBLISH_1, PUBLISH_2, PUB
 use Rattle.mqtt_flow.specs.Receiver.{connect, puback, pubrec, pubcomp}
 use Rattle.mqtt_rules.specs.declared.Limits.{Limits}
 use Rattle.mqtt_rules.specs.Step.{Call, Input, Lost}
+use Rattle.mqtt_world_model.specs.Lines.{Line}
 use Rattle.mqtt_world_model.specs.Ends.{Content, Sent, shake, plain, Publisher, Receiver, Back, answers, asks_for, wire, wire_back}
 use Rattle.mqtt_world_model.specs.World.{World, publisher_named, receiver_named, input_on, lost_on, View, view_by, view_of}
 use Rattle.mqtt_world_model.specs.Hops.{IsOthers}
 use Rattle.mqtt_world_model.proofs.others.Lists.{all_find}
-use Rattle.mqtt_world_acceptance_laws.proofs.publishers.Ends.{named_publisher, named_receiver}
-use Rattle.mqtt_world_acceptance_laws.proofs.publishers.Around.{IsFree, OtherPublisher, OtherReceiver, Around, IsOutside}
+use Rattle.mqtt_world_acceptance_laws.proofs.publishers.Ends.{named_publisher, named_receiver, IsApartFrom}
+use Rattle.mqtt_world_acceptance_laws.proofs.publishers.Around.{IsOutOf, IsFree, OtherPublisher, OtherReceiver, Around, IsOutside}
 
 -- ---- their packets
 
+-- none is a CONNECT of another client's name
 wire_others : (c client : List ℕ) (contents : List Content) (x : Sent) → (client ≡ c → ⊥) → IsOthers c (wire client contents x)
 wire_others c client contents (shake (CONNECT clean)) h = h
 wire_others c client contents (shake (PUBLISH_1 id n dup)) h = tt
@@ -34,60 +36,62 @@ all_wired : {U : Type 0} (c : List ℕ) (f : U → Packet) (xs : List U) → ((x
 all_wired c f [] h = tt
 all_wired c f (x ∷ xs) h = (h x, all_wired c f xs h)
 
--- what another end has under way
-pub record IsForeign (c : List ℕ) (his : List ℕ) (given : ℕ) (v : View) : Type 0 where
-  pub number : IsFree his given v.number
+-- what another end has under way, on lines that are out of some numbers
+pub record IsForeign (c : List ℕ) (Out : ℕ → Type 0) (given : ℕ) (v : View) : Type 0 where
+  pub number : IsApartFrom Out given v.number
   pub up : AllByRecursion (IsOthers c) v.up
-  pub old_number : IsFree his given v.old_number
+  pub old_number : IsApartFrom Out given v.old_number
   pub old : AllByRecursion (IsOthers c) v.old
 
--- another end is a stranger to him
-pub foreign : (c d : List ℕ) (limits : Limits) (his : List ℕ) (w : World) → Around c limits his w → (d ≡ c → ⊥) → IsForeign c his w.broker.given (view_of d w)
-foreign c d limits his w a differ = by (publisher_named d w) (receiver_named d w) refl refl
-  where
-    Foreign : Option Publisher → Option Receiver → Type 0
-    Foreign x y = IsForeign c his w.broker.given (view_by x y)
+-- both numbers of an end's line are
+abbrev pub HasApart : {U : Type 0} → (ℕ → Type 0) → ℕ → Line U → Type 0
+HasApart Out given l = IsApartFrom Out given l.number × IsApartFrom Out given l.old_number
 
-    by : (x : Option Publisher) (y : Option Receiver) → publisher_named d w ≡ x → receiver_named d w ≡ y → Foreign (publisher_named d w) (receiver_named d w)
-    by (Some q) y e f =
-        let found = all_find (OtherPublisher c his w.broker.given) (λ (z : Publisher). bytes_eq z.client d) q w.publishers a.publishers e in
-        let is = named_publisher d q w e in
-        subst (λ (z : Option Publisher). Foreign z (receiver_named d w)) (sym e)
-        (elim found.0 [
-          | inl same ↦ absurd (differ (sym is ∙ same))
-          | inr free ↦ record {
-            number = free.number;
-            up = all_wired c (wire q.client q.contents) q.line.up (λ x. wire_others c q.client q.contents x (λ same. differ (sym is ∙ same)));
-            old_number = free.old_number;
-            old = all_wired c (wire q.client q.contents) q.line.old (λ x. wire_others c q.client q.contents x (λ same. differ (sym is ∙ same)));
-          }
-        ])
+-- an end of another name, whichever it is
+pub foreign_of : (c d : List ℕ) (Out : ℕ → Type 0) (given : ℕ) (w : World) → (d ≡ c → ⊥)
+    → ((p : Publisher) → publisher_named d w ≡ Some p → HasApart Out given p.line) → ((r : Receiver) → receiver_named d w ≡ Some r → HasApart Out given r.line)
+    → IsForeign c Out given (view_of d w)
+foreign_of c d Out given w differ ps rs = by (publisher_named d w) (receiver_named d w) refl refl
+  where
+    by : (x : Option Publisher) (y : Option Receiver) → publisher_named d w ≡ x → receiver_named d w ≡ y → IsForeign c Out given (view_by x y)
+    by (Some p) y e f =
+        let is = named_publisher d p w e in
+        let other = λ (x : Sent). wire_others c p.client p.contents x (λ same. differ (sym is ∙ same)) in
+        let apart = ps p e in
+        record { number = apart.0; up = all_wired c (wire p.client p.contents) p.line.up other; old_number = apart.1; old = all_wired c (wire p.client p.contents) p.line.old other }
     by None (Some r) e f =
-        let found = all_find (OtherReceiver his w.broker.given) (λ (z : Receiver). bytes_eq z.client d) r w.receivers a.receivers f in
         let is = named_receiver d r w f in
-        subst (λ (z : Option Publisher). Foreign z (receiver_named d w)) (sym e)
-        (subst (λ (z : Option Receiver). Foreign None z) (sym f) (record {
-          number = found.0.number;
-          up = all_wired c (wire_back r.client r.window) r.line.up (λ x. back_others c r.client r.window x (λ same. differ (sym is ∙ same)));
-          old_number = found.0.old_number;
-          old = all_wired c (wire_back r.client r.window) r.line.old (λ x. back_others c r.client r.window x (λ same. differ (sym is ∙ same)));
-        }))
-    by None None e f =
-        subst (λ (z : Option Publisher). Foreign z (receiver_named d w)) (sym e)
-        (subst (λ (z : Option Receiver). Foreign None z) (sym f)
-        (record { number = λ j is. absurd cc; up = tt; old_number = λ j is. absurd cc; old = tt }))
+        let other = λ (x : Back). back_others c r.client r.window x (λ same. differ (sym is ∙ same)) in
+        let apart = rs r f in
+        record { number = apart.0; up = all_wired c (wire_back r.client r.window) r.line.up other; old_number = apart.1; old = all_wired c (wire_back r.client r.window) r.line.old other }
+    by None None e f = record { number = λ n is. absurd cc; up = tt; old_number = λ n is. absurd cc; old = tt }
+
+-- in the eyes of the publisher
+pub foreign : (c d : List ℕ) (limits : Limits) (his : List ℕ) (w : World) → Around c limits his w → (d ≡ c → ⊥) → IsForeign c (IsOutOf his) w.broker.given (view_of d w)
+foreign c d limits his w a differ =
+    foreign_of c d (IsOutOf his) w.broker.given w differ
+    (λ p e. elim (all_find (OtherPublisher c his w.broker.given) (λ (z : Publisher). bytes_eq z.client d) p w.publishers a.publishers e).0 [
+      | inl same ↦ absurd (differ (sym (named_publisher d p w e) ∙ same))
+      | inr free ↦ (free.number, free.old_number)
+    ])
+    (λ r e. let free = (all_find (OtherReceiver his w.broker.given) (λ (z : Receiver). bytes_eq z.client d) r w.receivers a.receivers e).0 in (free.number, free.old_number))
 
 -- ---- so their calls are others'
 
--- a packet on a free line is none of his
-pub input_outside : (his c : List ℕ) (given : ℕ) (x : Option ℕ) (packets : List Packet) (call : Call) → IsFree his given x → AllByRecursion (IsOthers c) packets → input_on x packets ≡ Some call → IsOutside his c call
-input_outside his c given None packets call free all e = absurd cc
-input_outside his c given (Some n) [] call free all e = absurd cc
-input_outside his c given (Some n) (packet ∷ rest) call free all e =
+-- the first packet of a line
+pub line_outside : (c : List ℕ) (Out : ℕ → Type 0) (Outside : Call → Type 0) (given : ℕ) (x : Option ℕ) (packets : List Packet) (call : Call) → ((n : ℕ) (packet : Packet) → Out n → IsOthers c packet → Outside (Input n packet))
+    → IsApartFrom Out given x → AllByRecursion (IsOthers c) packets → input_on x packets ≡ Some call → Outside call
+line_outside c Out Outside given None packets call inputs free all e = absurd cc
+line_outside c Out Outside given (Some n) [] call inputs free all e = absurd cc
+line_outside c Out Outside given (Some n) (packet ∷ rest) call inputs free all e =
     let is : Input n packet ≡ call = cc in
-    subst (IsOutside his c) is ((free n refl).0, all.0)
+    subst Outside is (inputs n packet (free n refl).0 all.0)
 
--- so is its loss
+-- which is outside his lines
+pub input_outside : (his c : List ℕ) (given : ℕ) (x : Option ℕ) (packets : List Packet) (call : Call) → IsFree his given x → AllByRecursion (IsOthers c) packets → input_on x packets ≡ Some call → IsOutside his c call
+input_outside his c given x packets call free all e = line_outside c (IsOutOf his) (IsOutside his c) given x packets call (λ n packet out other. (out, other)) free all e
+
+-- the loss of a line
 pub lost_outside : (his c : List ℕ) (given : ℕ) (x : Option ℕ) (call : Call) → IsFree his given x → lost_on x ≡ Some call → IsOutside his c call
 lost_outside his c given None call free e = absurd cc
 lost_outside his c given (Some n) call free e = let is : Lost n ≡ call = cc in subst (IsOutside his c) is (free n refl).0

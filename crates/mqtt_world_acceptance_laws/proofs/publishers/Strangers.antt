@@ -1,53 +1,21 @@
--- Strangers: their bytes are cut into packets, none of which is a CONNECT of the publisher's client (MQTT 5.0, 3.1.3.1).
-use Rattle.std.proofs.Common.{◌≡◌, ℕ, zero, suc, Bool, true, false, cond, ◌||◌, List, [], ◌∷◌, ◌++◌, length, map, Option, Some, None, bytes_eq, refl, sym, ap, subst, ◌∙◌, arith, inl, inr}
-use Rattle.std.specs.Prelude.{option_map, find, is_some, Ok, Err}
+-- Strangers, in the eyes of one publisher: none of their packets is a CONNECT of its client (MQTT 5.0, 3.1.3.1).
+use Rattle.std.proofs.Common.{◌≡◌, ℕ, suc, Bool, true, false, cond, ◌||◌, List, [], ◌∷◌, ◌++◌, map, Some, None, refl, sym, ap, ◌∙◌, arith}
+use Rattle.std.specs.Prelude.{is_some}
 use Rattle.std.specs.List.{AllByRecursion}
-use Rattle.std.proofs.lemmas.Bool.{cases_Bool}
-use Rattle.std.proofs.lemmas.Slice.Eq.{bytes_eq-Decides}
-use Rattle.mqtt_codec.specs.declared.packet.Packet.{Packet}
-use Rattle.mqtt_codec.specs.declared.packet.Packet.TheVariants.{Connect}
 use Rattle.mqtt_packet.specs.Front.{first_of}
-use Rattle.mqtt_packet.specs.Front as fronts
 use Rattle.mqtt_rules.specs.declared.Limits.{Limits}
-use Rattle.mqtt_rules.specs.State.{Broker}
-use Rattle.mqtt_rules.specs.Deeds.{Link, Deed, after_all, rows_of_all}
-use Rattle.mqtt_codec_parts.specs.Faults.{answer_to}
-use Rattle.mqtt_rules.specs.Piece.{Front, begins_connect, code_of, call_by}
-use Rattle.mqtt_rules.specs.Step.{Call, NewLine, Input, BadInput, can_link, at_moment, deeds, stepped}
-use Rattle.mqtt_world_model.specs.World.{Stranger, World, Setting, publisher_named, receiver_named, stranger_named, is_end, calls, calls_if, call_on, held_after, linked_at, comes, call_of_stranger, next_held, answers_rest, held_count, names_end, front_names, bytes_name, bytes_held, is_bad_asking, asks, first_step, stranger}
-use Rattle.mqtt_world_model.specs.Hops.{IsOthers}
-use Rattle.mqtt_world_model.proofs.others.Frame.{kept_given}
+use Rattle.mqtt_rules.specs.Step.{Call, NewLine, can_link, stepped}
+use Rattle.mqtt_world_model.specs.World.{Stranger, World, Setting, publisher_named, receiver_named, stranger_named, calls, calls_if, held_after, linked_at, comes, call_of_stranger, next_held, answers_rest, held_count, front_names, bytes_name, bytes_held, is_bad_asking, asks, first_step, stranger}
 use Rattle.mqtt_world_model.specs.Run.{read_if, read_rest, read_first, read_asked}
-use Rattle.mqtt_world_model.proofs.others.Lists.{all_find}
 use Rattle.mqtt_world_acceptance_laws.specs.Spending.{spending}
 use Rattle.mqtt_world_acceptance_laws.proofs.copies.Steady.{linking_spends_none}
-use Rattle.mqtt_world_acceptance_laws.proofs.publishers.Ends.{all_mapped, all_appended, find_last}
-use Rattle.mqtt_world_acceptance_laws.proofs.publishers.Around.{IsFree, OtherStranger, Holds, IsOutside, calls_hold, if_holds, if_there}
-
--- ---- lists of strangers
-
-abbrev changed : List ℕ → (Stranger → Stranger) → Stranger → Stranger
-changed name f s = cond (bytes_eq s.name name) (f s) s
-
-find_changed : (name : List ℕ) (f : Stranger → Stranger) (ss : List Stranger) → ((s : Stranger) → (f s).name ≡ s.name)
-    → find (λ (s : Stranger). bytes_eq s.name name) (map (changed name f) ss) ≡ option_map f (find (λ (s : Stranger). bytes_eq s.name name) ss)
-find_changed name f [] h = refl
-find_changed name f (s ∷ ss) h = elim (cases_Bool (bytes_eq s.name name)) [
-  | inl its ↦
-      let new : bytes_eq (f s).name name ≡ true = ap (λ (x : List ℕ). bytes_eq x name) (h s) ∙ its in
-      rw its (rw new refl)
-  | inr other ↦ rw (other, other) (find_changed name f ss h)
-]
-
-all_changed : (P : Stranger → Type 0) (name : List ℕ) (f : Stranger → Stranger) (ss : List Stranger) → ((s : Stranger) → P s → P (f s)) → AllByRecursion P ss → AllByRecursion P (map (changed name f) ss)
-all_changed P name f ss h a = all_mapped P P (changed name f) ss (λ s q. by (bytes_eq s.name name) s q) a
-  where
-    by : (t : Bool) (s : Stranger) → P s → P (cond t (f s) s)
-    by true s q = h s q
-    by false s q = q
+use Rattle.mqtt_world_acceptance_laws.proofs.publishers.Ends.{all_appended}
+use Rattle.mqtt_world_acceptance_laws.proofs.publishers.StrangerBytes.{changed, all_changed, linked_given, packet_outside, same_cost, rest_keeps, good_then, first_good, comes_held}
+use Rattle.mqtt_world_acceptance_laws.proofs.publishers.Around.{IsOutOf, IsFree, OtherStranger, Holds, IsOutside, calls_hold, if_holds, if_there}
 
 -- ---- its bytes change nothing of the broker and of the ends
 
+-- the invariant holds on whatever becomes of strangers on lines of others
 with_strangers : (c : List ℕ) (limits : Limits) (his accepted : List ℕ) (w : World) (ss : List Stranger) → Holds c limits his accepted w → AllByRecursion (OtherStranger his w.broker.given) ss
     → Holds c limits his accepted (record w { strangers = ss })
 with_strangers c limits his accepted w ss h a = record {
@@ -65,6 +33,7 @@ with_strangers c limits his accepted w ss h a = record {
   him = h.him;
 }
 
+-- and so it does as the next packet is cut off
 held_holds : (c : List ℕ) (limits : Limits) (his accepted : List ℕ) (name : List ℕ) (w : World) → Holds c limits his accepted w → Holds c limits his accepted (next_held name w)
 held_holds c limits his accepted name w h =
     with_strangers c limits his accepted w (map (changed name (λ (s : Stranger). record s { held = held_after s.held })) w.strangers) h
@@ -72,15 +41,7 @@ held_holds c limits his accepted name w h =
 
 -- ---- it comes
 
--- a new line gets the next number
-pub linked_given : (set : Setting) (now : ℕ) (b : Broker) → can_link b ≡ true → (stepped set.limits set.choice now NewLine b).given ≡ suc b.given
-linked_given set now b can =
-    let ds = deeds set.limits set.choice now NewLine b in
-    let begin = at_moment now b in
-    let is : ds ≡ Link (suc b.given) ∷ [] = ap (λ (t : Bool). cond t (Link (suc b.given) ∷ []) []) can in
-    kept_given (rows_of_all ds begin.records) (after_all ds begin) ∙ ap (λ (xs : List Deed). (after_all xs begin).given) is
-
--- a new line leaves him in step
+-- and as a line is made
 pub linking_holds : (c : List ℕ) (set : Setting) (his accepted : List ℕ) (w : World) → Holds c set.limits his accepted w → Holds c set.limits his accepted (calls set NewLine w)
 linking_holds c set his accepted w h = calls_hold c set his accepted NewLine w h (linking_spends_none set.limits set.choice w.now w.broker) (λ there. tt)
 
@@ -92,7 +53,7 @@ next_free c set his accepted w h can = λ j is.
     let given = linked_given set w.now w.broker can in
     ((λ among. let le = h.around.known j among in omega (arith, le, it)), omega (arith, it, given))
 
--- so do bytes of a stranger
+-- and as its bytes come
 pub comes_holds : (c : List ℕ) (set : Setting) (his accepted : List ℕ) (name bytes : List ℕ) (w : World) → Holds c set.limits his accepted w → Holds c set.limits his accepted (comes set name bytes w)
 comes_holds c set his accepted name bytes w h = by (is_some (stranger_named name w))
   where
@@ -118,118 +79,39 @@ comes_there c set name bytes w = by (is_some (stranger_named name w))
     by true = refl
     by false = if_there c set (Some NewLine) w
 
--- what is held of its bytes then
-comes_held : (set : Setting) (name bytes : List ℕ) (w : World) → bytes_held (stranger_named name (comes set name bytes w)) ≡ bytes_held (stranger_named name w) ++ bytes
-comes_held set name bytes w = by (stranger_named name w) refl
-  where
-    by : (o : Option Stranger) → stranger_named name w ≡ o → bytes_held (stranger_named name (linked_at set (is_some (stranger_named name w)) name bytes w)) ≡ bytes_held (stranger_named name w) ++ bytes
-    by None e =
-        let x : Stranger = record { name = name; number = cond (can_link w.broker) (Some (suc w.broker.given)) None; held = bytes } in
-        ap (λ (o : Option Stranger). bytes_held (stranger_named name (linked_at set (is_some o) name bytes w))) e
-        ∙ (ap bytes_held (find_last (λ (s : Stranger). bytes_eq s.name name) x w.strangers ((bytes_eq-Decides name name).1 refl) e) ∙ sym (ap (λ (o : Option Stranger). bytes_held o ++ bytes) e))
-    by (Some s) e =
-        ap (λ (o : Option Stranger). bytes_held (stranger_named name (linked_at set (is_some o) name bytes w))) e
-        ∙ (ap bytes_held (find_changed name (λ (x : Stranger). record x { held = x.held ++ bytes }) w.strangers (λ x. refl) ∙ ap (option_map (λ (x : Stranger). record x { held = x.held ++ bytes })) e)
-        ∙ sym (ap (λ (o : Option Stranger). bytes_held o ++ bytes) e))
-
 -- ---- its packets
-
-either_false : (a b : Bool) → (a || b) ≡ false → (a ≡ false) × (b ≡ false)
-either_false true b h = absurd cc
-either_false false b h = (refl, h)
-
--- none is a CONNECT of an end
-packet_others : (c : List ℕ) (packet : Packet) (w : World) → is_some (publisher_named c w) ≡ true → names_end packet w ≡ false → IsOthers c packet
-packet_others c (Connect x) w there h = λ is.
-    let found : is_end c w ≡ true = ap (λ (t : Bool). t || is_some (receiver_named c w)) there in
-    let clash : true ≡ false = sym found ∙ (ap (λ (name : List ℕ). is_end name w) (sym is) ∙ h) in
-    absurd cc
-packet_others c packet w there h = tt
-
-front_outside : (c his : List ℕ) (given n : ℕ) (bytes : List ℕ) (w : World) (f : Front) (call : Call) → is_some (publisher_named c w) ≡ true → IsFree his given (Some n) → front_names f w ≡ false → call_by n bytes f ≡ Some call → IsOutside his c call
-front_outside c his given n bytes w (Ok None) call there free h e = absurd cc
-front_outside c his given n bytes w (Ok (Some x)) call there free h e =
-    let is : Input n x.0 ≡ call = cc in
-    subst (IsOutside his c) is ((free n refl).0, packet_others c x.0 w there h)
-front_outside c his given n bytes w (Err fault) call there free h e =
-    let is : BadInput n (begins_connect bytes) (code_of (answer_to fault)) ≡ call = cc in
-    subst (IsOutside his c) is (free n refl).0
-
-held_outside : (c his : List ℕ) (given : ℕ) (w : World) (s : Stranger) (call : Call) → is_some (publisher_named c w) ≡ true → IsFree his given s.number → front_names (first_of s.held) w ≡ false → call_of_stranger (Some s) ≡ Some call → IsOutside his c call
-held_outside c his given w s call there free h e = by s.number free e
-  where
-    by : (x : Option ℕ) → IsFree his given x → call_on x s.held ≡ Some call → IsOutside his c call
-    by None f e = absurd cc
-    by (Some n) f e = front_outside c his given n s.held w (first_of s.held) call there f h e
 
 -- the next of them is a step of others; w is the world in which the bytes came
 next_outside : (c : List ℕ) (limits : Limits) (his accepted : List ℕ) (name : List ℕ) (w v : World) → Holds c limits his accepted v → is_some (publisher_named c v) ≡ is_some (publisher_named c w)
     → front_names (first_of (bytes_held (stranger_named name v))) w ≡ false → is_some (publisher_named c v) ≡ true → (x : Call) → call_of_stranger (stranger_named name v) ≡ Some x → IsOutside his c x
-next_outside c limits his accepted name w v h there good found x is = by (stranger_named name v) refl
-  where
-    by : (o : Option Stranger) → stranger_named name v ≡ o → IsOutside his c x
-    by None e = let clash : None ≡ Some x = sym (ap call_of_stranger e) ∙ is in absurd cc
-    by (Some s) e =
-        let free = (all_find (OtherStranger his v.broker.given) (λ (z : Stranger). bytes_eq z.name name) s v.strangers h.around.strangers e).0 in
-        held_outside c his v.broker.given w s x (sym there ∙ found) free (sym (ap (λ (z : Option Stranger). front_names (first_of (bytes_held z)) w) e) ∙ good) (sym (ap call_of_stranger e) ∙ is)
+next_outside c limits his accepted name w v h there good found =
+    packet_outside c (IsOutOf his) (IsOutside his c) (λ n packet free other. (free, other)) (λ n t code free. free) v.broker.given name w v
+    (ap (λ (t : Bool). t || is_some (receiver_named c w)) (sym there ∙ found)) h.around.strangers good
 
-same_cost : (set : Setting) (name : List ℕ) (v : World) (x : Option Call) → read_if spending set x v ≡ false → read_if spending set x (next_held name v) ≡ false
-same_cost set name v None e = refl
-same_cost set name v (Some x) e = e
-
--- nothing is cut off nothing
-nothing_held : held_after [] ≡ []
-unfolding first_of fronts.size_at
-nothing_held = refl
-
-held_once : (name : List ℕ) (v : World) → bytes_held (stranger_named name (next_held name v)) ≡ held_after (bytes_held (stranger_named name v))
-held_once name v = ap bytes_held (find_changed name (λ (s : Stranger). record s { held = held_after s.held }) v.strangers (λ s. refl)) ∙ by (stranger_named name v)
-  where
-    by : (o : Option Stranger) → bytes_held (option_map (λ (s : Stranger). record s { held = held_after s.held }) o) ≡ held_after (bytes_held o)
-    by None = sym nothing_held
-    by (Some s) = refl
-
-held_next : (set : Setting) (name : List ℕ) (v : World) (x : Option Call) → bytes_held (stranger_named name (calls_if set x (next_held name v))) ≡ held_after (bytes_held (stranger_named name v))
-held_next set name v None = held_once name v
-held_next set name v (Some x) = held_once name v
-
+-- all of them are
 rest_holds : (more : ℕ) (c : List ℕ) (set : Setting) (his accepted : List ℕ) (name : List ℕ) (w v : World) → Holds c set.limits his accepted v → is_some (publisher_named c v) ≡ is_some (publisher_named c w)
     → bytes_name more (bytes_held (stranger_named name v)) w ≡ false → read_rest spending set more name v ≡ false → Holds c set.limits his accepted (answers_rest set more name v)
-rest_holds zero c set his accepted name w v h there good unspent = h
-rest_holds (suc more) c set his accepted name w v h there good unspent =
-    let call = call_of_stranger (stranger_named name v) in
-    let u = next_held name v in
-    let both = either_false (front_names (first_of (bytes_held (stranger_named name v))) w) (bytes_name more (held_after (bytes_held (stranger_named name v))) w) good in
-    let costs = either_false (read_if spending set call v) (read_rest spending set more name (calls_if set call u)) unspent in
-    let next = if_holds c set his accepted call u (held_holds c set.limits his accepted name v h) (same_cost set name v call costs.0) (next_outside c set.limits his accepted name w v h there both.0) in
-    rest_holds more c set his accepted name w (calls_if set call u) next (if_there c set call u ∙ there) (ap (λ (bytes : List ℕ). bytes_name more bytes w) (held_next set name v call) ∙ both.1) costs.1
+rest_holds more c set his accepted name w v h there good unspent =
+    (rest_keeps set name w (λ (z : World). Holds c set.limits his accepted z × (is_some (publisher_named c z) ≡ is_some (publisher_named c w))) next more v (h, there) good unspent).0
+  where
+    next : (z : World) → Holds c set.limits his accepted z × (is_some (publisher_named c z) ≡ is_some (publisher_named c w)) → front_names (first_of (bytes_held (stranger_named name z))) w ≡ false
+        → read_if spending set (call_of_stranger (stranger_named name z)) z ≡ false
+        → Holds c set.limits his accepted (calls_if set (call_of_stranger (stranger_named name z)) (next_held name z)) × (is_some (publisher_named c (calls_if set (call_of_stranger (stranger_named name z)) (next_held name z))) ≡ is_some (publisher_named c w))
+    next z k fine cost =
+        let call = call_of_stranger (stranger_named name z) in
+        let u = next_held name z in
+        (if_holds c set his accepted call u (held_holds c set.limits his accepted name z k.0) (same_cost set name z call cost) (next_outside c set.limits his accepted name w z k.0 k.1 fine), if_there c set call u ∙ k.1)
 
 -- ---- its bytes are answered, whole or the first packet alone
 
-good_then : (set : Setting) (name bytes : List ℕ) (w : World) → is_bad_asking (stranger name bytes) w ≡ false
-    → bytes_name (held_count (stranger_named name (comes set name bytes w))) (bytes_held (stranger_named name (comes set name bytes w))) w ≡ false
-good_then set name bytes w good =
-    let s = stranger_named name (comes set name bytes w) in
-    ap (λ (n : ℕ). bytes_name n (bytes_held s) w) (count_is s) ∙ (ap (λ (xs : List ℕ). bytes_name (length xs) xs w) (comes_held set name bytes w) ∙ good)
-  where
-    count_is : (o : Option Stranger) → held_count o ≡ length (bytes_held o)
-    count_is None = refl
-    count_is (Some s) = refl
-
--- and all that they ask
+-- and as all of them are answered
 pub stranger_holds : (c name bytes : List ℕ) (set : Setting) (his accepted : List ℕ) (w : World) → Holds c set.limits his accepted w → is_bad_asking (stranger name bytes) w ≡ false → read_asked spending set (stranger name bytes) w ≡ false
     → Holds c set.limits his accepted (asks set (stranger name bytes) w)
 stranger_holds c name bytes set his accepted w h good unspent =
     let v = comes set name bytes w in
     rest_holds (held_count (stranger_named name v)) c set his accepted name w v (comes_holds c set his accepted name bytes w h) (comes_there c set name bytes w) (good_then set name bytes w good) unspent
 
--- nothing is held of a stranger that is asked for nothing
-first_good : (bytes : List ℕ) (w : World) → bytes_name (length bytes) bytes w ≡ false → front_names (first_of bytes) w ≡ false
-unfolding first_of fronts.size_at
-first_good [] w good = refl
-first_good (x ∷ xs) w good = (either_false (front_names (first_of (x ∷ xs)) w) (bytes_name (length xs) (held_after (x ∷ xs)) w) good).0
-
--- and their first packet alone
+-- or only the first packet
 pub stranger_first : (c name bytes : List ℕ) (set : Setting) (his accepted : List ℕ) (w : World) → Holds c set.limits his accepted w → is_bad_asking (stranger name bytes) w ≡ false → read_first spending set (stranger name bytes) w ≡ false
     → Holds c set.limits his accepted (first_step set (stranger name bytes) w)
 stranger_first c name bytes set his accepted w h good unspent =

@@ -43,7 +43,8 @@ use Rattle.mqtt_world_delivery_laws.proofs.order.Growing.{begin_same}
 use Rattle.mqtt_world_delivery_laws.proofs.whole.Ledgers.{run_remains}
 use Rattle.mqtt_world_delivery_laws.proofs.others.Outside.{if_stands, if_there}
 use Rattle.mqtt_world_delivery_laws.proofs.order.QueueEntering.{Enters, enters_walk}
-use Rattle.mqtt_world_delivery_laws.proofs.others.Strangers.{comes_stands, comes_there, either_false, good_then, held_next, held_stands, next_outside, same_cost}
+use Rattle.mqtt_world_acceptance_laws.proofs.publishers.StrangerBytes.{good_then, held_next, same_cost}
+use Rattle.mqtt_world_delivery_laws.proofs.others.Strangers.{comes_stands, comes_there, held_stands, next_outside}
 use Rattle.mqtt_world_delivery_laws.proofs.contents.Telling.{AreOne, AreTold, Each, IsOne, copy_stands, each_mapped, sent_ones, told_reading}
 
 -- ---- told of these, and of more
@@ -294,8 +295,8 @@ module _ (c : List ℕ) (limits : Limits) where
         let u = calls_if set call held in
         let h = x.have in
         let s = as_first v h.come_so.stands in
-        let both = either_false (front_names (first_of (bytes_held (stranger_named name v))) w) (bytes_name more (held_after (bytes_held (stranger_named name v))) w) good in
-        let costs = either_false (read_if spending set call v) (read_rest spending set more name u) unspent in
+        let both = either (front_names (first_of (bytes_held (stranger_named name v))) w) (bytes_name more (held_after (bytes_held (stranger_named name v))) w) good in
+        let costs = either (read_if spending set call v) (read_rest spending set more name u) unspent in
         let cost = same_cost set name v call costs.0 in
         let goes_on = if_stands h.come_so.stands.ids c any_size set call held (held_stands h.come_so.stands.ids c any_size limits name v s) cost (next_outside h.come_so.stands.ids c any_size limits name w v s there both.0) in
         let around = h.come_so.stands.standing.around in

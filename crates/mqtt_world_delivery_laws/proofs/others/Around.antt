@@ -9,11 +9,12 @@ use Rattle.mqtt_world_receiver_laws.specs.Served.{IsTidy}
 use Rattle.mqtt_world_model.specs.Ends.{Back, Publisher, Receiver, Sent}
 use Rattle.mqtt_world_model.specs.Lines.{Line, is_one_of}
 use Rattle.mqtt_world_model.specs.Seats.{HasPlace}
-use Rattle.mqtt_world_model.specs.World.{Stranger, World, publisher_named, receiver_named, with_publisher, with_receiver}
+use Rattle.mqtt_world_model.specs.World.{Stranger, World, publisher_named, receiver_named, with_receiver}
 use Rattle.mqtt_rules.specs.State.{Broker}
 use Rattle.mqtt_rules.specs.declared.Limits.{Limits}
 use Rattle.mqtt_world_acceptance_laws.specs.Fair.{IsSteady}
 use Rattle.mqtt_world_acceptance_laws.proofs.publishers.Ends.{all_mapped, find_publisher, find_receiver, is_some_mapped, named_receiver, only_client, only_receiver}
+use Rattle.mqtt_world_acceptance_laws.proofs.publishers.Changes.{with_end, KeepsName, KeepsTheName}
 use Rattle.mqtt_world_acceptance_laws.proofs.publishers.Kept.{IsKept}
 use Rattle.mqtt_world_delivery_laws.specs.Standing.{HasOthers, IsAnothers, IsAround, IsOtherPublisher, IsOtherReceiver, IsOtherStranger, IsPlaced, IsSeen, StandsWith}
 
@@ -124,15 +125,6 @@ pub its_place : (c : List ℕ) (limits : Limits) (ns : List ℕ) (w : World) (r 
 its_place c limits ns w r a e = subst (λ (x : List ℕ). HasPlace limits x w.broker.records) (sym (named_receiver c r w e)) (a.place (ap is_some e))
 
 -- ---- one end is changed
-
-abbrev pub with_end : List ℕ → (Publisher → Publisher) → (Receiver → Receiver) → World → World
-with_end d f g w = with_publisher d f (with_receiver d g w)
-
-abbrev pub KeepsName : (Publisher → Publisher) → Type 0
-KeepsName f = (p : Publisher) → (f p).client ≡ p.client
-
-abbrev pub KeepsTheName : (Receiver → Receiver) → Type 0
-KeepsTheName g = (r : Receiver) → (g r).client ≡ r.client
 
 -- the receiver itself is changed in any way; any other keeps to lines that are not its
 pub end_around : (c d : List ℕ) (limits : Limits) (ns : List ℕ) (w : World) (f : Publisher → Publisher) (g : Receiver → Receiver) → KeepsName f → KeepsTheName g

@@ -10,11 +10,12 @@ use Rattle.mqtt_world_model.specs.World.{Asking, Setting, View, World, asks, bre
 use Rattle.mqtt_rules.specs.Flight.{HasDistinctIdentifiers}
 use Rattle.mqtt_rules.specs.Step.{Call}
 use Rattle.mqtt_world_acceptance_laws.specs.Spending.{spending}
+use Rattle.mqtt_world_acceptance_laws.proofs.publishers.Changes.{with_end}
 use Rattle.mqtt_world_delivery_laws.specs.Alone.{HaveSentNothing}
 use Rattle.mqtt_world_delivery_laws.specs.Retaining.{AreRetainedOnce}
 use Rattle.mqtt_world_delivery_laws.specs.Standing.{IsPlaced, IsSeen, Stands}
 use Rattle.mqtt_world_delivery_laws.specs.Taking.{ItsLineTakes, any_size}
-use Rattle.mqtt_world_delivery_laws.proofs.others.Around.{on_back, on_line, own_stands, whose_name, with_end}
+use Rattle.mqtt_world_delivery_laws.proofs.others.Around.{on_back, on_line, own_stands, whose_name}
 use Rattle.mqtt_world_delivery_laws.proofs.others.Asking.{other_pumped, other_reads, other_reads_old}
 use Rattle.mqtt_world_delivery_laws.proofs.own.LateConnects.{old_connected_stands}
 use Rattle.mqtt_world_delivery_laws.proofs.others.Losses.{broken_stands}

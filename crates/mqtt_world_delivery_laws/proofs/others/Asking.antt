@@ -1,91 +1,43 @@
 -- What other ends and strangers ask of the broker, in the eyes of one receiver: no packet of theirs is a CONNECT of its client,
 -- and none is on a line of its.
-use Rattle.std.proofs.Common.{◌≡◌, ℕ, false, List, [], ◌∷◌, map, Option, Some, None, bytes_eq, refl, sym, ap, subst, ◌∙◌, inl, inr}
+use Rattle.std.proofs.Common.{◌≡◌, ℕ, false, List, Option, Some, None, bytes_eq, refl, sym, ap, subst, ◌∙◌, inl, inr}
 use Rattle.std.specs.Prelude.{is_some}
 use Rattle.std.specs.List.{AllByRecursion}
 use Rattle.mqtt_base.specs.declared.session.CopyId.{CopyId}
 use Rattle.mqtt_codec.specs.declared.packet.Packet.{Packet}
-use Rattle.mqtt_flow.specs.Receiver.{connect, puback, pubcomp, pubrec}
-use Rattle.mqtt_flow_inbound.specs.Publisher.{CONNECT, PUBLISH_1, PUBLISH_2, PUBREL}
-use Rattle.mqtt_world_model.specs.Ends.{Back, Content, Publisher, Receiver, Sent, answers, asks_for, plain, shake, wire, wire_back}
+use Rattle.mqtt_world_model.specs.Ends.{Publisher, Receiver}
 use Rattle.mqtt_world_model.specs.Hops.{IsOthers}
 use Rattle.mqtt_world_model.specs.Lines.{Line, left}
 use Rattle.mqtt_world_model.specs.Run.{read_first}
-use Rattle.mqtt_world_model.specs.World.{Setting, View, World, asks, break, call_of, first_step, input_on, lost_on, old_to_broker, publisher_named, pump, pump_on, receiver_named, taken_old, taken_up, to_broker, view_by, view_of, with_line}
+use Rattle.mqtt_world_model.specs.World.{Setting, World, asks, break, call_of, first_step, input_on, lost_on, old_to_broker, pump, pump_on, taken_old, taken_up, to_broker, view_of, with_line}
 use Rattle.mqtt_world_model.proofs.others.Lists.{all_find}
-use Rattle.mqtt_rules.specs.Step.{Call, Input, Lost, Pump}
+use Rattle.mqtt_rules.specs.Step.{Call, Lost, Pump}
 use Rattle.mqtt_rules.specs.declared.Limits.{Limits}
 use Rattle.mqtt_world_acceptance_laws.specs.Spending.{spending}
-use Rattle.mqtt_world_acceptance_laws.proofs.publishers.Ends.{named_publisher, named_receiver}
+use Rattle.mqtt_world_acceptance_laws.proofs.publishers.Ends.{named_receiver}
+use Rattle.mqtt_world_acceptance_laws.proofs.publishers.Others.{IsForeign, foreign_of, line_outside}
 use Rattle.mqtt_world_acceptance_laws.proofs.publishers.FirstPackets.{Takes, takes_old, takes_up}
 use Rattle.mqtt_world_delivery_laws.specs.Standing.{BeginWith, HasOthers, IsAnothers, IsAround, IsOtherPublisher, IsOtherReceiver, Stands, StandsWith}
 use Rattle.mqtt_world_delivery_laws.proofs.others.Around.{IsNotIts, changed_not, end_others, on_back, on_line}
-use Rattle.mqtt_world_delivery_laws.proofs.others.Outside.{IsOutside, if_stands, if_there}
+use Rattle.mqtt_world_delivery_laws.proofs.others.Outside.{IsOutOf, IsOutside, if_stands, if_there}
 
--- ---- their packets
-
-wire_others : (c client : List ℕ) (contents : List Content) (x : Sent) → (client ≡ c → ⊥) → IsOthers c (wire client contents x)
-wire_others c client contents (shake (CONNECT clean)) h = h
-wire_others c client contents (shake (PUBLISH_1 id n dup)) h = tt
-wire_others c client contents (shake (PUBLISH_2 id n dup)) h = tt
-wire_others c client contents (shake (PUBREL id)) h = tt
-wire_others c client contents (plain content) h = tt
-
-back_others : (c client : List ℕ) (window : ℕ) (x : Back) → (client ≡ c → ⊥) → IsOthers c (wire_back client window x)
-back_others c client window (answers (connect clean)) h = h
-back_others c client window (answers (puback i code)) h = tt
-back_others c client window (answers (pubrec i code)) h = tt
-back_others c client window (answers (pubcomp i code)) h = tt
-back_others c client window (asks_for x) h = tt
-
-all_wired : {U : Type 0} (c : List ℕ) (f : U → Packet) (xs : List U) → ((x : U) → IsOthers c (f x)) → AllByRecursion (IsOthers c) (map f xs)
-all_wired c f [] h = tt
-all_wired c f (x ∷ xs) h = (h x, all_wired c f xs h)
+-- ---- their packets, and their calls
 
 -- what another end has under way
-pub record IsForeign (c ns : List ℕ) (given : ℕ) (v : View) : Type 0 where
-  pub number : IsAnothers ns given v.number
-  pub up : AllByRecursion (IsOthers c) v.up
-  pub old_number : IsAnothers ns given v.old_number
-  pub old : AllByRecursion (IsOthers c) v.old
+pub foreign : (c d : List ℕ) (limits : Limits) (ns : List ℕ) (w : World) → IsAround c limits ns w → (d ≡ c → ⊥) → IsForeign c (IsOutOf ns) w.broker.given (view_of d w)
+foreign c d limits ns w a differ =
+    foreign_of c d (IsOutOf ns) w.broker.given w differ
+    (λ p e. let free = (all_find (IsOtherPublisher ns w.broker.given) (λ (z : Publisher). bytes_eq z.client d) p w.publishers a.publishers e).0 in (free.number, free.old_number))
+    (λ r e. elim (all_find (IsOtherReceiver c ns w.broker.given) (λ (z : Receiver). bytes_eq z.client d) r w.receivers a.receivers e).0 [
+      | inl same ↦ absurd (differ (sym (named_receiver d r w e) ∙ same))
+      | inr free ↦ (free.number, free.old_number)
+    ])
 
--- another end is a stranger to it
-pub foreign : (c d : List ℕ) (limits : Limits) (ns : List ℕ) (w : World) → IsAround c limits ns w → (d ≡ c → ⊥) → IsForeign c ns w.broker.given (view_of d w)
-foreign c d limits ns w a differ = by (publisher_named d w) (receiver_named d w) refl refl
-  where
-    by : (x : Option Publisher) (y : Option Receiver) → publisher_named d w ≡ x → receiver_named d w ≡ y → IsForeign c ns w.broker.given (view_by x y)
-    by (Some q) y e f =
-        let found = all_find (IsOtherPublisher ns w.broker.given) (λ (z : Publisher). bytes_eq z.client d) q w.publishers a.publishers e in
-        let is = named_publisher d q w e in
-        let free = found.0 in
-        record {
-          number = free.number;
-          up = all_wired c (wire q.client q.contents) q.line.up (λ x. wire_others c q.client q.contents x (λ same. differ (sym is ∙ same)));
-          old_number = free.old_number;
-          old = all_wired c (wire q.client q.contents) q.line.old (λ x. wire_others c q.client q.contents x (λ same. differ (sym is ∙ same)));
-        }
-    by None (Some r) e f =
-        let found = all_find (IsOtherReceiver c ns w.broker.given) (λ (z : Receiver). bytes_eq z.client d) r w.receivers a.receivers f in
-        let is = named_receiver d r w f in
-        elim found.0 [
-          | inl same ↦ absurd (differ (sym is ∙ same))
-          | inr free ↦ record {
-            number = free.number;
-            up = all_wired c (wire_back r.client r.window) r.line.up (λ x. back_others c r.client r.window x (λ same. differ (sym is ∙ same)));
-            old_number = free.old_number;
-            old = all_wired c (wire_back r.client r.window) r.line.old (λ x. back_others c r.client r.window x (λ same. differ (sym is ∙ same)));
-          }
-        ]
-    by None None e f = record { number = λ n is. absurd cc; up = tt; old_number = λ n is. absurd cc; old = tt }
-
--- a packet on another's line is outside
+-- the first packet of a line
 pub input_outside : (c ns : List ℕ) (given : ℕ) (x : Option ℕ) (packets : List Packet) (call : Call) → IsAnothers ns given x → AllByRecursion (IsOthers c) packets → input_on x packets ≡ Some call → IsOutside c ns call
-input_outside c ns given None packets call free all e = absurd cc
-input_outside c ns given (Some n) [] call free all e = absurd cc
-input_outside c ns given (Some n) (packet ∷ rest) call free all e =
-    let is : Input n packet ≡ call = cc in
-    subst (IsOutside c ns) is ((free n refl).0, all.0)
+input_outside c ns given x packets call free all e = line_outside c (IsOutOf ns) (IsOutside c ns) given x packets call (λ n packet out other. (out, other)) free all e
 
+-- the loss of a line, and a pump
 lost_outside : (c ns : List ℕ) (given : ℕ) (x : Option ℕ) (call : Call) → IsAnothers ns given x → lost_on x ≡ Some call → IsOutside c ns call
 lost_outside c ns given None call free e = absurd cc
 lost_outside c ns given (Some n) call free e = let is : Lost n ≡ call = cc in subst (IsOutside c ns) is (free n refl).0

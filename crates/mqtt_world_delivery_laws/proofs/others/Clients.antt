@@ -10,7 +10,7 @@ use Rattle.mqtt_world_model.specs.Run.{Turn, run, setting, turned}
 use Rattle.mqtt_world_model.specs.World.{Asking, Event, Setting, World, answers_rest, ask, asks, asks_wish, before, break, call_of, call_of_stranger, calls, calls_if, clock, comes, connect_end, first_step, give_up, happens, held_count, is_bad, is_bad_name, is_end, is_window, linked_at, links, next_held, next_line, old_to_broker, publish, publisher, publisher_named, pump, receiver, receiver_named, receiver_restarted, receiver_told, restart, restarts, stop_after, stop_before, stranger, stranger_named, subscribe, tick, to_broker, to_end}
 use Rattle.mqtt_rules.specs.Step.{Call, NewLine, stepped, told}
 use Rattle.mqtt_rules.specs.declared.Limits.{Limits}
-use Rattle.mqtt_world_acceptance_laws.proofs.publishers.Ends.{all_appended, all_mapped, find_first, find_last, find_receiver, only_receiver}
+use Rattle.mqtt_world_acceptance_laws.proofs.publishers.Ends.{all_appended, all_mapped, find_first, find_last, find_receiver, only_receiver, either}
 use Rattle.mqtt_world_delivery_laws.proofs.others.Around.{on_back}
 use Rattle.mqtt_world_delivery_laws.proofs.others.Like.{moves_reading}
 
@@ -92,10 +92,6 @@ asks_found set (stranger name bytes) w h =
 links_found : (set : Setting) (o : Option ℕ) (d : List ℕ) (clean : Bool) (w : World) → AreFound w.receivers → AreFound (links set o d clean w).receivers
 links_found set None d clean w h = h
 links_found set (Some n) d clean w h = one_changed d (on_back (λ l. joined (answers (connect clean)) n clean l)) (calls set NewLine w).receivers (λ r. refl) (calls_found set NewLine w h)
-
-either : (a b : Bool) → (a || b) ≡ false → (a ≡ false) × (b ≡ false)
-either true b h = absurd cc
-either false b h = (refl, h)
 
 none_named : (o : Option Receiver) → is_some o ≡ false → o ≡ None
 none_named None h = refl

@@ -1,10 +1,8 @@
 -- Ends come, give a line up, publish, ask for subscriptions and read, in the eyes of one receiver.
-use Rattle.std.proofs.Common.{◌≡◌, ℕ, Bool, true, false, cond, not, ◌||◌, ◌&&◌, List, [], ◌∷◌, length, Option, Some, None, nat_eq, nat_lt, bytes_eq, refl, sym, ap, subst, ◌∙◌, inl, inr}
-use Rattle.std.specs.Prelude.{is_none, is_some, option_map}
-use Rattle.std.specs.List.{starts_with}
+use Rattle.std.proofs.Common.{◌≡◌, ℕ, Bool, true, false, cond, not, ◌||◌, ◌&&◌, List, [], Option, Some, None, bytes_eq, refl, sym, ap, subst, ◌∙◌, inl, inr}
+use Rattle.std.specs.Prelude.{is_some, option_map}
 use Rattle.std.proofs.lemmas.Bool.{cases_Bool}
 use Rattle.std.proofs.lemmas.Slice.Eq.{bytes_eq-Decides}
-use Rattle.mqtt_base.specs.declared.limits.TheConstants.{CLIENT_LIMIT}
 use Rattle.mqtt_base.specs.declared.session.CopyId.{CopyId}
 use Rattle.mqtt_flow.specs.OutboundWorld.{Lot}
 use Rattle.mqtt_flow_inbound.specs.Line.{Link, asked, away, live}
@@ -17,10 +15,10 @@ use Rattle.mqtt_world_model.specs.Seen.{is_linked}
 use Rattle.mqtt_world_model.specs.World.{Setting, World, asks_wish, clock, give_up, happens, is_bad, is_bad_name, is_end, is_open_line, is_window, is_wish, link_by, may_ask, may_ask_on, publish, publisher, publisher_named, receiver, receiver_named, subscribe, to_end, with_receiver}
 use Rattle.mqtt_world_model.proofs.seats.Places.{no_place_asked}
 use Rattle.mqtt_world_model.proofs.seats.Seats.{idle_linked}
-use Rattle.mqtt_records.specs.Session.{auto}
 use Rattle.mqtt_records_rows.specs.Distinct.{AllDiffer}
 use Rattle.mqtt_rules.specs.State.{Broker, session_named}
-use Rattle.mqtt_world_acceptance_laws.proofs.publishers.Ends.{all_appended, all_mapped, find_last, find_no_more, find_publisher, find_receiver, is_some_mapped, only_client, only_receiver}
+use Rattle.mqtt_world_acceptance_laws.proofs.publishers.Ends.{all_appended, all_mapped, find_last, find_no_more, find_publisher, find_receiver, is_some_mapped, only_client, only_receiver, either}
+use Rattle.mqtt_world_acceptance_laws.proofs.publishers.Happenings.{not_some, is_nothing, named_so, may_give}
 use Rattle.mqtt_world_acceptance_laws.proofs.publishers.Kept.{published_remains, read_remains, read_there}
 use Rattle.mqtt_world_receiver_laws.specs.Handing.{IsRun}
 use Rattle.mqtt_world_receiver_laws.proofs.own.OwnDoings.{asks_awaiting, asks_in_step, comes_awaiting, gives_up_awaiting, gives_up_in_step, reads_awaiting, reads_in_step}
@@ -28,20 +26,6 @@ use Rattle.mqtt_world_delivery_laws.specs.Standing.{GoesAlong, HasOthers, IsOthe
 use Rattle.mqtt_world_delivery_laws.proofs.others.Around.{changed_its, changed_not, end_others, on_back, on_line, others_kept, own_stands, unlined, whose_name}
 use Rattle.mqtt_world_delivery_laws.proofs.others.Like.{calm_up, closed_stands, connected_linked, joined_stands, moves_reading, none_stands, quiet_down, same_reading, seat_asked, seat_given, seat_read}
 use Rattle.mqtt_world_receiver_laws.proofs.queue.Numbers.{place_of, places_number}
-
--- where neither holds, both fail
-pub either : (a b : Bool) → (a || b) ≡ false → (a ≡ false) × (b ≡ false)
-either true b h = absurd cc
-either false b h = (refl, h)
-
-not_some : {X : Type 0} (o : Option X) → is_some o ≡ false → o ≡ None
-not_some None e = refl
-not_some (Some x) e = absurd cc
-
--- what is none is nothing
-pub is_nothing : {X : Type 0} (o : Option X) → is_none o ≡ true → o ≡ None
-is_nothing None e = refl
-is_nothing (Some x) e = absurd cc
 
 -- ---- the run that it sees, by the places of its copies
 
@@ -80,13 +64,6 @@ publisher_comes c d largest set ids ns w h good =
     }
 
 -- ---- a receiver comes
-
-named_so : (c : List ℕ) → is_bad_name c ≡ false → IsNamed c
-named_so [] h = absurd cc
-named_so (x ∷ xs) h =
-    let some_ = either (nat_eq (length (x ∷ xs)) 0) (nat_lt CLIENT_LIMIT (length (x ∷ xs)) || starts_with nat_eq (x ∷ xs) auto) h in
-    let both = either (nat_lt CLIENT_LIMIT (length (x ∷ xs))) (starts_with nat_eq (x ∷ xs) auto) some_.1 in
-    record { some = refl; short = both.0; plain = both.1 }
 
 new_placed : (c : List ℕ) (largest window since : ℕ) (b : Broker) → is_bad_name c ≡ false → session_named c b.records ≡ None → IsPlaced largest [] [] (new_receiver c window since) b
 new_placed c largest window since b named none = record {
@@ -166,12 +143,6 @@ gives_others : {U : Type 0} (ns : List ℕ) (given : ℕ) (link : Link) (l : Lin
 gives_others ns given away l h = h
 gives_others ns given asked l h = record { number = λ n e. absurd cc; old_number = h.number }
 gives_others ns given live l h = record { number = λ n e. absurd cc; old_number = h.number }
-
-may_give : (link : Link) (clean : Bool) → not (is_asked (Some link) && clean) ≡ true → MayGiveUp link clean
-may_give away clean h = tt
-may_give live clean h = tt
-may_give asked true h = absurd cc
-may_give asked false h = refl
 
 given_along : (o : Option ℕ) (largest : ℕ) (ids : List CopyId) (ns : List ℕ) (r : Receiver) (b : Broker) → GoesAlong o largest ids ns r b → MayGiveUp r.line.link r.line.clean
     → GoesAlong o largest ids ns (record r { line = gives_up r.line.link r.line }) b

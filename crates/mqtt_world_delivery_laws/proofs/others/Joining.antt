@@ -16,7 +16,7 @@ use Rattle.mqtt_rules.specs.State.{Broker}
 use Rattle.mqtt_rules.specs.Step.{NewLine, can_link, stepped, told}
 use Rattle.mqtt_world_acceptance_laws.proofs.publishers.Ends.{all_turned}
 use Rattle.mqtt_world_acceptance_laws.proofs.copies.Steady.{linking_spends_none, steady_step}
-use Rattle.mqtt_world_acceptance_laws.proofs.publishers.Strangers.{linked_given}
+use Rattle.mqtt_world_acceptance_laws.proofs.publishers.StrangerBytes.{linked_given}
 use Rattle.mqtt_world_receiver_laws.specs.Handing.{MayComeBack, receiver_joined}
 use Rattle.mqtt_world_receiver_laws.proofs.queue.Apart.{apart_still}
 use Rattle.mqtt_world_receiver_laws.proofs.own.OwnDoings.{joins_awaiting, joins_in_step}

@@ -18,7 +18,7 @@ use Rattle.mqtt_rules.specs.State.{Broker, MemberChoice}
 use Rattle.mqtt_rules.specs.Step.{BadInput, Call, Input, Lost, NewLine, Pump, Tick, at_moment, stepped, told}
 use Rattle.mqtt_rules.specs.declared.Limits.{Limits}
 use Rattle.mqtt_world_acceptance_laws.specs.Spending.{spending}
-use Rattle.mqtt_world_acceptance_laws.proofs.publishers.Ends.{all_turned, find_receiver, is_some_mapped, named_receiver}
+use Rattle.mqtt_world_acceptance_laws.proofs.publishers.Ends.{all_turned, find_receiver, is_some_mapped, named_receiver, either}
 use Rattle.mqtt_world_acceptance_laws.proofs.copies.Steady.{given_grows, steady_step}
 use Rattle.mqtt_world_receiver_laws.specs.Calls.{receiver_called}
 use Rattle.mqtt_world_receiver_laws.specs.Own.{IsAwaiting, StepsOn}
@@ -32,6 +32,12 @@ use Rattle.mqtt_world_delivery_laws.proofs.others.Around.{around_mapped, given_l
 use Rattle.mqtt_world_delivery_laws.proofs.others.Like.{seat_of_others}
 use Rattle.mqtt_world_delivery_laws.proofs.order.Growing.{begin_on, begin_same, begin_then}
 
+-- ---- another's line
+
+-- no line of this number was ever its own, and 0 is the number of none
+abbrev pub IsOutOf : List ℕ → ℕ → Type 0
+IsOutOf ns n = is_one_of (Some n) (0 ∷ ns) ≡ false
+
 -- ---- on none of its lines, and no CONNECT of its client; whether a tick is one is seen at the broker
 
 abbrev pub IsOutside : List ℕ → List ℕ → Call → Type 0
@@ -42,13 +48,8 @@ IsOutside c ns (Lost m) = is_one_of (Some m) (0 ∷ ns) ≡ false
 IsOutside c ns (Pump m) = is_one_of (Some m) (0 ∷ ns) ≡ false
 IsOutside c ns Tick = ⊥
 
-either_false : (a b : Bool) → (a || b) ≡ false → (a ≡ false) × (b ≡ false)
-either_false true b h = absurd cc
-either_false false b h = (refl, h)
-
--- what is not among these and nobody is not among these
 pub unlisted : (m : ℕ) (ns : List ℕ) → is_one_of (Some m) (0 ∷ ns) ≡ false → is_one_of (Some m) ns ≡ false
-unlisted m ns h = (either_false (nat_eq 0 m) (is_one_of (Some m) ns) h).1
+unlisted m ns h = (either (nat_eq 0 m) (is_one_of (Some m) ns) h).1
 
 -- what is not among them differs from each
 pub apart_from : (m k : ℕ) (ns : List ℕ) → is_one_of (Some m) ns ≡ false → is_one_of (Some k) ns ≡ true → nat_eq m k ≡ false

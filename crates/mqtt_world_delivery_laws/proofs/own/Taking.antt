@@ -29,7 +29,7 @@ use Rattle.mqtt_world_model.specs.World.{Asking, Event, Setting, Stranger, View,
 use Rattle.mqtt_world_model.proofs.seats.Joins.{new_is}
 use Rattle.mqtt_world_model.proofs.others.Lists.{all_find}
 use Rattle.mqtt_world_acceptance_laws.specs.Fair.{IsNew}
-use Rattle.mqtt_world_acceptance_laws.proofs.publishers.Ends.{find_first, find_last, find_no_more, find_receiver}
+use Rattle.mqtt_world_acceptance_laws.proofs.publishers.Ends.{find_first, find_last, find_no_more, find_receiver, either}
 use Rattle.mqtt_world_acceptance_laws.proofs.publishers.Kept.{read_there}
 use Rattle.mqtt_world_delivery_laws.specs.Standing.{IsOtherStranger, IsSeen, Stands}
 use Rattle.mqtt_world_delivery_laws.specs.Taking.{EachTakes, ItsLineTakes, LineTakes, ReceiverTakes, TakesAsAsked, TakesThere}
@@ -37,7 +37,8 @@ use Rattle.mqtt_world_delivery_laws.proofs.others.Around.{on_back, whose_name}
 use Rattle.mqtt_world_delivery_laws.proofs.others.Asking.{foreign, input_outside}
 use Rattle.mqtt_world_delivery_laws.proofs.broker.Greeted.{Suits, called_take}
 use Rattle.mqtt_world_delivery_laws.proofs.others.Outside.{IsOutside, apart_from, lines_of, listed, named_called}
-use Rattle.mqtt_world_delivery_laws.proofs.others.Strangers.{comes_stands, find_changed}
+use Rattle.mqtt_world_acceptance_laws.proofs.publishers.StrangerBytes.{find_changed}
+use Rattle.mqtt_world_delivery_laws.proofs.others.Strangers.{comes_stands}
 
 -- ---- a receiver that is changed, and keeps its window, and its line or has none
 
@@ -333,10 +334,6 @@ restarts_take c set w h =
 so_true : (t : Bool) → not t ≡ false → t ≡ true
 so_true true h = refl
 so_true false h = absurd cc
-
-either : (a b : Bool) → (a || b) ≡ false → (a ≡ false) × (b ≡ false)
-either true b h = absurd cc
-either false b h = (refl, h)
 
 receiver_takes : (c d : List ℕ) (window : ℕ) (set : Setting) (w : World) → ItsLineTakes c w → is_bad (receiver d window) w ≡ false → ItsLineTakes c (happens set (receiver d window) w)
 receiver_takes c d window set w h good = by (receiver_named c w) refl h

@@ -40,7 +40,7 @@ use Rattle.mqtt_rules.specs.State.{Broker, Env, Line, MemberChoice, line_at, ses
 use Rattle.mqtt_rules.specs.Step.{BadInput, Call, Input, Lost, NewLine, Pump, Tick, at_moment, deeds, deeds_of, env_of, first_packet, next_packet, on_packet, opening, unopened}
 use Rattle.mqtt_rules.specs.declared.Limits.{Limits}
 use Rattle.mqtt_world_acceptance_laws.specs.Spending.{spending}
-use Rattle.mqtt_world_acceptance_laws.proofs.publishers.Ends.{named_receiver}
+use Rattle.mqtt_world_acceptance_laws.proofs.publishers.Ends.{named_receiver, either}
 use Rattle.mqtt_world_delivery_laws.specs.Standing.{GoesAlong, IsPlaced, IsSeen, Stands}
 use Rattle.mqtt_world_delivery_laws.specs.Taking.{any_size}
 use Rattle.mqtt_world_delivery_laws.proofs.taken.Acknowledged.{answer_taken, answer_taken_there}
@@ -49,7 +49,8 @@ use Rattle.mqtt_world_delivery_laws.proofs.others.Around.{whose_name}
 use Rattle.mqtt_world_delivery_laws.proofs.others.Asking.{foreign, input_outside}
 use Rattle.mqtt_world_delivery_laws.proofs.others.Outside.{IsOutside, if_stands, if_there, unlisted}
 use Rattle.mqtt_world_delivery_laws.proofs.taken.Plain.{IsNoAnswer, IsOtherEnd, IsUntaken, untaken_deeds, untaken_drop, untaken_first, untaken_of, untaken_opening}
-use Rattle.mqtt_world_delivery_laws.proofs.others.Strangers.{first_outside, comes_stands, comes_there, either_false, good_then, held_next, held_stands, next_outside, same_cost}
+use Rattle.mqtt_world_acceptance_laws.proofs.publishers.StrangerBytes.{good_then, held_next, same_cost}
+use Rattle.mqtt_world_delivery_laws.proofs.others.Strangers.{first_outside, comes_stands, comes_there, held_stands, next_outside}
 
 -- ---- lists of ends
 
@@ -223,8 +224,8 @@ module _ (c : List ℕ) where
     rest_none first (suc more) name w v h there found good unspent =
         let call = call_of_stranger (stranger_named name v) in
         let u = next_held name v in
-        let both = either_false (front_names (first_of (bytes_held (stranger_named name v))) w) (bytes_name more (held_after (bytes_held (stranger_named name v))) w) good in
-        let costs = either_false (read_if spending set call v) (read_rest spending set more name (calls_if set call u)) unspent in
+        let both = either (front_names (first_of (bytes_held (stranger_named name v))) w) (bytes_name more (held_after (bytes_held (stranger_named name v))) w) good in
+        let costs = either (read_if spending set call v) (read_rest spending set more name (calls_if set call u)) unspent in
         let outside = next_outside first c any_size set.limits name w v h there both.0 in
         let next = if_stands first c any_size set call u (held_stands first c any_size set.limits name v h) (same_cost set name v call costs.0) outside in
         ends_append IsNone (read_if the_deeds set call v) (read_rest the_deeds set more name (calls_if set call u))
