@@ -48,6 +48,7 @@ IsOutside c ns (Lost m) = is_one_of (Some m) (0 ∷ ns) ≡ false
 IsOutside c ns (Pump m) = is_one_of (Some m) (0 ∷ ns) ≡ false
 IsOutside c ns Tick = ⊥
 
+-- what is not among these and nobody is not among these
 pub unlisted : (m : ℕ) (ns : List ℕ) → is_one_of (Some m) (0 ∷ ns) ≡ false → is_one_of (Some m) ns ≡ false
 unlisted m ns h = (either (nat_eq 0 m) (is_one_of (Some m) ns) h).1
 
