@@ -12,7 +12,7 @@ ghost use Rattle.mqtt_rules.specs.Routing.{subscribers};
 ghost use Rattle.mqtt_rules.specs.Step.{opening};
 ghost use Rattle.mqtt_broker_publish.specs.Choosing.{DoesSome, LeavesSome};
 ghost use Rattle.mqtt_broker_close.specs.Wills.{will_at};
-ghost use Rattle.mqtt_broker_index.specs.Following.{CanAllBeFollowed, CanBeIndexed};
+ghost use Rattle.mqtt_broker_index.specs.Following.{CanAllBeFollowed, CanBeIndexed, CanGoAlongAll};
 ghost use Rattle.mqtt_broker_index.specs.Indexing.{Serves};
 ghost use Rattle.mqtt_broker_engine.specs.Closing.{DidSome, LeftSome};
 ghost use Rattle.mqtt_broker_engine.specs.Sessions.{IsThere, closes, connected_in};
@@ -73,7 +73,8 @@ fn close(alloc: Global, index: &mut Index, step: &mut Step, birth: u64) -> Resul
 
 /// The index goes along with the rows of a step from a place on.
 fn follow(index: &mut Index, rows: &[Change], from: usize) -> Result<(), StepFault>
-    requires { from ≤ length rows.now }
+    requires from { from ≤ length rows.now }
+    requires may { CanGoAlongAll (drop from rows.now) index.old.sessions }
     ensures serves { (r : TheRecords) → CanBeIndexed r → CanAllBeFollowed (drop from rows.now) r
         → Serves index.old.sessions (subscribers r)
         → OnOk result (Serves index.new.sessions (subscribers (changed_all (drop from rows.now) r))) }

@@ -3,7 +3,7 @@ ghost use Rattle.std.specs.Prelude.{◌≡◌, ◌≢◌, ◌⊎◌, ℕ, false,
 ghost use Rattle.mqtt_records.specs.declared.records.Records.{Records};
 ghost use Rattle.mqtt_records.specs.Records.{FitAll};
 ghost use Rattle.mqtt_records.specs.Saying.{AllSayable};
-ghost use Rattle.mqtt_broker_index.specs.Following.{CanAllBeFollowed, CanBeIndexed};
+ghost use Rattle.mqtt_broker_index.specs.Following.{CanAllBeFollowed, CanBeIndexed, CanGoAlongAll};
 ghost use Rattle.mqtt_broker_index.specs.Indexing.{Serves};
 ghost use Rattle.mqtt_rules.specs.Contents.{TakesLawful};
 ghost use Rattle.mqtt_rules.specs.Routing.{subscribers};
@@ -32,15 +32,20 @@ fn refusal(fault: StepFault) -> EngineError
     }
 }
 
-/// The index goes along with the rows of a step. `Memory` (1) alone refuses.
-fn follow(index: &mut Index, step: &Step) -> Result<(), StepFault>
-    ensures serves { CanBeIndexed step.now.start.records
+/// The index goes along with the rows of a step, unless it is to be made anew. `Memory` (1) alone refuses.
+fn follow(index: &mut Index, step: &Step, is_stale: bool) -> Result<(), StepFault>
+    requires { is_stale ≡ false → CanGoAlongAll step.now.rows index.old.sessions }
+    ensures serves { is_stale ≡ false → CanBeIndexed step.now.start.records
         → CanAllBeFollowed step.now.rows step.now.start.records
         → Serves index.old.sessions (subscribers step.now.start.records)
         → OnOk result (Serves index.new.sessions (subscribers step.now.broker.records)) }
     ensures unspent { is_spent step.now.rows ≡ false }
 {
-    index.follow_all(step.rows())
+    let rows = step.rows();
+    if is_stale {
+        return Ok(());
+    }
+    index.follow_all(rows)
 }
 
 /// The index goes along with the rows of a step, and the store is told of them. Where one of them refuses the step is
@@ -57,8 +62,7 @@ fn tell<K: Keep>(
     requires fit { is_spent step.old.rows ≡ false → FitAll step.old.rows step.old.start.records }
     requires sayable { AllSayable step.old.rows }
     requires indexed { CanBeIndexed step.old.start.records }
-    requires followed { is_spent step.old.rows ≡ false
-        → CanAllBeFollowed step.old.rows step.old.start.records }
+    requires followed { CanAllBeFollowed step.old.rows step.old.start.records }
     requires serves { is_stale.old ≡ false → Serves index.old.sessions (subscribers step.old.start.records) }
     ensures unspent { is_spent step.old.rows ≡ false }
     ensures outputs { IfOk result (λ out. out.outputs.items ≡ step.old.outputs) }
@@ -78,7 +82,7 @@ fn tell<K: Keep>(
     ensures quiet { AreQuietBefore quiet.old step.old.start.records
         → AreQuietBefore quiet.new step.new.broker.records }
 {
-    if follow(index, step).is_err() {
+    if follow(index, step, *is_stale).is_err() {
         *is_stale = true;
         step.take_back();
         index.take_back();

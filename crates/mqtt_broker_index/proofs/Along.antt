@@ -20,6 +20,7 @@ use Rattle.mqtt_routes.specs.Subscriptions.{Subscriber, AreInOrder, beside, put,
 use Rattle.mqtt_routes.proofs.SomeLemmas.{some_dropped}
 use Rattle.mqtt_routes.proofs.SpotLemmas.{order-with_subs, order-unsubscribed, order-without_session}
 use Rattle.mqtt_records_rows.specs.Order.{row_at, has_row, put_row, change_row}
+use Rattle.mqtt_rules.specs.Contents.{IsAskedFor}
 use Rattle.mqtt_rules.specs.Laws.{HasTables}
 use Rattle.mqtt_rules.specs.Routing.{routed_subscription, subscribers}
 use Rattle.mqtt_rules.proofs.numbers.Copies.{each_filter}
@@ -27,7 +28,7 @@ use Rattle.mqtt_rules.proofs.flight.FlightRows.{all_at, all_put, all_changed}
 use Rattle.mqtt_rules.proofs.order.Ordered.{changed-ordered}
 use Rattle.mqtt_broker_step.specs.Subscribing.{HasEachFilterOnce}
 use Rattle.mqtt_broker_step.proofs.FiltersKept.{once_all}
-use Rattle.mqtt_broker_index.specs.Following.{HasIdentifiers, CanBeIndexed, IsGranted, CanBeFollowed, CanAllBeFollowed, followed, followed_all}
+use Rattle.mqtt_broker_index.specs.Following.{HasAsked, CanBeIndexed, IsGranted, CanBeFollowed, CanAllBeFollowed, followed, followed_all}
 use Rattle.mqtt_broker_index.specs.Indexing.{IsLawful, Serves}
 use Rattle.mqtt_broker_index.proofs.Granting.{routed_all, same_put}
 use Rattle.mqtt_broker_index.proofs.Standing.{same_subscribed, same_unsubscribed}
@@ -35,55 +36,55 @@ use Rattle.mqtt_broker_index.proofs.Subscribers.{subscribers_of, births_in_order
 
 -- ---- what can be indexed stays so
 
-identifiers_in : (birth : ℕ) (f : Session → Session) (ss : List Session) → ((s : Session) → HasIdentifiers s → HasIdentifiers (f s)) → AllByRecursion HasIdentifiers ss → AllByRecursion HasIdentifiers (change_row birth_of birth f ss)
-identifiers_in birth f ss kept h = all_changed birth_of HasIdentifiers birth f ss kept h
+asked_in : (birth : ℕ) (f : Session → Session) (ss : List Session) → ((s : Session) → HasAsked s → HasAsked (f s)) → AllByRecursion HasAsked ss → AllByRecursion HasAsked (change_row birth_of birth f ss)
+asked_in birth f ss kept h = all_changed birth_of HasAsked birth f ss kept h
 
-identifiers_if : (b : Bool) (ss ts : List Session) → AllByRecursion HasIdentifiers ss → AllByRecursion HasIdentifiers ts → AllByRecursion HasIdentifiers (cond b ss ts)
-identifiers_if true ss ts p q = p
-identifiers_if false ss ts p q = q
+asked_if : (b : Bool) (ss ts : List Session) → AllByRecursion HasAsked ss → AllByRecursion HasAsked ts → AllByRecursion HasAsked (cond b ss ts)
+asked_if true ss ts p q = p
+asked_if false ss ts p q = q
 
-identifiers_counter : (counter : Counter) (value : ℕ) (r : Records) → AllByRecursion HasIdentifiers r.sessions → AllByRecursion HasIdentifiers (with_counter counter value r).sessions
-identifiers_counter Births value r h = h
-identifiers_counter Publications value r h = h
-identifiers_counter Subscribes value r h = h
-identifiers_counter Autos value r h = h
-identifiers_counter Moment value r h = h
+asked_counter : (counter : Counter) (value : ℕ) (r : Records) → AllByRecursion HasAsked r.sessions → AllByRecursion HasAsked (with_counter counter value r).sessions
+asked_counter Births value r h = h
+asked_counter Publications value r h = h
+asked_counter Subscribes value r h = h
+asked_counter Autos value r h = h
+asked_counter Moment value r h = h
 
-identifiers_session : (row : Columns) (ss : List Session) → AllByRecursion HasIdentifiers ss → AllByRecursion HasIdentifiers (put_session row ss)
-identifiers_session row ss h =
-    identifiers_if (has_row birth_of row.birth ss) (change_row birth_of row.birth (with_columns row) ss) (put_row birth_of SESSION_LIMIT (fresh row) ss)
-    (identifiers_in row.birth (with_columns row) ss (λ s q. q) h)
-    (all_put birth_of HasIdentifiers SESSION_LIMIT (fresh row) ss tt h)
+asked_session : (row : Columns) (ss : List Session) → AllByRecursion HasAsked ss → AllByRecursion HasAsked (put_session row ss)
+asked_session row ss h =
+    asked_if (has_row birth_of row.birth ss) (change_row birth_of row.birth (with_columns row) ss) (put_row birth_of SESSION_LIMIT (fresh row) ss)
+    (asked_in row.birth (with_columns row) ss (λ s q. q) h)
+    (all_put birth_of HasAsked SESSION_LIMIT (fresh row) ss tt h)
 
-identifiers_put : (x : Subscription) (s : Session) → IsIdentifier x.identifier → HasIdentifiers s → HasIdentifiers (with_subscription x s)
-identifiers_put x s its h =
-    all_put place_of (λ (y : Subscription). IsIdentifier y.identifier) SUBSCRIPTION_LIMIT x (without_filter x.filter s.subscriptions) its
-    (each_filter (λ (y : Subscription). IsIdentifier y.identifier) (λ (y : Subscription). not (bytes_eq y.filter x.filter)) s.subscriptions h)
+asked_put : (x : Subscription) (s : Session) → IsAskedFor x → HasAsked s → HasAsked (with_subscription x s)
+asked_put x s its h =
+    all_put place_of IsAskedFor SUBSCRIPTION_LIMIT x (without_filter x.filter s.subscriptions) its
+    (each_filter IsAskedFor (λ (y : Subscription). not (bytes_eq y.filter x.filter)) s.subscriptions h)
 
-identifiers_changed : (change : Change) (r : Records) → CanBeFollowed change r → AllByRecursion HasIdentifiers r.sessions → AllByRecursion HasIdentifiers (changed change r).sessions
-identifiers_changed (SetCounter counter value) r may h = identifiers_counter counter value r h
-identifiers_changed (PutSession row) r may h = identifiers_session row r.sessions h
-identifiers_changed (SetSession row) r may h = identifiers_in row.birth (with_columns row) r.sessions (λ s q. q) h
-identifiers_changed (RemoveSession birth) r may h = each_filter HasIdentifiers (λ s. not (nat_eq (birth_of s) birth)) r.sessions h
-identifiers_changed (PutWill birth will) r may h = identifiers_in birth (with_will (Some will)) r.sessions (λ s q. q) h
-identifiers_changed (RemoveWill birth) r may h = identifiers_in birth (with_will None) r.sessions (λ s q. q) h
-identifiers_changed (PutSubscription birth x) r may h = identifiers_in birth (with_subscription x) r.sessions (λ s q. identifiers_put x s may.1 q) h
-identifiers_changed (RemoveSubscription birth text) r may h =
-    identifiers_in birth (without_subscription text) r.sessions
-    (λ s q. each_filter (λ (y : Subscription). IsIdentifier y.identifier) (λ (y : Subscription). not (bytes_eq y.filter text)) s.subscriptions q) h
-identifiers_changed (PutInbound birth id) r may h = identifiers_in birth (with_open id) r.sessions (λ s q. q) h
-identifiers_changed (RemoveInbound birth id) r may h = identifiers_in birth (without_open id) r.sessions (λ s q. q) h
-identifiers_changed (PutCopy birth row) r may h = identifiers_in birth (with_copy row) r.sessions (λ s q. q) h
-identifiers_changed (SetCopy birth place phase) r may h = identifiers_in birth (with_phase place phase) r.sessions (λ s q. q) h
-identifiers_changed (RemoveCopy birth place) r may h = identifiers_in birth (without_copy place) r.sessions (λ s q. q) h
-identifiers_changed (PutRetained kept) r may h = h
-identifiers_changed (RemoveRetained place) r may h = h
+asked_changed : (change : Change) (r : Records) → CanBeFollowed change r → AllByRecursion HasAsked r.sessions → AllByRecursion HasAsked (changed change r).sessions
+asked_changed (SetCounter counter value) r may h = asked_counter counter value r h
+asked_changed (PutSession row) r may h = asked_session row r.sessions h
+asked_changed (SetSession row) r may h = asked_in row.birth (with_columns row) r.sessions (λ s q. q) h
+asked_changed (RemoveSession birth) r may h = each_filter HasAsked (λ s. not (nat_eq (birth_of s) birth)) r.sessions h
+asked_changed (PutWill birth will) r may h = asked_in birth (with_will (Some will)) r.sessions (λ s q. q) h
+asked_changed (RemoveWill birth) r may h = asked_in birth (with_will None) r.sessions (λ s q. q) h
+asked_changed (PutSubscription birth x) r may h = asked_in birth (with_subscription x) r.sessions (λ s q. asked_put x s may.1 q) h
+asked_changed (RemoveSubscription birth text) r may h =
+    asked_in birth (without_subscription text) r.sessions
+    (λ s q. each_filter IsAskedFor (λ (y : Subscription). not (bytes_eq y.filter text)) s.subscriptions q) h
+asked_changed (PutInbound birth id) r may h = asked_in birth (with_open id) r.sessions (λ s q. q) h
+asked_changed (RemoveInbound birth id) r may h = asked_in birth (without_open id) r.sessions (λ s q. q) h
+asked_changed (PutCopy birth row) r may h = asked_in birth (with_copy row) r.sessions (λ s q. q) h
+asked_changed (SetCopy birth place phase) r may h = asked_in birth (with_phase place phase) r.sessions (λ s q. q) h
+asked_changed (RemoveCopy birth place) r may h = asked_in birth (without_copy place) r.sessions (λ s q. q) h
+asked_changed (PutRetained kept) r may h = h
+asked_changed (RemoveRetained place) r may h = h
 
 pub indexed_changed : (change : Change) (r : Records) → CanBeIndexed r → CanBeFollowed change r → CanBeIndexed (changed change r)
 indexed_changed change r h may = record {
   ordered = changed-ordered change r h.ordered;
   filters = once_all (change ∷ []) r h.filters;
-  identifiers = identifiers_changed change r may h.identifiers;
+  asked = asked_changed change r may h.asked;
 }
 
 pub indexed_all : (changes : List Change) (r : Records) → CanBeIndexed r → CanAllBeFollowed changes r → CanBeIndexed (changed_all changes r)
@@ -92,11 +93,11 @@ indexed_all (change ∷ changes) r h may = indexed_all changes (changed change r
 
 -- ---- what a table has, where what it serves has it
 
-identifiers_routed : (xs : List Subscription) → AllByRecursion (λ (x : Subscription). IsIdentifier x.identifier) xs → AllByRecursion (λ (x : RoutedSubscription). IsIdentifier x.identifier) (routed_all xs)
+identifiers_routed : (xs : List Subscription) → AllByRecursion IsAskedFor xs → AllByRecursion (λ (x : RoutedSubscription). IsIdentifier x.identifier) (routed_all xs)
 identifiers_routed [] h = tt
-identifiers_routed (x ∷ xs) h = (h.0, identifiers_routed xs h.1)
+identifiers_routed (x ∷ xs) h = (h.0.identifier, identifiers_routed xs h.1)
 
-sessions_lawful : (ss : List Session) → AllByRecursion HasTables ss → AllByRecursion HasIdentifiers ss → AllByRecursion IsLawful (subscribers_of ss)
+sessions_lawful : (ss : List Session) → AllByRecursion HasTables ss → AllByRecursion HasAsked ss → AllByRecursion IsLawful (subscribers_of ss)
 sessions_lawful [] tables its = tt
 sessions_lawful (s ∷ ss) tables its =
     let within = tables.0.subscriptions.within in
@@ -131,7 +132,7 @@ serves_of table r h order same = record {
   same = same;
   order = order;
   lawful = all_lawful table
-      (subst (λ (xs : List Subscriber). AllByRecursion IsLawful xs) (sym same) (some_lawful (subscribers r) (sessions_lawful r.sessions h.ordered.each h.identifiers)));
+      (subst (λ (xs : List Subscriber). AllByRecursion IsLawful xs) (sym same) (some_lawful (subscribers r) (sessions_lawful r.sessions h.ordered.each h.asked)));
 }
 
 -- ---- a row
@@ -140,7 +141,7 @@ serves_of table r h order same = record {
 abbrev IsFollowed : Change → Records → List Subscriber → Type 0
 IsFollowed change r table = with_some (followed change table) ≡ with_some (subscribers (changed change r))
 
-in_order : (r : Records) → CanBeIndexed r → AreInOrder (subscribers r)
+pub in_order : (r : Records) → CanBeIndexed r → AreInOrder (subscribers r)
 in_order r h = births_in_order r.sessions h.ordered.sessions.ascending
 
 same_counter : (counter : Counter) (value : ℕ) (r : Records) → subscribers (with_counter counter value r) ≡ subscribers r

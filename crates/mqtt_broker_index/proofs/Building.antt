@@ -36,11 +36,11 @@ append_both (x ∷ xs) ys zs = ap (λ ws. x ∷ ws) (append_both xs ys zs)
 -- ---- a session comes last
 
 -- all were born before
-abbrev AreBefore : ℕ → List Subscriber → Type 0
+abbrev pub AreBefore : ℕ → List Subscriber → Type 0
 AreBefore birth xs = AllByRecursion (λ (x : Subscriber). x.birth < birth) xs
 
 -- the last session, if it has subscriptions
-abbrev last_of : ℕ → List RoutedSubscription → List Subscriber
+abbrev pub last_of : ℕ → List RoutedSubscription → List Subscriber
 last_of birth subs = with_some (subscriber birth subs ∷ [])
 
 last_subs : (birth : ℕ) (subs : List RoutedSubscription) → subs_of birth (last_of birth subs) ≡ subs
@@ -50,7 +50,7 @@ last_subs birth (s ∷ ss) =
     let same : nat_eq birth birth ≡ true = nat_eq_equiv.refl birth in
     rw (level, same) refl
 
-has_last : (birth : ℕ) (subs : List RoutedSubscription) (xs : List Subscriber) → AreBefore birth xs → subs_of birth (xs ++ last_of birth subs) ≡ subs
+pub has_last : (birth : ℕ) (subs : List RoutedSubscription) (xs : List Subscriber) → AreBefore birth xs → subs_of birth (xs ++ last_of birth subs) ≡ subs
 has_last birth subs [] before = last_subs birth subs
 has_last birth subs (x ∷ xs) before = rw (lt-ltb x.birth birth before.0) (has_last birth subs xs before.1)
 
@@ -78,7 +78,7 @@ some_last : (birth : ℕ) (x : RoutedSubscription) (subs : List RoutedSubscripti
 some_last birth x [] = refl
 some_last birth x (s ∷ ss) = refl
 
-one_given : (birth : ℕ) (x : RoutedSubscription) (subs : List RoutedSubscription) (xs : List Subscriber) → AreBefore birth xs → has_filter x.filter subs ≡ false
+pub one_given : (birth : ℕ) (x : RoutedSubscription) (subs : List RoutedSubscription) (xs : List Subscriber) → AreBefore birth xs → has_filter x.filter subs ≡ false
     → subscribed birth x (xs ++ last_of birth subs) ≡ xs ++ last_of birth (subs ++ x ∷ [])
 one_given birth x subs xs before new =
     ap (λ ss. with_subs birth (put x ss) (xs ++ last_of birth subs)) (has_last birth subs xs before)
@@ -87,7 +87,7 @@ one_given birth x subs xs before new =
     ∙ ap (λ (ys : List Subscriber). xs ++ ys) (some_last birth x subs)))
 
 -- to filters that the session doesn't have
-abbrev AreNew : List RoutedSubscription → List Subscription → Type 0
+abbrev pub AreNew : List RoutedSubscription → List Subscription → Type 0
 AreNew subs xs = AllByRecursion (λ (x : Subscription). has_filter x.filter subs ≡ false) xs
 
 new_beside : (y : List ℕ) (x : RoutedSubscription) (subs : List RoutedSubscription) → has_filter y subs ≡ false → bytes_eq x.filter y ≡ false → has_filter y (subs ++ x ∷ []) ≡ false
@@ -103,7 +103,7 @@ text_differs a b differ = elim (cases_Bool (bytes_eq a b)) [
   | inr other ↦ other
 ]
 
-new_later : (x : Subscription) (subs : List RoutedSubscription) (xs : List Subscription) → AllByRecursion (λ g. x.filter ≢ g) (map filter_of xs) → AreNew subs xs → AreNew (subs ++ routed_subscription x ∷ []) xs
+pub new_later : (x : Subscription) (subs : List RoutedSubscription) (xs : List Subscription) → AllByRecursion (λ g. x.filter ≢ g) (map filter_of xs) → AreNew subs xs → AreNew (subs ++ routed_subscription x ∷ []) xs
 new_later x subs [] differ new = tt
 new_later x subs (y ∷ ys) differ new =
     (new_beside y.filter (routed_subscription x) subs new.0 (text_differs x.filter y.filter differ.0), new_later x subs ys differ.1 new.1)
@@ -116,11 +116,11 @@ given_last birth (x ∷ xs) subs table before differ new =
     ∙ (given_last birth xs (subs ++ routed_subscription x ∷ []) table before differ.1 (new_later x subs xs differ.0 new.1)
     ∙ ap (λ ss. table ++ last_of birth ss) (append_both subs (routed_subscription x ∷ []) (routed_all xs)))
 
-none_yet : (xs : List Subscription) → AreNew [] xs
+pub none_yet : (xs : List Subscription) → AreNew [] xs
 none_yet [] = tt
 none_yet (x ∷ xs) = (refl, none_yet xs)
 
-session_given : (birth : ℕ) (xs : List Subscription) (table : List Subscriber) → AreBefore birth table → AllDiffer (map filter_of xs) → given birth xs table ≡ table ++ last_of birth (routed_all xs)
+pub session_given : (birth : ℕ) (xs : List Subscription) (table : List Subscriber) → AreBefore birth table → AllDiffer (map filter_of xs) → given birth xs table ≡ table ++ last_of birth (routed_all xs)
 session_given birth xs table before differ =
     ap (given birth xs) (sym (append_nil table)) ∙ given_last birth xs [] table before differ (none_yet xs)
 
@@ -134,10 +134,10 @@ last_before m n [] less = tt
 last_before m n (s ∷ ss) less = (less, tt)
 
 -- as each of the sessions is born after all in the table
-abbrev AreBeforeAll : List Session → List Subscriber → Type 0
+abbrev pub AreBeforeAll : List Session → List Subscriber → Type 0
 AreBeforeAll ss table = AllByRecursion (λ (s : Session). AreBefore s.birth table) ss
 
-before_all : (m : ℕ) (subs : List RoutedSubscription) (ss : List Session) (table : List Subscriber) → IsAbove birth_of m ss → AreBeforeAll ss table → AreBeforeAll ss (table ++ last_of m subs)
+pub before_all : (m : ℕ) (subs : List RoutedSubscription) (ss : List Session) (table : List Subscriber) → IsAbove birth_of m ss → AreBeforeAll ss table → AreBeforeAll ss (table ++ last_of m subs)
 before_all m subs [] table up before = tt
 before_all m subs (s ∷ ss) table up before = (
   each_append (λ (x : Subscriber). x.birth < s.birth) table (last_of m subs) before.0 (last_before m s.birth subs up.0),
@@ -157,7 +157,7 @@ all_given (s ∷ ss) table up once before =
     ∙ (append_both table last (with_some (subscribers_of ss))
     ∙ ap (λ (ys : List Subscriber). table ++ ys) (last_first_by (routed_all s.subscriptions) (subscriber_of s) (with_some (subscribers_of ss)))))
 
-before_none : (ss : List Session) → AreBeforeAll ss []
+pub before_none : (ss : List Session) → AreBeforeAll ss []
 before_none [] = tt
 before_none (s ∷ ss) = (tt, before_none ss)
 

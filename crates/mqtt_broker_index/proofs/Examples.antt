@@ -53,14 +53,14 @@ all_can_be_followed = (
   (
     tt,
     (
-      (record { place = refl; last = λ new. tt; room = omega arith }, tt),
+      (record { place = refl; last = λ new. tt; room = omega arith }, record { filter = refl; identifier = tt }),
       (
-        (record { place = refl; last = λ new. (omega arith, tt); room = omega arith }, tt),
+        (record { place = refl; last = λ new. (omega arith, tt); room = omega arith }, record { filter = refl; identifier = tt }),
         (
-          (record { place = refl; last = λ new. tt; room = omega arith }, tt),
+          (record { place = refl; last = λ new. tt; room = omega arith }, record { filter = refl; identifier = tt }),
           (
-            (record { place = refl; last = λ new. absurd cc; room = omega arith }, (omega arith, omega arith)),
-            ((record { place = refl; last = λ new. (omega arith, (omega arith, tt)); room = omega arith }, tt), (tt, tt)),
+            (record { place = refl; last = λ new. absurd cc; room = omega arith }, record { filter = refl; identifier = (omega arith, omega arith) }),
+            ((record { place = refl; last = λ new. (omega arith, (omega arith, tt)); room = omega arith }, record { filter = refl; identifier = tt }), (tt, tt)),
           ),
         ),
       ),

@@ -2,7 +2,7 @@
 use Rattle.std.proofs.Common.{◌≡◌, ℕ, List, [], ◌∷◌, ◌++◌, Option, Some, None, refl, sym, subst}
 use Rattle.std.proofs.Math.Nat.{max-le, min-le_right}
 use Rattle.mqtt_base.specs.declared.limits.TheConstants.{LAST_NUMBER}
-use Rattle.mqtt_records_lawful.specs.Lawful.{IsIdentifier, IsLawful, IsLawfulSession, last_of}
+use Rattle.mqtt_records_lawful.specs.Lawful.{IsLawful, IsLawfulSession, last_of}
 use Rattle.mqtt_records_message.specs.declared.message.Will.{Will}
 use Rattle.mqtt_records.specs.Records.{HasSome, IsNumber, changed, changed_all}
 use Rattle.mqtt_records.specs.declared.change.Change.{Change}
@@ -12,7 +12,7 @@ use Rattle.mqtt_records.specs.declared.records.Records.{Records}
 use Rattle.mqtt_records.specs.declared.session.Session.{Session}
 use Rattle.mqtt_records.specs.declared.subscription.Subscription.{Subscription}
 use Rattle.mqtt_records.specs.Session.{birth_of}
-use Rattle.mqtt_rules.specs.Contents.{HasContents, HasLawfulContents, IsAskedFor, TakesLawful}
+use Rattle.mqtt_rules.specs.Contents.{HasContents, HasLawfulContents, TakesLawful}
 use Rattle.mqtt_rules.specs.declared.Limits.{Limits}
 use Rattle.mqtt_rules.specs.Deeds.{Whose, Part, Resume, Close, SetExpiry, DropWill, Subscribe, Unsubscribe, Open, Release, Enter, Mark, Leave, Deed, Accept, Begin, Name, Count, At, Finish, Keep, Forget, RefuseWill, Link, On, Send, Gone, will_row, part_rows, part_rows_of, rows_of, rows_of_all, stored_after, after}
 use Rattle.mqtt_rules.specs.Laws.{AreWithin, IsCoherent, IsOrdered}
@@ -24,7 +24,7 @@ use Rattle.mqtt_rules.proofs.contents.LawfulContents.{lawful_contents}
 use Rattle.mqtt_rules.proofs.fit.LawfulRecords.{lawful_coherent}
 use Rattle.mqtt_rules.proofs.fit.RowsFit.{made_of, moment_last}
 use Rattle.mqtt_broker_step.specs.Subscribing.{HasEachFilterOnce, HaveFiltersOnce}
-use Rattle.mqtt_broker_index.specs.Following.{HasIdentifiers, CanBeIndexed, IsGranted, CanAllBeFollowed}
+use Rattle.mqtt_broker_index.specs.Following.{HasAsked, CanBeIndexed, IsGranted, CanAllBeFollowed}
 use Rattle.mqtt_broker_index.proofs.Granted.{IsWell, AreWell, well_call, well_opening}
 
 -- ---- rows of deeds
@@ -115,8 +115,7 @@ pub indexed_of : (r : Records) → IsOrdered r → HaveFiltersOnce r → HasLawf
 indexed_of r ordered once contents = record {
   ordered = ordered;
   filters = once;
-  identifiers = each_more HasContents HasIdentifiers
-      (λ s h. each_more IsAskedFor (λ (x : Subscription). IsIdentifier x.identifier) (λ x its. its.identifier) s.subscriptions h.subscriptions) r.sessions contents.sessions;
+  asked = each_more HasContents HasAsked (λ s h. h.subscriptions) r.sessions contents.sessions;
 }
 
 pub indexed_lawful : (r : Records) → IsLawful r → CanBeIndexed r

@@ -27,7 +27,7 @@ use Rattle.mqtt_rules.specs.Outbound.{leave_deeds, turn_deeds, since, queue_limi
 use Rattle.mqtt_rules.specs.Routing.{CopyTo, is_queued, deliver_by, deliver, retained_of, forgets, retain_by, next_publication, publish}
 use Rattle.mqtt_rules.specs.Closing.{end_session}
 use Rattle.mqtt_rules.specs.Connect.{expiry_of, will_of, greet, begin_named}
-use Rattle.mqtt_rules.specs.Contents.{IsTaken, TakesLawful}
+use Rattle.mqtt_rules.specs.Contents.{IsAskedFor, IsTaken, TakesLawful}
 use Rattle.mqtt_rules.specs.Inbound.{pump_turns, pump_deeds}
 use Rattle.mqtt_rules.specs.Laws.{AreWithin, IsCoherentSession}
 use Rattle.mqtt_rules.specs.Step.{Call, NewLine, Input, BadInput, Lost, Pump, Tick, deeds_of, opening}
@@ -48,7 +48,7 @@ use Rattle.mqtt_broker_index.specs.Following.{IsGranted}
 
 -- a subscription is such as a grant makes it
 abbrev pub IsWell : Deed → Broker → Type 0
-IsWell (At who (told.Subscribe x)) b = ((s : Session) → session_at who.birth b.records ≡ Some s → IsGranted x s) × IsIdentifier x.identifier
+IsWell (At who (told.Subscribe x)) b = ((s : Session) → session_at who.birth b.records ≡ Some s → IsGranted x s) × IsAskedFor x
 IsWell d b = ⊤
 
 abbrev pub AreWell : List Deed → Broker → Type 0
@@ -153,7 +153,7 @@ granted_is number s w autos its room = record {
   room = room;
 }
 
-grant_well : (env : Env) (w : sub.Wish) (s : Session) (b : Broker) → Keeps b → session_at s.birth b.records ≡ Some s → IsIdentifier w.identifier
+grant_well : (env : Env) (w : sub.Wish) (s : Session) (b : Broker) → Keeps b → session_at s.birth b.records ≡ Some s → IsAskedFor (sub.subscription (sub.next_number b.records) s w)
     → AreGood IsFit (sub.granted_filter env (sub.next_number b.records) s w (brought_to w s b) b).deeds b
     → AreWell (sub.granted_filter env (sub.next_number b.records) s w (brought_to w s b) b).deeds b
 grant_well env w s b k there its fit =
@@ -223,7 +223,7 @@ module _ (env : Env) (within : AreWithin env.limits) where
     grants = λ w s b k its asked granted.
         let led = base.grants w s b k its (asked.0, tt, asked.2) granted in
         joined (sub.granted_filter env (sub.next_number b.records) s w (brought_to w s b) b).deeds b led
-        (grant_well env w s b k granted.session (subst IsIdentifier (sym asked.2) (asked_identifier asked.0 asked.1)) led.0);
+        (grant_well env w s b k granted.session (record { filter = granted.valid; identifier = subst IsIdentifier (sym asked.2) (asked_identifier asked.0 asked.1) }) led.0);
     pumps = λ l s b k its is there. joined (pump_deeds l b.now s) b (base.pumps l s b k its is there) (good_flat IsWell (turn_deeds b.now l.number s) (turn_well b.now l.number s) (pump_turns l b.now s) b);
     turns = λ a t l s b k its own there is e. joined (turn_deeds b.now l.number s t) b (base.turns a t l s b k its own there is e) (turn_well b.now l.number s t b);
     lapses = λ s b k among. joined (lapse_deeds b.now s) b (base.lapses s b k among) (leaves_well s (lapses b.now s) b);

@@ -9,3 +9,4 @@ pub mod Building
 pub mod Granted
 pub mod Followed
 pub mod Examples
+pub mod Puts

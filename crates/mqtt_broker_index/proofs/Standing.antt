@@ -70,7 +70,7 @@ subs_some_by false true b (s ∷ ss) x xs l e is h more = rw (l, e) refl
 subs_some_by false false b [] x xs l e is h more = sym (subs_of_after b (with_some xs) (after_some b xs (after_later b x.birth xs (above_of x.birth b l e) h)))
 subs_some_by false false b (s ∷ ss) x xs l e is h more = rw (l, e) refl
 
-subs_some : (b : ℕ) (xs : List Subscriber) → AreInOrder xs → subs_of b xs ≡ subs_of b (with_some xs)
+pub subs_some : (b : ℕ) (xs : List Subscriber) → AreInOrder xs → subs_of b xs ≡ subs_of b (with_some xs)
 subs_some b [] h = refl
 subs_some b (x ∷ xs) h = subs_some_by (nat_lt x.birth b) (nat_eq x.birth b) b x.subs x xs refl refl refl h.0 (subs_some b xs h.1)
 

@@ -1,8 +1,7 @@
 -- How an index of subscriptions goes along with the rows of a step (MQTT 5.0, 3.1.2.11.2, 3.8.4, 3.10.4).
-use Rattle.std.specs.Prelude.{◌≡◌, ⊤, ℕ, ◌<◌, false, List, [], ◌∷◌, length}
+use Rattle.std.specs.Prelude.{◌≡◌, ⊤, ℕ, ◌<◌, true, false, IsTrue, List, [], ◌∷◌, length}
 use Rattle.std.specs.List.{AllByRecursion}
 use Rattle.mqtt_base.specs.declared.limits.TheConstants.{SUBSCRIPTION_LIMIT}
-use Rattle.mqtt_records_lawful.specs.Lawful.{IsIdentifier}
 use Rattle.mqtt_records.specs.Records.{HasSession, changed}
 use Rattle.mqtt_records.specs.Session.{place_of, without_filter}
 use Rattle.mqtt_records.specs.declared.change.Change.{Change}
@@ -10,8 +9,10 @@ use Rattle.mqtt_records.specs.declared.change.Change.TheVariants.{PutSubscriptio
 use Rattle.mqtt_records.specs.declared.records.Records.{Records}
 use Rattle.mqtt_records.specs.declared.session.Session.{Session}
 use Rattle.mqtt_records.specs.declared.subscription.Subscription.{Subscription}
-use Rattle.mqtt_routes.specs.Subscriptions.{Subscriber, subscribed, unsubscribed, without_session}
+use Rattle.mqtt_topic.specs.Filters.{is_filter}
+use Rattle.mqtt_routes.specs.Subscriptions.{Subscriber, subs_of, subscribed, takes_filter, unsubscribed, without_session}
 use Rattle.mqtt_records_rows.specs.Order.{IsBelow}
+use Rattle.mqtt_rules.specs.Contents.{IsAskedFor}
 use Rattle.mqtt_rules.specs.Laws.{IsOrdered}
 use Rattle.mqtt_rules.specs.Routing.{routed_subscription}
 use Rattle.mqtt_rules.specs.Subscribe.{has_filter, place_among}
@@ -19,15 +20,15 @@ use Rattle.mqtt_broker_step.specs.Subscribing.{HaveFiltersOnce}
 
 -- ---- what is asked of records
 
--- a Subscription Identifier, where there is one, has a spelling (3.8.2.1.2)
-abbrev pub HasIdentifiers : Session → Type 0
-HasIdentifiers s = AllByRecursion (λ x. IsIdentifier x.identifier) s.subscriptions
+-- its subscriptions are such as a SUBSCRIBE asks for: to filters, and Subscription Identifiers have a spelling (3.8.2.1.2)
+abbrev pub HasAsked : Session → Type 0
+HasAsked s = AllByRecursion IsAskedFor s.subscriptions
 
--- tables in order and within their limits, each filter once in a session, and identifiers that have a spelling
+-- tables in order and within their limits, each filter once in a session, and such subscriptions
 pub record CanBeIndexed (r : Records) : Type 0 where
   pub ordered : IsOrdered r
   pub filters : HaveFiltersOnce r
-  pub identifiers : AllByRecursion HasIdentifiers r.sessions
+  pub asked : AllByRecursion HasAsked r.sessions
 
 -- ---- what is asked of a row
 
@@ -39,7 +40,7 @@ pub record IsGranted (x : Subscription) (s : Session) : Type 0 where
 
 -- a row that an index can follow: only a subscription that is put has to be such as a grant makes it
 abbrev pub CanBeFollowed : Change → Records → Type 0
-CanBeFollowed (PutSubscription birth x) r = HasSession birth (IsGranted x) r × IsIdentifier x.identifier
+CanBeFollowed (PutSubscription birth x) r = HasSession birth (IsGranted x) r × IsAskedFor x
 CanBeFollowed change r = ⊤
 
 -- each row on what the ones before it leave
@@ -69,3 +70,30 @@ given birth (x ∷ xs) table = given birth xs (subscribed birth (routed_subscrip
 abbrev pub given_all : List Session → List Subscriber → List Subscriber
 given_all [] table = table
 given_all (s ∷ ss) table = given_all ss (given s.birth s.subscriptions table)
+
+-- ---- what is asked of the index
+
+-- a subscription that is put is to a filter, and there is room for it
+pub record CanBePut (birth : ℕ) (x : Subscription) (table : List Subscriber) : Type 0 where
+  pub filter : IsTrue (is_filter x.filter)
+  pub room : takes_filter x.filter (subs_of birth table) ≡ true
+
+-- by a row
+abbrev pub CanGoAlong : Change → List Subscriber → Type 0
+CanGoAlong (PutSubscription birth x) table = CanBePut birth x table
+CanGoAlong change table = ⊤
+
+-- by rows, one after another
+abbrev pub CanGoAlongAll : List Change → List Subscriber → Type 0
+CanGoAlongAll [] table = ⊤
+CanGoAlongAll (change ∷ changes) table = CanGoAlong change table × CanGoAlongAll changes (followed change table)
+
+-- of a session, one after another
+abbrev pub CanBeGiven : ℕ → List Subscription → List Subscriber → Type 0
+CanBeGiven birth [] table = ⊤
+CanBeGiven birth (x ∷ xs) table = CanBePut birth x table × CanBeGiven birth xs (subscribed birth (routed_subscription x) table)
+
+-- of sessions
+abbrev pub CanAllBeGiven : List Session → List Subscriber → Type 0
+CanAllBeGiven [] table = ⊤
+CanAllBeGiven (s ∷ ss) table = CanBeGiven s.birth s.subscriptions table × CanAllBeGiven ss (given s.birth s.subscriptions table)

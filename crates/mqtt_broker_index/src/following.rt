@@ -1,24 +1,26 @@
 //! The index goes along with the rows of a step, and is built anew from all sessions (MQTT 5.0, 3.1.2.11.2, 3.8.4,
 //! 3.10.4).
-ghost use Rattle.std.specs.Prelude.{◌≡◌, OnOk, OnErr, IfOk, IfErr};
-ghost use Rattle.mqtt_records.specs.Records.{changed, changed_all};
+ghost use Rattle.std.specs.Prelude.{◌≡◌, IsTrue, OnOk, OnErr, IfOk, IfErr};
+ghost use Rattle.mqtt_topic.specs.Filters.{is_filter};
+ghost use Rattle.mqtt_records.specs.Records.{changed_all};
 ghost use Rattle.mqtt_records.specs.declared.records.Records.{Records};
 ghost use Rattle.mqtt_routes.specs.Subscriptions.{subscribed};
 ghost use Rattle.mqtt_rules.specs.Routing.{routed_subscription, subscribers};
 ghost use Rattle.mqtt_broker_index.specs.Indexing.{Serves};
-ghost use Rattle.mqtt_broker_index.specs.Following.{CanBeIndexed, CanBeFollowed, CanAllBeFollowed, followed, followed_all, given, given_all};
+ghost use Rattle.mqtt_broker_index.specs.Following.{CanAllBeFollowed, CanAllBeGiven, CanBeGiven, CanBeIndexed, CanBePut, CanGoAlong, CanGoAlongAll, followed, followed_all, given, given_all};
 
 use crate::index::Index;
 use mqtt_broker_step::{Step, StepFault};
 use mqtt_records::{Change, Session, Subscription};
 use mqtt_records_rows::Boxed;
-use mqtt_routes::Subscription as RoutedSubscription;
+use mqtt_routes::{RoutesFault, Subscription as RoutedSubscription};
 use mqtt_topic::SubFilter;
 use std::alloc::Global;
 use std::hash::RandomState;
 
 /// A subscription as routing has it. The bytes of its filter are shared.
 fn routed(subscription: &Subscription) -> Result<RoutedSubscription, StepFault>
+    requires { IsTrue (is_filter subscription.now.filter) }
     ensures routed { IfOk result (λ made. made ≡ routed_subscription subscription.now) }
     ensures fault { IfErr result (λ fault. fault ≡ StepFault.Memory) }
 {
@@ -30,15 +32,14 @@ fn routed(subscription: &Subscription) -> Result<RoutedSubscription, StepFault>
             options: subscription.options,
             identifier: subscription.identifier,
         }),
-
-        // What is stored is a filter, since only filters are granted.
-        Err(_) => Err(StepFault::Memory),
+        Err(_) => unreachable!(),
     }
 }
 
 impl Index {
     /// A session gets a subscription (3.8.4).
     fn put(&mut self, birth: u64, subscription: &Subscription) -> Result<(), StepFault>
+        requires { CanBePut birth subscription.now self.old.sessions }
         ensures put { OnOk result (self.new.sessions
             ≡ subscribed birth (routed_subscription subscription.now) self.old.sessions) }
         ensures same { OnErr result (self.new.sessions ≡ self.old.sessions) }
@@ -47,14 +48,14 @@ impl Index {
         let subscription = routed(subscription)?;
         match self.routes.subscribe(birth, subscription) {
             Ok(()) => Ok(()),
-
-            // A row that fits finds a place: the session isn't full.
-            Err(_) => Err(StepFault::Memory),
+            Err(RoutesFault::Memory) => Err(StepFault::Memory),
+            Err(RoutesFault::Full) => unreachable!(),
         }
     }
 
     /// What a row says of subscriptions.
     fn go_along(&mut self, change: &Change) -> Result<(), StepFault>
+        requires { CanGoAlong change.now self.old.sessions }
         ensures followed { OnOk result (self.new.sessions ≡ followed change.now self.old.sessions) }
         ensures same { OnErr result (self.new.sessions ≡ self.old.sessions) }
         ensures fault { IfErr result (λ fault. fault ≡ StepFault.Memory) }
@@ -87,21 +88,9 @@ impl Index {
         }
     }
 
-    /// The index goes along with a row that is written: one that served what was stored before the row serves
-    /// what is stored after it. A subscription that is put has to be such as a grant makes it. `Memory` (1)
-    /// alone refuses, and the index is then as it was.
-    pub fn follow(&mut self, change: &Change) -> Result<(), StepFault>
-        ensures serves { (r : Records) → CanBeIndexed r → CanBeFollowed change.now r
-            → Serves self.old.sessions (subscribers r)
-            → OnOk result (Serves self.new.sessions (subscribers (changed change.now r))) }
-        ensures same { OnErr result (self.new.sessions ≡ self.old.sessions) }
-        ensures fault { IfErr result (λ fault. fault ≡ StepFault.Memory) }
-    {
-        self.go_along(change)
-    }
-
     /// What rows say of subscriptions, in order.
     fn go_along_all(&mut self, changes: &[Change]) -> Result<(), StepFault>
+        requires { CanGoAlongAll changes.now self.old.sessions }
         ensures followed { OnOk result
             (self.new.sessions ≡ followed_all changes.now self.old.sessions) }
         ensures fault { IfErr result (λ fault. fault ≡ StepFault.Memory) }
@@ -114,9 +103,11 @@ impl Index {
         Ok(())
     }
 
-    /// The index goes along with all rows of a step, in order. `Memory` (1) alone refuses: the index has then gone
-    /// along with some of them, and is to be thrown away and built anew by `over`.
+    /// The index goes along with all rows of a step, in order: one that served what was stored before them serves
+    /// what is stored after them. A subscription that is put has to be such as a grant makes it. `Memory` (1) alone
+    /// refuses: the index has then gone along with some of them, and is to be thrown away and built anew by `over`.
     pub fn follow_all(&mut self, changes: &[Change]) -> Result<(), StepFault>
+        requires { CanGoAlongAll changes.now self.old.sessions }
         ensures serves { (r : Records) → CanBeIndexed r → CanAllBeFollowed changes.now r
             → Serves self.old.sessions (subscribers r)
             → OnOk result (Serves self.new.sessions (subscribers (changed_all changes.now r))) }
@@ -127,6 +118,7 @@ impl Index {
 
     /// A session gets subscriptions, one after another.
     fn put_all(&mut self, birth: u64, all: &[Boxed<Subscription>]) -> Result<(), StepFault>
+        requires { CanBeGiven birth all.now self.old.sessions }
         ensures given { OnOk result (self.new.sessions ≡ given birth all.now self.old.sessions) }
         ensures fault { IfErr result (λ fault. fault ≡ StepFault.Memory) }
     {
@@ -140,6 +132,7 @@ impl Index {
 
     /// Sessions get their subscriptions, one after another.
     fn put_sessions(&mut self, all: &[Boxed<Session>]) -> Result<(), StepFault>
+        requires { CanAllBeGiven all.now self.old.sessions }
         ensures given { OnOk result (self.new.sessions ≡ given_all all.now self.old.sessions) }
         ensures fault { IfErr result (λ fault. fault ≡ StepFault.Memory) }
     {
@@ -155,8 +148,8 @@ impl Index {
     /// The index of the subscriptions of all sessions of a step. Filters, which strangers choose, are hashed by
     /// `hasher`. `Memory` (1) alone refuses.
     pub fn over(alloc: Global, hasher: RandomState, step: &Step) -> Result<Index, StepFault>
-        ensures serves { CanBeIndexed step.now.broker.records
-            → IfOk result (λ index. Serves index.sessions
+        requires { CanBeIndexed step.now.broker.records }
+        ensures serves { IfOk result (λ index. Serves index.sessions
             (subscribers step.now.broker.records)) }
         ensures fault { IfErr result (λ fault. fault ≡ StepFault.Memory) }
     {

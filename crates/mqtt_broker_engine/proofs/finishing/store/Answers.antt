@@ -30,7 +30,7 @@ tell-requires-clause-indexed g c =
     subst (λ (t : Stepping). CanBeIndexed t.start.records) (sym is) (sound_indexed s.limits s.start c.requires.sound)
 
 pub tell-requires-clause-followed : goal.tell-requires-clause-followed
-tell-requires-clause-followed g c = λ e.
+tell-requires-clause-followed g c =
     let s = c.args.step.now in
     let is : c.stamp.new.self ≡ with_stamp s = c.in-Ok.ensures.ok in
     let called = c.requires.called in

@@ -4,8 +4,8 @@ use Rattle.mqtt_broker_index.proofs.Followed.{indexed_lawful}
 use Rattle.mqtt_broker_engine.proofs.Answering.{refused_first}
 use Rattle.mqtt_broker_engine.proofs.opening.open_step.Goals as goal
 
-pub open_with-requires-clause-serves : goal.open_with-requires-clause-serves
-open_with-requires-clause-serves g c = c.in-Ok.ensures.serves (indexed_lawful c.args.step.broker.records c.requires.lawful)
+pub over-requires : goal.over-requires
+over-requires g c = indexed_lawful c.args.step.broker.records c.requires.lawful
 
 pub returns-in-Err : goal.returns-in-Err
 returns-in-Err g c = λ first now begun load.

@@ -1,10 +1,10 @@
--- Who is given the rest has been given the whole.
+-- Who is given the rest has been given the whole, and can be given the rest.
 use Rattle.std.proofs.Common.{◌≡◌, length}
-use Rattle.mqtt_broker_index.specs.Following.{given_all}
+use Rattle.mqtt_broker_index.specs.Following.{CanAllBeGiven, given_all}
 use Rattle.mqtt_broker_index.proofs.index.Index.put_sessions.Given as goal
 
 abbrev pub invariant-loop-session : goal.invariant-loop-session
-invariant-loop-session l = given_all l.rest l.self.sessions ≡ given_all l.fn.all l.fn.self.sessions
+invariant-loop-session l = (given_all l.rest l.self.sessions ≡ given_all l.fn.all l.fn.self.sessions) × CanAllBeGiven l.rest l.self.sessions
 
 abbrev pub decreases-loop-session : goal.decreases-loop-session
 decreases-loop-session l = length l.rest
