@@ -1,7 +1,8 @@
 //! Calls of a broker over the store in memory, and what stands in it.
 
 use crate::packets::{
-    QOS_0, QUEUED, RETURNING, SUBSCRIBE, SUBSCRIBE_QUEUED, answer, connect, publish, subscribe,
+    NARROW, QOS_0, QUEUED, RETURNING, SUBSCRIBE, SUBSCRIBE_QUEUED, answer, connect, publish,
+    subscribe,
 };
 use anyhow::Context;
 use mqtt_broker::{Engine, EngineError, Outcome};
@@ -55,7 +56,7 @@ pub(crate) enum Step {
     Answer(u8),
     /// The publisher's PUBREL.
     Release,
-    /// Turns of sending where nothing waits.
+    /// Turns of sending where nothing waits, or the window is full.
     IdlePump,
     /// Turns of the clock where nothing is due.
     IdleTick,
@@ -153,6 +154,24 @@ pub(crate) fn gather(
         publisher,
         first,
         end: first.wrapping_add(readers),
+    })
+}
+
+/// A publisher comes, and a reader with a window of a batch, which is full: behind it so many copies wait.
+pub(crate) fn fill(engine: &mut Engine<MemKeep>, copies: u64) -> anyhow::Result<Lines> {
+    let mut tally = Tally::new();
+    let publisher = join(engine, &mut tally, 1)?;
+    let line = engine.link(0).context("a line")?;
+    give(engine, &mut tally, line, NARROW)?;
+    give(engine, &mut tally, line, SUBSCRIBE)?;
+    for _ in 0..copies.saturating_add(u64::from(BATCH)) {
+        give(engine, &mut tally, publisher, &publish(0x32, 1))?;
+    }
+    pump(engine, &mut tally, line)?;
+    Ok(Lines {
+        publisher,
+        first: line,
+        end: line.wrapping_add(1),
     })
 }
 

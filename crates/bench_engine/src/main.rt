@@ -1,12 +1,13 @@
 //! Publishes to the broker over the store in memory, without sockets, and tells the time of each kind of step; for
-//! bench/engine/run and reconnects. Words: how many batches of 16 publications, sessions that went away, filters of each,
-//! copies that wait in each, readers, and batches of 16 times that a client comes back.
+//! bench/engine/run, reconnects and queues. Words: how many batches of 16 publications, sessions that went away, filters of
+//! each, copies that wait in each, readers, batches of 16 times that a client comes back, and batches of 16 answers of a
+//! reader with such a queue.
 #![tactic(auto)]
 
 mod bed;
 mod packets;
 
-use crate::bed::{Crowd, Lines, Step, Tally, gather, make};
+use crate::bed::{Crowd, Lines, Step, Tally, fill, gather, make};
 use mqtt_broker::{Engine, KeepError, Limits};
 use mqtt_flow::Full;
 use mqtt_records::MemKeep;
@@ -22,6 +23,7 @@ struct Sizes {
     crowd: Crowd,
     readers: u64,
     returns: u64,
+    answers: u64,
 }
 
 /// Steps of one kind: of which publications, which, how many, and how long they took.
@@ -58,6 +60,17 @@ fn parts() -> [Part; 11] {
         part_of("qos2", "PUBREL", Step::Release),
         part_of("idle", "pump", Step::IdlePump),
         part_of("idle", "tick", Step::IdleTick),
+    ]
+}
+
+/// What goes on at a queue behind a full window: turns where nothing can go out, answers, as many publications, and the
+/// turn that fills the window again.
+fn parts_of_a_queue() -> [Part; 4] {
+    [
+        part_of("queue", "idle", Step::IdlePump),
+        part_of("queue", "PUBACK", Step::Answer(0x40)),
+        part_of("queue", "PUBLISH", Step::Publish(0x32)),
+        part_of("queue", "pump", Step::Pump),
     ]
 }
 
@@ -162,6 +175,35 @@ fn measure_returns(
     report(rt, course, &part)
 }
 
+/// Makes batches at a reader's queue, and tells the time of each kind of step.
+fn measure_queue(
+    rt: &(impl Print + Eprint + CpuClock),
+    engine: &mut Engine<MemKeep>,
+    course: &str,
+    sizes: Sizes,
+) -> anyhow::Result<()> {
+    let lines = fill(engine, sizes.crowd.copies)?;
+    let mut parts = parts_of_a_queue();
+    for _ in 0..sizes.answers {
+        make_batch(rt, engine, lines, &mut parts)?;
+    }
+    report_all(rt, course, &parts)
+}
+
+/// The same with a new broker.
+fn run_queue(
+    rt: &(impl Print + Eprint + CpuClock),
+    alloc: Global,
+    hasher: RandomState,
+    course: &str,
+    sizes: Sizes,
+) -> anyhow::Result<()> {
+    let mut engine = opened(alloc, hasher)?;
+    let measured = measure_queue(rt, &mut engine, course, sizes);
+    drop(engine.close());
+    measured
+}
+
 /// The same with a new broker.
 fn run_returns(
     rt: &(impl Print + Eprint + CpuClock),
@@ -255,6 +297,19 @@ fn run_all_returns(
     )
 }
 
+/// A reader answers while few copies wait behind its window, and while many do.
+fn run_all_queues(
+    rt: &(impl Print + Eprint + CpuClock),
+    alloc: Global,
+    hasher: RandomState,
+    sizes: Sizes,
+) -> anyhow::Result<()> {
+    let mut few = sizes;
+    few.crowd.copies = sizes.crowd.copies.min(10);
+    run_queue(rt, alloc, hasher, "few-behind", few)?;
+    run_queue(rt, alloc, hasher, "behind", sizes)
+}
+
 /// The number that a word says, or this one where there is no word.
 fn number(word: Option<&String>, other: u64) -> anyhow::Result<u64> {
     match word {
@@ -271,6 +326,7 @@ fn sizes_of(words: &[String]) -> anyhow::Result<Sizes> {
     let copies = number(words.get(4), 12)?;
     let readers = number(words.get(5), 3)?;
     let returns = number(words.get(6), 1)?;
+    let answers = number(words.get(7), 1)?;
     let crowd = Crowd {
         sessions,
         filters,
@@ -281,6 +337,7 @@ fn sizes_of(words: &[String]) -> anyhow::Result<Sizes> {
         crowd,
         readers,
         returns,
+        answers,
     })
 }
 
@@ -295,6 +352,9 @@ fn main(rt: HostRuntime) -> anyhow::Result<()> {
     }
     if sizes.returns > 0 {
         run_all_returns(&rt, rt.alloc(), hasher, sizes)?;
+    }
+    if sizes.answers > 0 {
+        run_all_queues(&rt, rt.alloc(), hasher, sizes)?;
     }
     Ok(())
 }

@@ -17,6 +17,10 @@ pub(crate) const SUBSCRIBE_QUEUED: &[u8] = b"\x82\x07\x00\x01\x00\x00\x01q\x01";
 pub(crate) const RETURNING: &[u8] = b"\x10\x24\x00\x04MQTT\x05\x0c\x00\x00\x05\x11\x00\x00\x0e\x10\
     \x00\x04back\x05\x18\x00\x00\x00\x3c\x00\x01w\x00\x03bye";
 
+/// CONNECT of `wait` with Receive Maximum 16, whose session doesn't expire (3.1).
+pub(crate) const NARROW: &[u8] =
+    b"\x10\x19\x00\x04MQTT\x05\x00\x00\x00\x08\x11\xff\xff\xff\xff\x21\x00\x10\x00\x04wait";
+
 /// PUBLISH of `12345` to `a/b` with this first byte, at QoS 1 or 2, under an identifier.
 pub(crate) fn publish(first: u8, identifier: u8) -> [u8; 15] {
     [
