@@ -11,3 +11,4 @@ pub mod Closed
 pub mod Going
 pub mod Stamped
 pub mod Answering
+pub mod UnderWay

@@ -1,5 +1,6 @@
 pub mod Calling
 pub mod Running
+pub mod Ending
 pub mod Sessions
 pub mod Closing
 pub mod Opening

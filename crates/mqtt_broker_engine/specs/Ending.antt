@@ -1,0 +1,88 @@
+-- What an engine has between its calls and in them, and how a call ends (MQTT 5.0, 4.1).
+use Rattle.std.specs.Prelude.{◌≡◌, ◌≢◌, ◌⊎◌, ℕ, Bool, true, false, Result, IfOk, OnOk, OnErr, IsErrOf}
+use Rattle.mqtt_records.specs.declared.keep.Keep.{Ghosts}
+use Rattle.mqtt_records.specs.declared.records.Records.{Records}
+use Rattle.mqtt_records.specs.Records.{FitAll}
+use Rattle.mqtt_records.specs.Saying.{AllSayable}
+use Rattle.mqtt_rules.specs.Routing.{subscribers}
+use Rattle.mqtt_rules.specs.State.{Broker}
+use Rattle.mqtt_rules.specs.Step.{is_spent}
+use Rattle.mqtt_broker_step.specs.declared.call.EngineError.{EngineError}
+use Rattle.mqtt_broker_step.specs.declared.call.EngineError.TheVariants.{Memory, Stopped, Spent}
+use Rattle.mqtt_broker_step.specs.Stepping.{Stepping, at_rest}
+use Rattle.mqtt_broker_clock.specs.Quiet.{AreQuietBefore}
+use Rattle.mqtt_broker_index.specs.Following.{CanAllBeFollowed, CanBeIndexed}
+use Rattle.mqtt_broker_index.specs.Indexing.{Serves}
+use Rattle.mqtt_broker_calls.specs.Sound.{IsSound}
+use Rattle.mqtt_broker_engine.specs.declared.outcome.Outcome.{Outcome}
+use Rattle.mqtt_broker_engine.specs.declared.state.State.{State}
+use Rattle.mqtt_broker_engine.specs.Running.{Running}
+
+-- ---- an engine's value, by what it has
+
+abbrev pub running : {K : Type 0} → State K → Running K
+running s = record { keep = s.keep; limits = s.step.limits; broker = s.step.broker; stopped = s.stopped }
+
+-- as it was where the step under way began
+abbrev pub before : {K : Type 0} → State K → Running K
+before s = record { keep = s.keep; limits = s.step.limits; broker = s.step.start; stopped = s.stopped }
+
+-- ---- what holds of it
+
+-- the broker is sound; while the store hasn't failed it holds what is stored; the index is that of the subscriptions that
+-- stand, unless it is to be made anew; nothing that is stored is due before the quiet moment
+pub record IsOf {K : Type 0} (g : Ghosts K) (b : Broker) (s : State K) : Type 0 where
+  pub sound : IsSound s.step.limits b
+  pub stored : s.stopped ≡ false → g.is_loaded s.keep × g.holds s.keep b.records
+  pub serves : s.is_stale ≡ false → Serves s.index.sessions (subscribers b.records)
+  pub quiet : AreQuietBefore s.quiet b.records
+
+-- between calls no step is under way
+pub record IsAtRest {K : Type 0} (g : Ghosts K) (s : State K) : Type 0 where
+  pub rest : s.step ≡ at_rest s.step.limits s.step.broker
+  pub its : IsOf g s.step.broker s
+
+-- in a call the store hasn't failed, and all is of the broker where the step began
+pub record IsUnderWay {K : Type 0} (g : Ghosts K) (s : State K) : Type 0 where
+  pub runs : s.stopped ≡ false
+  pub its : IsOf g s.step.start s
+
+-- ---- how a step ends
+
+-- its rows fit, unless a number is spent, and can be said in a table, and the index can follow them
+pub record CanEnd (s : Stepping) : Type 0 where
+  pub fit : is_spent s.rows ≡ false → FitAll s.rows s.start.records
+  pub sayable : AllSayable s.rows
+  pub indexed : CanBeIndexed s.start.records
+  pub followed : CanAllBeFollowed s.rows s.start.records
+
+-- it is answered, and whether to call again
+pub record SaysOf (s : Stepping) (again : Bool) (out : Outcome) : Type 0 where
+  pub outputs : out.outputs.items ≡ s.outputs
+  pub closed : out.closed.items ≡ s.closed
+  pub reports : out.reports.items ≡ s.reports
+  pub taken : out.taken ≡ 0
+  pub again_is : out.again ≡ again
+
+-- a step is stored and then answered, or taken back
+pub record Ended {K : Type 0} (g : Ghosts K) (old : K) (s : Stepping) (again : Bool) (result : Result Outcome EngineError) (new : State K) : Type 0 where
+  -- Ok: the step is done, none of its numbers is spent, and the store holds what it stores
+  pub says : IfOk result (λ out. SaysOf s again out)
+  pub unspent : OnOk result (is_spent s.rows ≡ false)
+  pub done : OnOk result (new.step ≡ at_rest s.limits s.broker)
+  pub stored : OnOk result (g.is_loaded new.keep × g.holds new.keep s.broker.records)
+  -- otherwise nothing is done here, nor in the store where it hasn't failed
+  pub same : OnErr result (new.step ≡ at_rest s.limits s.start)
+  pub memory : IsErrOf result Memory → g.is_loaded new.keep × g.holds new.keep s.start.records
+  pub spent : IsErrOf result Spent → ⊥
+  -- it stops where the store counted a failure, and only then
+  pub cause : IsErrOf result Stopped → g.counted new.keep ≢ g.counted old
+  pub stopped : IsErrOf result Stopped → new.stopped ≡ true
+  pub runs : (IsErrOf result Stopped → ⊥) → new.stopped ≡ false
+  -- a crash leaves what was stored before the step or after it
+  pub crash : (left : Records) → g.leaves new.keep left → (left ≡ s.start.records) ⊎ ((is_spent s.rows ≡ false) × (left ≡ s.broker.records))
+  -- a device that is sound after it was sound before it
+  pub device : g.is_sound new.keep → g.is_sound old
+  -- the index goes along, or is to be made anew, and the quiet moment is one still
+  pub serves : new.is_stale ≡ false → Serves new.index.sessions (subscribers new.step.broker.records)
+  pub quiet : AreQuietBefore new.quiet new.step.broker.records
