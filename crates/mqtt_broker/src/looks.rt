@@ -7,14 +7,10 @@ use mqtt_records::Keep;
 
 impl<K: Keep> Engine<K> {
     /// Whether a line is linked. Takes no memory.
-    #[tactic(auto, using(mqtt_broker_engine::proofs::Holders::row_of))]
     pub fn is_linked(&self, line: u64) -> bool
         ensures { result ≡ is_some (line_at line self.now.running.broker) }
     {
-        match self.inner.step().line(line) {
-            Some(_) => true,
-            None => false,
-        }
+        self.inner.is_linked(line)
     }
 
     /// How many copies wait for the session of a client identifier, or are in flight to it; None where no session has
@@ -23,30 +19,27 @@ impl<K: Keep> Engine<K> {
         ensures { result ≡ option_map (λ s. length s.queue)
             (session_named client.now self.now.running.broker.records) }
     {
-        match self.inner.step().session_named(client) {
-            Some(session) => Some(session.queue.len()),
-            None => None,
-        }
+        self.inner.queue_len(client)
     }
 
     /// How many sessions stand. Takes no memory.
     pub fn sessions_len(&self) -> usize
         ensures { result ≡ length self.now.running.broker.records.sessions }
     {
-        self.inner.step().sessions_len()
+        self.inner.sessions_len()
     }
 
     /// The number of the last session that began: from 1, in the order in which they did. Takes no memory.
     pub fn births(&self) -> u64
         ensures { result ≡ self.now.running.broker.records.births }
     {
-        self.inner.step().births()
+        self.inner.births()
     }
 
     /// The number of the last publication that was accepted: from 1, in the order in which they were. Takes no memory.
     pub fn publications(&self) -> u64
         ensures { result ≡ self.now.running.broker.records.publications }
     {
-        self.inner.step().publications()
+        self.inner.publications()
     }
 }

@@ -11,4 +11,3 @@ pub mod Closed
 pub mod Going
 pub mod Stamped
 pub mod Answering
-pub mod UnderWay

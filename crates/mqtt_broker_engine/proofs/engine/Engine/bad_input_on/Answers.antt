@@ -1,53 +1,15 @@
--- The step begins in an engine at rest that runs, and its end is the engine's.
-use Rattle.std.proofs.Common.{◌≡◌, ◌∙◌, false, ap, sym, subst}
-use Rattle.std.specs.Prelude.{Some}
-use Rattle.mqtt_rules.specs.Lines.{session_on}
-use Rattle.mqtt_rules.specs.Step.{BadInput}
-use Rattle.mqtt_broker_engine.specs.Ending.{running}
-use Rattle.mqtt_broker_engine.specs.Running.{Running}
-use Rattle.mqtt_broker_engine.proofs.UnderWay.{called_as, called_stale, started, under_way}
+-- What is stored is quiet before the moment that the end of the call leaves.
+use Rattle.std.proofs.Common.{rules, sym, subst}
+use Rattle.mqtt_broker_clock.specs.Quiet.{AreQuietBefore}
+use Rattle.mqtt_rules.specs.State.{Broker}
 use Rattle.mqtt_broker_engine.proofs.engine.Engine.bad_input_on.Goals as goal
 
-pub returns-in_err-renew : goal.returns-in_err-renew
-returns-in_err-renew g c =
-    let s = c.renew.new.self in
-    let same : running s ≡ c.args.self.now = c.renew.ensures.same ∙ c.self.view_is in
-    let runs : s.stopped ≡ false = ap (λ (r : Running _). r.stopped) same ∙ c.requires.runs in
-    called_as g.K.Keep c.args.moment (BadInput c.args.line c.args.is_connect c.args.code.0) _ c.args.self.now _ _ same
-    (called_stale g.K.Keep c.args.moment (BadInput c.args.line c.args.is_connect c.args.code.0) s c.in_err-renew.error c.renew.ensures.rest runs c.in_err-renew.ensures.fault
-    (λ left may. g.met.K.Keep.leaves_held s.keep left s.step.broker.records (c.renew.ensures.rest.its.stored runs).1 may))
-
-pub fault_at-requires-clause-rest : goal.fault_at-requires-clause-rest
-fault_at-requires-clause-rest g c = c.renew.ensures.rest.rest
-
-pub fault_at-requires-clause-sound : goal.fault_at-requires-clause-sound
-fault_at-requires-clause-sound g c = c.renew.ensures.rest.its.sound
-
-pub fault_at-requires-clause-on : goal.fault_at-requires-clause-on
-fault_at-requires-clause-on g c =
-    subst (λ (r : Running _). session_on c.args.line r.broker ≡ Some c.args.session) (sym (c.renew.ensures.same ∙ c.self.view_is)) c.requires.linked
-
-pub fault_at-requires-clause-serves : goal.fault_at-requires-clause-serves
-fault_at-requires-clause-serves g c = c.in_ok-renew.ensures.ok
-
-pub finish-requires-clause-under_way : goal.finish-requires-clause-under_way
-finish-requires-clause-under_way g c =
-    let s = c.renew.new.self in
-    let same : running s ≡ c.args.self.now = c.renew.ensures.same ∙ c.self.view_is in
-    under_way g.K.Keep s c.fault_at-done.new.router c.fault_at-done.new.step c.renew.ensures.rest (ap (λ (r : Running _). r.stopped) same ∙ c.requires.runs) c.fault_at-done.ensures.start c.fault_at-done.ensures.limits
-    (λ fresh. c.fault_at-done.ensures.serves _ c.in_ok-renew.ensures.ok)
-
-pub finish-requires-clause-called : goal.finish-requires-clause-called
-finish-requires-clause-called g c = (c.args.moment, BadInput c.args.line c.args.is_connect c.args.code.0, tt, c.fault_at-done.ensures.called)
-
-pub returns : goal.returns
-returns g c =
-    called_as g.K.Keep c.args.moment (BadInput c.args.line c.args.is_connect c.args.code.0) _ c.args.self.now _ _
-    (started c.renew.new.self c.fault_at-done.new.step c.fault_at-done.ensures.start c.fault_at-done.ensures.limits ∙ (c.renew.ensures.same ∙ c.self.view_is))
-    (c.finish.ensures.called c.args.moment (BadInput c.args.line c.args.is_connect c.args.code.0) c.fault_at-done.ensures.called)
-
-pub invariant_of-self : goal.invariant_of-self
-invariant_of-self g c = c.renew.ensures.rest
-
 pub invariant_of-self-2 : goal.invariant_of-self-2
-invariant_of-self-2 g c = c.finish.ensures.rest
+invariant_of-self-2 g c =
+    let before = subst (λ (b : Broker). AreQuietBefore c.self.inside.quiet b.records) (sym c.fault_at-done.ensures.start) c.self.invariant.4 in (
+      search rules,
+      search rules,
+      search rules,
+      search rules,
+      c.finish-answer.ensures.quiet before,
+    )

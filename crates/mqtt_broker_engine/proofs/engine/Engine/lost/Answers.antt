@@ -1,10 +1,6 @@
 use Rattle.std.proofs.Common.{refl}
 use Rattle.mqtt_rules.specs.Step.{Lost}
-use Rattle.mqtt_broker_engine.proofs.UnderWay.{called_stopped}
 use Rattle.mqtt_broker_engine.proofs.engine.Engine.lost.Goals as goal
-
-pub returns-in_err-session_on : goal.returns-in_err-session_on
-returns-in_err-session_on g c = called_stopped g.K.Keep c.args.moment (Lost c.args.line) c.args.self.now c.in_err-session_on.error c.in_err-session_on.ensures.fault c.in_err-session_on.ensures.err
 
 pub returns-in-None : goal.returns-in-None
 returns-in-None g c = c.skip.ensures (Lost c.args.line) refl

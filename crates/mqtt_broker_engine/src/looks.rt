@@ -1,0 +1,52 @@
+//! What may be looked at between the calls of an engine: its numbers, its sessions' queues and its lines (MQTT 5.0, 4.1, 4.6).
+ghost use Rattle.std.specs.Prelude.{◌≡◌, is_some, length, option_map};
+ghost use Rattle.mqtt_rules.specs.State.{line_at, session_named};
+
+use crate::engine::Engine;
+use mqtt_records::Keep;
+
+impl<K: Keep> Engine<K> {
+    /// Whether a line is linked. Takes no memory.
+    #[tactic(auto, using(crate::proofs::Holders::row_of))]
+    pub fn is_linked(&self, line: u64) -> bool
+        ensures { result ≡ is_some (line_at line self.now.broker) }
+    {
+        match self.step.line(line) {
+            Some(_) => true,
+            None => false,
+        }
+    }
+
+    /// How many copies wait for the session of a client identifier, or are in flight to it; None where no session has
+    /// it. Takes no memory.
+    pub fn queue_len(&self, client: &str) -> Option<usize>
+        ensures { result ≡ option_map (λ s. length s.queue)
+            (session_named client.now self.now.broker.records) }
+    {
+        match self.step.session_named(client) {
+            Some(session) => Some(session.queue.len()),
+            None => None,
+        }
+    }
+
+    /// How many sessions stand. Takes no memory.
+    pub fn sessions_len(&self) -> usize
+        ensures { result ≡ length self.now.broker.records.sessions }
+    {
+        self.step.sessions_len()
+    }
+
+    /// The number of the last session that began: from 1, in the order in which they did. Takes no memory.
+    pub fn births(&self) -> u64
+        ensures { result ≡ self.now.broker.records.births }
+    {
+        self.step.births()
+    }
+
+    /// The number of the last publication that was accepted: from 1, in the order in which they were. Takes no memory.
+    pub fn publications(&self) -> u64
+        ensures { result ≡ self.now.broker.records.publications }
+    {
+        self.step.publications()
+    }
+}
