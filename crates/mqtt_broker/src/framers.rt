@@ -5,7 +5,7 @@ ghost use Rattle.mqtt_packet.specs.Front.{first_of};
 ghost use Rattle.mqtt_records_rows.specs.Order.{has_row, row_at, put_row, remove_row};
 ghost use Rattle.mqtt_codec_parts.specs.Faults.{answer_to};
 ghost use Rattle.mqtt_rules.specs.Piece.{begins_connect, code_of, fed, first_call, is_whole, without_first};
-ghost use Rattle.mqtt_broker.specs.Framers.{AreBytes, BeginsWith, HeldLine, IsLawfulAsked, IsSizedAsked, begun, call_asked, changed_at, framing_at, given_back, line_of, taken_of};
+ghost use Rattle.mqtt_broker.specs.Framers.{AreBytes, HeldLine, IsLawfulAsked, begun, call_asked, changed_at, framing_at, given_back, line_of, taken_of};
 
 use crate::asked::Asked;
 use crate::framing::{drop_first, is_whole, take};
@@ -86,11 +86,10 @@ fn first(framer: &mut Framer) -> Result<Option<Asked>, AllocError>
     ensures asked { (line : ℕ) → IfOk result (λ asked. option_map (call_asked line) asked
         ≡ first_call line framer.old.held) }
     ensures lawful { IfOk result (λ asked. IfSome asked IsLawfulAsked) }
-    ensures sized { IfOk result (λ asked. IfSome asked (IsSizedAsked framer.old.held)) }
     ensures same { framer.new ≡ framer.old }
 {
     match framer.first() {
-        Ok(Some((packet, _, size))) => Ok(Some(Asked::Whole { packet, size })),
+        Ok(Some((packet, _, _))) => Ok(Some(Asked::Whole(packet))),
         Ok(None) => Ok(None),
         Err((Fault::Memory, _)) => Err(AllocError),
         Err((fault, _)) => Ok(Some(Asked::Bad {
@@ -151,13 +150,12 @@ impl Framers {
         count
     }
 
-    /// What the first bytes of a line ask, if a packet or a fault is whole. Nothing is taken away; `drop_first` of the
-    /// packet's size does that, and reads nothing. Want of memory alone refuses.
+    /// What the first bytes of a line ask, if a packet or a fault is whole. Nothing is taken away. Want of memory alone
+    /// refuses.
     pub fn first(&mut self, line: u64) -> Result<Option<Asked>, AllocError>
         ensures asked { IfOk result (λ asked. option_map (call_asked line) asked
             ≡ first_call line (framing_at line self.old).held) }
         ensures lawful { IfOk result (λ asked. IfSome asked IsLawfulAsked) }
-        ensures sized { IfOk result (λ asked. IfSome asked (IsSizedAsked (framing_at line self.old).held)) }
         ensures same { self.new ≡ self.old }
     {
         self.all.as_slice();
@@ -169,16 +167,15 @@ impl Framers {
         asked
     }
 
-    /// The packet that is answered, of this size, is held no longer. Takes no memory.
-    pub fn drop_first(&mut self, line: u64, size: usize)
-        requires { BeginsWith size (framing_at line self.old).held }
+    /// The packet that is answered is held no longer. Takes no memory.
+    pub fn drop_first(&mut self, line: u64)
         ensures { self.new ≡ changed_at line without_first self.old }
     {
         self.all.as_slice();
         let Some(mut held) = self.all.take(line) else {
             return;
         };
-        drop_first(&mut held.framer, size);
+        drop_first(&mut held.framer);
         self.all.put(held);
     }
 

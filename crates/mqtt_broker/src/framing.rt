@@ -1,8 +1,8 @@
 //! What a line holds: the bytes that came on it and were not answered yet (MQTT 5.0, 2.1, 4.13).
-ghost use Rattle.std.specs.Prelude.{◌≡◌, ◌≤◌, length, IfOk, OnOk, OnErr};
+ghost use Rattle.std.specs.Prelude.{◌≡◌, ◌≤◌, length, IfOk, IfSome, IfNone, OnOk, OnErr};
 ghost use Rattle.mqtt_packet.specs.Front.{first_of};
+ghost use Rattle.mqtt_packet.specs.Stream.{after};
 ghost use Rattle.mqtt_rules.specs.Piece.{bytes_taken, fed, is_whole, without_first};
-ghost use Rattle.mqtt_broker.specs.Framers.{BeginsWith};
 
 use mqtt_codec_parts::Fault;
 use mqtt_packet::Framer;
@@ -22,13 +22,27 @@ pub(crate) fn take(framer: &mut Framer, piece: &[u8]) -> Result<usize, AllocErro
     }
 }
 
-/// The first packet, of this size, is held no longer. Takes no memory.
-#[tactic(auto, using(crate::proofs::FirstPackets::skipped))]
-pub(crate) fn drop_first(framer: &mut Framer, size: usize)
-    requires { BeginsWith size framer.old.held }
+/// The size of the first whole packet, if it has come. Takes no memory.
+#[tactic(auto, using(crate::proofs::FirstPackets::without_is))]
+fn first_size(framer: &Framer) -> Option<usize>
+    ensures found { IfSome result (λ size. without_first framer.now ≡ after size framer.now) }
+    ensures within { IfSome result (λ size. size ≤ length framer.now.held) }
+    ensures none { IfNone result (without_first framer.now ≡ framer.now) }
+{
+    match framer.look_sized() {
+        Ok(Some((_, _, size))) => Some(size),
+        Ok(None) | Err(_) => None,
+    }
+}
+
+/// The packet that is answered is held no longer. Takes no memory.
+pub(crate) fn drop_first(framer: &mut Framer)
     ensures { framer.new ≡ without_first framer.old }
 {
-    framer.skip(size);
+    match first_size(framer) {
+        Some(size) => framer.skip(size),
+        None => {}
+    }
 }
 
 /// Whether a packet, or a fault, is whole. Takes no memory.

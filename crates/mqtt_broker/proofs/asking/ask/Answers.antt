@@ -1,5 +1,5 @@
-use Rattle.mqtt_rules.specs.Piece.{first_call}
 use Rattle.mqtt_broker.specs.Framers.{framing_at}
+use Rattle.mqtt_rules.specs.Piece.{first_call}
 use Rattle.mqtt_broker.proofs.Pieced.{memory_refuses}
 use Rattle.mqtt_broker.proofs.asking.ask.Goals as goal
 

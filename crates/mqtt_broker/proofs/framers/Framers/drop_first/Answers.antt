@@ -4,8 +4,8 @@ use Rattle.mqtt_base.specs.declared.limits.TheConstants.{LINE_LIMIT}
 use Rattle.mqtt_packet.specs.Stream.{Framing}
 use Rattle.mqtt_records_rows.specs.Order.{IsAscending, put_row, remove_row, row_at}
 use Rattle.mqtt_rules.specs.Piece.{without_first}
-use Rattle.mqtt_broker.specs.Framers.{AreBytes, BeginsWith, changed_at, framing_at, in_framing, line_of}
-use Rattle.mqtt_broker.proofs.HeldBytes.{changed_in, first_bytes, framing_found, none_changed}
+use Rattle.mqtt_broker.specs.Framers.{AreBytes, changed_at, in_framing, line_of}
+use Rattle.mqtt_broker.proofs.HeldBytes.{changed_in, first_bytes, none_changed}
 use Rattle.mqtt_broker.proofs.framers.Framers.drop_first.Goals as goal
 
 pub returns-in_default : goal.returns-in_default
@@ -14,12 +14,6 @@ returns-in_default c =
     let none : row_at line_of c.args.line c.self.inside.all ≡ None = search rules in
     let rest : c.take.new.self ≡ remove_row line_of c.args.line c.self.inside.all = search rules in
     none_changed c.args.line (without_first) c.self.inside.all c.take.new.self none rest ∙ sym (ap (changed_at c.args.line (without_first)) same)
-
-pub drop_first-requires : goal.drop_first-requires
-drop_first-requires c =
-    let found : row_at line_of c.args.line c.args.self.now ≡ Some c.in-Some.held = search rules in
-    let is : framing_at c.args.line c.args.self.now ≡ c.held.inside.framer = framing_found c.args.line c.in-Some.held c.args.self.now found ∙ search rules in
-    subst (λ (f : Framing). BeginsWith c.args.size f.held) is c.requires
 
 pub invariant_of-held : goal.invariant_of-held
 invariant_of-held c = subst (λ (f : Framing). AreBytes f.held) (sym c.drop_first.ensures) (first_bytes c.held.inside.framer c.held.invariant)

@@ -1,10 +1,10 @@
 use Rattle.std.proofs.Common.{◌≡◌, ◌≤◌, rules, length, ap, sym, subst, ◌∙◌}
-use Rattle.std.specs.Prelude.{Some, None, IfOk, IfSome, option_map}
+use Rattle.std.specs.Prelude.{Some, None, IfOk, option_map}
 use Rattle.mqtt_base.specs.declared.limits.TheConstants.{LINE_LIMIT}
 use Rattle.mqtt_packet.specs.Stream.{Framing}
 use Rattle.mqtt_records_rows.specs.Order.{IsAscending, put_row, remove_row, row_at}
 use Rattle.mqtt_rules.specs.Piece.{first_call}
-use Rattle.mqtt_broker.specs.Framers.{IsSizedAsked, call_asked, framing_of, line_of}
+use Rattle.mqtt_broker.specs.Framers.{call_asked, changed_at, framing_of, line_of}
 use Rattle.mqtt_broker.proofs.HeldBytes.{framing_found, none_in, nothing_asked, same_in}
 use Rattle.mqtt_broker.proofs.framers.Framers.first.Goals as goal
 
@@ -25,12 +25,6 @@ returns-clause-asked c =
     let found : row_at line_of c.args.line c.args.self.now ≡ Some c.in-Some.held = search rules in
     let is : framing_of (row_at line_of c.args.line c.args.self.now) ≡ c.held.inside.framer = ap framing_of found ∙ search rules in
     subst (λ (f : Framing). IfOk c.first-asked.result (λ asked. option_map (call_asked c.args.line) asked ≡ first_call c.args.line f.held)) (sym is) (c.first-asked.ensures.asked c.args.line)
-
-pub returns-clause-sized : goal.returns-clause-sized
-returns-clause-sized c =
-    let found : row_at line_of c.args.line c.args.self.now ≡ Some c.in-Some.held = search rules in
-    let is : framing_of (row_at line_of c.args.line c.args.self.now) ≡ c.held.inside.framer = ap framing_of found ∙ search rules in
-    subst (λ (f : Framing). IfOk c.first-asked.result (λ asked. IfSome asked (IsSizedAsked f.held))) (sym is) c.first-asked.ensures.sized
 
 pub returns-clause-same : goal.returns-clause-same
 returns-clause-same c =
