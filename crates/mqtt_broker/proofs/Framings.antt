@@ -6,8 +6,7 @@ use Rattle.std.proofs.lemmas.Bool.{cases_Bool, eqb-true}
 use Rattle.mqtt_packet.specs.Front.{first_of}
 use Rattle.mqtt_packet.specs.Stream.{Framing, empty, without_last}
 use Rattle.mqtt_records_rows.specs.Order.{has_row, remove_row, row_at}
-use Rattle.mqtt_rules.specs.Piece.{Front, bytes_taken, call_by, fed, first_call, is_whole, taken_by, without_by, without_first}
-use Rattle.mqtt_rules.specs.Step.{BadInput}
+use Rattle.mqtt_rules.specs.Piece.{Front, bytes_taken, fed, is_whole, taken_by, without_first}
 use Rattle.mqtt_broker.specs.Framers.{HeldLine, changed_at, framing_at, framing_of, given_back, in_framing, line_of, taken_of}
 use Rattle.mqtt_broker.proofs.HeldBytes.{nothing_whole}
 use Rattle.mqtt_broker.specs.Serving.{ended, has_closed, without_closed}
@@ -36,24 +35,6 @@ unchanged line f (h ∷ held) e = elim (cases_Bool (nat_eq h.line line)) [
       let rest : f (framing_at line held) ≡ framing_at line held = rw other at e in
       rw other (ap (λ hs. h ∷ hs) (unchanged line f held rest))
 ]
-
--- where no packet is asked for, nothing is dropped
-kept_none : (line : ℕ) (f : Framing) (r : Front) → None ≡ call_by line f.held r → without_by r f ≡ f
-kept_none line f (Ok None) e = refl
-kept_none line f (Ok (Some x)) e = absurd cc
-kept_none line f (Err fault) e = refl
-
-kept_bad : (line : ℕ) (is_connect : Bool) (code : ℕ) (f : Framing) (r : Front) → Some (BadInput line is_connect code) ≡ call_by line f.held r → without_by r f ≡ f
-kept_bad line is_connect code f (Ok None) e = refl
-kept_bad line is_connect code f (Ok (Some x)) e = absurd cc
-kept_bad line is_connect code f (Err fault) e = refl
-
-pub none_dropped : (line : ℕ) (held : List HeldLine) → None ≡ first_call line (framing_at line held).held → changed_at line without_first held ≡ held
-none_dropped line held e = unchanged line without_first held (kept_none line (framing_at line held) (first_of (framing_at line held).held) e)
-
-pub bad_dropped : (line : ℕ) (is_connect : Bool) (code : ℕ) (held : List HeldLine) → Some (BadInput line is_connect code) ≡ first_call line (framing_at line held).held
-    → changed_at line without_first held ≡ held
-bad_dropped line is_connect code held e = unchanged line without_first held (kept_bad line is_connect code (framing_at line held) (first_of (framing_at line held).held) e)
 
 pub framing_changed : (line : ℕ) (f : Framing → Framing) (held : List HeldLine) → has_row line_of line held ≡ true → framing_at line (changed_at line f held) ≡ f (framing_at line held)
 framing_changed line f [] e = absurd cc

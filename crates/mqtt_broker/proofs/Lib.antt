@@ -8,4 +8,3 @@ pub mod Pieced
 pub mod Opened
 pub mod FirstPackets
 pub mod HeldBytes
-pub mod Lent

@@ -4,4 +4,3 @@ pub mod Asking
 pub mod Cut
 pub mod Opening
 pub mod Framers
-pub mod Holding

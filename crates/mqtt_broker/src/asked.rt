@@ -7,11 +7,7 @@ use mqtt_codec::Packet;
 #[derive(Drop)]
 pub enum Asked {
     /// A packet is whole.
-    Whole {
-        packet: Packet,
-        /// Bytes, fixed header included.
-        size: usize,
-    },
+    Whole(Packet),
     /// A fault stands.
     Bad {
         /// Whether the bytes begin with the type of CONNECT (3.1).

@@ -1,11 +1,11 @@
 //! What comes on a line is asked of the engine: what its first bytes ask, or nothing where the line isn't linked (MQTT
 //! 5.0, 2.1, 4.13).
-ghost use Rattle.std.specs.Prelude.{◌≡◌, ◌≤◌, ℕ, List, None, false, true, length, IfOk, IsOkAnd, OnErr, OnOk};
+ghost use Rattle.std.specs.Prelude.{◌≡◌, ◌≤◌, ℕ, List, None, false, true, length, IfOk, IsOkAnd};
 ghost use Rattle.mqtt_records_rows.specs.Order.{has_row};
-ghost use Rattle.mqtt_rules.specs.Piece.{first_call, without_first};
+ghost use Rattle.mqtt_rules.specs.Piece.{first_call};
 ghost use Rattle.mqtt_rules.specs.State.{line_at};
 ghost use Rattle.mqtt_rules.specs.Step.{Call, nothing_told};
-ghost use Rattle.mqtt_broker.specs.Framers.{BeginsWith, HeldLine, changed_at, framing_at, line_of};
+ghost use Rattle.mqtt_broker.specs.Framers.{HeldLine, framing_at, line_of};
 ghost use Rattle.mqtt_broker_engine.specs.Calling.{IsOn, Tells};
 ghost use Rattle.mqtt_broker.specs.Asking.{CalledIf};
 ghost use Rattle.mqtt_broker.specs.Piece.{PieceCalled};
@@ -37,25 +37,8 @@ pub(crate) fn pass_over<K: Keep>(
     Ok(engine.rest_at(moment))
 }
 
-/// The packet that is answered, of this size, is held no longer; one that is refused is. Takes no memory.
-fn drop_answered(
-    framers: &mut Framers,
-    line: u64,
-    size: usize,
-    answer: &Result<Outcome, EngineError>,
-)
-    requires { BeginsWith size (framing_at line framers.old).held }
-    ensures ok { OnOk answer.now (framers.new ≡ changed_at line without_first framers.old) }
-    ensures err { OnErr answer.now (framers.new ≡ framers.old) }
-{
-    match answer {
-        Ok(_) => framers.drop_first(line, size),
-        Err(_) => {}
-    }
-}
-
-/// What the first bytes of a line ask is done, and a packet that was answered is held no longer; where nothing is whole,
-/// nothing but that the moment is the greatest handed in. A refusal leaves what is held.
+/// What the first bytes of a line ask is done; where nothing is whole, nothing but that the moment is the greatest handed
+/// in.
 fn ask<K: Keep>(
     engine: &mut Engine<K>,
     framers: &mut Framers,
@@ -66,15 +49,10 @@ fn ask<K: Keep>(
     requires stored { K.holds engine.old.keep engine.old.broker.records }
     ensures called { CalledIf K.Keep moment (first_call line (framing_at line framers.old).held)
         engine.old result engine.new }
-    ensures ok { OnOk result (framers.new ≡ changed_at line without_first framers.old) }
-    ensures err { OnErr result (framers.new ≡ framers.old) }
+    ensures same { framers.new ≡ framers.old }
 {
     match framers.first(line) {
-        Ok(Some(Asked::Whole { packet, size })) => {
-            let answer = engine.input(line, &packet, moment);
-            drop_answered(framers, line, size, &answer);
-            answer
-        }
+        Ok(Some(Asked::Whole(packet))) => engine.input(line, &packet, moment),
         Ok(Some(Asked::Bad { is_connect, code })) => {
             engine.bad_input(line, is_connect, code, moment)
         }
@@ -105,6 +83,7 @@ pub(crate) fn take_piece<K: Keep>(
     };
     match ask(engine, framers, line, moment) {
         Ok(mut outcome) => {
+            framers.drop_first(line);
             end_all(framers, &outcome.closed);
             outcome.taken = taken;
             outcome.again = framers.is_whole(line);

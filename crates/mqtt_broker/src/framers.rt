@@ -5,17 +5,44 @@ ghost use Rattle.mqtt_packet.specs.Front.{first_of};
 ghost use Rattle.mqtt_records_rows.specs.Order.{has_row, row_at, put_row, remove_row};
 ghost use Rattle.mqtt_codec_parts.specs.Faults.{answer_to};
 ghost use Rattle.mqtt_rules.specs.Piece.{begins_connect, code_of, fed, first_call, is_whole, without_first};
-ghost use Rattle.mqtt_broker.specs.Framers.{AreBytes, BeginsWith, HeldLine, IsLawfulAsked, IsSizedAsked, begun, call_asked, changed_at, framing_at, given_back, line_of, taken_of};
+ghost use Rattle.mqtt_broker.specs.Framers.{AreBytes, HeldLine, IsLawfulAsked, begun, call_asked, changed_at, framing_at, given_back, line_of, taken_of};
 
 use crate::asked::Asked;
-use crate::framing::take;
-use crate::holding::{Held, HeldChange};
+use crate::framing::{drop_first, is_whole, take};
 use mqtt_base::{LINE_LIMIT, Reason};
 use mqtt_codec_parts::Fault;
 use mqtt_packet::Framer;
-use mqtt_records_rows::Rows;
+use mqtt_records_rows::{Row, Rows};
 use std::alloc::{AllocError, Global};
 use std::marker::Model;
+
+/// A line, and what it holds.
+#[derive(Drop)]
+struct Held {
+    line: u64,
+    framer: Framer,
+}
+
+impl Model for Held {
+    ghost use Rattle.mqtt_broker.specs.Framers.{HeldLine, AreBytes};
+
+    ghost Value = { HeldLine };
+
+    ghost view = { λ h. record { line = h.line; framing = h.framer } };
+
+    // The bytes that are held are bytes.
+    ghost invariant = { λ h. AreBytes h.framer.held };
+}
+
+impl Row for Held {
+    ghost use Rattle.mqtt_broker.specs.Framers.{line_of};
+
+    ghost key_of = { line_of };
+
+    fn key(&self) -> u64 {
+        self.line
+    }
+}
 
 /// What each line holds.
 #[derive(Drop)]
@@ -59,11 +86,10 @@ fn first(framer: &mut Framer) -> Result<Option<Asked>, AllocError>
     ensures asked { (line : ℕ) → IfOk result (λ asked. option_map (call_asked line) asked
         ≡ first_call line framer.old.held) }
     ensures lawful { IfOk result (λ asked. IfSome asked IsLawfulAsked) }
-    ensures sized { IfOk result (λ asked. IfSome asked (IsSizedAsked framer.old.held)) }
     ensures same { framer.new ≡ framer.old }
 {
     match framer.first() {
-        Ok(Some((packet, _, size))) => Ok(Some(Asked::Whole { packet, size })),
+        Ok(Some((packet, _, _))) => Ok(Some(Asked::Whole(packet))),
         Ok(None) => Ok(None),
         Err((Fault::Memory, _)) => Err(AllocError),
         Err((fault, _)) => Ok(Some(Asked::Bad {
@@ -115,37 +141,42 @@ impl Framers {
         ensures ok { OnOk result (self.new ≡ changed_at line (fed piece.now) self.old) }
         ensures err { OnErr result (self.new ≡ self.old) }
     {
-        let Some(mut held) = self.all.take_part(line, self.alloc) else {
+        self.all.as_slice();
+        let Some(mut held) = self.all.take(line) else {
             return Ok(0);
         };
         let count = take(&mut held.framer, piece);
-        self.all.edit(line, HeldChange::Return { held });
+        self.all.put(held);
         count
     }
 
-    /// What the first bytes of a line ask, if a packet or a fault is whole. Nothing is taken away; `drop_first` of the
-    /// packet's size does that, and reads nothing. Want of memory alone refuses.
+    /// What the first bytes of a line ask, if a packet or a fault is whole. Nothing is taken away. Want of memory alone
+    /// refuses.
     pub fn first(&mut self, line: u64) -> Result<Option<Asked>, AllocError>
         ensures asked { IfOk result (λ asked. option_map (call_asked line) asked
             ≡ first_call line (framing_at line self.old).held) }
         ensures lawful { IfOk result (λ asked. IfSome asked IsLawfulAsked) }
-        ensures sized { IfOk result (λ asked. IfSome asked (IsSizedAsked (framing_at line self.old).held)) }
         ensures same { self.new ≡ self.old }
     {
-        let Some(mut held) = self.all.take_part(line, self.alloc) else {
+        self.all.as_slice();
+        let Some(mut held) = self.all.take(line) else {
             return Ok(None);
         };
         let asked = first(&mut held.framer);
-        self.all.edit(line, HeldChange::Return { held });
+        self.all.put(held);
         asked
     }
 
-    /// The packet that is answered, of this size, is held no longer. Takes no memory.
-    pub fn drop_first(&mut self, line: u64, size: usize)
-        requires { BeginsWith size (framing_at line self.old).held }
+    /// The packet that is answered is held no longer. Takes no memory.
+    pub fn drop_first(&mut self, line: u64)
         ensures { self.new ≡ changed_at line without_first self.old }
     {
-        self.all.edit(line, HeldChange::Skip { count: size });
+        self.all.as_slice();
+        let Some(mut held) = self.all.take(line) else {
+            return;
+        };
+        drop_first(&mut held.framer);
+        self.all.put(held);
     }
 
     /// The last bytes that came on a line are given back. Takes no memory.
@@ -153,15 +184,20 @@ impl Framers {
         requires { count ≤ length (framing_at line self.old).held }
         ensures { self.new ≡ changed_at line (given_back count) self.old }
     {
-        self.all.edit(line, HeldChange::GiveBack { count });
+        self.all.as_slice();
+        let Some(mut held) = self.all.take(line) else {
+            return;
+        };
+        held.framer.give_back(count);
+        self.all.put(held);
     }
 
-    /// Whether a packet, or a fault, of a line is whole: the fixed header tells it, and no packet is read. Takes no memory.
+    /// Whether a packet, or a fault, of a line is whole. Takes no memory.
     pub fn is_whole(&self, line: u64) -> bool
         ensures { result ≡ is_whole (first_of (framing_at line self.now).held) }
     {
         match self.all.get(line) {
-            Some(held) => held.framer.is_whole(),
+            Some(held) => is_whole(&held.framer),
             None => false,
         }
     }

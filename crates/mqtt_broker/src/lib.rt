@@ -8,7 +8,6 @@ mod engine;
 mod framers;
 mod framing;
 mod held;
-mod holding;
 mod laws;
 mod looks;
 mod opening;

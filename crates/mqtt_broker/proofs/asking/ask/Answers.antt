@@ -1,12 +1,7 @@
-use Rattle.std.proofs.Common.{◌≡◌, List, sym, subst, ◌∙◌}
+use Rattle.mqtt_broker.specs.Framers.{framing_at}
 use Rattle.mqtt_rules.specs.Piece.{first_call}
-use Rattle.mqtt_broker.specs.Framers.{BeginsWith, HeldLine, framing_at}
-use Rattle.mqtt_broker.proofs.Framings.{bad_dropped, none_dropped}
 use Rattle.mqtt_broker.proofs.Pieced.{memory_refuses}
 use Rattle.mqtt_broker.proofs.asking.ask.Goals as goal
-
-pub drop_answered-requires : goal.drop_answered-requires
-drop_answered-requires g c = ?
 
 pub returns-in-Err-clause-called : goal.returns-in-Err-clause-called
 returns-in-Err-clause-called g c =

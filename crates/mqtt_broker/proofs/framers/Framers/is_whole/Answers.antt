@@ -4,7 +4,6 @@ use Rattle.mqtt_packet.specs.Front.{first_of}
 use Rattle.mqtt_records_rows.specs.Order.{row_at}
 use Rattle.mqtt_rules.specs.Piece.{is_whole}
 use Rattle.mqtt_broker.specs.Framers.{framing_of, line_of}
-use Rattle.mqtt_broker.proofs.FirstPackets.{whole_unless}
 use Rattle.mqtt_broker.proofs.HeldBytes.{nothing_whole}
 use Rattle.mqtt_broker.proofs.framers.Framers.is_whole.Goals as goal
 
@@ -12,6 +11,3 @@ pub returns-in-None : goal.returns-in-None
 returns-in-None c =
     let none : row_at line_of c.args.line c.args.self.now ≡ None = search rules in
     nothing_whole ∙ sym (ap (λ o. is_whole (first_of (framing_of o).held)) none)
-
-pub returns-in-Some : goal.returns-in-Some
-returns-in-Some c = ?
