@@ -17,7 +17,6 @@ use mqtt_records::Keep;
 use std::marker::Model;
 
 /// A broker over a store. A line, one connection, is named by its number.
-#[derive(Drop)]
 pub struct Engine<K: Keep> {
     pub(crate) inner: Inner<K>,
     pub(crate) framers: Framers,
@@ -32,6 +31,15 @@ impl<K: Keep> Model for Engine<K> {
 
     // The lines that hold bytes are those that are linked, and their numbers were given.
     ghost invariant = { λ e. IsOfLines e.framers e.inner.broker };
+}
+
+// Written out, so that who lets an engine go needs no proof of its own for each type in it.
+impl<K: Keep> Drop for Engine<K> {
+    fn drop(self) {
+        let Engine { inner, framers } = self;
+        drop(framers);
+        drop(inner);
+    }
 }
 
 impl<K: Keep> Engine<K> {

@@ -26,7 +26,6 @@ use std::marker::Model;
 use std::mem;
 
 /// A world: what stands in it, or why it is over, and the events that happened in it, all of which it keeps.
-#[derive(Drop)]
 pub struct World<K: Keep> {
     pub(crate) alloc: Global,
     pub(crate) stage: Result<Stage<K>, Over>,
@@ -44,6 +43,19 @@ impl<K: Keep> Model for World<K> {
 
     // What stands can go on.
     ghost invariant = { λ w. IfOk w.stage (λ s. IsStanding K.Keep s) };
+}
+
+// Written out, so that who lets a world go needs no proof of its own for each type in it.
+impl<K: Keep> Drop for World<K> {
+    fn drop(self) {
+        let World {
+            alloc: _,
+            stage,
+            events,
+        } = self;
+        drop(stage);
+        drop(events);
+    }
 }
 
 impl<K: Keep> World<K> {
