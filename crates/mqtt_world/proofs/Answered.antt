@@ -12,7 +12,7 @@ use Rattle.mqtt_rules.specs.declared.Limits.{Limits}
 use Rattle.mqtt_broker_step.specs.declared.call.EngineError.{EngineError}
 use Rattle.mqtt_broker.specs.Serving.{Serving, Served, has_closed}
 use Rattle.mqtt_broker.specs.Framers.{HeldLine}
-use Rattle.mqtt_world_peers.specs.declared.told.RunFault.{RunFault}
+use Rattle.mqtt_world.specs.declared.over.Over.{Over}
 use Rattle.mqtt_world_clients.specs.Ends.{Ends}
 use Rattle.mqtt_world_clients.specs.Telling.{AreSpelled, ends_told}
 use Rattle.mqtt_world.specs.Scenes.{Calls, HoldNone, HoldsNone, IsPlayable, Played}
@@ -47,7 +47,7 @@ none_held keeps (x ∷ held) h = kept_none (keeps x) x (filter keeps held) h.0 (
 -- ---- a call
 
 module _ {K : Type 0} (g : Ghosts K) (now : ℕ) (call : Call) (old new : Played K) (out : Outcome) where
-  pub called : (r : Result Telling RunFault) → IsPlayable g old → Served g (min now LAST_NUMBER) call old.engine (Ok out) new.engine
+  pub called : (r : Result Telling Over) → IsPlayable g old → Served g (min now LAST_NUMBER) call old.engine (Ok out) new.engine
       → ((answer : Answer) → Tells answer out → AreSpelled answer → OnOk r (new.ends ≡ ends_told new.engine.running.broker answer old.ends))
       → ((answer : Answer) → Tells answer out → IfOk r (λ (t : Telling). t ≡ record { reports = answer.reports; out = length answer.outputs }))
       → IfOk r (λ (t : Telling). Calls g now call old t new)
@@ -76,7 +76,7 @@ module _ {K : Type 0} (g : Ghosts K) (now : ℕ) (call : Call) (old new : Played
       }
 
 -- the same, as a call of the engine and the telling behind it say it
-pub answered : {K : Type 0} (g : Ghosts K) (now moment : ℕ) (call : Call) (old new : Played K) (mid : Serving K) (out : Outcome) (result : Result Outcome EngineError) (r : Result Telling RunFault)
+pub answered : {K : Type 0} (g : Ghosts K) (now moment : ℕ) (call : Call) (old new : Played K) (mid : Serving K) (out : Outcome) (result : Result Outcome EngineError) (r : Result Telling Over)
     → IsPlayable g old → moment ≡ min now LAST_NUMBER → result ≡ Ok out → Served g moment call old.engine result mid → new.engine ≡ mid
     → ((answer : Answer) → Tells answer out → AreSpelled answer → OnOk r (new.ends ≡ ends_told mid.running.broker answer old.ends))
     → ((answer : Answer) → Tells answer out → IfOk r (λ (t : Telling). t ≡ record { reports = answer.reports; out = length answer.outputs }))
@@ -91,7 +91,7 @@ answered {K} g now moment call old new mid out result r playable moment_is is se
     tells
 
 -- and of a scene as it is seen
-pub answered_in : {K : Type 0} (g : Ghosts K) (now moment : ℕ) (call : Call) (old new : Played K) (engine mid : Serving K) (ends : Ends) (out : Outcome) (result : Result Outcome EngineError) (r : Result Telling RunFault)
+pub answered_in : {K : Type 0} (g : Ghosts K) (now moment : ℕ) (call : Call) (old new : Played K) (engine mid : Serving K) (ends : Ends) (out : Outcome) (result : Result Outcome EngineError) (r : Result Telling Over)
     → old ≡ record { engine = engine; ends = ends }
     → IsPlayable g old → moment ≡ min now LAST_NUMBER → result ≡ Ok out → Served g moment call engine result mid → new.engine ≡ mid
     → ((answer : Answer) → Tells answer out → AreSpelled answer → OnOk r (new.ends ≡ ends_told mid.running.broker answer ends))

@@ -10,7 +10,7 @@ use Rattle.mqtt_world_receiver_laws.specs.Drains.{copies_left, downs_by, is_bad_
 use Rattle.mqtt_broker.specs.Serving.{Serving}
 use Rattle.mqtt_rules.specs.declared.Limits.{Limits}
 use Rattle.mqtt_world_clients.specs.Ends.{Ends, in_world}
-use Rattle.mqtt_world_peers.specs.declared.told.RunFault.{RunFault}
+use Rattle.mqtt_world.specs.declared.over.Over.{Over}
 use Rattle.mqtt_script_laws.specs.Drains.{IsRound, Repeats}
 use Rattle.mqtt_script_laws.specs.Scripted.{Happens}
 use Rattle.mqtt_script_laws.specs.Turns.{IsTurn, both_tell}
@@ -162,7 +162,7 @@ module _ {K : Type 0} (g : Ghosts K) (now : ℕ) where
   }
 
   -- if what is told was added
-  pub goes_added : {U : Type 0} (e : Event) (old new : Played K) (more : Option Telling) (before after : Telling) (r : Result U RunFault)
+  pub goes_added : {U : Type 0} (e : Event) (old new : Played K) (more : Option Telling) (before after : Telling) (r : Result U Over)
       → ((limits : Limits) (u : Telling) (w v : World) → Happens limits e u w v → IsTurn limits e u w v) → Does g now e old more new
       → OnOk r ((t : Telling) × (more ≡ Some t) × (after ≡ both_tell before t)) → OnOk r (GoesOn g now (once e) old before after new)
   goes_added e old new more before after (Ok u) turns does (t, some, told) =
@@ -217,7 +217,7 @@ module _ {K : Type 0} (g : Ghosts K) (now : ℕ) where
     told = ap (both_tell t) told;
   }
 
-  pub goes_round : {U : Type 0} (client : List ℕ) (old sent read new : Played K) (a b c d : Telling) (r : Result U RunFault)
+  pub goes_round : {U : Type 0} (client : List ℕ) (old sent read new : Played K) (a b c d : Telling) (r : Result U Over)
       → GoesOn g now (once (ask (pump client))) old a b sent → GoesOn g now (reads_all client) sent b c read
       → OnOk r (GoesOn g now (answers_all client) read c d new) → OnOk r (GoesOn g now (one_round client) old a d new)
   goes_round client old sent read new a b c d (Ok x) sends reads answers =
@@ -278,11 +278,11 @@ module _ {K : Type 0} (g : Ghosts K) (now : ℕ) where
 -- ---- whatever the moment
 
 module _ {K : Type 0} (g : Ghosts K) where
-  pub goes_added_ever : {U : Type 0} (e : Event) (old new : Played K) (more : Option Telling) (before after : Telling) (r : Result U RunFault)
+  pub goes_added_ever : {U : Type 0} (e : Event) (old new : Played K) (more : Option Telling) (before after : Telling) (r : Result U Over)
       → ((limits : Limits) (u : Telling) (w v : World) → Happens limits e u w v → IsTurn limits e u w v) → ((now : ℕ) → Does g now e old more new)
       → OnOk r ((t : Telling) × (more ≡ Some t) × (after ≡ both_tell before t)) → OnOk r ((now : ℕ) → GoesOn g now (once e) old before after new)
   goes_added_ever {U} e old new more before after (Ok u) turns does told = λ now.
-      let r : Result U RunFault = Ok u in
+      let r : Result U Over = Ok u in
       goes_added g now e old new more before after r turns (does now) told
   goes_added_ever e old new more before after (Err f) turns does told = tt
 
@@ -304,7 +304,7 @@ module _ {K : Type 0} (g : Ghosts K) (client : List ℕ) where
             (does.done (subst SpellsAll here spells) (subst (λ (l : Limits). IsReached l S.engine.running.broker) here reached) ss);
       }
 
-  pub all_drain : (S P : Played K) (ss : List Stranger) (now : ℕ) (limits : Limits) (s : Staged K) (r : Result (Option (Telling × ℕ)) RunFault)
+  pub all_drain : (S P : Played K) (ss : List Stranger) (now : ℕ) (limits : Limits) (s : Staged K) (r : Result (Option (Telling × ℕ)) Over)
       → staged S ss now limits ≡ s → IsStanding g s → IfOk r (λ x. Drains g now client S x P)
       → IfOk r (λ x. PlaysDrain g client s x (staged P ss now limits))
   all_drain S P ss now limits s (Ok x) view stands does =

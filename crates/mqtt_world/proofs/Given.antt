@@ -28,7 +28,7 @@ use Rattle.mqtt_broker_step.specs.declared.call.EngineError.{EngineError}
 use Rattle.mqtt_broker.specs.Serving.{Serving, has_closed, without_closed}
 use Rattle.mqtt_broker.specs.Framers.{HeldLine, changed_at, framing_at, framing_of, in_framing, line_of}
 use Rattle.mqtt_records_rows.specs.Order.{row_at}
-use Rattle.mqtt_world_peers.specs.declared.told.RunFault.{RunFault}
+use Rattle.mqtt_world.specs.declared.over.Over.{Over}
 use Rattle.mqtt_world_clients.specs.Ends.{Ends}
 use Rattle.mqtt_world_clients.specs.Telling.{AreSpelled, ends_told}
 use Rattle.mqtt_world.specs.Scenes.{Calls, HoldNone, IsPlayable, Played}
@@ -208,7 +208,7 @@ module _ {K : Type 0} (g : Ghosts K) (now line : ℕ) (call : Call) (piece : Lis
 
   -- ---- so it is that call
 
-  pub given : (moment : ℕ) (mid : Serving K) (result : Result Outcome EngineError) (r : Result Telling RunFault) → IsPlayable g old → held_after piece ≡ [] → length piece ≤ PACKET_LIMIT → first_call line piece ≡ Some call
+  pub given : (moment : ℕ) (mid : Serving K) (result : Result Outcome EngineError) (r : Result Telling Over) → IsPlayable g old → held_after piece ≡ [] → length piece ≤ PACKET_LIMIT → first_call line piece ≡ Some call
       → moment ≡ m → result ≡ Ok out → PieceCalled g moment line piece old.engine result mid → new.engine ≡ mid
       → ((answer : Answer) → Tells answer out → AreSpelled answer → OnOk r (new.ends ≡ ends_told mid.running.broker answer old.ends))
       → ((answer : Answer) → Tells answer out → IfOk r (λ (t : Telling). t ≡ record { reports = answer.reports; out = length answer.outputs }))
@@ -248,7 +248,7 @@ module _ {K : Type 0} (g : Ghosts K) (now line : ℕ) (call : Call) (piece : Lis
       }
 
 -- and of a scene as it is seen
-pub given_in : {K : Type 0} (g : Ghosts K) (now moment line : ℕ) (call : Call) (piece : List ℕ) (old new : Played K) (engine mid : Serving K) (ends : Ends) (out : Outcome) (result : Result Outcome EngineError) (r : Result Telling RunFault)
+pub given_in : {K : Type 0} (g : Ghosts K) (now moment line : ℕ) (call : Call) (piece : List ℕ) (old new : Played K) (engine mid : Serving K) (ends : Ends) (out : Outcome) (result : Result Outcome EngineError) (r : Result Telling Over)
     → old ≡ record { engine = engine; ends = ends }
     → IsPlayable g old → held_after piece ≡ [] → length piece ≤ PACKET_LIMIT → first_call line piece ≡ Some call
     → moment ≡ min now LAST_NUMBER → result ≡ Ok out → PieceCalled g moment line piece engine result mid → new.engine ≡ mid

@@ -6,7 +6,7 @@ use Rattle.mqtt_world_model.specs.Tellings.{Telling}
 use Rattle.mqtt_world_model.specs.World as world
 use Rattle.mqtt_world_peers.specs.Publishers.{draft_of}
 use Rattle.mqtt_world_peers.specs.Receivers.{wish_of}
-use Rattle.mqtt_world_peers.specs.declared.told.RunFault.{RunFault}
+use Rattle.mqtt_world.specs.declared.over.Over.{Over}
 use Rattle.mqtt_script.specs.declared.event.Asking.{Asking}
 use Rattle.mqtt_script.specs.declared.event.Asking.TheVariants as asking
 use Rattle.mqtt_script.specs.declared.event.Event.{Event}
@@ -96,13 +96,13 @@ module _ {K : Type 0} (g : Ghosts K) (now : ℕ) (e : Event) (s new : Played K) 
       subst (λ (o : Option world.Event). DoesIf g now o s t new) (sym is) (subst (λ (n : List ℕ). Does g now (x n) s t new) same does)
 
   -- whatever the moment
-  pub does_at : (x : List ℕ → world.Event) (named name : List ℕ) (r : Result (Option Telling) RunFault) → event_of e ≡ Some (x name) → named ≡ name
+  pub does_at : (x : List ℕ → world.Event) (named name : List ℕ) (r : Result (Option Telling) Over) → event_of e ≡ Some (x name) → named ≡ name
       → IfOk r (λ (t : Option Telling). (n : ℕ) → Does g n (x named) s t new) → IfOk r (λ (t : Option Telling). DoesIf g now (event_of e) s t new)
   does_at x named name (Ok t) is same h = at_name x named name t is same (h now)
   does_at x named name (Err f) is same h = tt
 
   -- at this moment
-  pub does_now : (x : List ℕ → world.Event) (named name : List ℕ) (r : Result (Option Telling) RunFault) → event_of e ≡ Some (x name) → named ≡ name
+  pub does_now : (x : List ℕ → world.Event) (named name : List ℕ) (r : Result (Option Telling) Over) → event_of e ≡ Some (x name) → named ≡ name
       → IfOk r (λ (t : Option Telling). Does g now (x named) s t new) → IfOk r (λ (t : Option Telling). DoesIf g now (event_of e) s t new)
   does_now x named name (Ok t) is same h = at_name x named name t is same h
   does_now x named name (Err f) is same h = tt
@@ -118,27 +118,27 @@ module _ {K : Type 0} (g : Ghosts K) (S P : Played K) (ss : List world.Stranger)
   plays_by None t view stands h = (h.0, ap (λ (x : Played K). staged x ss now limits) h.1 ∙ view)
   plays_by (Some e) t view stands h = plays_in g e S P ss now limits s t view stands h
 
-  pub if_plays : (o : Option world.Event) (r : Result (Option Telling) RunFault) → staged S ss now limits ≡ s → IsStanding g s
+  pub if_plays : (o : Option world.Event) (r : Result (Option Telling) Over) → staged S ss now limits ≡ s → IsStanding g s
       → IfOk r (λ (t : Option Telling). DoesIf g now o S t P) → IfOk r (λ (t : Option Telling). PlaysIf g o s t (staged P ss now limits))
   if_plays o (Ok t) view stands h = plays_by o t view stands h
   if_plays o (Err f) view stands h = tt
 
 -- what was told, with the stage that is left
-with_told : {K : Type 0} (P : Option Telling → Staged K → Type 0) (mid : Staged K) (r : Result (Option Telling) RunFault) (x : Result (Staged K × Option Telling) RunFault)
+with_told : {K : Type 0} (P : Option Telling → Staged K → Type 0) (mid : Staged K) (r : Result (Option Telling) Over) (x : Result (Staged K × Option Telling) Over)
     → IfOk x (λ (y : Staged K × Option Telling). (y.0 ≡ mid) × (r ≡ Ok y.1)) → IfOk r (λ (t : Option Telling). P t mid)
     → IfOk x (λ (y : Staged K × Option Telling). P y.1 y.0)
 with_told {K} P mid r (Ok y) is h =
-    subst (λ (m : Staged K). P y.1 m) (sym is.0) (subst (λ (q : Result (Option Telling) RunFault). IfOk q (λ (t : Option Telling). P t mid)) is.1 h)
+    subst (λ (m : Staged K). P y.1 m) (sym is.0) (subst (λ (q : Result (Option Telling) Over). IfOk q (λ (t : Option Telling). P t mid)) is.1 h)
 with_told P mid r (Err f) is h = tt
 
 -- and of an event that is one of the world's
 module _ {K : Type 0} (g : Ghosts K) (e : Event) (x : world.Event) (s : Staged K) where
-  pub plays_of : (r : Result (Staged K × Option Telling) RunFault) → event_of e ≡ Some x
+  pub plays_of : (r : Result (Staged K × Option Telling) Over) → event_of e ≡ Some x
       → IfOk r (λ (y : Staged K × Option Telling). Plays g x s y.1 y.0) → IfOk r (λ (y : Staged K × Option Telling). Performs g e s y.1 y.0)
   plays_of (Ok y) is h = performs_event x is h
   plays_of (Err f) is h = tt
 
-  pub told_of : (mid : Staged K) (r : Result (Option Telling) RunFault) (y : Result (Staged K × Option Telling) RunFault) → event_of e ≡ Some x
+  pub told_of : (mid : Staged K) (r : Result (Option Telling) Over) (y : Result (Staged K × Option Telling) Over) → event_of e ≡ Some x
       → IfOk y (λ (z : Staged K × Option Telling). (z.0 ≡ mid) × (r ≡ Ok z.1)) → IfOk r (λ (t : Option Telling). Plays g x s t mid)
       → IfOk y (λ (z : Staged K × Option Telling). Performs g e s z.1 z.0)
   told_of mid r y is told h = plays_of y is (with_told (λ (t : Option Telling) (z : Staged K). Plays g x s t z) mid r y told h)
@@ -163,30 +163,30 @@ of_ends_if g (StopAfter a) s n t is p = absurd is
 of_ends_if g (Stranger name bytes) s n t is p = absurd is
 of_ends_if g (Drain c) s n t is p = absurd is
 
-pub told_of_ends : {K : Type 0} (g : Ghosts K) (e : Event) (s mid : Staged K) (r : Result (Option Telling) RunFault) (y : Result (Staged K × Option Telling) RunFault) → IsOfEnds e
+pub told_of_ends : {K : Type 0} (g : Ghosts K) (e : Event) (s mid : Staged K) (r : Result (Option Telling) Over) (y : Result (Staged K × Option Telling) Over) → IsOfEnds e
     → IfOk y (λ (z : Staged K × Option Telling). (z.0 ≡ mid) × (r ≡ Ok z.1)) → IfOk r (λ (t : Option Telling). PlaysIf g (event_of e) s t mid)
     → IfOk y (λ (z : Staged K × Option Telling). Performs g e s z.1 z.0)
 told_of_ends {K} g e s mid (Ok t) y is told h =
-    let r : Result (Option Telling) RunFault = Ok t in
+    let r : Result (Option Telling) Over = Ok t in
     with_told (λ (u : Option Telling) (z : Staged K). Performs g e s u z) mid r y told (of_ends_if g e s mid t is h)
 told_of_ends {K} g e s mid (Err f) y is told h =
-    let r : Result (Option Telling) RunFault = Err f in
+    let r : Result (Option Telling) Over = Err f in
     with_told (λ (u : Option Telling) (z : Staged K). Performs g e s u z) mid r y told tt
 
 -- and of a drain
-drain_if : {K : Type 0} (g : Ghosts K) (e : Event) (client : List ℕ) (s mid : Staged K) (r : Result (Option Telling) RunFault) → e ≡ Drain client
+drain_if : {K : Type 0} (g : Ghosts K) (e : Event) (client : List ℕ) (s mid : Staged K) (r : Result (Option Telling) Over) → e ≡ Drain client
     → IfOk r (λ (t : Option Telling). TellsDrain g client s t mid) → IfOk r (λ (t : Option Telling). Performs g e s t mid)
 drain_if g e client s mid (Ok t) is h = performs_drain client is h
 drain_if g e client s mid (Err f) is h = tt
 
-pub told_of_drain : {K : Type 0} (g : Ghosts K) (e : Event) (client : List ℕ) (s mid : Staged K) (r : Result (Option Telling) RunFault)
-    (y : Result (Staged K × Option Telling) RunFault) → e ≡ Drain client
+pub told_of_drain : {K : Type 0} (g : Ghosts K) (e : Event) (client : List ℕ) (s mid : Staged K) (r : Result (Option Telling) Over)
+    (y : Result (Staged K × Option Telling) Over) → e ≡ Drain client
     → IfOk y (λ (z : Staged K × Option Telling). (z.0 ≡ mid) × (r ≡ Ok z.1)) → IfOk r (λ (t : Option Telling). TellsDrain g client s t mid)
     → IfOk y (λ (z : Staged K × Option Telling). Performs g e s z.1 z.0)
 told_of_drain {K} g e client s mid r y is told h = with_told (λ (t : Option Telling) (z : Staged K). Performs g e s t z) mid r y told (drain_if g e client s mid r is h)
 
 -- a stop at what is asked of the broker, as it is called
-pub stops_of : {K : Type 0} (g : Ghosts K) (after : Bool) (a : Asking) (x : world.Asking) (s : Staged K) (r : Result (Staged K × Option Telling) RunFault)
+pub stops_of : {K : Type 0} (g : Ghosts K) (after : Bool) (a : Asking) (x : world.Asking) (s : Staged K) (r : Result (Staged K × Option Telling) Over)
     → asking_of a ≡ x → IfOk r (λ (y : Staged K × Option Telling). Plays g (stop_at after x) s y.1 y.0)
     → IfOk r (λ (y : Staged K × Option Telling). Plays g (stop_at after (asking_of a)) s y.1 y.0)
 stops_of {K} g after a x s r is h = subst (λ (b : world.Asking). IfOk r (λ (y : Staged K × Option Telling). Plays g (stop_at after b) s y.1 y.0)) (sym is) h

@@ -9,7 +9,7 @@ use Rattle.mqtt_rules.specs.Laws.{AreWithin}
 use Rattle.mqtt_rules.specs.State.{later}
 use Rattle.mqtt_rules.specs.Step.{is_opening_spent}
 use Rattle.mqtt_rules.specs.declared.Limits.{Limits}
-use Rattle.mqtt_world_peers.specs.declared.told.RunFault.{RunFault}
+use Rattle.mqtt_world.specs.declared.over.Over.{Over}
 use Rattle.mqtt_script_laws.specs.Scripted.{IsBadEvent}
 use Rattle.mqtt_script_laws.specs.Turns.{IsPlain, IsReopened, by_choice}
 use Rattle.mqtt_script_laws.proofs.Single.{quiet, reopens, stops_before}
@@ -66,7 +66,7 @@ module _ {K : Type 0} (g : Ghosts K) where
 
   -- whatever is answered
   pub all_play : (e : Event) (S P : Played K) (ss : List Stranger) (now : ℕ) (limits : Limits) (s : Staged K)
-      (r : Result (Option Telling) RunFault) → staged S ss now limits ≡ s → IsStanding g s → IfOk r (λ t. Does g now e S t P)
+      (r : Result (Option Telling) Over) → staged S ss now limits ≡ s → IsStanding g s → IfOk r (λ t. Does g now e S t P)
       → IfOk r (λ t. Plays g e s t (staged P ss now limits))
   all_play e S P ss now limits s r view stands h =
       ok_as (λ (t : Option Telling). Does g now e S t P) (λ (t : Option Telling). Plays g e s t (staged P ss now limits)) r
@@ -217,19 +217,19 @@ module _ {K : Type 0} (g : Ghosts K) where
 
   -- ---- whatever is answered
 
-  pub all_restages : (S P : Played K) (ss rs : List Stranger) (now : ℕ) (limits : Limits) (s : Staged K) (r : Result (Played K) RunFault) (t : Telling)
+  pub all_restages : (S P : Played K) (ss rs : List Stranger) (now : ℕ) (limits : Limits) (s : Staged K) (r : Result (Played K) Over) (t : Telling)
       → staged S ss now limits ≡ s → r ≡ Ok P → IfOk r (λ x. Reopens g limits now S x) → rs ≡ map unlinked ss → t ≡ silent
       → Restages g s (Some t) (staged P rs now limits)
   all_restages S P ss rs now limits s r t view ok h is told =
       restages S P ss rs now limits s t view (ok_is (λ (x : Played K). Reopens g limits now S x) r P ok h) is told
 
-  pub all_stop_after : (a : Asking) (old mid : Staged K) (u : Telling) (r : Result (Staged K × Option Telling) RunFault) → IsPlain a
+  pub all_stop_after : (a : Asking) (old mid : Staged K) (u : Telling) (r : Result (Staged K × Option Telling) Over) → IsPlain a
       → Plays g (ask a) old (Some u) mid → IfOk r (λ x. Restages g mid x.1 x.0) → IfOk r (λ x. Plays g (stop_after a) old x.1 x.0)
   all_stop_after a old mid u r plain asked h =
       ok_as (λ (x : Staged K × Option Telling). Restages g mid x.1 x.0) (λ (x : Staged K × Option Telling). Plays g (stop_after a) old x.1 x.0) r
       (λ x again. stop_after_plays a old mid x.0 u x.1 plain asked again) h
 
-  pub all_stop_before : (a : Asking) (old mid : Staged K) (r : Result (Staged K × Option Telling) RunFault) → IsStanding g old
+  pub all_stop_before : (a : Asking) (old mid : Staged K) (r : Result (Staged K × Option Telling) Over) → IsStanding g old
       → mid ≡ record old { played = mid.played } → IsTakenOff a old.played mid.played → IfOk r (λ x. Restages g mid x.1 x.0)
       → IfOk r (λ x. Plays g (stop_before a) old x.1 x.0)
   all_stop_before a old mid r stands same off h =

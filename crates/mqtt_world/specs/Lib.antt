@@ -1,6 +1,7 @@
 -- The world that runs.
 pub mod Draining
 pub mod Events
+pub mod Halting
 pub mod Openings
 pub mod Scenes
 pub mod Stages

@@ -8,10 +8,11 @@ ghost use Rattle.mqtt_world_peers.specs.Lines.{link_of};
 ghost use Rattle.mqtt_world.specs.Events.{Does};
 ghost use Rattle.mqtt_world.specs.Scenes.{IsPlayable};
 
+use crate::halt::Halt;
 use crate::scene::Scene;
 use mqtt_codec::Packet;
 use mqtt_records::Keep;
-use mqtt_world_peers::{Link, RunFault, Told, is_input};
+use mqtt_world_peers::{Link, Told, is_input};
 use std::alloc::Global;
 
 /// Whether an end that has come so far with its line has one. Takes no memory.
@@ -26,7 +27,7 @@ pub(crate) fn has_line(link: Option<Link>) -> bool
 
 impl<K: Keep> Scene<K> {
     /// The broker looks at the moment.
-    pub(crate) fn ask_tick(&mut self, now: u64) -> Result<Option<Told>, RunFault>
+    pub(crate) fn ask_tick(&mut self, now: u64) -> Result<Option<Told>, Halt<K>>
         requires { IsPlayable K.Keep self.old }
         ensures { IfOk result (λ t. Does K.Keep now (ask tick) self.old t self.new) }
     {
@@ -40,7 +41,7 @@ impl<K: Keep> Scene<K> {
         alloc: Global,
         client: &str,
         now: u64,
-    ) -> Result<Option<Told>, RunFault>
+    ) -> Result<Option<Told>, Halt<K>>
         requires { IsPlayable K.Keep self.old }
         ensures { IfOk result (λ t. Does K.Keep now (ask (pump client.now)) self.old t self.new) }
     {
@@ -62,7 +63,7 @@ impl<K: Keep> Scene<K> {
         alloc: Global,
         client: &str,
         now: u64,
-    ) -> Result<Option<Told>, RunFault>
+    ) -> Result<Option<Told>, Halt<K>>
         requires { IsPlayable K.Keep self.old }
         ensures { IfOk result (λ t. Does K.Keep now (ask (break client.now)) self.old t self.new) }
     {
@@ -90,7 +91,7 @@ impl<K: Keep> Scene<K> {
         line: u64,
         packet: &Packet,
         now: u64,
-    ) -> Result<Option<Told>, RunFault>
+    ) -> Result<Option<Told>, Halt<K>>
         requires playable { IsPlayable K.Keep self.old }
         requires there { (w : World) → is_end client.now (in_world self.old.ends w) ≡ true }
         requires front { (set : Setting) (w : World) → Some (Input line packet.now)
@@ -112,7 +113,7 @@ impl<K: Keep> Scene<K> {
         client: &str,
         old: bool,
         now: u64,
-    ) -> Result<Option<Told>, RunFault>
+    ) -> Result<Option<Told>, Halt<K>>
         requires { IsPlayable K.Keep self.old }
         ensures { IfOk result (λ t. Does K.Keep now (ask (reading old client.now)) self.old t self.new) }
     {

@@ -10,21 +10,22 @@ ghost use Rattle.mqtt_world.specs.Events.{world_of};
 ghost use Rattle.mqtt_world.specs.Scenes.{IsPlayable};
 ghost use Rattle.mqtt_world.specs.Stages.{IsStanding};
 
+use crate::halt::Halt;
 use crate::scene::Scene;
 use crate::stage::Stage;
 use crate::visits::join;
 use mqtt_records::Keep;
-use mqtt_world_peers::{RunFault, Told};
+use mqtt_world_peers::Told;
 use std::alloc::Global;
 
 /// What an event of a drain told, behind what was told before.
-fn add(told: &mut Told, more: Option<Told>) -> Result<(), RunFault>
+fn add<K: Keep>(told: &mut Told, more: Option<Told>) -> Result<(), Halt<K>>
     ensures { OnOk result ((t : Telling) × (more ≡ Some t) × (told.new ≡ both_tell told.old t)) }
 {
     match more {
         Some(more) => join(told, more),
         // (a receiver sends nothing that the broker doesn't take)
-        None => Err(RunFault::Store),
+        None => Err(Halt::by_memory()),
     }
 }
 
@@ -66,7 +67,7 @@ impl<K: Keep> Scene<K> {
         client: &str,
         now: u64,
         told: &mut Told,
-    ) -> Result<(), RunFault>
+    ) -> Result<(), Halt<K>>
         requires { IsPlayable K.Keep self.old }
         ensures { OnOk result (GoesOn K.Keep now (once (ask (pump client.now)))
             self.old told.old told.new self.new) }
@@ -76,7 +77,7 @@ impl<K: Keep> Scene<K> {
     }
 
     /// A client reads the first packet under way to it.
-    fn read_one(&mut self, alloc: Global, client: &str, told: &mut Told) -> Result<(), RunFault>
+    fn read_one(&mut self, alloc: Global, client: &str, told: &mut Told) -> Result<(), Halt<K>>
         requires { IsPlayable K.Keep self.old }
         ensures { OnOk result ((now : ℕ) → GoesOn K.Keep now (once (to_end client.now))
             self.old told.old told.new self.new) }
@@ -92,7 +93,7 @@ impl<K: Keep> Scene<K> {
         client: &str,
         now: u64,
         told: &mut Told,
-    ) -> Result<(), RunFault>
+    ) -> Result<(), Halt<K>>
         requires { IsPlayable K.Keep self.old }
         ensures { OnOk result (GoesOn K.Keep now (once (ask (to_broker client.now)))
             self.old told.old told.new self.new) }
@@ -102,7 +103,7 @@ impl<K: Keep> Scene<K> {
     }
 
     /// A receiver reads all packets that are under way to it.
-    fn read_all(&mut self, alloc: Global, client: &str, told: &mut Told) -> Result<(), RunFault>
+    fn read_all(&mut self, alloc: Global, client: &str, told: &mut Told) -> Result<(), Halt<K>>
         requires { IsPlayable K.Keep self.old }
         ensures { OnOk result ((now : ℕ) → GoesOn K.Keep now (reads_all client.now)
             self.old told.old told.new self.new) }
@@ -121,7 +122,7 @@ impl<K: Keep> Scene<K> {
         client: &str,
         now: u64,
         told: &mut Told,
-    ) -> Result<(), RunFault>
+    ) -> Result<(), Halt<K>>
         requires { IsPlayable K.Keep self.old }
         ensures { OnOk result (GoesOn K.Keep now (answers_all client.now)
             self.old told.old told.new self.new) }
@@ -140,7 +141,7 @@ impl<K: Keep> Scene<K> {
         client: &str,
         now: u64,
         told: &mut Told,
-    ) -> Result<(), RunFault>
+    ) -> Result<(), Halt<K>>
         requires { IsPlayable K.Keep self.old }
         ensures { OnOk result (GoesOn K.Keep now (one_round client.now)
             self.old told.old told.new self.new) }
@@ -150,15 +151,15 @@ impl<K: Keep> Scene<K> {
         self.answer_all(alloc, client, now, told)
     }
 
-    /// Rounds until the drain is over, and how many. A drain of more than a `u32` counts is given up as one for which the
-    /// store failed.
+    /// Rounds until the drain is over, and how many. A drain of more than a `u32` counts is given up as one for which
+    /// memory is wanting.
     fn rounds(
         &mut self,
         alloc: Global,
         client: &str,
         now: u64,
         told: &mut Told,
-    ) -> Result<u32, RunFault>
+    ) -> Result<u32, Halt<K>>
         requires { IsPlayable K.Keep self.old }
         ensures { IfOk result (λ rounds. GoesOn K.Keep now (all_rounds client.now rounds)
             self.old told.old told.new self.new) }
@@ -169,7 +170,7 @@ impl<K: Keep> Scene<K> {
             }
             self.round(alloc, client, now, told)?;
         }
-        Err(RunFault::Store)
+        Err(Halt::by_memory())
     }
 
     /// A receiver whose line stands is drained: what is told, and how many rounds it takes.
@@ -178,7 +179,7 @@ impl<K: Keep> Scene<K> {
         alloc: Global,
         client: &str,
         now: u64,
-    ) -> Result<Option<(Told, u32)>, RunFault>
+    ) -> Result<Option<(Told, u32)>, Halt<K>>
         requires { IsPlayable K.Keep self.old }
         ensures { IfOk result (λ x. Drains K.Keep now client.now self.old x self.new) }
     {
@@ -198,7 +199,7 @@ impl<K: Keep> Scene<K> {
 
 impl<K: Keep> Stage<K> {
     /// A receiver whose line stands is drained: what is told, and how many rounds it takes.
-    pub(crate) fn drain(&mut self, client: &str) -> Result<Option<(Told, u32)>, RunFault>
+    pub(crate) fn drain(&mut self, client: &str) -> Result<Option<(Told, u32)>, Halt<K>>
         requires { IsStanding K.Keep self.old }
         ensures { IfOk result (λ x. PlaysDrain K.Keep client.now self.old x self.new) }
     {
@@ -206,7 +207,7 @@ impl<K: Keep> Stage<K> {
     }
 
     /// A receiver whose line stands is drained, and this is told.
-    pub(crate) fn drain_told(&mut self, client: &str) -> Result<Option<Told>, RunFault>
+    pub(crate) fn drain_told(&mut self, client: &str) -> Result<Option<Told>, Halt<K>>
         requires { IsStanding K.Keep self.old }
         ensures { IfOk result (λ t. TellsDrain K.Keep client.now self.old t self.new) }
     {

@@ -5,13 +5,14 @@ ghost use Rattle.mqtt_world_model.specs.World.{World as Start};
 ghost use Rattle.mqtt_world_peers.specs.declared.told.RunFault.TheVariants as fault;
 ghost use Rattle.mqtt_script.specs.declared.event.Event.TheVariants.{Drain};
 ghost use Rattle.mqtt_world.specs.Draining.{PlaysDrain};
+ghost use Rattle.mqtt_world.specs.Halting.{IsFaultDue};
 ghost use Rattle.mqtt_world.specs.Openings.{AlwaysSound};
 ghost use Rattle.mqtt_world.specs.Stages.{IsStanding, Staged};
 ghost use Rattle.mqtt_world.specs.Worlds.{DrainEmpties, HappenDrained, HasCome, HasDelivered, Refuses, fault_of, over_by, with_stage};
 ghost use Rattle.mqtt_world.specs.declared.over.Over.{Over as Why};
 ghost use Rattle.mqtt_world.specs.declared.over.Over.TheVariants as over;
 
-use crate::over::{Over, over_for};
+use crate::halt::Halt;
 use crate::stage::Stage;
 use crate::world::World;
 use mqtt_base::Text;
@@ -45,6 +46,7 @@ impl<K: Keep> World<K> {
             → PlaysDrain K.Keep client s (Some (told, rounds)) stage
             → IfOk result (λ n. HappenDrained K.Keep client n (with_stage s self.old) self.new) }
         ensures refused { IfErr result (λ f. (f ≡ fault.Memory) × (self.new ≡ over_by over.Memory self.old)) }
+        ensures cause { IfErr result (IsFaultDue K.Keep) }
     {
         match self.keep(stage, event, told) {
             Ok(told) => {
@@ -68,6 +70,7 @@ impl<K: Keep> World<K> {
             HappenDrained K.Keep client.now n (with_stage stage self.old) self.new) }
         ensures refused { IfErr result (λ f.
             Refuses K.Keep (Drain client.now) f (with_stage stage self.old) self.new) }
+        ensures cause { IfErr result (IsFaultDue K.Keep) }
     {
         match stage.drain(client) {
             Ok(Some((told, rounds))) => self.keep_drain(stage, event, told, rounds),
@@ -78,7 +81,7 @@ impl<K: Keep> World<K> {
             Err(fault) => {
                 drop(stage);
                 drop(event);
-                Err(self.end(over_for(fault)))
+                Err(self.end(fault))
             }
         }
     }
@@ -90,23 +93,27 @@ impl<K: Keep> World<K> {
             HappenDrained K.Keep client.now n (with_stage stage self.old) self.new) }
         ensures refused { IfErr result (λ f.
             Refuses K.Keep (Drain client.now) f (with_stage stage self.old) self.new) }
+        ensures cause { IfErr result (IsFaultDue K.Keep) }
     {
         match self.make_drain(client) {
             Ok(event) => self.play_drain(stage, event, client.as_str()),
             Err(_) => {
                 drop(stage);
-                Err(self.end(Over::Memory))
+                Err(self.end_short())
             }
         }
     }
 
     /// A receiver is drained, which is kept as an event of a script: rounds until nothing waits for it or the broker has
-    /// closed its line, and how many. `Memory` (1) and `Store` (2): the world is over; `Store` also where there are more
+    /// closed its line, and how many. `Memory` (1) and `Store` (2): the world is over; `Memory` also where there are more
     /// rounds than a `u32` counts. `BadEvent` (3): it is no receiver, or the broker doesn't have its line, and nothing
     /// changed; its place is behind the events that are kept.
     pub fn drain(&mut self, client: &Text) -> Result<u32, RunFault>
         ensures drained { IfOk result (λ n. HappenDrained K.Keep client.now n self.old self.new) }
         ensures refused { IfErr result (λ f. Refuses K.Keep (Drain client.now) f self.old self.new) }
+
+        // `Store` has a cause, in this call or in the one that ended the world.
+        ensures cause { IfErr result (IsFaultDue K.Keep) }
 
         // Whatever is asked of a world that is over, it answers why it is.
         ensures over { (o : Why) → self.old.stage ≡ Err o
@@ -122,7 +129,7 @@ impl<K: Keep> World<K> {
         ensures delivers { AlwaysSound K.Keep → (start : Start) → HasCome start self.old
             → HasDelivered start self.new }
     {
-        match mem::replace(&mut self.stage, Err(Over::Memory)) {
+        match mem::replace(&mut self.stage, Err(Halt::by_memory())) {
             Ok(stage) => self.drain_on(stage, client),
             Err(over) => Err(self.end(over)),
         }

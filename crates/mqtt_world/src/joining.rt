@@ -5,10 +5,11 @@ ghost use Rattle.mqtt_world_peers.specs.Lines.{link_of};
 ghost use Rattle.mqtt_world.specs.Events.{Does};
 ghost use Rattle.mqtt_world.specs.Scenes.{IsPlayable};
 
+use crate::halt::Halt;
 use crate::lines::are_full;
 use crate::scene::Scene;
 use mqtt_records::Keep;
-use mqtt_world_peers::{Link, RunFault, Told};
+use mqtt_world_peers::{Link, Told};
 use std::alloc::Global;
 
 /// Whether an end that has come so far with its line has none. Takes no memory.
@@ -29,7 +30,7 @@ impl<K: Keep> Scene<K> {
         client: &str,
         clean: bool,
         now: u64,
-    ) -> Result<Option<Told>, RunFault>
+    ) -> Result<Option<Told>, Halt<K>>
         requires { IsPlayable K.Keep self.old }
         ensures { IfOk result (λ t. Does K.Keep now (connect_end client.now clean) self.old t self.new) }
     {
@@ -44,8 +45,8 @@ impl<K: Keep> Scene<K> {
                 self.clients.join(client, line, clean)?;
                 Ok(Some(Told::silent(alloc)))
             }
-            // (no number is left to give)
-            None => Err(RunFault::Store),
+            // (2^62 lines were linked, and no number is left to give)
+            None => Err(Halt::by_memory()),
         }
     }
 }

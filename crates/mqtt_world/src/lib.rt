@@ -5,6 +5,7 @@
 mod asks;
 mod draining;
 mod drains;
+mod halt;
 mod joining;
 mod lines;
 mod looks;

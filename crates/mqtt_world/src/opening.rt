@@ -1,34 +1,27 @@
 //! A broker is opened over a store, and closed and opened again (MQTT 5.0, 4.1).
 
-ghost use Rattle.std.specs.Prelude.{◌≡◌, IfOk};
+ghost use Rattle.std.specs.Prelude.{◌≡◌, IfErr, IfOk, min};
+ghost use Rattle.mqtt_base.specs.declared.limits.TheConstants.{LAST_NUMBER};
 ghost use Rattle.mqtt_rules.specs.Laws.{AreWithin};
+ghost use Rattle.mqtt_world.specs.Halting.{IsUnbegun};
 ghost use Rattle.mqtt_world.specs.Openings.{Begins, Reopens, no_ends};
 ghost use Rattle.mqtt_world.specs.Scenes.{IsPlayable};
+ghost use Rattle.mqtt_world.specs.declared.over.Over.TheVariants as over;
 
+use crate::halt::Halt;
 use crate::scene::{Scene, moment};
 use mqtt_base::LINE_LIMIT;
 use mqtt_broker::Engine;
-use mqtt_records::{Keep, KeepError};
+use mqtt_records::Keep;
 use mqtt_rules::Limits;
 use mqtt_world_clients::Clients;
-use mqtt_world_peers::RunFault;
 use std::alloc::Global;
 use std::hash::RandomState;
 
-/// Why a refused opening ends the world. The store is dropped.
-fn fault_of<K: Keep>(refusal: (K, KeepError)) -> RunFault {
-    let (keep, error) = refusal;
-    drop(keep);
-    match error {
-        KeepError::Memory => RunFault::Memory,
-        KeepError::Disk | KeepError::Size | KeepError::Corrupt | KeepError::Schema =>
-            RunFault::Store,
-    }
-}
-
 /// A broker that was opened, without ends, and with room for the numbers of its lines.
-fn begun<K: Keep>(alloc: Global, engine: Engine<K>) -> Result<Scene<K>, RunFault>
-    ensures { IfOk result (λ scene. scene ≡ record { engine = engine; ends = no_ends }) }
+fn begun<K: Keep>(alloc: Global, engine: Engine<K>) -> Result<Scene<K>, Halt<K>>
+    ensures begins { IfOk result (λ scene. scene ≡ record { engine = engine; ends = no_ends }) }
+    ensures refused { IfErr result (λ o. o ≡ over.Memory) }
 {
     match Vec::with_capacity(alloc, LINE_LIMIT) {
         Ok(lines) => Ok(Scene {
@@ -38,7 +31,7 @@ fn begun<K: Keep>(alloc: Global, engine: Engine<K>) -> Result<Scene<K>, RunFault
         }),
         Err(_) => {
             drop(engine);
-            Err(RunFault::Memory)
+            Err(Halt::by_memory())
         }
     }
 }
@@ -51,13 +44,14 @@ impl<K: Keep> Scene<K> {
         now: u64,
         limits: Limits,
         hasher: RandomState,
-    ) -> Result<Scene<K>, RunFault>
+    ) -> Result<Scene<K>, Halt<K>>
         requires within { AreWithin limits }
-        ensures { IfOk result (λ scene. Begins K.Keep limits now keep scene) }
+        ensures begins { IfOk result (λ scene. Begins K.Keep limits now keep scene) }
+        ensures refused { IfErr result (IsUnbegun K.Keep limits (min now LAST_NUMBER) keep) }
     {
         match Engine::open(alloc, keep, moment(now), limits, hasher) {
             Ok(engine) => begun(alloc, engine),
-            Err(refusal) => Err(fault_of(refusal)),
+            Err(refusal) => Err(Halt::by_opening(refusal)),
         }
     }
 
@@ -68,7 +62,7 @@ impl<K: Keep> Scene<K> {
         now: u64,
         limits: Limits,
         hasher: RandomState,
-    ) -> Result<Scene<K>, RunFault>
+    ) -> Result<Scene<K>, Halt<K>>
         requires within { AreWithin limits }
         requires playable { IsPlayable K.Keep self }
         ensures { IfOk result (λ scene. Reopens K.Keep limits now self scene) }
@@ -91,7 +85,7 @@ impl<K: Keep> Scene<K> {
             Err(refusal) => {
                 drop(clients);
                 drop(lines);
-                Err(fault_of(refusal))
+                Err(Halt::by_opening(refusal))
             }
         }
     }

@@ -26,11 +26,3 @@ impl Over {
         }
     }
 }
-
-/// Why a world is over that ends so. Takes no memory.
-pub(crate) fn over_for(fault: RunFault) -> Over {
-    match fault {
-        RunFault::Memory => Over::Memory,
-        RunFault::Store | RunFault::BadEvent { .. } => Over::Store,
-    }
-}

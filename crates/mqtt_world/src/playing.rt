@@ -7,11 +7,12 @@ ghost use Rattle.mqtt_world.specs.Stages.{IsStanding, Plays};
 ghost use Rattle.mqtt_world.specs.Stopping.{stop_at};
 ghost use Rattle.mqtt_world.specs.Worlds.{DoesIf, IsOfEnds, Performs, PlaysIf};
 
+use crate::halt::Halt;
 use crate::scene::Scene;
 use crate::stage::Stage;
 use mqtt_records::Keep;
 use mqtt_script::{Asking, Event};
-use mqtt_world_peers::{RunFault, Told};
+use mqtt_world_peers::Told;
 use std::alloc::Global;
 
 impl<K: Keep> Scene<K> {
@@ -21,7 +22,7 @@ impl<K: Keep> Scene<K> {
         alloc: Global,
         event: &Event,
         now: u64,
-    ) -> Result<Option<Told>, RunFault>
+    ) -> Result<Option<Told>, Halt<K>>
         requires { IsPlayable K.Keep self.old }
         ensures { IsOfEnds event.now
             → IfOk result (λ t. DoesIf K.Keep now (event_of event.now) self.old t self.new) }
@@ -50,8 +51,8 @@ impl<K: Keep> Stage<K> {
     /// The stage, with what was told on it.
     fn with_told(
         self,
-        told: Result<Option<Told>, RunFault>,
-    ) -> Result<(Stage<K>, Option<Told>), RunFault>
+        told: Result<Option<Told>, Halt<K>>,
+    ) -> Result<(Stage<K>, Option<Told>), Halt<K>>
         ensures { IfOk result (λ x. (x.0 ≡ self) × (told ≡ Ok x.1)) }
     {
         match told {
@@ -64,7 +65,7 @@ impl<K: Keep> Stage<K> {
     }
 
     /// An event in which ends and the broker alone take part, and the broker stays open.
-    fn play(&mut self, event: &Event) -> Result<Option<Told>, RunFault>
+    fn play(&mut self, event: &Event) -> Result<Option<Told>, Halt<K>>
         requires { IsStanding K.Keep self.old }
         ensures { IsOfEnds event.now
             → IfOk result (λ t. PlaysIf K.Keep (event_of event.now) self.old t self.new) }
@@ -73,7 +74,7 @@ impl<K: Keep> Stage<K> {
     }
 
     /// The broker stops before the commit of the first step that is asked for, or after it, and is opened again.
-    fn stop(self, asking: &Asking, after: bool) -> Result<(Stage<K>, Option<Told>), RunFault>
+    fn stop(self, asking: &Asking, after: bool) -> Result<(Stage<K>, Option<Told>), Halt<K>>
         requires { IsStanding K.Keep self }
         ensures { IfOk result (λ x. Plays K.Keep (stop_at after (asking_of asking.now)) self x.1 x.0) }
     {
@@ -84,7 +85,7 @@ impl<K: Keep> Stage<K> {
     }
 
     /// An event of a script happens, or can't.
-    pub(crate) fn happen(mut self, event: &Event) -> Result<(Stage<K>, Option<Told>), RunFault>
+    pub(crate) fn happen(mut self, event: &Event) -> Result<(Stage<K>, Option<Told>), Halt<K>>
         requires { IsStanding K.Keep self }
         ensures { IfOk result (λ x. Performs K.Keep event.now self x.1 x.0) }
     {

@@ -8,11 +8,12 @@ ghost use Rattle.mqtt_world.specs.Events.{Does, world_of};
 ghost use Rattle.mqtt_world.specs.Scenes.{IsPlayable};
 
 use crate::asks::has_line;
+use crate::halt::Halt;
 use crate::scene::Scene;
 use mqtt_base::{CLIENT_LIMIT, Text};
 use mqtt_records::Keep;
 use mqtt_script::{Draft, Wish};
-use mqtt_world_peers::{RunFault, Told, is_message, is_wish};
+use mqtt_world_peers::{Told, is_message, is_wish};
 use std::alloc::{AllocError, Global};
 
 /// A name that is not one's own, or that the broker would not take (3.1.3.1). Takes no memory.
@@ -63,7 +64,7 @@ impl<K: Keep> Scene<K> {
         &mut self,
         alloc: Global,
         client: &Text,
-    ) -> Result<Option<Told>, RunFault>
+    ) -> Result<Option<Told>, Halt<K>>
         requires { IsPlayable K.Keep self.old }
         ensures { IfOk result (λ t. (now : ℕ) → Does K.Keep now (publisher client.now) self.old t self.new) }
     {
@@ -81,7 +82,7 @@ impl<K: Keep> Scene<K> {
         alloc: Global,
         client: &Text,
         window: u16,
-    ) -> Result<Option<Told>, RunFault>
+    ) -> Result<Option<Told>, Halt<K>>
         requires { IsPlayable K.Keep self.old }
         ensures { IfOk result (λ t. (now : ℕ) → Does K.Keep now (receiver client.now window) self.old t self.new) }
     {
@@ -112,7 +113,7 @@ impl<K: Keep> Scene<K> {
         alloc: Global,
         client: &str,
         draft: &Draft,
-    ) -> Result<Option<Told>, RunFault>
+    ) -> Result<Option<Told>, Halt<K>>
         requires { IsPlayable K.Keep self.old }
         ensures { IfOk result (λ t. (now : ℕ)
             → Does K.Keep now (publish client.now (draft_of draft.now)) self.old t self.new) }
@@ -130,7 +131,7 @@ impl<K: Keep> Scene<K> {
         alloc: Global,
         client: &str,
         wish: &Wish,
-    ) -> Result<Option<Told>, RunFault>
+    ) -> Result<Option<Told>, Halt<K>>
         requires { IsPlayable K.Keep self.old }
         ensures { IfOk result (λ t. (now : ℕ)
             → Does K.Keep now (subscribe client.now (wish_of wish.now)) self.old t self.new) }
@@ -143,7 +144,7 @@ impl<K: Keep> Scene<K> {
     }
 
     /// An end reads the first packet under way to it.
-    pub(crate) fn to_end(&mut self, alloc: Global, client: &str) -> Result<Option<Told>, RunFault>
+    pub(crate) fn to_end(&mut self, alloc: Global, client: &str) -> Result<Option<Told>, Halt<K>>
         requires { IsPlayable K.Keep self.old }
         ensures { IfOk result (λ t. (now : ℕ) → Does K.Keep now (to_end client.now) self.old t self.new) }
     {

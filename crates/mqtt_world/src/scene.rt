@@ -10,15 +10,15 @@ ghost use Rattle.mqtt_world_model.specs.World.{held_after, next_line};
 ghost use Rattle.mqtt_world_clients.specs.Telling.{AreSpelled, ends_told};
 ghost use Rattle.mqtt_world.specs.Scenes.{Calls, IsPlayable};
 
+use crate::halt::Halt;
 use crate::lines::keep_number;
 use mqtt_base::LAST_NUMBER;
 use mqtt_broker::Engine;
 use mqtt_broker_engine::Outcome;
-use mqtt_broker_step::EngineError;
 use mqtt_codec::Packet;
 use mqtt_records::Keep;
 use mqtt_world_clients::Clients;
-use mqtt_world_peers::{RunFault, Told};
+use mqtt_world_peers::Told;
 use std::marker::Model;
 
 /// A broker, and its ends. After a call that is refused it is good for nothing more.
@@ -45,14 +45,6 @@ pub(crate) fn moment(now: u64) -> u64
     now.min(LAST_NUMBER)
 }
 
-/// Why a refused call ends the world.
-fn fault_of(error: EngineError) -> RunFault {
-    match error {
-        EngineError::Memory => RunFault::Memory,
-        EngineError::Stopped | EngineError::Spent => RunFault::Store,
-    }
-}
-
 /// What a call answered, as an event tells it. Takes no memory.
 fn told_by(outcome: Outcome) -> Told
     ensures { (told : Answer) → Tells told outcome
@@ -72,7 +64,7 @@ fn told_by(outcome: Outcome) -> Told
 
 impl<K: Keep> Scene<K> {
     /// What a call answered reaches the ends.
-    fn tell(&mut self, outcome: Outcome) -> Result<Told, RunFault>
+    fn tell(&mut self, outcome: Outcome) -> Result<Told, Halt<K>>
         ensures same { self.new.engine ≡ self.old.engine }
         ensures ends { (told : Answer) → Tells told outcome → AreSpelled told
             → OnOk result (self.new.ends ≡ ends_told self.old.engine.running.broker told self.old.ends) }
@@ -85,7 +77,7 @@ impl<K: Keep> Scene<K> {
             Ok(()) => Ok(told),
             Err(_) => {
                 drop(told);
-                Err(RunFault::Memory)
+                Err(Halt::by_memory())
             }
         }
     }
@@ -102,52 +94,52 @@ impl<K: Keep> Scene<K> {
     }
 
     /// What waits for the session of a line is sent (4.6, 4.9).
-    pub(crate) fn pump(&mut self, line: u64, now: u64) -> Result<Told, RunFault>
+    pub(crate) fn pump(&mut self, line: u64, now: u64) -> Result<Told, Halt<K>>
         requires { IsPlayable K.Keep self.old }
         ensures { IfOk result (λ t. Calls K.Keep now (Pump line) self.old t self.new) }
     {
         match self.engine.pump(line, moment(now)) {
             Ok(outcome) => self.tell(outcome),
-            Err(error) => Err(fault_of(error)),
+            Err(error) => Err(Halt::by_call(error)),
         }
     }
 
     /// A line is lost (4.1).
-    pub(crate) fn lose(&mut self, line: u64, now: u64) -> Result<Told, RunFault>
+    pub(crate) fn lose(&mut self, line: u64, now: u64) -> Result<Told, Halt<K>>
         requires { IsPlayable K.Keep self.old }
         ensures { IfOk result (λ t. Calls K.Keep now (Lost line) self.old t self.new) }
     {
         match self.engine.lost(line, moment(now)) {
             Ok(outcome) => self.tell(outcome),
-            Err(error) => Err(fault_of(error)),
+            Err(error) => Err(Halt::by_call(error)),
         }
     }
 
     /// The broker looks at the moment.
-    pub(crate) fn tick(&mut self, now: u64) -> Result<Told, RunFault>
+    pub(crate) fn tick(&mut self, now: u64) -> Result<Told, Halt<K>>
         requires { IsPlayable K.Keep self.old }
         ensures { IfOk result (λ t. Calls K.Keep now Tick self.old t self.new) }
     {
         match self.engine.tick(moment(now)) {
             Ok(outcome) => self.tell(outcome),
-            Err(error) => Err(fault_of(error)),
+            Err(error) => Err(Halt::by_call(error)),
         }
     }
 
     /// A packet comes on a line (3, 4).
-    pub(crate) fn input(&mut self, line: u64, packet: &Packet, now: u64) -> Result<Told, RunFault>
+    pub(crate) fn input(&mut self, line: u64, packet: &Packet, now: u64) -> Result<Told, Halt<K>>
         requires playable { IsPlayable K.Keep self.old }
         requires taken { IsTaken packet.now }
         ensures { IfOk result (λ t. Calls K.Keep now (Input line packet.now) self.old t self.new) }
     {
         match self.engine.input(line, packet, moment(now)) {
             Ok(outcome) => self.tell(outcome),
-            Err(error) => Err(fault_of(error)),
+            Err(error) => Err(Halt::by_call(error)),
         }
     }
 
     /// Bytes come on a line, which holds none: a packet or a fault, and nothing behind it (2.1, 4.13).
-    pub(crate) fn give(&mut self, line: u64, bytes: &[u8], now: u64) -> Result<Told, RunFault>
+    pub(crate) fn give(&mut self, line: u64, bytes: &[u8], now: u64) -> Result<Told, Halt<K>>
         requires playable { IsPlayable K.Keep self.old }
         requires left { held_after bytes.now ≡ [] }
         requires within { length bytes.now ≤ PACKET_LIMIT }
@@ -156,7 +148,7 @@ impl<K: Keep> Scene<K> {
     {
         match self.engine.piece(line, bytes, moment(now)) {
             Ok(outcome) => self.tell(outcome),
-            Err(error) => Err(fault_of(error)),
+            Err(error) => Err(Halt::by_call(error)),
         }
     }
 }

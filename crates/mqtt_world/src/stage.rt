@@ -4,11 +4,12 @@ ghost use Rattle.std.specs.Prelude.{IfOk, Some};
 ghost use Rattle.mqtt_world_model.specs.World.{clock, restart};
 ghost use Rattle.mqtt_world.specs.Stages.{IsStanding, Plays, Restages};
 
+use crate::halt::Halt;
 use crate::scene::Scene;
 use mqtt_broker_decisions::later;
 use mqtt_records::Keep;
 use mqtt_rules::Limits;
-use mqtt_world_peers::{RunFault, Told};
+use mqtt_world_peers::Told;
 use mqtt_world_strangers::Strangers;
 use std::alloc::Global;
 use std::hash::RandomState;
@@ -36,7 +37,7 @@ impl<K: Keep> Model for Stage<K> {
 
 impl<K: Keep> Stage<K> {
     /// The broker is opened again on what is stored: no line is left, of an end or of a stranger.
-    pub(crate) fn restart(self) -> Result<(Stage<K>, Option<Told>), RunFault>
+    pub(crate) fn restart(self) -> Result<(Stage<K>, Option<Told>), Halt<K>>
         requires { IsStanding K.Keep self }
         ensures opened { IfOk result (λ x. Restages K.Keep self x.1 x.0) }
         ensures played { IfOk result (λ x. Plays K.Keep restart self x.1 x.0) }

@@ -12,16 +12,17 @@ ghost use Rattle.mqtt_world.specs.Stages.{IsStanding, Plays};
 ghost use Rattle.mqtt_world.specs.Stopping.{TakesOff, stop_at};
 
 use crate::asks::has_line;
+use crate::halt::Halt;
 use crate::scene::Scene;
 use crate::stage::Stage;
 use mqtt_records::Keep;
 use mqtt_script::Asking;
-use mqtt_world_peers::{RunFault, Told, is_input};
+use mqtt_world_peers::{Told, is_input};
 use std::alloc::{AllocError, Global};
 
 impl<K: Keep> Scene<K> {
     /// What is asked of the broker, by no stranger, happens.
-    fn ask(&mut self, alloc: Global, asking: &Asking, now: u64) -> Result<Option<Told>, RunFault>
+    fn ask(&mut self, alloc: Global, asking: &Asking, now: u64) -> Result<Option<Told>, Halt<K>>
         requires playable { IsPlayable K.Keep self.old }
         requires plain { IsPlain (asking_of asking.now) }
         ensures { IfOk result (λ t. Does K.Keep now (ask (asking_of asking.now)) self.old t self.new) }
@@ -53,7 +54,7 @@ impl<K: Keep> Scene<K> {
 
     /// The first packet under way from an end is taken off its line, or off the line that it gave up last, if it may be
     /// read.
-    fn take_packet(&mut self, client: &str, old: bool) -> Result<bool, RunFault>
+    fn take_packet(&mut self, client: &str, old: bool) -> Result<bool, Halt<K>>
         ensures { IfOk result (λ is. TakesOff (reading old client.now) is self.old self.new) }
     {
         if !self.clients.is_end(client) {
@@ -67,7 +68,7 @@ impl<K: Keep> Scene<K> {
     }
 
     /// What is asked of the broker, by no stranger, is lost before its commit. False where it can't be asked.
-    fn take_off(&mut self, asking: &Asking) -> Result<bool, RunFault>
+    fn take_off(&mut self, asking: &Asking) -> Result<bool, Halt<K>>
         requires { IsPlain (asking_of asking.now) }
         ensures { IfOk result (λ is. TakesOff (asking_of asking.now) is self.old self.new) }
     {
@@ -83,7 +84,7 @@ impl<K: Keep> Scene<K> {
 
 impl<K: Keep> Stage<K> {
     /// What is asked of the broker, by no stranger, happens.
-    fn ask(&mut self, asking: &Asking) -> Result<Option<Told>, RunFault>
+    fn ask(&mut self, asking: &Asking) -> Result<Option<Told>, Halt<K>>
         requires standing { IsStanding K.Keep self.old }
         requires plain { IsPlain (asking_of asking.now) }
         ensures { IfOk result (λ t. Plays K.Keep (ask (asking_of asking.now)) self.old t self.new) }
@@ -92,7 +93,7 @@ impl<K: Keep> Stage<K> {
     }
 
     /// What is asked of the broker, by no stranger, is lost before its commit. False where it can't be asked.
-    fn take_off(&mut self, asking: &Asking) -> Result<bool, RunFault>
+    fn take_off(&mut self, asking: &Asking) -> Result<bool, Halt<K>>
         requires { IsPlain (asking_of asking.now) }
         ensures same { self.new ≡ record self.old { played = self.new.played } }
         ensures taken { IfOk result (λ is. TakesOff (asking_of asking.now) is self.old.played self.new.played) }
@@ -101,7 +102,7 @@ impl<K: Keep> Stage<K> {
     }
 
     /// The broker stops before the commit of what is asked.
-    fn stop_before(mut self, asking: &Asking) -> Result<(Stage<K>, Option<Told>), RunFault>
+    fn stop_before(mut self, asking: &Asking) -> Result<(Stage<K>, Option<Told>), Halt<K>>
         requires standing { IsStanding K.Keep self }
         requires plain { IsPlain (asking_of asking.now) }
         ensures { IfOk result (λ x. Plays K.Keep (stop_before (asking_of asking.now)) self x.1 x.0) }
@@ -117,7 +118,7 @@ impl<K: Keep> Stage<K> {
     }
 
     /// The broker stops after the commit of what is asked.
-    fn stop_after(mut self, asking: &Asking) -> Result<(Stage<K>, Option<Told>), RunFault>
+    fn stop_after(mut self, asking: &Asking) -> Result<(Stage<K>, Option<Told>), Halt<K>>
         requires standing { IsStanding K.Keep self }
         requires plain { IsPlain (asking_of asking.now) }
         ensures { IfOk result (λ x. Plays K.Keep (stop_after (asking_of asking.now)) self x.1 x.0) }
@@ -141,7 +142,7 @@ impl<K: Keep> Stage<K> {
         self,
         asking: &Asking,
         after: bool,
-    ) -> Result<(Stage<K>, Option<Told>), RunFault>
+    ) -> Result<(Stage<K>, Option<Told>), Halt<K>>
         requires standing { IsStanding K.Keep self }
         requires plain { IsPlain (asking_of asking.now) }
         ensures { IfOk result (λ x. Plays K.Keep (stop_at after (asking_of asking.now)) self x.1 x.0) }

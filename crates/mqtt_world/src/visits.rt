@@ -15,12 +15,13 @@ ghost use Rattle.mqtt_world.specs.Stages.{IsStanding, Plays, world_at};
 ghost use Rattle.mqtt_world.specs.Stopping.{stop_at};
 ghost use Rattle.mqtt_world.specs.Visits.{Hears, MayStopAt, StopsAt, TellsPiece, Welcomes};
 
+use crate::halt::Halt;
 use crate::scene::Scene;
 use crate::stage::Stage;
 use mqtt_base::Text;
 use mqtt_records::Keep;
 use mqtt_world_clients::Clients;
-use mqtt_world_peers::{RunFault, Told};
+use mqtt_world_peers::Told;
 use mqtt_world_strangers::Piece;
 use std::alloc::AllocError;
 
@@ -37,7 +38,7 @@ fn is_end_among(clients: &Clients, names: &[Text]) -> bool
 }
 
 /// What one tells, behind what was told before.
-pub(crate) fn join(told: &mut Told, more: Told) -> Result<(), RunFault>
+pub(crate) fn join<K: Keep>(told: &mut Told, more: Told) -> Result<(), Halt<K>>
     ensures { OnOk result (told.new ≡ both_tell told.old more) }
 {
     let Told { mut reports, out } = more;
@@ -47,7 +48,7 @@ pub(crate) fn join(told: &mut Told, more: Told) -> Result<(), RunFault>
             told.out = sum;
             Ok(())
         }
-        None => Err(RunFault::Memory),
+        None => Err(Halt::by_memory()),
     }
 }
 
@@ -60,7 +61,7 @@ impl<K: Keep> Scene<K> {
         bytes: &[u8],
         now: u64,
         told: &mut Told,
-    ) -> Result<(), RunFault>
+    ) -> Result<(), Halt<K>>
         requires playable { IsPlayable K.Keep self.old }
         requires left { held_after bytes.now ≡ [] }
         requires within { length bytes.now ≤ PACKET_LIMIT }
@@ -91,7 +92,7 @@ impl<K: Keep> Stage<K> {
     }
 
     /// A line is linked for one that comes first.
-    fn welcome(&mut self, name: &Text) -> Result<(), RunFault>
+    fn welcome(&mut self, name: &Text) -> Result<(), Halt<K>>
         requires { IsStanding K.Keep self.old }
         ensures { OnOk result (Welcomes K.Keep name.now self.old self.new) }
     {
@@ -106,7 +107,7 @@ impl<K: Keep> Stage<K> {
 
     /// The next piece of what a stranger sends comes: what is whole of it, a packet or a fault, is given to the broker on
     /// its line. Answers how many bytes the piece has.
-    fn take_piece(&mut self, name: &str, bytes: &[u8], told: &mut Told) -> Result<usize, RunFault>
+    fn take_piece(&mut self, name: &str, bytes: &[u8], told: &mut Told) -> Result<usize, Halt<K>>
         requires standing { IsStanding K.Keep self.old }
         requires there { is_some (named name.now self.old.strangers) ≡ true }
         requires alike { AreAlike name.now (world_at self.old) }
@@ -127,7 +128,7 @@ impl<K: Keep> Stage<K> {
     }
 
     /// The same of one that may come first.
-    fn piece(&mut self, name: &Text, bytes: &[u8], told: &mut Told) -> Result<usize, RunFault>
+    fn piece(&mut self, name: &Text, bytes: &[u8], told: &mut Told) -> Result<usize, Halt<K>>
         requires { IsStanding K.Keep self.old }
         ensures { IfOk result (λ taken. TellsPiece K.Keep name.now bytes.now self.old taken told.old told.new self.new) }
     {
@@ -136,7 +137,7 @@ impl<K: Keep> Stage<K> {
     }
 
     /// All bytes come, piece by piece.
-    fn pieces(&mut self, name: &Text, bytes: &[u8], told: &mut Told) -> Result<(), RunFault>
+    fn pieces(&mut self, name: &Text, bytes: &[u8], told: &mut Told) -> Result<(), Halt<K>>
         requires standing { IsStanding K.Keep self.old }
         requires silent { told.old ≡ silent }
         requires good { is_bad_asking (stranger name.now bytes.now) (world_at self.old) ≡ false }
@@ -155,7 +156,7 @@ impl<K: Keep> Stage<K> {
 
     /// Bytes come from a stranger, on a line that is linked where it comes first; each packet is answered before the next
     /// is read.
-    pub(crate) fn visit(&mut self, name: &Text, bytes: &[u8]) -> Result<Option<Told>, RunFault>
+    pub(crate) fn visit(&mut self, name: &Text, bytes: &[u8]) -> Result<Option<Told>, Halt<K>>
         requires { IsStanding K.Keep self.old }
         ensures { IfOk result (λ t. Plays K.Keep (ask (stranger name.now bytes.now)) self.old t self.new) }
     {
@@ -173,7 +174,7 @@ impl<K: Keep> Stage<K> {
     }
 
     /// The first piece comes, and what it tells is lost.
-    fn cut_visit(&mut self, name: &Text, bytes: &[u8]) -> Result<(), RunFault>
+    fn cut_visit(&mut self, name: &Text, bytes: &[u8]) -> Result<(), Halt<K>>
         requires standing { IsStanding K.Keep self.old }
         requires good { is_bad_asking (stranger name.now bytes.now) (world_at self.old) ≡ false }
         ensures { OnOk result (StopsAt K.Keep (stop_after (stranger name.now bytes.now)) self.old self.new) }
@@ -188,7 +189,7 @@ impl<K: Keep> Stage<K> {
     }
 
     /// One that comes first gets its name, and no line.
-    fn name_visitor(&mut self, name: &Text) -> Result<(), RunFault>
+    fn name_visitor(&mut self, name: &Text) -> Result<(), Halt<K>>
         requires { IsStanding K.Keep self.old }
         ensures { OnOk result ((bytes : List ℕ) → is_bad_asking (stranger name.now bytes) (world_at self.old) ≡ false
             → StopsAt K.Keep (stop_before (stranger name.now bytes)) self.old self.new) }
@@ -202,7 +203,7 @@ impl<K: Keep> Stage<K> {
     }
 
     /// What happens at a stop before the broker is opened again, if the bytes may come.
-    fn begin_stop(&mut self, name: &Text, bytes: &[u8], after: bool) -> Result<bool, RunFault>
+    fn begin_stop(&mut self, name: &Text, bytes: &[u8], after: bool) -> Result<bool, Halt<K>>
         requires { IsStanding K.Keep self.old }
         ensures { IfOk result (λ may. MayStopAt K.Keep (stop_at after (stranger name.now bytes.now)) self.old may self.new) }
     {
@@ -223,7 +224,7 @@ impl<K: Keep> Stage<K> {
         name: &Text,
         bytes: &[u8],
         after: bool,
-    ) -> Result<(Stage<K>, Option<Told>), RunFault>
+    ) -> Result<(Stage<K>, Option<Told>), Halt<K>>
         requires { IsStanding K.Keep self }
         ensures { IfOk result (λ x. Plays K.Keep (stop_at after (stranger name.now bytes.now)) self x.1 x.0) }
     {

@@ -6,13 +6,14 @@ ghost use Rattle.mqtt_rules.specs.Laws.{AreWithin};
 ghost use Rattle.mqtt_world_model.specs.Tellings.{Telling};
 ghost use Rattle.mqtt_world_model.specs.World.{World as Start};
 ghost use Rattle.mqtt_world_peers.specs.declared.told.RunFault.TheVariants as fault;
+ghost use Rattle.mqtt_world.specs.Halting.{IsFaultDue, IsNoStart};
 ghost use Rattle.mqtt_world.specs.Openings.{AlwaysSound};
 ghost use Rattle.mqtt_world.specs.Stages.{IsStanding, Staged};
 ghost use Rattle.mqtt_world.specs.Worlds.{Happen, HasCome, HasDelivered, Performs, Refuses, Starts, Stops, fault_of, over_by, with_stage};
 ghost use Rattle.mqtt_world.specs.declared.over.Over.{Over as Why};
 ghost use Rattle.mqtt_world.specs.declared.over.Over.TheVariants as over;
 
-use crate::over::{Over, over_for};
+use crate::halt::Halt;
 use crate::scene::Scene;
 use crate::stage::Stage;
 use mqtt_records::Keep;
@@ -28,7 +29,7 @@ use std::mem;
 /// A world: what stands in it, or why it is over, and the events that happened in it, all of which it keeps.
 pub struct World<K: Keep> {
     pub(crate) alloc: Global,
-    pub(crate) stage: Result<Stage<K>, Over>,
+    pub(crate) stage: Result<Stage<K>, Halt<K>>,
     pub(crate) events: Vec<Event>,
 }
 
@@ -60,7 +61,8 @@ impl<K: Keep> Drop for World<K> {
 
 impl<K: Keep> World<K> {
     /// The broker is opened over what a store holds, at moment 0, and there are no ends or strangers (4.1). `Memory` (1):
-    /// want of memory. `Store` (2): the store failed, or holds what is no broker's.
+    /// want of memory, 1 of the store's errors. `Store` (2): any other of them, 2 to 5: the store failed, or holds what no
+    /// broker begins with.
     pub fn new(
         alloc: Global,
         keep: K,
@@ -68,7 +70,8 @@ impl<K: Keep> World<K> {
         hasher: RandomState,
     ) -> Result<World<K>, RunFault>
         requires within { AreWithin limits }
-        ensures { IfOk result (λ w. Starts K.Keep limits keep w) }
+        ensures starts { IfOk result (λ w. Starts K.Keep limits keep w) }
+        ensures refused { IfErr result (IsNoStart K.Keep limits 0 keep) }
     {
         match Scene::open(alloc, keep, 0, limits, hasher) {
             Ok(scene) => Ok(World {
@@ -83,17 +86,32 @@ impl<K: Keep> World<K> {
                 }),
                 events: Vec::new(alloc),
             }),
-            Err(fault) => Err(fault),
+            Err(over) => {
+                let fault = over.fault();
+                drop(over);
+                Err(fault)
+            }
         }
     }
 
     /// The world is over from now on, and answers this. Takes no memory.
-    pub(crate) fn end(&mut self, over: Over) -> RunFault
+    pub(crate) fn end(&mut self, over: Halt<K>) -> RunFault
         ensures fault { result ≡ fault_of over }
         ensures over { self.new ≡ over_by over self.old }
+        ensures cause { IsFaultDue K.Keep result }
     {
+        let fault = over.fault();
         self.stage = Err(over);
-        over.fault()
+        fault
+    }
+
+    /// The same for want of memory. Takes none.
+    pub(crate) fn end_short(&mut self) -> RunFault
+        ensures fault { result ≡ fault.Memory }
+        ensures over { self.new ≡ over_by over.Memory self.old }
+        ensures cause { IsFaultDue K.Keep result }
+    {
+        self.end(Halt::by_memory())
     }
 
     /// Makes room for an event that is to be kept, and copies it.
@@ -117,6 +135,7 @@ impl<K: Keep> World<K> {
         ensures kept { IfOk result (λ t. self.new
             ≡ record { stage = Ok stage; events = self.old.events ++ event ∷ [] }) }
         ensures refused { IfErr result (λ f. (f ≡ fault.Memory) × (self.new ≡ over_by over.Memory self.old)) }
+        ensures cause { IfErr result (IsFaultDue K.Keep) }
     {
         match self.events.push(event) {
             Ok(()) => {
@@ -127,7 +146,7 @@ impl<K: Keep> World<K> {
                 drop(refused);
                 drop(stage);
                 drop(told);
-                Err(self.end(Over::Memory))
+                Err(self.end_short())
             }
         }
     }
@@ -137,6 +156,7 @@ impl<K: Keep> World<K> {
         requires standing { IsStanding K.Keep stage }
         ensures fault { result ≡ fault.BadEvent (length self.old.events) }
         ensures goes_on { self.new ≡ with_stage stage self.old }
+        ensures cause { IsFaultDue K.Keep result }
     {
         self.stage = Ok(stage);
         RunFault::BadEvent {
@@ -156,6 +176,7 @@ impl<K: Keep> World<K> {
             → IfOk result (λ t. Happen K.Keep (event ∷ []) (t ∷ []) (with_stage s self.old) self.new) }
         ensures refused { (s : Staged K) → Performs K.Keep event s told stage
             → IfErr result (λ f. Refuses K.Keep event f (with_stage s self.old) self.new) }
+        ensures cause { IfErr result (IsFaultDue K.Keep) }
     {
         match told {
             Some(told) => self.keep(stage, event, told),
@@ -172,12 +193,13 @@ impl<K: Keep> World<K> {
         ensures happened { IfOk result (λ t.
             Happen K.Keep (event ∷ []) (t ∷ []) (with_stage stage self.old) self.new) }
         ensures refused { IfErr result (λ f. Refuses K.Keep event f (with_stage stage self.old) self.new) }
+        ensures cause { IfErr result (IsFaultDue K.Keep) }
     {
         match stage.happen(&event) {
             Ok((stage, told)) => self.settle(stage, event, told),
             Err(fault) => {
                 drop(event);
-                Err(self.end(over_for(fault)))
+                Err(self.end(fault))
             }
         }
     }
@@ -189,12 +211,13 @@ impl<K: Keep> World<K> {
             Happen K.Keep (event.now ∷ []) (t ∷ []) (with_stage stage self.old) self.new) }
         ensures refused { IfErr result (λ f.
             Refuses K.Keep event.now f (with_stage stage self.old) self.new) }
+        ensures cause { IfErr result (IsFaultDue K.Keep) }
     {
         match self.make_room(event) {
             Ok(event) => self.play(stage, event),
             Err(_) => {
                 drop(stage);
-                Err(self.end(Over::Memory))
+                Err(self.end_short())
             }
         }
     }
@@ -205,6 +228,10 @@ impl<K: Keep> World<K> {
         ensures happened { IfOk result (λ t. Happen K.Keep (event.now ∷ []) (t ∷ []) self.old self.new) }
         ensures refused { IfErr result (λ f. Refuses K.Keep event.now f self.old self.new) }
 
+        // `Store` has a cause, in this call or in the one that ended the world: over a store that never failed, that a
+        // broker's numbers are spent, or its records are none that a broker begins with.
+        ensures cause { IfErr result (IsFaultDue K.Keep) }
+
         // Whatever is asked of a world that is over, it answers why it is.
         ensures over { (o : Why) → self.old.stage ≡ Err o
             → (result ≡ Err (fault_of o)) × (self.new ≡ self.old) }
@@ -214,7 +241,7 @@ impl<K: Keep> World<K> {
         ensures delivers { AlwaysSound K.Keep → (start : Start) → HasCome start self.old
             → HasDelivered start self.new }
     {
-        match mem::replace(&mut self.stage, Err(Over::Memory)) {
+        match mem::replace(&mut self.stage, Err(Halt::by_memory())) {
             Ok(stage) => self.go_on(stage, event),
             Err(over) => Err(self.end(over)),
         }
@@ -225,9 +252,10 @@ impl<K: Keep> World<K> {
         ensures happened { OnOk result ((t : Telling) × (tells.new.items ≡ tells.old.items ++ t ∷ [])
             × Happen K.Keep (event.now ∷ []) (t ∷ []) self.old self.new) }
         ensures refused { IfErr result (λ f. Refuses K.Keep event.now f self.old self.new) }
+        ensures cause { IfErr result (IsFaultDue K.Keep) }
     {
         if tells.reserve(1).is_err() {
-            return Err(self.end(Over::Memory));
+            return Err(self.end_short());
         }
         let told = self.happen(event)?;
         tells.push_reserved(told);
@@ -240,6 +268,7 @@ impl<K: Keep> World<K> {
         requires none { tells.old.items ≡ [] }
         ensures happened { OnOk result (Happen K.Keep events.now tells.new.items self.old self.new) }
         ensures refused { IfErr result (λ f. Stops K.Keep events.now f self.old self.new) }
+        ensures cause { IfErr result (IsFaultDue K.Keep) }
     {
         let mut rest = events;
         while let Some((first, after)) = rest.split_first() {
@@ -255,6 +284,9 @@ impl<K: Keep> World<K> {
         ensures happened { IfOk result (λ tells. Happen K.Keep events.now tells.items self.old self.new) }
         ensures refused { (s : Staged K) → self.old.stage ≡ Ok s
             → IfErr result (λ f. Stops K.Keep events.now f self.old self.new) }
+
+        // `Store` has a cause, in this call or in the one that ended the world.
+        ensures cause { IfErr result (IsFaultDue K.Keep) }
 
         // Whatever is asked of a world that is over, it answers why it is.
         ensures over { (o : Why) → self.old.stage ≡ Err o

@@ -5,9 +5,9 @@ use Rattle.mqtt_replay_world.proofs.replaying.replay_over.Goals as goal
 pub returns-in-Ok-clause-ok : goal.returns-in-Ok-clause-ok
 returns-in-Ok-clause-ok g c =
     IfOk-weaker c.replay.result _ _
-    (λ played shows. replays_seen g.K.Keep c.args.limits c.args.keep _ _ _ _ played c.in-Ok.ensures (rw c.new-in-Ok.ensures at shows)) c.replay.ensures.ok
+    (λ played shows. replays_seen g.K.Keep c.args.limits c.args.keep _ _ _ _ played c.in-Ok.ensures.starts (rw c.new-in-Ok.ensures at shows)) c.replay.ensures.ok
 
 pub returns-in-Ok-clause-err : goal.returns-in-Ok-clause-err
 returns-in-Ok-clause-err g c =
     IfErr-weaker c.replay.result _ _
-    (λ fault front n. front_seen g.K.Keep c.args.limits c.args.keep _ _ _ _ c.in-Ok.ensures (rw c.new-in-Ok.ensures at (front n))) c.replay.ensures.err
+    (λ fault front n. front_seen g.K.Keep c.args.limits c.args.keep _ _ _ _ c.in-Ok.ensures.starts (rw c.new-in-Ok.ensures at (front n))) c.replay.ensures.err

@@ -1,8 +1,23 @@
 -- By what an opening of the engine is.
 use Rattle.mqtt_world.proofs.Reopened.{begins_in}
+use Rattle.mqtt_world.proofs.Halted.{no_room, opening_due, unbegun}
 use Rattle.mqtt_world.proofs.scene.Scene.open.Goals as goal
 
-pub returns-in-Ok : goal.returns-in-Ok
-returns-in-Ok g c =
+pub returns-in-Ok-clause-begins : goal.returns-in-Ok-clause-begins
+returns-in-Ok-clause-begins g c =
     begins_in g.K.Keep c.args.limits c.args.now c.moment.result c.args.keep c.in-Ok.engine c.open.result c.begun.result
-    c.moment.ensures c.in-Ok.is c.open.ensures.opened.opened c.open.ensures.held c.begun.ensures
+    c.moment.ensures c.in-Ok.is c.open.ensures.opened.opened c.open.ensures.held c.begun.ensures.begins
+
+pub returns-in-Ok-clause-refused : goal.returns-in-Ok-clause-refused
+returns-in-Ok-clause-refused g c =
+    no_room g.K.Keep c.args.limits _ c.moment.result c.args.keep c.in-Ok.engine c.open.result c.begun.result c.moment.ensures c.in-Ok.is
+    c.open.ensures.opened.opened c.begun.ensures.refused
+
+pub by_opening-requires : goal.by_opening-requires
+by_opening-requires g c =
+    opening_due g.K.Keep c.args.limits c.moment.result c.args.keep c.in-Err.refusal c.open.result c.in-Err.is c.open.ensures.opened.refused
+
+pub returns-in-Err-clause-refused : goal.returns-in-Err-clause-refused
+returns-in-Err-clause-refused g c =
+    unbegun g.K.Keep c.args.limits _ c.moment.result c.args.keep c.in-Err.refusal c.by_opening.result c.open.result c.moment.ensures c.in-Err.is
+    c.open.ensures.opened.refused c.by_opening.ensures

@@ -18,5 +18,5 @@ returns-in-Ok-clause-refused g c =
 
 pub returns-in-Err-clause-refused : goal.returns-in-Err-clause-refused
 returns-in-Err-clause-refused g c =
-    ended g.K.Keep (Drain c.args.client.now) over.Memory c.args.stage c.args.self.now c.end.new.self c.end.result c.end.ensures.fault
-    (c.end.ensures.over ∙ ap (λ (w : Lasting _). over_by over.Memory w) c.make_drain.ensures.same)
+    ended g.K.Keep (Drain c.args.client.now) over.Memory c.args.stage c.args.self.now c.end_short.new.self c.end_short.result c.end_short.ensures.fault
+    (c.end_short.ensures.over ∙ ap (λ (w : Lasting _). over_by over.Memory w) c.make_drain.ensures.same)

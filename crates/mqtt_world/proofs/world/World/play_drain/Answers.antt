@@ -25,5 +25,5 @@ returns-in-Ok-None-clause-refused g c =
 
 pub returns-in-Err-clause-refused : goal.returns-in-Err-clause-refused
 returns-in-Err-clause-refused g c =
-    ended g.K.Keep (Drain c.args.client.now) c.over_for.result c.args.stage c.args.self.now c.end.new.self c.end.result c.end.ensures.fault
+    ended g.K.Keep (Drain c.args.client.now) c.in-Err.fault c.args.stage c.args.self.now c.end.new.self c.end.result c.end.ensures.fault
     c.end.ensures.over

@@ -1,0 +1,11 @@
+-- By how a world ends.
+use Rattle.std.proofs.Common.{◌∙◌, ap}
+use Rattle.mqtt_world.specs.Worlds.{fault_of, over_by}
+use Rattle.mqtt_world.specs.declared.over.Over.{Over}
+use Rattle.mqtt_world.proofs.world.World.end_short.Goals as goal
+
+pub returns-clause-fault : goal.returns-clause-fault
+returns-clause-fault g c = c.end.ensures.fault ∙ ap fault_of c.by_memory.ensures
+
+pub returns-clause-over : goal.returns-clause-over
+returns-clause-over g c = c.end.ensures.over ∙ ap (λ (o : Over). over_by o c.args.self.now) c.by_memory.ensures
