@@ -43,7 +43,7 @@ pub enum RunFault {
     /// 1: want of memory. Every later call answers the same.
     #[error("want of memory")]
     Memory,
-    /// 2: the store failed, or a number above 2^62 would be needed. Every later call answers the same.
+    /// 2: the store failed, or would be asked for a number above 2^62. Every later call answers the same.
     #[error("the store failed")]
     Store,
     /// 3: an event that can't happen there; those before it have run.
