@@ -12,7 +12,7 @@ use Rattle.std.proofs.lemmas.Map.Text.{is_eq-slice_cmp}
 use Rattle.std.proofs.lemmas.Slice.Eq.{bytes_eq-Decides}
 use Rattle.mqtt_records_rows.specs.Distinct.{AllDiffer}
 
--- a test that answers true exactly where the values are equal
+-- a test that answers true exactly if the values are equal
 module _ {K V : Type 0} (eq : K → K → Bool) (value : K → V) (same : (x y : K) → Decides (eq x y) (value x ≡ value y)) where
   apart : (b : Bool) (x y : K) → eq x y ≡ b → value x ≢ value y → eq x y ≡ false
   apart true x y e other = absurd (other ((same x y).0 e))
@@ -29,16 +29,19 @@ module _ {K V : Type 0} (eq : K → K → Bool) (value : K → V) (same : (x y :
   others_apart x [] h = tt
   others_apart x (k ∷ ks) h = (apart (eq x k) x k refl h.0, others_apart x ks h.1)
 
+  -- keys that are told apart differ as values
   pub differ_if : (ks : List K) → IsDistinct eq ks → AllDiffer (map value ks)
   unfolding IsDistinct
   differ_if [] h = tt
   differ_if (k ∷ ks) h = (others_differ k ks h.0, differ_if ks h.1)
 
+  -- keys that differ as values are told apart
   pub distinct_if : (ks : List K) → AllDiffer (map value ks) → IsDistinct eq ks
   unfolding IsDistinct
   distinct_if [] h = tt
   distinct_if (k ∷ ks) h = (others_apart k ks h.0, distinct_if ks h.1)
 
+  -- keys are told apart exactly if they differ as values
   pub differ-distinct : (ks : List K) → IsDistinct eq ks ↔ AllDiffer (map value ks)
   differ-distinct ks = (differ_if ks, distinct_if ks)
 

@@ -1,4 +1,4 @@
--- Keys in order differ exactly where each is below the next.
+-- Keys in order differ exactly if each is below the next.
 use Rattle.std.proofs.Common.{◌≡◌, ℕ, ◌+◌, ◌<◌, Bool, true, false, List, [], ◌∷◌, length, get_or, refl, sym, ap, ◌∙◌, arith}
 use Rattle.std.specs.List.{IsDistinct, IsAllAdjacentAnswer}
 use Rattle.std.specs.List.Sorted.{IsPermutation, IsSorted}
@@ -29,6 +29,7 @@ module _ {K : Type 0} (cmp : K → K → Ordering) (o : IsTotalOrder cmp) where
   distinct_if (x ∷ xs) h =
       IsDistinct-from_sorted cmp (x ∷ xs) (sorted_from_all_adjacent o (x ∷ xs) x (λ k less. less_is (cmp (get_or (x ∷ xs) k x) (get_or (x ∷ xs) (k + 1) x)) (h k x less)))
 
+  -- keys that differ once they are in order differed before
   pub distinct_before : (old new : List K) → IsPermutation old new → ((k : ℕ) (d : K) → k + 1 < length new → is_lt (cmp (get_or new k d) (get_or new (k + 1) d)) ≡ true) → IsDistinct (eq_by_cmp cmp) old
   distinct_before old new moved h =
       IsDistinct-IsPermutation (eq_by_cmp cmp) (eq_by_cmp_equiv o).symm new old (IsPermutation-sym old new moved) (distinct_if new h)

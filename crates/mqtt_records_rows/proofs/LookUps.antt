@@ -21,6 +21,7 @@ module _ {X : Type 0} (key : X → ℕ) where
     | inr next ↦ rw next refl
   ]
 
+  -- after a row is put it is found by its key, and every other as before
   pub row_at-insert_row : (k : ℕ) (row : X) (xs : List X) → row_at key k (insert_row key row xs) ≡ cond (nat_eq (key row) k) (Some row) (row_at key k xs)
   row_at-insert_row k row [] = refl
   row_at-insert_row k row (y ∷ ys) = elim (cases_order (key row) (key y)) [
@@ -43,9 +44,11 @@ module _ {X : Type 0} (key : X → ℕ) where
     ]
   ]
 
+  -- after a row is put where there is room it is found by its key, and every other as before
   pub row_at-put_row : (limit k : ℕ) (row : X) (xs : List X) → HasRoomFor key limit (key row) xs → row_at key k (put_row key limit row xs) ≡ cond (nat_eq (key row) k) (Some row) (row_at key k xs)
   row_at-put_row limit k row xs room = rw room (row_at-insert_row k row xs)
 
+  -- after a row is removed none is found by its key, and every other as before
   pub row_at-remove_row : (k j : ℕ) (xs : List X) → row_at key k (remove_row key j xs) ≡ cond (nat_eq j k) None (row_at key k xs)
   row_at-remove_row k j [] = elim (cases_Bool (nat_eq j k)) [ inl asked ↦ rw asked refl | inr other ↦ rw other refl ]
   row_at-remove_row k j (y ∷ ys) = elim (cases_Bool (nat_eq (key y) j)) [
@@ -72,6 +75,7 @@ module _ {X : Type 0} (key : X → ℕ) where
       let not_same : nat_eq (key row) (key y) ≡ false = apart (key row) (key y) (λ e. omega (arith, e, less)) in
       rw (not_before, not_same) (ap (λ (zs : List X). y ∷ zs) (insert_row-last row ys low.1))
 
+  -- a row above all others comes last, if there is room
   pub put_row-last : (limit : ℕ) (row : X) (xs : List X) → IsBelow key (key row) xs → length xs < limit → put_row key limit row xs ≡ xs ++ row ∷ []
   put_row-last limit row xs low room = elim (cases_Bool (has_row key (key row) xs)) [
     | inl there ↦ rw there (insert_row-last row xs low)
@@ -99,6 +103,7 @@ module _ {X : Type 0} (key : X → ℕ) where
         sym mine ∙ (h ∙ theirs)
   ]
 
+  -- two lists in order in which the same is found by each key are the same
   pub same_rows : (xs ys : List X) → IsAscending key xs → IsAscending key ys → ((k : ℕ) → row_at key k xs ≡ row_at key k ys) → xs ≡ ys
   same_rows [] [] up vp h = refl
   same_rows [] (y ∷ ys) up vp h = let both : None ≡ Some y = h (key y) ∙ row_at-here y ys in absurd cc

@@ -19,6 +19,7 @@ module _ {X : Type 0} (key : X → ℕ) where
   above_get n (x ∷ xs) zero d up lt = up.0
   above_get n (x ∷ xs) (suc j) d up lt = above_get n xs j d up.1 (omega (arith, lt))
 
+  -- keys that ascend don't fall
   pub ascending_rises : (xs : List X) → IsAscending key xs → IsNonDecreasingBy key xs
   ascending_rises [] up i j d le lt = absurd (omega (arith, lt))
   ascending_rises (x ∷ xs) up zero zero d le lt = omega arith
@@ -40,10 +41,12 @@ module _ {X : Type 0} (key : X → ℕ) where
 
   -- ---- what stands where a search ends
 
+  -- what is above a key is above a lower one
   pub above_less : (k n : ℕ) (xs : List X) → k < n → IsAbove key n xs → IsAbove key k xs
   above_less k n [] less up = tt
   above_less k n (x ∷ xs) less up = let more = up.0 in (omega (arith, less, more), above_less k n xs less up.1)
 
+  -- no row above a key is found by it
   pub above_none : (k : ℕ) (xs : List X) → IsAbove key k xs → row_at key k xs ≡ None
   above_none k [] up = refl
   above_none k (x ∷ xs) up =
@@ -65,6 +68,7 @@ module _ {X : Type 0} (key : X → ℕ) where
         rw (ap (λ n. nat_eq n k) same_key ∙ nat_eq_equiv.refl k) first
   ]
 
+  -- if the search ends at another key, no row has this one
   pub front_none : (k : ℕ) (xs : List X) → IsAscending key xs → ((x : X) → slice_get xs (front_len key k xs) ≡ Some x → key x ≡ k → ⊥) → row_at key k xs ≡ None
   front_none k [] up h = refl
   front_none k (y ∷ ys) up h = elim (cases_Bool (nat_lt (key y) k)) [
@@ -98,6 +102,7 @@ module _ {X : Type 0} (key : X → ℕ) where
       let other = (none_cons k y ys none).0 in
       cc
 
+  -- a row with a new key goes in where the search ends
   pub insert-none : (row : X) (xs : List X) → row_at key (key row) xs ≡ None → insert_row key row xs ≡ insert xs (front_len key (key row) xs) row
   insert-none row [] none = refl
   insert-none row (y ∷ ys) none = elim (cases_Bool (nat_lt (key y) (key row))) [
@@ -117,7 +122,7 @@ module _ {X : Type 0} (key : X → ℕ) where
         ]
   ]
 
-  -- a found row stands at the front, or further on where the front has a lower key
+  -- a found row stands at the front, or further on if the front has a lower key
   found_cons : (k : ℕ) (y : X) (ys : List X) → IsAscending key (y ∷ ys) → has_row key k (y ∷ ys) ≡ true
       → ((nat_lt (key y) k ≡ true) × (nat_eq (key y) k ≡ false) × (has_row key k ys ≡ true)) ⊎ ((nat_lt (key y) k ≡ false) × (key y ≡ k))
   found_cons k y ys up found = elim (cases_order (key y) k) [
@@ -134,6 +139,7 @@ module _ {X : Type 0} (key : X → ℕ) where
     ]
   ]
 
+  -- a row with a key that stands goes in the place where the search ends
   pub insert-found : (row : X) (xs : List X) → IsAscending key xs → has_row key (key row) xs ≡ true → insert_row key row xs ≡ slice_set xs (front_len key (key row) xs) row
   insert-found row [] up found = absurd cc
   insert-found row (y ∷ ys) up found = elim (found_cons (key row) y ys up found) [
@@ -155,12 +161,14 @@ module _ {X : Type 0} (key : X → ℕ) where
       let more = up.0 in
       rw (apart (key y) k (λ e. omega (arith, e, more))) (ap (λ (zs : List X). y ∷ zs) (remove-above k ys up.1))
 
+  -- if no row has a key, none goes
   pub remove-none : (k : ℕ) (xs : List X) → row_at key k xs ≡ None → remove_row key k xs ≡ xs
   remove-none k [] none = refl
   remove-none k (y ∷ ys) none =
       let parts = none_cons k y ys none in
       rw parts.0 (ap (λ (zs : List X). y ∷ zs) (remove-none k ys parts.1))
 
+  -- the row with a key goes from where the search ends
   pub remove-found : (k : ℕ) (xs : List X) → IsAscending key xs → has_row key k xs ≡ true → remove_row key k xs ≡ remove xs (front_len key k xs)
   remove-found k [] up found = absurd cc
   remove-found k (y ∷ ys) up found = elim (found_cons k y ys up found) [
@@ -171,12 +179,14 @@ module _ {X : Type 0} (key : X → ℕ) where
         rw (here.0, is) (remove-above k ys (subst (λ (n : ℕ). IsAbove key n ys) same up.0))
   ]
 
+  -- if no row has a key, none changes
   pub change-none : (k : ℕ) (f : X → X) (xs : List X) → row_at key k xs ≡ None → change_row key k f xs ≡ xs
   change-none k f [] none = refl
   change-none k f (y ∷ ys) none =
       let parts = none_cons k y ys none in
       rw parts.0 (ap (λ (zs : List X). y ∷ zs) (change-none k f ys parts.1))
 
+  -- the row with a key changes where the search ends
   pub change-found : (k : ℕ) (f : X → X) (xs : List X) (d : X) → IsAscending key xs → has_row key k xs ≡ true → change_row key k f xs ≡ slice_set xs (front_len key k xs) (f (get_or xs (front_len key k xs) d))
   change-found k f [] d up found = absurd cc
   change-found k f (y ∷ ys) d up found = elim (found_cons k y ys up found) [
@@ -205,6 +215,7 @@ module _ {X : Type 0} (key : X → ℕ) where
     ]
   ]
 
+  -- rows ascend after one is put
   pub insert-ascending : (row : X) (xs : List X) → IsAscending key xs → IsAscending key (insert_row key row xs)
   insert-ascending row [] up = (tt, tt)
   insert-ascending row (y ∷ ys) up = elim (cases_order (key row) (key y)) [
@@ -228,6 +239,7 @@ module _ {X : Type 0} (key : X → ℕ) where
     | inr goes ↦ rw goes (filter-above n keep ys up.1)
   ]
 
+  -- rows ascend without some of them
   pub filter-ascending : (keep : X → Bool) (xs : List X) → IsAscending key xs → IsAscending key (filter keep xs)
   filter-ascending keep [] up = tt
   filter-ascending keep (y ∷ ys) up = elim (cases_Bool (keep y)) [
@@ -235,6 +247,7 @@ module _ {X : Type 0} (key : X → ℕ) where
     | inr goes ↦ rw goes (filter-ascending keep ys up.1)
   ]
 
+  -- rows ascend after one is removed
   pub remove-ascending : (k : ℕ) (xs : List X) → IsAscending key xs → IsAscending key (remove_row key k xs)
   remove-ascending k xs up = filter-ascending (λ x. not (nat_eq (key x) k)) xs up
 
@@ -245,6 +258,7 @@ module _ {X : Type 0} (key : X → ℕ) where
     | inr other ↦ rw other (up.0, change-above n k f ys kept up.1)
   ]
 
+  -- rows ascend after one changes and keeps its key
   pub change-ascending : (k : ℕ) (f : X → X) (xs : List X) → ((x : X) → key (f x) ≡ key x) → IsAscending key xs → IsAscending key (change_row key k f xs)
   change-ascending k f [] kept up = tt
   change-ascending k f (y ∷ ys) kept up = elim (cases_Bool (nat_eq (key y) k)) [
@@ -254,6 +268,7 @@ module _ {X : Type 0} (key : X → ℕ) where
 
   -- ---- what the functions answer and make
 
+  -- the search ends within the list or behind it
   pub front_len-within : (k : ℕ) (xs : List X) → front_len key k xs ≤ length xs
   front_len-within k [] = omega arith
   front_len-within k (y ∷ ys) = elim (cases_Bool (nat_lt (key y) k)) [
@@ -261,38 +276,47 @@ module _ {X : Type 0} (key : X → ℕ) where
     | inr high ↦ rw high (omega arith)
   ]
 
+  -- if the search ends at a row with this key, it is found there
   pub found_is : (k : ℕ) (xs : List X) (i : ℕ) (x : X) → i ≡ front_len key k xs → i < length xs → x ≡ get_or xs i x → key x ≡ k → IsFound key k xs (Ok i)
   found_is k xs i x at within is same =
       let there : slice_get xs i ≡ Some x = slice_get_read xs (length xs) i x refl within is in
       let row : row_at key k xs ≡ Some x = front_here k xs x (ap (slice_get xs) (sym at) ∙ there) same in
       (at, there ∙ sym row, ap is_some row)
 
+  -- if the search ends at no row with this key, none has it, and one would go there
   pub missed_is : (k : ℕ) (xs : List X) (i : ℕ) → IsAscending key xs → i ≡ front_len key k xs → ((x : X) → slice_get xs i ≡ Some x → key x ≡ k → ⊥) → IsFound key k xs (Err i)
   missed_is k xs i up at h = (at, front_none k xs up (λ x there same. h x (ap (slice_get xs) at ∙ there) same))
 
+  -- where a missing row would go is within the list or behind it
   pub missed_within : (k : ℕ) (xs : List X) (i : ℕ) → IsFound key k xs (Err i) → i ≤ length xs
   missed_within k xs i missed = let at = missed.0 in let within = front_len-within k xs in omega (arith, at, within)
 
+  -- to set the row that was found is to put it
   pub put_found : (limit : ℕ) (row : X) (xs : List X) (i : ℕ) → IsAscending key xs → IsFound key (key row) xs (Ok i) → slice_set xs i row ≡ put_row key limit row xs
   put_found limit row xs i up found =
       rw (found.2, found.0) (sym (insert-found row xs up found.2))
 
+  -- to insert a row where none was found is to put it, if there is room
   pub put_new : (limit : ℕ) (row : X) (xs : List X) (i : ℕ) → IsFound key (key row) xs (Err i) → length xs < limit → insert xs i row ≡ put_row key limit row xs
   put_new limit row xs i missed less =
       rw (missed.1, lt-ltb (length xs) limit less, missed.0) (sym (insert-none row xs missed.1))
 
+  -- a row that was not found, in a full list, changes nothing when it is put
   pub put_full : (limit : ℕ) (row : X) (xs : List X) (i : ℕ) → IsFound key (key row) xs (Err i) → limit ≤ length xs → xs ≡ put_row key limit row xs
   put_full limit row xs i missed le = rw (missed.1, le-ltb (length xs) limit le) refl
 
+  -- rows ascend after one is put into a list with a limit
   pub put-ascending : (limit : ℕ) (row : X) (xs : List X) → IsAscending key xs → IsAscending key (put_row key limit row xs)
   put-ascending limit row xs up = elim (cases_Bool (has_row key (key row) xs || nat_lt (length xs) limit)) [
     | inl takes ↦ rw takes (insert-ascending row xs up)
     | inr full ↦ rw full up
   ]
 
+  -- to remove what was found is to remove the row with the key
   pub remove_at : (k : ℕ) (xs : List X) (i : ℕ) → IsAscending key xs → IsFound key k xs (Ok i) → remove xs i ≡ remove_row key k xs
   remove_at k xs i up found = rw found.0 (sym (remove-found k xs up found.2))
 
+  -- to change what was found is to change the row with the key
   pub change_at : (k : ℕ) (f : X → X) (xs : List X) (i : ℕ) (d : X) → IsAscending key xs → IsFound key k xs (Ok i) → slice_set xs i (f (get_or xs i d)) ≡ change_row key k f xs
   change_at k f xs i d up found = rw found.0 (sym (change-found k f xs d up found.2))
 
@@ -323,6 +347,7 @@ module _ {X : Type 0} (key : X → ℕ) where
         rw (not_before, is) refl
   ]
 
+  -- a list within its limit is within it after a row is put
   pub put-length : (limit : ℕ) (row : X) (xs : List X) → IsAscending key xs → length xs ≤ limit → length (put_row key limit row xs) ≤ limit
   put-length limit row xs up few = elim (cases_Bool (has_row key (key row) xs)) [
     | inl there ↦ let same = insert-same row xs up there in rw there (omega (arith, same, few))
@@ -335,6 +360,7 @@ module _ {X : Type 0} (key : X → ℕ) where
     ]
   ]
 
+  -- some of the rows are no more than all
   pub filter-length : (keep : X → Bool) (xs : List X) → length (filter keep xs) ≤ length xs
   filter-length keep [] = omega arith
   filter-length keep (y ∷ ys) =
@@ -344,9 +370,11 @@ module _ {X : Type 0} (key : X → ℕ) where
         | inr goes ↦ rw goes (omega (arith, rest))
       ]
 
+  -- without a row there are no more than with it
   pub remove-length : (k : ℕ) (xs : List X) → length (remove_row key k xs) ≤ length xs
   remove-length k xs = filter-length (λ x. not (nat_eq (key x) k)) xs
 
+  -- a changed row leaves as many as there were
   pub change-length : (k : ℕ) (f : X → X) (xs : List X) → length (change_row key k f xs) ≡ length xs
   change-length k f [] = refl
   change-length k f (y ∷ ys) = elim (cases_Bool (nat_eq (key y) k)) [
@@ -358,11 +386,13 @@ module _ {X : Type 0} (key : X → ℕ) where
   some_at None xs i d e there = absurd cc
   some_at (Some x) xs i d e there = ap (λ (y : X). Some y) (get_or_from_slice_get xs i x d e)
 
+  -- the row that was found is the one with the key
   pub take_at : (k : ℕ) (xs : List X) (i : ℕ) (r : X) → IsFound key k xs (Ok i) → r ≡ get_or xs i r → Some r ≡ row_at key k xs
   take_at k xs i r found is = ap (λ (y : X). Some y) is ∙ some_at (row_at key k xs) xs i r found.1 found.2
 
   -- ---- the last row
 
+  -- the row read at the end is the last one
   pub last-read : (xs : List X) → slice_get xs (length xs - 1) ≡ last_row key xs
   last-read [] = refl
   last-read (x ∷ []) = refl

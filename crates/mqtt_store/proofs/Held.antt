@@ -20,12 +20,14 @@ use Rattle.mqtt_store.specs.Holding.{ShowsKept, Finds, Has, Holds, HasKept, Leav
 rows_one : (db : Trees) (q r : Records) → KeepsRows db q → KeepsRows db r → q ≡ r
 rows_one db q r h k = alike db q r (kept_distinct db q h) (kept_distinct db r k)
 
+-- a database shows the rows of one records alone
 pub keeps_one : (db : Database) (q r : Records) → ShowsKept db q → ShowsKept db r → q ≡ r
 keeps_one db q r (inl h) (inl k) = rows_one db.trees q r h.1 k.1
 keeps_one db q r (inl h) (inr k) = absurd (not_both db.schema h.0 k.0)
 keeps_one db q r (inr h) (inl k) = absurd (not_both db.schema k.0 h.0)
 keeps_one db q r (inr h) (inr k) = h.1 ∙ sym k.1
 
+-- what a load found in tables that obey and are in order is what the store keeps
 pub loaded_kept : (s : State) (r : Records) → Obeys keep_schema s.now.trees → AreInOrder s.now.trees → HasNow s r → HasKept s r
 loaded_kept s r obeys order h = record {
   ready = record { is_open = h.is_open; settled = h.settled; schema = h.schema };
@@ -62,6 +64,7 @@ left_keeps old new r (inr made) has =
     let none : r ≡ nothing = keeps_nothing old r made.0 has in
     inl (made.1.schema, subst (KeepsRows new.trees) (sym none) (new_keeps new made.1))
 
+-- a load leaves the store holding what it held
 pub load_holds : (old new : State) (r : Records) → OnlyLoads old new → Holds old r → Holds new r
 load_holds old new r it holds clean =
     let less = it.survives.clean in
@@ -74,12 +77,13 @@ load_holds old new r it holds clean =
       shows = λ up. let was = it.left clean up in left_keeps old.now new.now r was.1 (had.shows was.0);
     }
 
--- what a load of the database found before, where it finds this now
+-- what a load of the database found before, if it finds this now
 found_before : (old new : Database) (r : Records) → IsLeft old new → Keeps new r → Keeps old r
 found_before old new r (inl same) has = subst (λ (db : Database). Keeps db r) same has
 found_before old new r (inr made) (inl has) = inr (made.0, found_one new.trees r nothing has.1 (new_keeps new made.1))
 found_before old new r (inr made) (inr has) = inr (made.0, has.1)
 
+-- what a crash after a load may leave, one before it may leave too
 pub load_leaves : (old new : State) (r : Records) → OnlyLoads old new → Leaves new r → Leaves old r
 load_leaves old new r it found =
     let less = it.survives.clean in
@@ -97,6 +101,7 @@ load_leaves old new r it found =
 
 -- ---- steps
 
+-- what a crash after a step may leave is what was stored before it, or after it
 pub step_leaves : (old new : State) (r after left : Records) → OnlySteps old new r after → Holds old r → Leaves new left → (left ≡ r) ⊎ (left ≡ after)
 step_leaves old new r after left it holds found =
     let less = it.survives.clean in

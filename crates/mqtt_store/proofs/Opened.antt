@@ -1,4 +1,4 @@
--- What a connection that is opened anew shows, and what is handed back where that fails.
+-- What a connection that is opened anew shows, and what is handed back if that fails.
 use Rattle.std.proofs.Common.{◌≡◌, ◌≤◌, true, false, Result, Ok, Err, IfOk, IfErr, IsTrue, refl, sym, ap, subst, ◌∙◌, inl, inr, arith}
 use Rattle.std.proofs.lemmas.Bool.{cases_Bool}
 use Rattle.sqlite_disk.specs.Disk.{MoreFaults}
@@ -50,6 +50,7 @@ module _ {S : Type 0} (g : Ghosts S) (h : Held S) (store : S) (live : IsLive (st
   shows_committed clean up = ((undone.kept clean).was_open up, (undone.undone up).0)
 
   module _ (up : IsClean (g.view store) → IsTrue (g.view store).is_open) where
+    -- a connection that could be opened anew shows what was committed
     pub opens : (res : Result (Held S) (Error × S)) → IfOk res (λ c. HasCleanDisk (state g c) → Opens (state g c) × IsLive (state g c)) → IfOk res (λ c. doubt (g.view store).is_clean ≤ doubt (state g c).is_clean)
         → IfOk res (λ c. HasCleanDisk (state g c) → (state g c).now.trees ≡ (g.view store).trees) → IfOk res (λ c. HasCleanDisk (state g c) → OpensAnew (state g h) (state g c))
     opens (Ok c) fresh less trees = λ clean.
@@ -60,6 +61,7 @@ module _ {S : Type 0} (g : Ghosts S) (h : Held S) (store : S) (live : IsLive (st
         record { was_open = before.0; is_open = o.is_open; now = same; committed = sym o.clean ∙ same; autocommit = o.autocommit }
     opens (Err e) fresh less trees = tt
 
+    -- opening anew is refused for want of memory, by a store that is shut, or by a device that failed
     pub refuses : (res : Result (Held S) (Error × S)) → g.faults h.store ≤ g.faults store → IfErr res (λ e. IsQuiet g.view g.faults g.recovers g.is_shielded store e.1)
         → IfErr res (λ e. IsClean (g.view e.1) → FailsToOpen (g.view store).trees (MoreFaults (g.faults store) (g.faults e.1)) e.0) → IfErr res (λ e. IsClean (g.view e.1) → RefusesToOpen g h e.1 e.0)
     refuses (Ok c) counts then why = tt
@@ -72,6 +74,7 @@ module _ {S : Type 0} (g : Ghosts S) (h : Held S) (store : S) (live : IsLive (st
           | inr some ↦ by_cause g h e.1 e.0 some.0 some.1 (excused_since (g.faults h.store) (g.faults store) (g.faults e.1) ⊥ ⊥ some.0 counts (λ none. none) some.2)
         ]
 
+    -- a store that is handed back has what was committed, and a crash of it leaves nothing else than before
     pub unharmed : (res : Result (Held S) (Error × S)) → ((s : S) → IsTrue (g.view s).is_open → g.recovers s (g.view s).committed) → ((s : S) (db : Trees) → IsTrue (g.view s).is_open → g.recovers s db → db ≡ (g.view s).committed)
         → IsQuiet g.view g.faults g.recovers g.is_shielded h.store store
         → IfErr res (λ e. IsQuiet g.view g.faults g.recovers g.is_shielded store e.1) → IfErr res (λ e. IsClean (g.view e.1) → IsTrue (g.view e.1).is_open → (g.view e.1).trees ≡ (g.view store).trees)
@@ -102,6 +105,7 @@ module _ (old new : State) (sound : HasCleanDisk new → HasCleanDisk old) (open
   left_is : (clean : HasCleanDisk new) (db : Trees) → new.may_leave db → db ≡ old.committed.trees
   left_is clean db may = let o = opened clean in only o.is_open db may ∙ ap (λ (d : Database). d.trees) o.committed
 
+  -- a connection that was opened anew holds what was held once rolled back
   pub opened_holds : (r : Records) → Holds (rolled_back old) r → Holds new r
   opened_holds r holds clean =
       let o = opened clean in
@@ -111,6 +115,7 @@ module _ (old new : State) (sound : HasCleanDisk new → HasCleanDisk old) (open
         shows = λ _. subst (λ (d : Database). ShowsKept d r) (sym o.now) (had.shows o.was_open);
       }
 
+  -- what a crash of it may leave, one of the connection rolled back may leave too
   pub opened_leaves : (r : Records) → Leaves new r → Leaves (rolled_back old) r
   opened_leaves r found =
       let o = opened found.clean in

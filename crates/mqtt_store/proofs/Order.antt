@@ -68,6 +68,7 @@ first_shaped db is = record {
   ints = rw is (refl, (refl, (refl, (refl, (refl, (refl, tt))))));
 }
 
+-- the tables of a new store are in order
 pub new_in_order : (db : Database) → IsNewStore db → AreInOrder db.trees
 new_in_order db h = record {
   shaped = record {

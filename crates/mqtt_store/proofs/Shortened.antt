@@ -86,7 +86,7 @@ shortened_same (change ∷ changes) r = elim (cases_Bool (goes_anyway change cha
       subst (λ (cs : List Change). changed_all cs r ≡ changed_all changes (changed change r)) (sym (written_head false change changes stays)) (shortened_same changes (changed change r))
 ]
 
--- and fit where all do
+-- and fit if all do
 pub shortened_fit : (changes : List Change) (r : Records) → FitAll changes r → FitAll (shortened changes) r
 shortened_fit [] r fit = tt
 shortened_fit (change ∷ changes) r fit = elim (cases_Bool (goes_anyway change changes)) [
@@ -94,6 +94,7 @@ shortened_fit (change ∷ changes) r fit = elim (cases_Bool (goes_anyway change 
   | inr stays ↦ subst (λ (cs : List Change). FitAll cs r) (sym (written_head false change changes stays)) (fit.0, shortened_fit changes (changed change r) fit.1)
 ]
 
+-- if rows can say all changes, they can say those that are written
 pub shortened_sayable : (changes : List Change) → AllSayable changes → AllSayable (shortened changes)
 shortened_sayable [] say = tt
 shortened_sayable (change ∷ changes) say = elim (cases_Bool (goes_anyway change changes)) [

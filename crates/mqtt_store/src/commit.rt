@@ -3,6 +3,7 @@ ghost use Rattle.std.specs.Prelude.{◌≡◌, OnOk, OnErr, IsTrue, false};
 ghost use Rattle.sqlite.specs.Held.{state};
 ghost use Rattle.sqlite.specs.State.{HasCleanDisk, Survives};
 ghost use Rattle.mqtt_store_schema.specs.Settled.{StaysInside};
+ghost use Rattle.mqtt_store_write.specs.Layout.{first_layout};
 ghost use Rattle.mqtt_store_write.specs.Step.{IsSettled};
 ghost use Rattle.mqtt_store_write.specs.Writing.{WritesIf, StaysWhole};
 ghost use Rattle.mqtt_store.specs.Parts.{ArePartsOf};
@@ -26,9 +27,9 @@ fn write_parts<S: Alter>(
 ) -> Result<(), Error>
     requires { ArePartsOf change.now parts.now }
     ensures same_reference { tx.new.conn.ghost_name ≡ tx.old.conn.ghost_name }
-    ensures made { WritesIf S.Store tx.old.conn.now tx.new.conn.now result
+    ensures made { WritesIf first_layout S.Store tx.old.conn.now tx.new.conn.now result
         (Needs change.now) (Makes change.now) }
-    ensures whole { StaysWhole S.Store tx.old.conn.now tx.new.conn.now result }
+    ensures whole { StaysWhole first_layout S.Store tx.old.conn.now tx.new.conn.now result }
     ensures inside { StaysInside (state S.Store tx.old.conn.now) (state S.Store tx.new.conn.now) }
 {
     let statement = statement_of(change, parts);
@@ -48,9 +49,9 @@ fn write_change<S: Alter>(
     change: &Change,
 ) -> Result<(), Error>
     ensures same_reference { tx.new.conn.ghost_name ≡ tx.old.conn.ghost_name }
-    ensures made { WritesIf S.Store tx.old.conn.now tx.new.conn.now result
+    ensures made { WritesIf first_layout S.Store tx.old.conn.now tx.new.conn.now result
         (Needs change.now) (Makes change.now) }
-    ensures whole { StaysWhole S.Store tx.old.conn.now tx.new.conn.now result }
+    ensures whole { StaysWhole first_layout S.Store tx.old.conn.now tx.new.conn.now result }
     ensures inside { StaysInside (state S.Store tx.old.conn.now) (state S.Store tx.new.conn.now) }
 {
     match parts_of(alloc, change) {
@@ -71,9 +72,9 @@ fn write_unless<S: Alter>(
     change: &Change,
 ) -> Result<(), Error>
     ensures same_reference { tx.new.conn.ghost_name ≡ tx.old.conn.ghost_name }
-    ensures made { WritesIf S.Store tx.old.conn.now tx.new.conn.now result
+    ensures made { WritesIf first_layout S.Store tx.old.conn.now tx.new.conn.now result
         (NeedsUnless goes change.now) (MakesUnless goes change.now) }
-    ensures whole { StaysWhole S.Store tx.old.conn.now tx.new.conn.now result }
+    ensures whole { StaysWhole first_layout S.Store tx.old.conn.now tx.new.conn.now result }
     ensures inside { StaysInside (state S.Store tx.old.conn.now) (state S.Store tx.new.conn.now) }
 {
     if goes {
@@ -90,9 +91,9 @@ fn write_changes<S: Alter>(
     changes: &[Change],
 ) -> Result<(), Error>
     ensures same_reference { tx.new.conn.ghost_name ≡ tx.old.conn.ghost_name }
-    ensures made { WritesIf S.Store tx.old.conn.now tx.new.conn.now result
+    ensures made { WritesIf first_layout S.Store tx.old.conn.now tx.new.conn.now result
         (NeedAll (shortened changes.now)) (MakeAll (shortened changes.now)) }
-    ensures whole { StaysWhole S.Store tx.old.conn.now tx.new.conn.now result }
+    ensures whole { StaysWhole first_layout S.Store tx.old.conn.now tx.new.conn.now result }
     ensures inside { StaysInside (state S.Store tx.old.conn.now) (state S.Store tx.new.conn.now) }
 {
     let mut rest = changes;

@@ -42,6 +42,7 @@ weaker P Q Item rows to h = record {
   only = λ row there. let it = h.only row there in (it.0, it.1, to it.0 row it.2);
 }
 
+-- rows that are written from records show the lines of their items
 pub rows_lined : (db : Trees) (r : Records) → HasRows db r → HasLines db r
 rows_lined db r h = record {
   meta = weaker _ _ _ _ number_shown h.meta;
@@ -140,6 +141,7 @@ module _ (db : Trees) (q r : Records) (h : AreDistinct db q) (k : AreDistinct db
   moment : q.moment ≡ r.moment
   moment = the_one (codes "moment") _ _ (kept_in (named (codes "moment")) (numbers_in r) _ (numbers_to (codes "moment", q.moment) (inr (inr (inr (inr (inl refl)))))) refl)
 
+  -- records that the same tables show are the same
   pub alike : q ≡ r
   alike =
       same_records q.births r.births q.publications r.publications q.subscribes r.subscribes q.autos r.autos q.moment r.moment q.sessions r.sessions q.retained r.retained

@@ -35,6 +35,7 @@ all_columns : (row : Row) → columns_from (length row) 0 row ≡ row
 all_columns [] = refl
 all_columns (v ∷ row) = ap (λ (vs : Row). v ∷ vs) (shifted (length row) 0 v row ∙ all_columns row)
 
+-- a row of so many columns is these columns, in order
 pub by_columns : (n : ℕ) (row : Row) → length row ≡ n → row ≡ columns_from n 0 row
 by_columns n row long = sym (sym (ap (λ (m : ℕ). columns_from m 0 row) long) ∙ all_columns row)
 
@@ -60,6 +61,7 @@ as_long key cs (v ∷ vs) typed last = elim (cases_Bool (nat_lt (length cs) (len
   ]
 ]
 
+-- what is told null is NULL
 pub null_is : (v : Value) → is_null v ≡ true → v ≡ Null
 null_is Null h = refl
 null_is (Int n) h = absurd cc

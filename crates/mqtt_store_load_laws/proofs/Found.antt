@@ -131,6 +131,7 @@ module _ (db : Trees) (q : Records) (h : HasRecords db q) where
   ordered_each last (s ∷ ss) all =
       (record { subscriptions = all.0.subscriptions.table.ascending; inbound = all.0.inbound.table.ascending; queue = all.0.queue.table.ascending }, ordered_each last ss all.1)
 
+  -- what a load finds has the lines that the tables show, and is told apart by them
   pub found_distinct : AreDistinct db q
   found_distinct = record {
     lines = found_lined;

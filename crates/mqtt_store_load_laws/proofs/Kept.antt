@@ -22,6 +22,7 @@ use Rattle.mqtt_store_schema.specs.Tables.{keep_schema, meta, will, sub, inbound
 use Rattle.mqtt_store_schema.specs.declared.schema.StoreTable.{StoreTable}
 use Rattle.mqtt_store_schema.specs.declared.schema.StoreTable.TheVariants.{Meta, Session, Will, Subscription, Inbound, Copy, Retained}
 use Rattle.mqtt_store_rows.specs.Values.{or_zero}
+use Rattle.mqtt_store_write.specs.Layout.{first_layout}
 use Rattle.mqtt_store_write.specs.Content.{IsShapedAt}
 use Rattle.mqtt_store_write.proofs.sets.SetCopy.{one_copy, own_number}
 use Rattle.mqtt_store_write.proofs.sets.SetNumber.{own_text, one_name}
@@ -131,7 +132,7 @@ module _ (db : Trees) (obeys : Obeys keep_schema db) (order : AreInOrder db) whe
     numbers = λ a b ha hb same.
         let it = h.meta.only b hb in
         let name : column b 1 ≡ Text it.0.0 = ap (λ (l : Row). column l 0) it.2 in
-        one_name db it.0.0 a b obeys order.meta ha hb (rw (same ∙ name) (own_text it.0.0)) (rw name (own_text it.0.0));
+        one_name first_layout db it.0.0 a b obeys order.meta ha hb (rw (same ∙ name) (own_text it.0.0)) (rw name (own_text it.0.0));
     copies = λ a b ha hb same place.
         let it = h.copies.only b hb in
         let first : column b 1 ≡ Int (pos it.0.0) = ap (λ (l : Row). column l 0) it.2 in
@@ -141,6 +142,7 @@ module _ (db : Trees) (obeys : Obeys keep_schema db) (order : AreInOrder db) whe
         (rw (first, second) (and_from _ _ (own_number it.0.0) (own_number it.0.1.place)));
   }
 
+  -- records whose lines the tables show are those that the tables are written from
   pub distinct_kept : (r : Records) → AreDistinct db r → KeepsRows db r
   distinct_kept r h = record {
     rows = rows_written r h.lines;
@@ -152,5 +154,6 @@ module _ (db : Trees) (obeys : Obeys keep_schema db) (order : AreInOrder db) whe
 
 -- ---- and back
 
+-- records that the tables are written from are told apart by the lines that these show
 pub kept_distinct : (db : Trees) (r : Records) → KeepsRows db r → AreDistinct db r
 kept_distinct db r h = record { lines = rows_lined db r h.rows; ordered = h.ordered; by_place = h.by_place; sayable = h.sayable }

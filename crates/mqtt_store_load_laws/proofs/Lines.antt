@@ -66,24 +66,31 @@ AreLined table line Item db = AreWritten (λ x row. shown table row ≡ line x) 
 
 -- ---- a row that is written from an item shows its line
 
+-- a number's row shows its name and its value
 pub number_shown : (x : List ℕ × ℕ) (row : Row) → IsNumberRow x row → shown Meta row ≡ number_line x
 number_shown x row h = ap (shown Meta) h.1
 
+-- a session's own row shows its columns
 pub session_shown : (c : Columns) (row : Row) → IsSessionRow c row → shown Session row ≡ session_line c
 session_shown c row h = rw (h.birth, h.client, h.expiry, h.closed) refl
 
+-- a Will's row shows its birth and what the Will says
 pub will_shown : (x : ℕ × WillMessage) (row : Row) → IsWillRow x row → shown Will row ≡ will_line x
 will_shown x row h = ap (shown Will) h
 
+-- a subscription's row shows its birth and what it says
 pub subscription_shown : (x : ℕ × SubscriptionItem) (row : Row) → IsSubscriptionRow x row → shown Subscription row ≡ subscription_line x
 subscription_shown x row h = ap (shown Subscription) h.1
 
+-- an open identifier's row shows its birth and itself
 pub open_shown : (x : ℕ × ℕ) (row : Row) → IsOpenRow x row → shown Inbound row ≡ open_line x
 open_shown x row h = ap (shown Inbound) h.1
 
+-- a copy's row shows its birth, its place and what the copy says
 pub copy_shown : (x : ℕ × CopyRow) (row : Row) → IsCopyRow x row → shown Copy row ≡ copy_line x
 copy_shown x row h = ap (shown Copy) h.1
 
+-- a retained message's row shows its place and what it says
 pub retained_shown : (m : RetainedMessage) (row : Row) → IsRetainedRow m row → shown Retained row ≡ retained_line m
 retained_shown m row h = ap (shown Retained) h
 
@@ -102,23 +109,28 @@ null_same v (Some n) h = h
 block_is : (place : Place) (ps : List Prop) (v : Value) → IsBlockOf place ps v → v ≡ Blob (block ps)
 block_is place ps v h = h.holds ∙ ap Blob (h.is.parts ∙ append-nil (block ps))
 
+-- a row that says a number shows the line that is written of it
 pub number_said : (x : List ℕ × ℕ) (row : Row) → SaysNamed x (shown Meta row) → shown Meta row ≡ number_line x
 number_said x row h = two _ _ _ _ h.name h.value
 
+-- a row that says a session's columns shows the line that is written of them
 pub session_said : (c : Columns) (row : Row) → SaysSession c (shown Session row) → shown Session row ≡ session_line c
 session_said c row h = more _ _ _ _ h.birth (more _ _ _ _ h.client (two _ _ _ _ h.expiry (null_same _ c.closed h.closed)))
 
+-- a row that says a Will shows the line that is written of it
 pub will_said : (x : ℕ × WillMessage) (row : Row) → SaysOf SaysWill x (shown Will row) → shown Will row ≡ will_line x
 will_said x row h =
     let w = h.1 in
     more _ _ _ _ h.0 (more _ _ _ _ w.delay (more _ _ _ _ w.topic (more _ _ _ _ w.qos (more _ _ _ _ w.retain (two _ _ _ _ (block_is _ _ _ w.properties) w.payload)))))
 
+-- a row that says a subscription shows the line that is written of it
 pub subscription_said : (x : ℕ × SubscriptionItem) (row : Row) → SaysOf SaysSubscription x (shown Subscription row) → shown Subscription row ≡ subscription_line x
 subscription_said x row h =
     let s = h.1 in
     let o = s.options in
     more _ _ _ _ h.0 (more _ _ _ _ s.text (more _ _ _ _ s.place (more _ _ _ _ o.qos (more _ _ _ _ o.no_local (more _ _ _ _ o.retain (two _ _ _ _ o.handling s.identifier))))))
 
+-- a row that says an open identifier shows the line that is written of it
 pub open_said : (x : ℕ × ℕ) (row : Row) → SaysOf SaysOpen x (shown Inbound row) → shown Inbound row ≡ open_line x
 open_said x row h = two _ _ _ _ h.0 h.1.identifier
 
@@ -136,6 +148,7 @@ phase_said qos (Oversize id order) a b c h = (h.0, h.1, h.2)
 sent_said : (ps : List Prop) (ids : List ℕ) (v : Value) → SaysSent ps ids v → v ≡ Blob (block (sent_after 0 ids ps))
 sent_said ps ids v h = block_is _ h.all v h.block ∙ ap (λ (all : List Prop). Blob (block all)) (says_sent ps ids v h)
 
+-- a row that says a copy shows the line that is written of it
 pub copy_said : (x : ℕ × CopyRow) (row : Row) → SaysOf SaysCopy x (shown Copy row) → shown Copy row ≡ copy_line x
 copy_said x row h =
     let it = h.1 in
@@ -149,6 +162,7 @@ copy_said x row h =
     (more _ _ _ _ phase.0 (more _ _ _ _ phase.1 (more _ _ _ _ phase.2
     (more _ _ _ _ content.topic (more _ _ _ _ message.qos (more _ _ _ _ message.retain (more _ _ _ _ sent (two _ _ _ _ content.payload content.arrived)))))))))))))
 
+-- a row that says a retained message shows the line that is written of it
 pub retained_said : (m : RetainedMessage) (row : Row) → SaysRetained m (shown Retained row) → shown Retained row ≡ retained_line m
 retained_said m row h =
     let c = h.content in

@@ -65,6 +65,7 @@ number_names a b ha hb same = let both : ◌≡◌ {A = List Row} (a ∷ []) (b 
 
 -- ---- all tables
 
+-- the tables of a new store are written from records of nothing
 pub new_keeps : (db : Database) → IsNewStore db → KeepsRows db.trees nothing
 new_keeps db h = record {
   rows = record {

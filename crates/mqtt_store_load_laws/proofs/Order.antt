@@ -30,6 +30,7 @@ numbers_are_ints = (refl, (refl, (refl, (refl, (refl, (refl, tt))))))
 none_in_order : (db : Trees) (tree : ℕ) → db tree ≡ [] → IsShapedAt db tree
 none_in_order db tree none = record { up = subst IsTable (sym none) tt; ints = subst HasInts (sym none) tt }
 
+-- the tables of a new store are in order
 pub new_in_order : (db : Database) → IsNewStore db → AreInOrder db.trees
 new_in_order db h = record {
   shaped = record {

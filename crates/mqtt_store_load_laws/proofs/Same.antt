@@ -73,6 +73,7 @@ at n r s e = ap (λ (l : Row). column l n) e
 
 -- ---- numbers
 
+-- numbers with the same line are the same
 pub number_same : (x y : List ℕ × ℕ) → number_line x ≡ number_line y → x ≡ y
 number_same x y e = ap (λ (t : List ℕ). (t, x.1)) (same_text x.0 y.0 (at 0 _ _ e)) ∙ ap (λ (n : ℕ). (y.0, n)) (same_number x.1 y.1 (at 1 _ _ e))
 
@@ -84,6 +85,7 @@ columns birth client expiry closed = record { birth = birth; client = client; ex
 same_columns : (a b : ℕ) (c d : List ℕ) (e f : ℕ) (g h : Option ℕ) → a ≡ b → c ≡ d → e ≡ f → g ≡ h → columns a c e g ≡ columns b d f h
 same_columns a b c d e f g h p q r s = rw (p, q, r, s) refl
 
+-- sessions' own rows with the same line are the same
 pub session_same : (c d : Columns) → session_line c ≡ session_line d → c ≡ d
 session_same c d e =
     same_columns c.birth d.birth c.client d.client c.expiry d.expiry c.closed d.closed
@@ -98,6 +100,7 @@ will delay qos retain topic properties payload =
 same_will : (a b : ℕ) (c d : Qos) (e f : Bool) (g h : List ℕ) (i j : List Prop) (k l : List ℕ) → a ≡ b → c ≡ d → e ≡ f → g ≡ h → i ≡ j → k ≡ l → will a c e g i k ≡ will b d f h j l
 same_will a b c d e f g h i j k l p q r s t u = rw (p, q, r, s, t, u) refl
 
+-- Wills with the same line are the same, if their properties have a spelling
 pub will_same : (x y : ℕ × Will) → FitsBlock x.1.properties → FitsBlock y.1.properties → will_line x ≡ will_line y → x ≡ y
 will_same x y fits suits e =
     let v = x.1 in
@@ -121,6 +124,7 @@ subscription text place options identifier = record { filter = text; place = pla
 same_subscription : (a b : List ℕ) (c d : ℕ) (e f : SubscriptionOptions) (g h : Option ℕ) → a ≡ b → c ≡ d → e ≡ f → g ≡ h → subscription a c e g ≡ subscription b d f h
 same_subscription a b c d e f g h p q r s = rw (p, q, r, s) refl
 
+-- subscriptions with the same line are the same, if rows can say them
 pub subscription_same : (x y : ℕ × Subscription) → IsSayableSubscription x.1 → IsSayableSubscription y.1 → subscription_line x ≡ subscription_line y → x ≡ y
 subscription_same x y fits suits e =
     let s = x.1 in
@@ -136,6 +140,7 @@ subscription_same x y fits suits e =
 
 -- ---- open identifiers
 
+-- open identifiers with the same line are the same
 pub open_same : (x y : ℕ × ℕ) → open_line x ≡ open_line y → x ≡ y
 open_same x y e = pair_is x.0 y.0 x.1 y.1 (same_number x.0 y.0 (at 0 _ _ e)) (same_number x.1 y.1 (at 1 _ _ e))
 
@@ -222,6 +227,7 @@ same_copy x y fits suits e =
     (same_content c.content.topic d.content.topic c.content.properties d.content.properties c.content.payload d.content.payload c.content.arrived d.content.arrived
     (same_text c.content.topic d.content.topic (at 9 _ _ e)) sent.0 (same_blob c.content.payload d.content.payload (at 13 _ _ e)) (same_number c.content.arrived d.content.arrived (at 14 _ _ e)))
 
+-- copies with the same line are the same, if each is in its own session's queue and rows can say it
 pub copy_same : (x y : ℕ × CopyRow) → IsOwn x → IsOwn y → copy_line x ≡ copy_line y → x ≡ y
 copy_same x y fits suits e =
     let a = x.1 in
@@ -239,6 +245,7 @@ retained place sender publication qos content = record { place = place; sender =
 same_retained : (a b : ℕ) (c d : List ℕ) (e f : ℕ) (g h : Qos) (i j : Content) → a ≡ b → c ≡ d → e ≡ f → g ≡ h → i ≡ j → retained a c e g i ≡ retained b d f h j
 same_retained a b c d e f g h i j p q r s t = rw (p, q, r, s, t) refl
 
+-- retained messages with the same line are the same, if their properties have a spelling
 pub retained_same : (m n : RetainedMessage) → FitsBlock m.content.properties → FitsBlock n.content.properties → retained_line m ≡ retained_line n → m ≡ n
 retained_same m n fits suits e =
     let c = m.content in

@@ -20,6 +20,7 @@ use Rattle.mqtt_store_rows.specs.Blocks.{rises_from, identifiers_in, SaysSent}
 
 -- ---- a block
 
+-- properties with the same block are the same
 pub block_one : (ps qs : List Prop) → FitsBlock ps → FitsBlock qs → block ps ≡ block qs → ps ≡ qs
 block_one ps qs h k same =
     let first = block_again ps [] h in
@@ -94,6 +95,7 @@ known_on : (p : Prop) → Known p → is_named SubscriptionIdentifier p ≡ fals
 known_on p (inl named) other = let e : true ≡ false = sym named ∙ other in absurd cc
 known_on p (inr on) other = on
 
+-- properties of which all but the Subscription Identifiers are passed on are known
 pub all_known : (id : ℕ) (ps : List Prop) → passes_from id (without SubscriptionIdentifier ps) ≡ true → AllByRecursion Known ps
 all_known id [] up = tt
 all_known id (p ∷ ps) up = elim (cases_Bool (is_named SubscriptionIdentifier p)) [
@@ -139,6 +141,7 @@ no_identifier n (p ∷ ps) high up =
 abbrev parts_of : List Prop → List ℕ → List Prop → List Prop
 parts_of before ids users = map (aged 0) before ++ map identified ids ++ users
 
+-- known properties in their order are what is sent of the others with the Subscription Identifiers
 pub sent_is : (n : ℕ) (ps : List Prop) → rises_from n ps ≡ true → AllByRecursion Known ps → AllByRecursion IsProp ps → ps ≡ sent_after 0 (identifiers_in ps) (without SubscriptionIdentifier ps)
 sent_is n [] up all fits = refl
 sent_is n (p ∷ ps) up all fits =
@@ -203,6 +206,7 @@ tells_identifiers (n ∷ ids) ps rest none =
     let more = tells_identifiers ids ps rest none in
     (more.0, ap (λ (ns : List ℕ). n ∷ ns) more.1)
 
+-- what is sent tells what was passed on, and the Subscription Identifiers
 pub sent_tells : (id : ℕ) (ids : List ℕ) (ps : List Prop) → passes_from id ps ≡ true → AllByRecursion IsProp ps → Tells ids ps (sent_after 0 ids ps)
 sent_tells id ids [] up fits = tells_identifiers ids [] refl refl
 sent_tells id ids (p ∷ ps) up fits =
@@ -223,6 +227,7 @@ sent_tells id ids (p ∷ ps) up fits =
 
 -- ---- what a column says is what is sent
 
+-- a column that says what is sent has just these properties
 pub says_sent : (ps : List Prop) (ids : List ℕ) (v : Column) (h : SaysSent ps ids v) → h.all ≡ sent_after 0 ids ps
 says_sent ps ids v h =
     let passed : passes_from 0 (without SubscriptionIdentifier h.all) ≡ true = subst (λ (xs : List Prop). passes_from 0 xs ≡ true) (sym h.passed) h.goes_on in

@@ -21,6 +21,7 @@ abbrev pub IsSaid : {X : Type 0} → (X → Row → Type 0) → List Row → X �
 IsSaid Says rows x = (row : Row) × Has rows row × Says x row
 
 module _ {X : Type 0} (Says : X → Row → Type 0) where
+  -- each item is said by one of the rows that say a list
   pub rows_each : (rows : List Row) (xs : List X) → AreRows Says rows xs → (x : X) → HasItem xs x → IsSaid Says rows x
   rows_each [] [] are x h = absurd h
   rows_each [] (y ∷ ys) are x h = absurd are
@@ -28,6 +29,7 @@ module _ {X : Type 0} (Says : X → Row → Type 0) where
   rows_each (row ∷ rows) (y ∷ ys) are x (inl same) = (row, inl refl, subst (λ (z : X). Says z row) (sym same) are.0)
   rows_each (row ∷ rows) (y ∷ ys) are x (inr h) = let it = rows_each rows ys are.1 x h in (it.0, inr it.1, it.2)
 
+  -- each row says an item of the list
   pub rows_only : (rows : List Row) (xs : List X) → AreRows Says rows xs → (row : Row) → Has rows row → (x : X) × HasItem xs x × Says x row
   rows_only [] xs are row h = absurd h
   rows_only (r ∷ rows) [] are row h = absurd are
@@ -39,6 +41,7 @@ module _ {X : Type 0} (Says : X → Row → Type 0) where
 abbrev pub SaysNamed : List ℕ × ℕ → Row → Type 0
 SaysNamed x row = SaysNumber x.0 x.1 row
 
+-- each number is said by one of the rows
 pub numbers_each : (q : Records) (rows : List Row) → SaysNumbers (counters_of q) rows → (x : List ℕ × ℕ) → HasItem (numbers_in q) x → IsSaid SaysNamed rows x
 numbers_each q [] h x it = absurd h
 numbers_each q (a ∷ []) h x it = absurd h
@@ -55,6 +58,7 @@ numbers_each q (a ∷ b ∷ c ∷ d ∷ e ∷ f ∷ []) h x (inr (inr (inr (inr 
 numbers_each q (a ∷ b ∷ c ∷ d ∷ e ∷ f ∷ []) h x (inr (inr (inr (inr (inr (inr none)))))) = absurd none
 numbers_each q (a ∷ b ∷ c ∷ d ∷ e ∷ f ∷ g ∷ rows) h x it = absurd h
 
+-- each row of the table of numbers says one
 pub numbers_only : (q : Records) (rows : List Row) → SaysNumbers (counters_of q) rows → (row : Row) → Has rows row → (x : List ℕ × ℕ) × HasItem (numbers_in q) x × SaysNamed x row
 numbers_only q [] h row it = absurd h
 numbers_only q (a ∷ []) h row it = absurd h
@@ -73,6 +77,7 @@ numbers_only q (a ∷ b ∷ c ∷ d ∷ e ∷ f ∷ g ∷ rows) h row it = absur
 
 -- ---- the sessions' own rows
 
+-- each session's own columns are said by one of the rows
 pub own_each : (rows : List Row) (parts : Parts) (ss : List Session) → AreSessions rows parts ss → (s : Session) → HasItem ss s → (row : Row) × Has rows row × SaysSession (columns_of s) row
 own_each [] parts [] are s h = absurd h
 own_each [] parts (t ∷ ts) are s h = absurd are
@@ -80,6 +85,7 @@ own_each (row ∷ rows) parts [] are s h = absurd are
 own_each (row ∷ rows) parts (t ∷ ts) are s (inl same) = (row, inl refl, subst (λ (u : Session). SaysSession (columns_of u) row) (sym same) are.0)
 own_each (row ∷ rows) parts (t ∷ ts) are s (inr h) = let it = own_each rows are.1.0 ts are.1.2 s h in (it.0, inr it.1, it.2)
 
+-- each row of the table of sessions says one's own columns
 pub own_only : (rows : List Row) (parts : Parts) (ss : List Session) → AreSessions rows parts ss → (row : Row) → Has rows row → (s : Session) × HasItem ss s × SaysSession (columns_of s) row
 own_only [] parts ss are row h = absurd h
 own_only (r ∷ rows) parts [] are row h = absurd are
@@ -99,12 +105,14 @@ SaysOf Says x row = IsOf x.0 row × Says x.1 row
 
 module _ {X : Type 0} (Says : X → Row → Type 0) (part : Session → List X) where
   module _ (table : Parts → List Row) (none : table no_parts ≡ []) (takes : (s : Session) (parts rest : Parts) → TakesParts s parts rest → Takes Says s.birth (part s) (table parts) (table rest)) where
+    -- the rows of one table are the parts of the sessions, one after the other
     pub shares : (rows : List Row) (parts : Parts) (ss : List Session) → AreSessions rows parts ss → Shares Says part (table parts) ss
     shares [] parts [] are = ap table are ∙ none
     shares [] parts (s ∷ ss) are = absurd are
     shares (row ∷ rows) parts [] are = absurd are
     shares (row ∷ rows) parts (s ∷ ss) are = (table are.1.0, takes s parts are.1.0 are.1.1, shares rows are.1.0 ss are.1.2)
 
+  -- each item of a session is said by a row of that session
   pub shares_each : (rows : List Row) (ss : List Session) → Shares Says part rows ss → (x : ℕ × X) → InPart part ss x.0 x.1 → IsSaid (SaysOf Says) rows x
   shares_each rows [] h x it = absurd it.1
   shares_each rows (t ∷ ts) h x it =
@@ -121,6 +129,7 @@ module _ {X : Type 0} (Says : X → Row → Type 0) (part : Session → List X) 
             (said.0, subst (λ (l : List Row). Has l said.0) (sym takes.parts) (has_right takes.front h.0 said.0 said.1), said.2)
       ]
 
+  -- each row says an item of the session that it names
   pub shares_only : (rows : List Row) (ss : List Session) → Shares Says part rows ss → (row : Row) → Has rows row → (x : ℕ × X) × InPart part ss x.0 x.1 × SaysOf Says x row
   shares_only rows [] h row there = absurd (subst (λ (l : List Row). Has l row) h there)
   shares_only rows (t ∷ ts) h row there =
@@ -138,14 +147,18 @@ same_list : (o : Option Will) → list_of o ≡ listed o
 same_list None = refl
 same_list (Some w) = refl
 
+-- the rows of Wills are those of the sessions, one after the other
 pub wills_share : (rows : List Row) (parts : Parts) (ss : List Session) → AreSessions rows parts ss → Shares SaysWill will_of parts.wills ss
 wills_share = shares SaysWill will_of (λ p. p.wills) refl (λ s parts rest h. subst (λ (l : List Will). Takes SaysWill s.birth l parts.wills rest.wills) (same_list s.will) h.will)
 
+-- the rows of subscriptions are those of the sessions, one after the other
 pub subscriptions_share : (rows : List Row) (parts : Parts) (ss : List Session) → AreSessions rows parts ss → Shares SaysSubscription subscriptions_of parts.subscriptions ss
 subscriptions_share = shares SaysSubscription subscriptions_of (λ p. p.subscriptions) refl (λ s parts rest h. h.subscriptions)
 
+-- the rows of open identifiers are those of the sessions, one after the other
 pub inbound_share : (rows : List Row) (parts : Parts) (ss : List Session) → AreSessions rows parts ss → Shares SaysOpen inbound_of parts.inbound ss
 inbound_share = shares SaysOpen inbound_of (λ p. p.inbound) refl (λ s parts rest h. h.inbound)
 
+-- the rows of copies are those of the sessions, one after the other
 pub copies_share : (rows : List Row) (parts : Parts) (ss : List Session) → AreSessions rows parts ss → Shares SaysCopy queue_of parts.copies ss
 copies_share = shares SaysCopy queue_of (λ p. p.copies) refl (λ s parts rest h. h.queue)

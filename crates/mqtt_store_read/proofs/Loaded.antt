@@ -32,7 +32,7 @@ pub gives_all : (db : Trees) (rows : Rows) (res : Result Records KeepError) → 
 gives_all db rows (Ok r) listed gives lawful = record { rows = rows; listed = listed; gives = gives; lawful = lawful }
 gives_all db rows (Err e) listed gives lawful = tt
 
--- where it gives none, the database has none
+-- if it gives none, the database has none
 pub gives_none : (db : Trees) (rows : Rows) → AreListed db rows → ((r : Records) → Gives rows r → IsLawful r → ⊥) → (r : Records) → HasRecords db r → ⊥
 gives_none db rows listed none r h =
     let same = listed_one db rows h.rows r listed h.listed h.gives (lawful_within r h.lawful) in

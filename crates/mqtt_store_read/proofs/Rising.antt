@@ -48,6 +48,7 @@ module _ {X : Type 0} (Says : X → Row → Type 0) (key : X → ℕ) (says : (x
   above r n (row ∷ rows) [] here are up = absurd are
   above r n (row ∷ rows) (x ∷ xs) here are up = (first_less [] r row n (key x) here (says x row are.0) up.0, above r n rows xs here are.1 up.1)
 
+  -- rows of items in the order of their keys rise by the column of the key
   pub rows_rise : (rows : List Row) (xs : List X) → AreRows Says rows xs → IsAscending key xs → Rise (0 ∷ []) rows
   rows_rise [] xs are up = tt
   rows_rise (row ∷ rows) [] are up = absurd are

@@ -79,6 +79,7 @@ listed_one db rows others r h k gives within =
     (one_listing _ db _ _ h.parts.copies k.parts.copies parts.copies.1))
     (one_listing _ db _ _ h.retained k.retained (retained_rise others.retained r.retained gives.retained within.retained.ascending))
 
+-- a database has one records alone
 pub records_one : (db : Trees) (q r : Records) → HasRecords db q → HasRecords db r → q ≡ r
 records_one db q r h k =
     let same = listed_one db h.rows k.rows r h.listed k.listed k.gives (lawful_within r k.lawful) in

@@ -11,12 +11,14 @@ use Rattle.mqtt_store_rows.specs.Lists.{AreRows, IsOf, AllOf, BeginsOther, Takes
 use Rattle.mqtt_store_rows.specs.Gives.{list_of}
 
 module _ {X : Type 0} (IsRow : X → Row → Type 0) where
+  -- a row more that says an item, behind rows that say the others
   pub are_push : (rows : List Row) (all : List X) (row : Row) (x : X) → AreRows IsRow rows all → IsRow x row → AreRows IsRow (rows ++ row ∷ []) (all ++ x ∷ [])
   are_push [] [] row x h here = (here, tt)
   are_push [] (y ∷ all) row x h here = absurd h
   are_push (r ∷ rows) [] row x h here = absurd h
   are_push (r ∷ rows) (y ∷ all) row x h here = (h.0, are_push rows all row x h.1 here)
 
+  -- once the row at a place says an item, the rows up to it say all so far
   pub are_more : (rows : List Row) (all : List X) (i : ℕ) (row : Row) (x : X) → i < length rows → row ≡ get_or rows i row → AreRows IsRow (take i rows) all → IsRow x row → AreRows IsRow (take (i + 1) rows) (all ++ x ∷ [])
   are_more rows all i row x lt is h here = rw (take_more rows i row lt, ← is) (are_push (take i rows) all row x h here)
 
@@ -27,6 +29,7 @@ module _ {X : Type 0} (IsRow : X → Row → Type 0) where
   are_at (r ∷ front) row rest [] h = absurd h
   are_at (r ∷ front) row rest (x ∷ all) h = are_at front row rest all h.1
 
+  -- there are as many items as rows that say them
   pub same_length : (rows : List Row) (all : List X) → AreRows IsRow rows all → length all ≡ length rows
   same_length [] [] h = refl
   same_length [] (x ∷ all) h = absurd h
@@ -39,14 +42,17 @@ module _ {X : Type 0} (key : X → ℕ) where
   last_from n [] = n
   last_from n (x ∷ xs) = last_from (key x) xs
 
+  -- the key of the last item is that of the one that came last
   pub last_push : (n : ℕ) (xs : List X) (x : X) → last_from n (xs ++ x ∷ []) ≡ key x
   last_push n [] x = refl
   last_push n (y ∷ ys) x = last_push (key y) ys x
 
+  -- an item with a higher key, behind others, leaves all keys up to its own
   pub below_push : (n : ℕ) (xs : List X) (x : X) → IsBelow key (n + 1) xs → n < key x → IsBelow key (key x + 1) (xs ++ x ∷ [])
   below_push n [] x low less = (omega arith, tt)
   below_push n (y ∷ ys) x low less = let h = low.0 in (omega (arith, h, less), below_push n ys x low.1 less)
 
+  -- what is at most one key is below a greater
   pub below_less : (n m : ℕ) (xs : List X) → IsBelow key (n + 1) xs → n < m → IsBelow key m xs
   below_less n m [] low less = tt
   below_less n m (y ∷ ys) low less = let h = low.0 in (omega (arith, h, less), below_less n m ys low.1 less)
@@ -55,10 +61,12 @@ module _ {X : Type 0} (key : X → ℕ) where
   above_push n [] x up less = (less, tt)
   above_push n (y ∷ ys) x up less = (up.0, above_push n ys x up.1 less)
 
+  -- an item whose key is above all others goes behind them in order
   pub ascending_push : (xs : List X) (x : X) → IsAscending key xs → IsBelow key (key x) xs → IsAscending key (xs ++ x ∷ [])
   ascending_push [] x up low = (tt, tt)
   ascending_push (y ∷ ys) x up low = (above_push (key y) ys x up.0 low.0, ascending_push ys x up.1 low.1)
 
+  -- if every row's key is above 0, so are those of its items
   pub above_zero : (IsRow : X → Row → Type 0) → ((x : X) (row : Row) → IsRow x row → 0 < key x) → (rows : List Row) (xs : List X) → AreRows IsRow rows xs → IsAbove key 0 xs
   above_zero IsRow from [] [] h = tt
   above_zero IsRow from [] (x ∷ xs) h = absurd h
@@ -106,7 +114,7 @@ all_of_more birth n rows row lt is all here = rw (take_more rows n row lt, ← i
     push [] all = (here, tt)
     push (r ∷ l) all = (all.0, push l all.1)
 
--- where the row at a place is of another session, or there is none
+-- if the row at a place is of another session, or there is none
 pub begins_at : (birth n : ℕ) (rows : List Row) (row : Row) → n < length rows → row ≡ get_or rows n row → (IsOf birth row → ⊥) → BeginsOther birth (drop n rows)
 begins_at birth n rows row lt is other = subst (BeginsOther birth) (sym (drop-cons rows n row lt ∙ ap (λ (r : Row). r ∷ drop (suc n) rows) (sym is))) other
 

@@ -22,6 +22,7 @@ use Rattle.mqtt_store_rows.proofs.PartLemmas.{same_parts, same_rest, ends_before
 -- ---- lists
 
 module _ {X : Type 0} (Says : X → Row → Type 0) (one : (x y : X) (row : Row) → Says x row → Says y row → x ≡ y) where
+  -- if a row says one item at most, rows say one list of items at most
   pub same_rows : (rows : List Row) (xs ys : List X) → AreRows Says rows xs → AreRows Says rows ys → xs ≡ ys
   same_rows [] [] [] h k = refl
   same_rows [] [] (y ∷ ys) h k = absurd k

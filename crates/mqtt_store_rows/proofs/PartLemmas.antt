@@ -15,6 +15,7 @@ use Rattle.mqtt_store_rows.specs.Ends.{EndsParts}
 -- ---- one table
 
 module _ {X : Type 0} (Says : X → Row → Type 0) where
+  -- if the rows behind a session's part are of another session, the part is all that it has there
   pub moved : (b c : ℕ) (part : List X) (rows rest : List Row) → b ≡ c → Takes Says b part rows rest → BeginsOther b rest → TakesAll Says c part rows rest
   moved b c part rows rest same takes ends = record {
     takes = subst (λ (n : ℕ). Takes Says n part rows rest) same takes;
@@ -41,6 +42,7 @@ front_is birth (r ∷ front) rest (s ∷ other) more is mine ends theirs stops =
     (ap (λ (x : Row). x ∷ front) heads ∙ ap (λ (xs : List Row). s ∷ xs) both.0, both.1)
 
 module _ {X : Type 0} (Says : X → Row → Type 0) where
+  -- the rows at the front are the part of one session, and where it ends is determined
   pub same_parts : (b c : ℕ) (p q : List X) (rows rest more : List Row) → b ≡ c → (x : Takes Says b p rows rest) → BeginsOther b rest → (y : Takes Says c q rows more) → BeginsOther c more → (x.front ≡ y.front) × (rest ≡ more)
   same_parts b c p q rows rest more same x ends y stops =
       front_is b x.front rest y.front more (sym x.parts ∙ y.parts) x.mine ends (subst (λ (n : ℕ). AllOf n y.front) (sym same) y.mine) (subst (λ (n : ℕ). BeginsOther n more) (sym same) stops)

@@ -1,5 +1,9 @@
 -- What the INSERT of a new store's numbers makes of a database.
-use Rattle.std.proofs.Common.{arith, ◌≡◌, ℕ, pos, List, [], ◌∷◌, map, drop, codes, Ok, Err, Result, OnOk, None, refl, ap, subst, ◌∙◌, IsTrue}
+use Rattle.std.proofs.Common.{arith, ◌≡◌, ◌≢◌, ℕ, pos, List, [], ◌∷◌, map, drop, codes, Ok, Err, Result, OnOk, None, refl, sym, ap, subst, ◌∙◌, IsTrue}
+use Rattle.std.specs.List.{AllByRecursion}
+use Rattle.sqlite_schema.specs.declared.schema.Schema.{Schema}
+use Rattle.sqlite_schema.specs.declared.schema.Table.{Table}
+use Rattle.sqlite_schema.specs.declared.schema.Index.{Index}
 use Rattle.sqlite_value.specs.declared.value.Value.TheVariants.{Null, Int, Text}
 use Rattle.sqlite_value.specs.Order.{Row, value_cmp}
 use Rattle.sqlite_value.specs.Keys.{joined}
@@ -24,73 +28,101 @@ use Rattle.sqlite.specs.State.{State, mode_of, ExecutesInside}
 use Rattle.sqlite_tied.specs.Compute.{everything}
 use Rattle.sqlite.proofs.Callers.{IsPlain, command_of, statement_of, runs_as, one_step}
 use Rattle.mqtt_store_schema.specs.Tables.{keep_schema, meta}
-use Rattle.mqtt_store_schema.specs.Creation.{HasTables, fill_text, first_numbers, IsNewStore}
+use Rattle.mqtt_store_schema.specs.Creation.{HasTables, AreEmpty, fill_text, numbers_of, IsNewStore}
 use Rattle.mqtt_store_schema.proofs.Creates.{went, same_value}
 
 abbrev row_terms : List ℕ → ℕ → List Term → List Term
 row_terms name n more = lit Null ∷ lit (Text name) ∷ lit (Int (pos n)) ∷ more
 
-abbrev terms : List Term
-terms = row_terms (codes "schema") 1 (row_terms (codes "births") 0 (row_terms (codes "publications") 0 (row_terms (codes "subscribes") 0 (row_terms (codes "autos") 0 (row_terms (codes "moment") 0 [])))))
+abbrev terms : ℕ → List Term
+terms n = row_terms (codes "schema") n (row_terms (codes "births") 0 (row_terms (codes "publications") 0 (row_terms (codes "subscribes") 0 (row_terms (codes "autos") 0 (row_terms (codes "moment") 0 [])))))
 
-abbrev fill_command : Command
-fill_command = Insert 0 (Values terms 3)
-
-fill_is : command_of (understood keep_schema fill_text) ≡ fill_command
-unfolding understood everything
-fill_is = refl
-
-fill_plain : IsPlain (understood keep_schema fill_text)
-unfolding understood everything
-fill_plain = (refl, refl)
+-- the INSERT of the numbers of a store of schema n
+abbrev pub fill_command : ℕ → Command
+fill_command n = Insert 0 (Values (terms n) 3)
 
 -- the rows that the statement gives, before they have numbers
 abbrev source : List ℕ → ℕ → Row
 source name n = Null ∷ Text name ∷ Int (pos n) ∷ []
 
-abbrev sources : List Row
-sources = source (codes "schema") 1 ∷ source (codes "births") 0 ∷ source (codes "publications") 0 ∷ source (codes "subscribes") 0 ∷ source (codes "autos") 0 ∷ source (codes "moment") 0 ∷ []
+abbrev sources : ℕ → List Row
+sources n = source (codes "schema") n ∷ source (codes "births") 0 ∷ source (codes "publications") 0 ∷ source (codes "subscribes") 0 ∷ source (codes "autos") 0 ∷ source (codes "moment") 0 ∷ []
 
-abbrev fill_edit : Edit
-fill_edit = record { table = meta; gone = []; news = first_numbers }
+abbrev fill_edit : ℕ → Edit
+fill_edit n = record { table = meta; gone = []; news = numbers_of n }
 
-news_are : numbered Chosen [] (map (λ s. cast_row meta (drop 0 s)) sources) ≡ first_numbers
-unfolding unary value_cmp lib.Ieee.is_nan lib.Ieee.lt everything
-news_are = refl
+abbrev AreNumbered : ℕ → Type 0
+AreNumbered n = numbered Chosen [] (map (λ s. cast_row meta (drop 0 s)) (sources n)) ≡ numbers_of n
 
-edit_is : (db : Trees) → db 0 ≡ [] → edit_of db meta [] Chosen 0 sources ≡ fill_edit
-edit_is db none = ap (λ (news : List Row). record { table = meta; gone = []; news = news }) (ap (λ rows. numbered Chosen rows (map (λ s. cast_row meta (drop 0 s)) sources)) none ∙ news_are)
+edit_is : (n : ℕ) → AreNumbered n → (db : Trees) → db 0 ≡ [] → edit_of db meta [] Chosen 0 (sources n) ≡ fill_edit n
+edit_is n are db none = ap (λ (news : List Row). record { table = meta; gone = []; news = news }) (ap (λ rows. numbered Chosen rows (map (λ s. cast_row meta (drop 0 s)) (sources n))) none ∙ are)
 
-put_into_none : put_all [] first_numbers ≡ first_numbers
+put_into_none : (n : ℕ) → put_all [] (numbers_of n) ≡ numbers_of n
 unfolding value_cmp lib.Ieee.is_nan lib.Ieee.lt everything
-put_into_none = refl
+put_into_none n = refl
 
-no_works : (olds : List Row) → works keep_schema Enforced 0 0 olds first_numbers ≡ []
-unfolding same_name joined
-no_works olds = refl
+-- meta in front of those tables
+abbrev pub with_meta : List Table → List Index → Schema
+with_meta others indexes = record { tables = meta ∷ others; indexes = indexes; views = [] }
 
-pub fills : (old new : State) (r : Result ℕ Error) → HasTables 7 old → ExecutesInside 0 fill_text [] old new r → OnOk r (IsNewStore new.now × IsTrue new.in_transaction)
-fills old new (Err e) has h = tt
-fills old new (Ok count) has h =
+-- in that schema the text writes the numbers of schema n
+pub record FillsMeta (schema : Schema) (n : ℕ) (text : List ℕ) : Type 0 where
+  pub command : command_of (understood schema text) ≡ fill_command n
+  pub plain : IsPlain (understood schema text)
+  pub numbered_are : AreNumbered n
+  -- no table refers to meta
+  pub unworked : (olds : List Row) → works schema Enforced 0 0 olds (numbers_of n) ≡ []
+
+-- the rows of meta are these, and all others as they were
+pub record HasNumbers (schema : Schema) (n : ℕ) (old new : State) : Type 0 where
+  pub schema_is : new.now.schema ≡ schema
+  pub inside : IsTrue new.in_transaction
+  pub numbers : new.now.trees 0 ≡ numbers_of n
+  pub others : AllByRecursion (λ t. t.tree ≢ 0 → new.now.trees t.tree ≡ old.now.trees t.tree) schema.tables
+
+-- a text that fills meta has written the numbers, and the rows of the other tables stay
+pub writes_numbers : (others : List Table) (indexes : List Index) (n : ℕ) (text : List ℕ) → FillsMeta (with_meta others indexes) n text → (old new : State) (r : Result ℕ Error) → old.now.schema ≡ with_meta others indexes → old.now.trees 0 ≡ []
+    → ExecutesInside 0 text [] old new r → OnOk r (HasNumbers (with_meta others indexes) n old new)
+writes_numbers others indexes n text it old new (Err e) has none h = tt
+writes_numbers others indexes n text it old new (Ok count) has none h =
+    let schema = with_meta others indexes in
     let db = old.now.trees in
-    let w = runs_as fill_text [] old new keep_schema has.schema fill_command fill_is fill_plain count h.0 in
-    let text = statement_of fill_text (understood keep_schema fill_text) in
-    let done = went (subst (λ s. Does old.step_limit (mode_of old) [] (record old.now { schema = s }) text None fill_command (Ok (w.tally, new.now))) has.schema w.changed) in
+    let w = runs_as text [] old new schema has (fill_command n) it.command it.plain count h.0 in
+    let said = statement_of text (understood schema text) in
+    let done = went (subst (λ s. Does old.step_limit (mode_of old) [] (record old.now { schema = s }) said None (fill_command n) (Ok (w.tally, new.now))) has w.changed) in
     let now = ap (λ (p : Tally × Database). p.1) (same_value (went (went done.2).2).2) in
     let given = went done.1 in
     let written = went (went given.2).2 in
     let counted = went written.2 in
     let trees : done.0.trees ≡ written.0 = ap (λ (it : Written). it.trees) (same_value counted.2) ∙ same_value counted.1 in
-    let wrote = subst (λ e. WritesEdit keep_schema Enforced db e (Ok written.0)) (edit_is db has.empty.0) (subst (λ (rows : List Row). WritesEdit keep_schema Enforced db (edit_of db meta [] Chosen 0 rows) (Ok written.0)) given.1.1 written.1) in
-    let step = one_step keep_schema Enforced db written.0 fill_edit (no_works (taken_by db fill_edit)) wrote in
+    let wrote = subst (λ e. WritesEdit schema Enforced db e (Ok written.0)) (edit_is n it.numbered_are db none) (subst (λ (rows : List Row). WritesEdit schema Enforced db (edit_of db meta [] Chosen 0 rows) (Ok written.0)) given.1.1 written.1) in
+    let step = one_step schema Enforced db written.0 (fill_edit n) (it.unworked (taken_by db (fill_edit n))) wrote in
     let is : new.now.trees ≡ written.0 = ap (λ (d : Database). d.trees) now ∙ trees in
-    let at : (t : ℕ) → written.0 t ≡ db t → db t ≡ [] → new.now.trees t ≡ [] = λ t same none. ap (λ (x : Trees). x t) is ∙ (same ∙ none) in
-    let o = step.tables.1 in
-    let e = has.empty.1 in (
+    record {
+      schema_is = ap (λ (d : Database). d.schema) now;
+      inside = h.1.mode;
+      numbers = ap (λ (x : Trees). x 0) is ∙ (step.rows ∙ (ap (λ rows. put_all rows (numbers_of n)) none ∙ put_into_none n));
+      others = subst (λ (x : Trees). AllByRecursion (λ t. t.tree ≢ 0 → x t.tree ≡ db t.tree) schema.tables) (sym is) step.tables;
+    }
+
+fills_meta : FillsMeta keep_schema 1 fill_text
+unfolding understood unary value_cmp lib.Ieee.is_nan lib.Ieee.lt same_name joined everything
+fills_meta = record { command = refl; plain = (refl, refl); numbered_are = refl; unworked = λ olds. refl }
+
+-- tables of which none is meta stay empty
+pub stay_empty : (tables : List Table) (old new : Trees) → AllByRecursion (λ t. t.tree ≢ 0 → new t.tree ≡ old t.tree) tables → AllByRecursion (λ t. t.tree ≢ 0) tables → AreEmpty tables old → AreEmpty tables new
+stay_empty [] old new same apart empty = empty
+stay_empty (t ∷ tables) old new same apart empty = (same.0 apart.0 ∙ empty.0, stay_empty tables old new same.1 apart.1 empty.1)
+
+-- once the first numbers are put into the seven tables the database is a new store
+pub fills : (old new : State) (r : Result ℕ Error) → HasTables 7 old → ExecutesInside 0 fill_text [] old new r → OnOk r (IsNewStore new.now × IsTrue new.in_transaction)
+fills old new (Err e) has h = tt
+fills old new (Ok count) has h =
+    let it = writes_numbers _ _ 1 fill_text fills_meta old new (Ok count) has.schema has.empty.0 h in (
       record {
-        schema = ap (λ (d : Database). d.schema) now;
-        meta_rows = ap (λ (x : Trees). x 0) is ∙ (step.rows ∙ (ap (λ rows. put_all rows first_numbers) has.empty.0 ∙ put_into_none));
-        empty = (at 2 (o.0 (omega arith)) e.0, (at 4 (o.1.0 (omega arith)) e.1.0, (at 5 (o.1.1.0 (omega arith)) e.1.1.0, (at 7 (o.1.1.1.0 (omega arith)) e.1.1.1.0, (at 9 (o.1.1.1.1.0 (omega arith)) e.1.1.1.1.0, (at 11 (o.1.1.1.1.1.0 (omega arith)) e.1.1.1.1.1.0, tt))))));
+        schema = it.schema_is;
+        meta_rows = it.numbers;
+        empty = stay_empty (drop 1 keep_schema.tables) old.now.trees new.now.trees it.others.1 (omega arith, (omega arith, (omega arith, (omega arith, (omega arith, (omega arith, tt)))))) has.empty.1;
       },
-      h.1.mode,
+      it.inside,
     )

@@ -40,6 +40,7 @@ pub stays_inside : {S : Type 0} (g : Ghosts S) (sql : List ℕ) (params : Row) (
     → (HasCleanDisk (state g new) → IsTrue (state g old).in_transaction → ExecutesInside 0 sql params (state g old) (state g new) r) → Survives (state g old) (state g new) (λ _. ⊥) → StaysInside (state g old) (state g new)
 stays_inside g sql params old new r ended runs survives = record { kept = λ clean. keeps_either g sql params old new r ended (runs clean); survives = survives }
 
+-- a transaction that begins on an empty database has no tables yet
 pub begun_has : (old begun : State) → begun ≡ record old { in_transaction = true } → old.now.schema ≡ first 0 → HasTables 0 begun
 begun_has old begun same none = rw same (record { schema = none; inside = refl; empty = tt })
 

@@ -52,6 +52,7 @@ if_select_shows : (r : Checked Compiled) → ShowsOnly r → ShowsOnly (if_selec
 if_select_shows (Err e) h = tt
 if_select_shows (Ok c) h = elim (is_select c.command) as (λ b. ShowsOnly (if b then Ok c else Err NoSuchTable)) [ true ↦ h | false ↦ tt ]
 
+-- whatever the schema, the text of a SELECT shows nothing of what a command writes
 pub text_shows : (schema : Schema) (text : List ℕ) → IsSelect (first text) → ShowsOnly (understood schema text)
 unfolding understood
 text_shows schema text is =
@@ -63,5 +64,6 @@ ask_is_select : IsSelect (first ask_text)
 unfolding everything
 ask_is_select = (_, refl)
 
+-- whatever the schema, the question for it shows nothing of what a command writes
 pub ask_shows : (schema : Schema) → ShowsOnly (understood schema ask_text)
 ask_shows schema = text_shows schema ask_text ask_is_select

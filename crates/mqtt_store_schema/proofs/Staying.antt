@@ -10,13 +10,16 @@ use Rattle.sqlite.proofs.StateLemmas.{survives_weaker, survives_then}
 use Rattle.mqtt_store_schema.specs.Settled.{IsSettled, Stays, OnlyReads}
 use Rattle.mqtt_store_schema.proofs.Plain.{ShowsOnly}
 
+-- a connection that didn't change has what was settled as it was
 pub unchanged_stays : (old new : State) → IsUnchanged old new → Stays old new
 unchanged_stays old new h = record { was_open = λ _. h.0.was_open; same = λ _ _. (h.0.now_is, h.0.committed_is) }
 
+-- a connection that was rolled back has what was settled as it was
 pub rolled_stays : (old new : State) → IsRolledBack old new → Stays old new
 rolled_stays old new h = record { was_open = h.was_open; same = λ up settled. ((h.undone up).0 ∙ settled.committed, (h.undone up).1) }
 
 module _ (text : List ℕ) (old new : State) (plain : ShowsOnly (understood old.now.schema text)) where
+  -- a query that showed rows left the connection unchanged
   pub shown_unchanged : (rows : List Row) → Shown text [] old new rows → IsUnchanged old new
   unfolding Shown
   shown_unchanged rows h =
@@ -52,6 +55,7 @@ module _ (text : List ℕ) (old new : State) (plain : ShowsOnly (understood old.
     stays = λ clean. query_stays r (ok clean) (err clean);
   }
 
+  -- a query that answered rows left the connection open
   pub query_is_open : (r : Result (Vec SqlRow Global) Error) → IfOk r (λ rows. Shown text [] old new rows.items) → OnOk r (IsTrue new.is_open)
   query_is_open (Ok rows) ok = (shown_unchanged rows.items ok).0.is_open
   query_is_open (Err e) ok = tt

@@ -51,9 +51,12 @@ fill_text = codes "INSERT INTO meta VALUES ('schema', 1), ('births', 0), ('publi
 abbrev pub number_row : ℕ → List ℕ → ℕ → Row
 number_row place name n = Int (pos place) ∷ Text name ∷ Int (pos n) ∷ []
 
--- a store's numbers before anything is kept
+-- the numbers of a store of this schema before anything is kept
+abbrev pub numbers_of : ℕ → List Row
+numbers_of schema = number_row 1 (codes "schema") schema ∷ number_row 2 (codes "births") 0 ∷ number_row 3 (codes "publications") 0 ∷ number_row 4 (codes "subscribes") 0 ∷ number_row 5 (codes "autos") 0 ∷ number_row 6 (codes "moment") 0 ∷ []
+
 abbrev pub first_numbers : List Row
-first_numbers = number_row 1 (codes "schema") 1 ∷ number_row 2 (codes "births") 0 ∷ number_row 3 (codes "publications") 0 ∷ number_row 4 (codes "subscribes") 0 ∷ number_row 5 (codes "autos") 0 ∷ number_row 6 (codes "moment") 0 ∷ []
+first_numbers = numbers_of 1
 
 -- the tables of a store that keeps nothing
 pub record IsNewStore (db : Database) : Type 0 where

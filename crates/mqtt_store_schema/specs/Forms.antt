@@ -1,19 +1,26 @@
 -- What a constant says of a table: its form, and the table of that form.
-use Rattle.std.specs.Prelude.{◌≡◌, true, false, [], map}
+use Rattle.std.specs.Prelude.{◌≡◌, false, [], ◌∷◌, map}
 use Rattle.sqlite_value.specs.Keys.{plain}
 use Rattle.sqlite_schema.specs.declared.schema.Column.{Column}
+use Rattle.sqlite_schema.specs.declared.schema.Reference.{Reference}
+use Rattle.sqlite_schema.specs.declared.schema.Action.TheVariants.{NoAction}
 use Rattle.sqlite_schema.specs.declared.schema.Table.{Table}
 use Rattle.sqlite_schema.specs.declared.schema.Index.{Index}
-use Rattle.mqtt_store_schema.specs.Tables.{wanted, optional, to_session}
+use Rattle.mqtt_store_schema.specs.Tables.{wanted, optional}
 use Rattle.mqtt_store_schema.specs.declared.tables.TableForm.{TableForm}
 use Rattle.mqtt_store_schema.specs.declared.tables.IndexForm.{IndexForm}
 use Rattle.mqtt_store_schema.specs.declared.columns.ColumnForm.{ColumnForm}
 use Rattle.mqtt_store_schema.specs.declared.columns.ColumnForm.TheVariants.{Wanted, Optional}
+use Rattle.mqtt_store_schema.specs.declared.columns.ParentForm.{ParentForm}
 
 -- the column of that name and kind
 abbrev pub column_of : ColumnForm → Column
 column_of (Wanted name kind) = wanted name.now kind
 column_of (Optional name kind) = optional name.now kind
+
+-- the reference from that place, tested after each statement
+abbrev pub reference_of : ParentForm → Reference
+reference_of f = record { columns = f.at ∷ []; parent = f.table.now; parent_columns = f.column.now ∷ []; on_delete = f.on_delete; on_update = NoAction; is_deferred = false }
 
 -- a STRICT table that has no more than the form says
 abbrev pub table_of : TableForm → Table
@@ -26,15 +33,15 @@ table_of f = record {
   uniques = map (λ places. places.now) f.uniques.now;
   orders = map (λ _. plain) f.uniques.now;
   checks = [];
-  references = map to_session f.parents.now;
+  references = map reference_of f.parents.now;
   computed = [];
   stamps = record { places = []; terms = []; formats = [] };
   is_counted = false;
 }
 
--- a unique index, in ascending order
+-- an index in ascending order
 abbrev pub index_of : IndexForm → Index
-index_of f = record { name = f.name.now; tree = f.tree; table = f.table; columns = f.places.now; order = plain; is_unique = true }
+index_of f = record { name = f.name.now; tree = f.tree; table = f.table; columns = f.places.now; order = plain; is_unique = f.is_unique }
 
 -- nothing is computed or counted, and no CHECK is made
 pub record IsBare (t : Table) : Type 0 where

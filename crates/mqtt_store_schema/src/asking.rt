@@ -1,10 +1,10 @@
 //! What a database that is not ours says of its schema.
-ghost use Rattle.std.specs.Prelude.{◌≡◌, ◌≢◌, ◌∷◌, [], pos, MatchBool, IfOk};
+ghost use Rattle.std.specs.Prelude.{◌≡◌, ◌≢◌, ◌∷◌, [], ℤ, MatchBool, IfOk, MatchOption};
 ghost use Rattle.sqlite_value.specs.declared.value.Value.TheVariants.{Int};
 ghost use Rattle.sqlite.specs.Held.{state};
 ghost use Rattle.sqlite.specs.State.{HasCleanDisk};
 ghost use Rattle.mqtt_store_schema.specs.Creation.{first};
-ghost use Rattle.mqtt_store_schema.specs.Asking.{SaysOne, SaysOther};
+ghost use Rattle.mqtt_store_schema.specs.Asking.{Says, SaysOne, SaysOther};
 ghost use Rattle.mqtt_store_schema.specs.Settled.{OnlyReads};
 
 use sqlite::types::ValueRef;
@@ -18,37 +18,52 @@ pub fn is_empty(schema: &Schema) -> bool
     schema.tables.is_empty() && schema.indexes.is_empty() && schema.views.is_empty()
 }
 
-/// Whether a row has one number, which is 1.
+/// The one number that a row has.
 #[tactic(auto, using(crate::proofs::One::one_item))]
-fn is_one(row: &Row) -> bool
-    ensures { MatchBool result (row.now ≡ Int (pos 1) ∷ []) (row.now ≢ Int (pos 1) ∷ []) }
+fn number_in(row: &Row) -> Option<i64>
+    ensures { MatchOption result ((n : ℤ) → row.now ≢ Int n ∷ []) (λ n. row.now ≡ Int n ∷ []) }
 {
     if row.column_count() != 1 {
-        return false;
+        return None;
     }
     match row.get_ref(0) {
-        Ok(ValueRef::Int(n)) => n == 1,
-        _ => false,
+        Ok(ValueRef::Int(n)) => Some(n),
+        _ => None,
     }
 }
 
-/// Whether there is one row, of one number, which is 1.
+/// The one number of the one row that there is.
 #[tactic(auto, using(crate::proofs::One::one_item))]
-fn are_one(rows: &[Row]) -> bool
-    ensures { MatchBool result (rows.now ≡ (Int (pos 1) ∷ []) ∷ []) (rows.now ≢ (Int (pos 1) ∷ []) ∷ []) }
+fn number_of(rows: &[Row]) -> Option<i64>
+    ensures { MatchOption result ((n : ℤ) → rows.now ≢ (Int n ∷ []) ∷ []) (λ n. rows.now ≡ (Int n ∷ []) ∷ []) }
 {
-    rows.len() == 1 && is_one(&rows[0])
+    match rows {
+        [row] => number_in(row),
+        _ => None,
+    }
 }
 
-/// Whether a database says that its schema is 1. One that has no such question to ask says no.
+/// The number that a database says that its schema has. One that has no such question to ask says
+/// none.
+pub fn schema_said<S: Alter>(conn: &mut Connection<S>) -> Result<Option<i64>, Error>
+    ensures said { HasCleanDisk (state S.Store conn.new) → IfOk result (λ it. Says it (state S.Store conn.old) (state S.Store conn.new)) }
+    ensures reads { OnlyReads (state S.Store conn.old) (state S.Store conn.new) }
+{
+    match conn.query_all("SELECT n FROM meta WHERE name = 'schema'", &[]) {
+        Ok(rows) => Ok(number_of(rows.as_slice())),
+        Err(Error::SqlInputError(_)) => Ok(None),
+        Err(error) => Err(error),
+    }
+}
+
+/// Whether a database says that its schema is 1.
 pub fn says_one<S: Alter>(conn: &mut Connection<S>) -> Result<bool, Error>
     ensures said { HasCleanDisk (state S.Store conn.new) → IfOk result (λ yes. MatchBool yes
         (SaysOne (state S.Store conn.old) (state S.Store conn.new)) (SaysOther (state S.Store conn.old) (state S.Store conn.new))) }
     ensures reads { OnlyReads (state S.Store conn.old) (state S.Store conn.new) }
 {
-    match conn.query_all("SELECT n FROM meta WHERE name = 'schema'", &[]) {
-        Ok(rows) => Ok(are_one(rows.as_slice())),
-        Err(Error::SqlInputError(_)) => Ok(false),
-        Err(error) => Err(error),
+    match schema_said(conn)? {
+        Some(n) => Ok(n == 1),
+        None => Ok(false),
     }
 }

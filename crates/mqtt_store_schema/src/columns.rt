@@ -1,8 +1,7 @@
 //! Whether parts of a schema have the form that a constant says.
-ghost use Rattle.std.specs.Prelude.{◌≡◌, ◌≢◌, ◌∷◌, [], codes, List, map, true, false, MatchBool};
+ghost use Rattle.std.specs.Prelude.{◌≡◌, ◌≢◌, ◌∷◌, ◌++◌, [], List, map, true, false, MatchBool};
 ghost use Rattle.sqlite_value.specs.Keys.{plain};
-ghost use Rattle.mqtt_store_schema.specs.Forms.{column_of};
-ghost use Rattle.mqtt_store_schema.specs.Tables.{to_session};
+ghost use Rattle.mqtt_store_schema.specs.Forms.{column_of, reference_of};
 
 use sqlite_items::Items;
 use sqlite_schema::code::lend_value;
@@ -28,6 +27,20 @@ pub fn all_have<P: Formed>(items: &[P], forms: &[P::Form]) -> bool
     match (items, forms) {
         ([], []) => true,
         ([item, items @ ..], [form, forms @ ..]) => item.has(form) && all_have(items, forms),
+        _ => false,
+    }
+}
+
+/// Whether each item has the form in its place, first those of one list and then those of
+/// another, and there are no others.
+pub fn have_both<P: Formed>(items: &[P], first: &[P::Form], second: &[P::Form]) -> bool
+    ensures { MatchBool result (items.now ≡ map P.formed first.now ++ map P.formed second.now)
+        (items.now ≢ map P.formed first.now ++ map P.formed second.now) }
+{
+    match (items, first) {
+        (_, []) => all_have(items, second),
+        ([item, items @ ..], [form, first @ ..]) => item.has(form)
+            && have_both(items, first, second),
         _ => false,
     }
 }
@@ -95,25 +108,33 @@ impl Formed for Order {
     }
 }
 
-/// Whether `birth` is the only name.
-fn is_birth(names: &Items<Bytes>) -> bool
-    ensures { MatchBool result (names.now ≡ codes "birth" ∷ []) (names.now ≢ codes "birth" ∷ []) }
-{
-    all_have(names.as_slice(), &[b"birth".as_slice()])
+/// A reference of one column to one of another table; nothing becomes of a row whose parent gets
+/// another key.
+#[derive(Clone, Copy, Debug)]
+pub struct ParentForm {
+    /// The place of its column in a row.
+    pub at: usize,
+    /// The name of the other table.
+    pub table: &'static [u8],
+    /// The name of the column there.
+    pub column: &'static [u8],
+    /// What becomes of a row whose parent is deleted.
+    pub on_delete: Action,
 }
 
 impl Formed for Reference {
-    type Form = usize;
+    type Form = ParentForm;
 
-    ghost formed = { to_session };
+    ghost formed = { reference_of };
 
-    fn has(&self, form: &usize) -> bool {
-        let (Action::Cascade, Action::NoAction) = (self.on_delete, self.on_update) else {
+    fn has(&self, form: &ParentForm) -> bool {
+        let Action::NoAction = self.on_update else {
             return false;
         };
         !self.is_deferred
-            && self.columns.as_slice() == [*form].as_slice()
-            && self.parent.as_slice() == b"session".as_slice()
-            && is_birth(&self.parent_columns)
+            && self.on_delete == form.on_delete
+            && self.columns.as_slice() == [form.at].as_slice()
+            && self.parent.as_slice() == form.table
+            && all_have(self.parent_columns.as_slice(), &[form.column])
     }
 }

@@ -1,5 +1,5 @@
 //! How the tables are made in an empty database.
-ghost use Rattle.std.specs.Prelude.{◌≡◌, ◌+◌, ◌<◌, false, OnOk, OnErr, IsTrue};
+ghost use Rattle.std.specs.Prelude.{◌≡◌, ◌+◌, ◌<◌, ◌≤◌, false, OnOk, OnErr, IsTrue};
 ghost use Rattle.sqlite.specs.Held.{state};
 ghost use Rattle.sqlite.specs.State.{HasCleanDisk, Survives};
 ghost use Rattle.mqtt_store_schema.specs.Creation.{create_text, fill_text, place_of, first, HasTables, IsNewStore, MakesStore};
@@ -69,6 +69,20 @@ fn table_at(at: usize) -> StoreTable
     }
 }
 
+/// Makes so many tables, the first of them, where there are none.
+pub fn make_tables<S: Alter>(tx: &mut Transaction<'_, S>, count: usize) -> Result<(), Error>
+    requires { count ≤ 7 }
+    ensures same_reference { tx.new.conn.ghost_name ≡ tx.old.conn.ghost_name }
+    ensures made { HasCleanDisk (state S.Store tx.new.conn.now) → HasTables 0 (state S.Store tx.old.conn.now)
+        → OnOk result (HasTables count (state S.Store tx.new.conn.now)) }
+    ensures inside { StaysInside (state S.Store tx.old.conn.now) (state S.Store tx.new.conn.now) }
+{
+    for at in 0..count {
+        make_table(tx, table_at(at))?;
+    }
+    Ok(())
+}
+
 /// Makes all tables, and writes a new store's numbers.
 fn make_all<S: Alter>(tx: &mut Transaction<'_, S>) -> Result<(), Error>
     ensures same_reference { tx.new.conn.ghost_name ≡ tx.old.conn.ghost_name }
@@ -76,9 +90,7 @@ fn make_all<S: Alter>(tx: &mut Transaction<'_, S>) -> Result<(), Error>
         → OnOk result (IsNewStore (state S.Store tx.new.conn.now).now × IsTrue (state S.Store tx.new.conn.now).in_transaction) }
     ensures inside { StaysInside (state S.Store tx.old.conn.now) (state S.Store tx.new.conn.now) }
 {
-    for at in 0..7 {
-        make_table(tx, table_at(at))?;
-    }
+    make_tables(tx, 7)?;
     fill_meta(tx)?;
     Ok(())
 }

@@ -4,9 +4,9 @@ ghost use Rattle.mqtt_store_schema.specs.Forms.{table_of, index_of};
 ghost use Rattle.mqtt_store_schema.specs.Tables.{keep_schema};
 
 use crate::columns::ColumnForm::{Optional, Wanted};
-use crate::columns::all_have;
+use crate::columns::{ParentForm, all_have};
 use crate::tables::{IndexForm, TableForm};
-use sqlite_schema::schema::{Kind, Schema};
+use sqlite_schema::schema::{Action, Kind, Schema};
 
 /// A table of the store.
 #[derive(Clone, Copy, Debug, PartialEq, Eq)]
@@ -19,6 +19,22 @@ pub enum StoreTable {
     Copy,
     Retained,
 }
+
+/// The birth of a session is the row's key, and the row goes with it.
+const KEY_OF_SESSION: ParentForm = ParentForm {
+    at: 0,
+    table: b"session",
+    column: b"birth",
+    on_delete: Action::Cascade,
+};
+
+/// The birth of a session is the row's first column, and the row goes with it.
+pub const FIRST_OF_SESSION: ParentForm = ParentForm {
+    at: 1,
+    table: b"session",
+    column: b"birth",
+    on_delete: Action::Cascade,
+};
 
 /// The forms of the tables of schema 1.
 const TABLES: [TableForm; 7] = [
@@ -60,7 +76,7 @@ const TABLES: [TableForm; 7] = [
         key: Some(0),
         primary: &[0],
         uniques: &[],
-        parents: &[0],
+        parents: &[KEY_OF_SESSION],
     },
     TableForm {
         name: b"sub",
@@ -78,7 +94,7 @@ const TABLES: [TableForm; 7] = [
         key: None,
         primary: &[1, 2],
         uniques: &[&[1, 2]],
-        parents: &[1],
+        parents: &[FIRST_OF_SESSION],
     },
     TableForm {
         name: b"inbound",
@@ -90,7 +106,7 @@ const TABLES: [TableForm; 7] = [
         key: None,
         primary: &[1, 2],
         uniques: &[&[1, 2]],
-        parents: &[1],
+        parents: &[FIRST_OF_SESSION],
     },
     TableForm {
         name: b"copy",
@@ -115,7 +131,7 @@ const TABLES: [TableForm; 7] = [
         key: None,
         primary: &[1, 2],
         uniques: &[&[1, 2]],
-        parents: &[1],
+        parents: &[FIRST_OF_SESSION],
     },
     TableForm {
         name: b"retained",
@@ -144,48 +160,54 @@ const INDEXES: [IndexForm; 6] = [
         tree: 1,
         table: 0,
         places: &[1],
+        is_unique: true,
     },
     IndexForm {
         name: b"sqlite_autoindex_session_1",
         tree: 3,
         table: 2,
         places: &[2],
+        is_unique: true,
     },
     IndexForm {
         name: b"sqlite_autoindex_sub_1",
         tree: 6,
         table: 5,
         places: &[1, 2],
+        is_unique: true,
     },
     IndexForm {
         name: b"sqlite_autoindex_inbound_1",
         tree: 8,
         table: 7,
         places: &[1, 2],
+        is_unique: true,
     },
     IndexForm {
         name: b"sqlite_autoindex_copy_1",
         tree: 10,
         table: 9,
         places: &[1, 2],
+        is_unique: true,
     },
     IndexForm {
         name: b"sqlite_autoindex_retained_1",
         tree: 12,
         table: 11,
         places: &[2],
+        is_unique: true,
     },
 ];
 
 /// The forms of the tables, in the order in which they are made.
-fn table_forms() -> &'static [TableForm]
+pub fn table_forms() -> &'static [TableForm]
     ensures { map table_of result.now ≡ keep_schema.tables }
 {
     &TABLES
 }
 
 /// The forms of the indexes, in the order in which they are made.
-fn index_forms() -> &'static [IndexForm]
+pub fn index_forms() -> &'static [IndexForm]
     ensures { map index_of result.now ≡ keep_schema.indexes }
 {
     &INDEXES

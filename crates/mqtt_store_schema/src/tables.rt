@@ -2,12 +2,11 @@
 ghost use Rattle.std.specs.Prelude.{◌≡◌, ◌≢◌, [], MatchBool};
 ghost use Rattle.mqtt_store_schema.specs.Forms.{table_of, index_of, IsBare, HasKey, HasUniques};
 
-use crate::columns::{ColumnForm, Formed, all_have};
+use crate::columns::{ColumnForm, Formed, ParentForm, all_have};
 use sqlite_schema::code::Terms;
 use sqlite_schema::schema::{Index, Stamps, Table};
 
-/// A table, with references to sessions. A place is one in a row: the rowid is at 0, the columns
-/// behind it.
+/// A table. A place is one in a row: the rowid is at 0, the columns behind it.
 #[derive(Clone, Copy, Debug)]
 pub struct TableForm {
     /// Its name.
@@ -22,8 +21,8 @@ pub struct TableForm {
     pub primary: &'static [usize],
     /// The places of columns that are unique together.
     pub uniques: &'static [&'static [usize]],
-    /// The places of the birth of a session.
-    pub parents: &'static [usize],
+    /// Its references.
+    pub parents: &'static [ParentForm],
 }
 
 /// Whether there are no terms.
@@ -82,7 +81,7 @@ impl Formed for Table {
     }
 }
 
-/// An index that keeps rows unique, in ascending order.
+/// An index in ascending order.
 #[derive(Clone, Copy, Debug)]
 pub struct IndexForm {
     /// Its name.
@@ -93,6 +92,8 @@ pub struct IndexForm {
     pub table: u32,
     /// The places of its columns in a row of the table.
     pub places: &'static [usize],
+    /// Whether it keeps rows unique.
+    pub is_unique: bool,
 }
 
 impl Formed for Index {
@@ -106,6 +107,6 @@ impl Formed for Index {
             && self.table == form.table
             && self.columns.as_slice() == form.places
             && self.order.digits == 0
-            && self.is_unique
+            && self.is_unique == form.is_unique
     }
 }

@@ -7,8 +7,8 @@ use Rattle.std.specs.List.{AllByRecursion}
 use Rattle.sqlite_trees.specs.Tree.{Trees, IsTable, rowid}
 use Rattle.sqlite_trees.specs.View.{is_int}
 use Rattle.sqlite.specs.State.{State}
-use Rattle.mqtt_store_schema.specs.Tables.{keep_schema}
 use Rattle.sqlite_schema.specs.Rules.{equal, Obeys}
+use Rattle.mqtt_store_write.specs.Layout.{Layout, schema_of}
 
 -- SQL finds the number in that place
 abbrev pub is_of : ℕ → ℤ → Row → Bool
@@ -42,15 +42,14 @@ pub record AreShaped (db : Trees) : Type 0 where
   pub inbound : IsShapedAt db 7
   pub copy : IsShapedAt db 9
 
--- a transaction is under way over the tables of schema 1
-pub record IsReady (s : State) : Type 0 where
-  pub schema : s.now.schema ≡ keep_schema
+-- a transaction is under way over the tables of the layout, whose rows rise by their numbers
+pub record IsWhole (l : Layout) (s : State) : Type 0 where
+  pub schema : s.now.schema ≡ schema_of l
   pub inside : IsTrue s.in_transaction
-  pub shaped : AreShaped s.now.trees
-  pub obeys : Obeys keep_schema s.now.trees
-
--- and the rows of the numbers and of the retained messages rise by their numbers, too
-pub record IsWhole (s : State) : Type 0 where
-  pub ready : IsReady s
   pub meta : IsShapedAt s.now.trees 0
-  pub retained : IsShapedAt s.now.trees 11
+  pub session : IsShapedAt s.now.trees 2
+  pub will : IsShapedAt s.now.trees 4
+  pub sub : IsShapedAt s.now.trees 5
+  pub inbound : IsShapedAt s.now.trees 7
+  pub behind : AllByRecursion (λ t. IsShapedAt s.now.trees t.tree) l.tables
+  pub obeys : Obeys (schema_of l) s.now.trees

@@ -6,21 +6,21 @@ use Rattle.sqlite_value.specs.Order.{Row, value_cmp}
 use Rattle.sqlite_trees.specs.Tree.{Trees, rowid, put_row}
 use Rattle.sqlite_rules.specs.Lists.{Has}
 use Rattle.sqlite_rules.specs.Edit.{IsNoIndex, next_rowid}
-use Rattle.mqtt_store_schema.specs.Tables.{keep_schema}
+use Rattle.mqtt_store_write.specs.Layout.{Layout, schema_of}
 use Rattle.mqtt_store_write.specs.Content.{is_of, is_text}
 
 -- the row stands in the table, these rows are out of it, and all other rows are as they were
-pub record PutsInto (tree : ℕ) (put : Row) (gone : Row → Bool) (old new : Trees) : Type 0 where
+pub record PutsInto (l : Layout) (tree : ℕ) (put : Row) (gone : Row → Bool) (old new : Trees) : Type 0 where
   pub rows : new tree ≡ put_row put (filter (λ r. not (gone r)) (old tree))
-  pub others : (t : ℕ) → t ≢ tree → IsNoIndex keep_schema t → new t ≡ old t
+  pub others : (t : ℕ) → t ≢ tree → IsNoIndex (schema_of l) t → new t ≡ old t
 
 -- a row behind the number that its table gives it
 abbrev pub numbered : ℕ → Row → Trees → Row
 numbered tree row db = Int (next_rowid (db tree)) ∷ row
 
 -- the row is put behind the number that the table gives it
-abbrev pub PutsNumbered : ℕ → Row → (Row → Bool) → Trees → Trees → Type 0
-PutsNumbered tree row gone old new = PutsInto tree (numbered tree row old) gone old new
+abbrev pub PutsNumbered : Layout → ℕ → Row → (Row → Bool) → Trees → Trees → Type 0
+PutsNumbered l tree row gone old new = PutsInto l tree (numbered tree row old) gone old new
 
 abbrev pub open_row : ℕ → ℕ → Row
 open_row birth identifier = Int (pos birth) ∷ Int (pos identifier) ∷ []

@@ -3,7 +3,7 @@ use Rattle.std.specs.Prelude.{◌≡◌, ◌≢◌, ℕ, ℤ, Bool, not, ◌&&�
 use Rattle.sqlite_value.specs.Order.{Row}
 use Rattle.sqlite_trees.specs.Tree.{Trees}
 use Rattle.sqlite_rules.specs.Edit.{IsNoIndex}
-use Rattle.mqtt_store_schema.specs.Tables.{keep_schema}
+use Rattle.mqtt_store_write.specs.Layout.{Layout, schema_of}
 use Rattle.mqtt_store_write.specs.Content.{is_of, is_text}
 
 -- the session's row of that number, in a table whose key is both
@@ -15,6 +15,6 @@ abbrev pub is_subscription : ℤ → List ℕ → Row → Bool
 is_subscription birth text r = is_of 1 birth r && is_text 2 text r
 
 -- these rows are out of the table, and all other rows are as they were
-pub record RemovesFrom (tree : ℕ) (gone : Row → Bool) (old new : Trees) : Type 0 where
+pub record RemovesFrom (l : Layout) (tree : ℕ) (gone : Row → Bool) (old new : Trees) : Type 0 where
   pub rows : new tree ≡ filter (λ r. not (gone r)) (old tree)
-  pub others : (t : ℕ) → t ≢ tree → IsNoIndex keep_schema t → new t ≡ old t
+  pub others : (t : ℕ) → t ≢ tree → IsNoIndex (schema_of l) t → new t ≡ old t

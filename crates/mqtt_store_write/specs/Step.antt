@@ -6,6 +6,7 @@ use Rattle.sqlite_rules.specs.Lists.{Has}
 use Rattle.sqlite_schema.specs.Rules.{Obeys}
 use Rattle.sqlite.specs.State.{State}
 use Rattle.mqtt_store_schema.specs.Tables.{keep_schema}
+use Rattle.mqtt_store_write.specs.Layout.{first_layout}
 use Rattle.mqtt_store_write.specs.Content.{is_of, RemovesSession, AreShaped, IsShapedAt}
 use Rattle.mqtt_store_write.specs.Removal.{is_keyed, is_subscription, RemovesFrom}
 use Rattle.mqtt_store_write.specs.Copy.{CopyColumns, copy_row, SetsCopy, IsSized as IsSizedCopy}
@@ -53,24 +54,24 @@ Asks (RemoveRetained place) db = Unit {0}
 -- what it makes of the tables
 abbrev pub Does : Statement → Trees → Trees → Type 0
 Does (SetNumber name value) old new =
-    (id : ℤ) × (n : ℕ) × Has (old 0) (Int id ∷ number_row name.now n) × SetsNumber name.now value id old new
-Does (PutSession birth session) old new = PutsInto 2 (session_row birth session) (is_of 0 (pos birth)) old new
+    (id : ℤ) × (n : ℕ) × Has (old 0) (Int id ∷ number_row name.now n) × SetsNumber first_layout name.now value id old new
+Does (PutSession birth session) old new = PutsInto first_layout 2 (session_row birth session) (is_of 0 (pos birth)) old new
 Does (RemoveSession birth) old new = RemovesSession (pos birth) old new
-Does (PutWill birth will) old new = PutsInto 4 (will_row birth will) (is_of 0 (pos birth)) old new
-Does (RemoveWill birth) old new = RemovesFrom 4 (is_of 0 (pos birth)) old new
+Does (PutWill birth will) old new = PutsInto first_layout 4 (will_row birth will) (is_of 0 (pos birth)) old new
+Does (RemoveWill birth) old new = RemovesFrom first_layout 4 (is_of 0 (pos birth)) old new
 Does (PutSubscription birth filter subscription) old new =
-    PutsNumbered 5 (subscription_row birth filter.now subscription) (is_subscription (pos birth) filter.now) old new
-Does (RemoveSubscription birth filter) old new = RemovesFrom 5 (is_subscription (pos birth) filter.now) old new
+    PutsNumbered first_layout 5 (subscription_row birth filter.now subscription) (is_subscription (pos birth) filter.now) old new
+Does (RemoveSubscription birth filter) old new = RemovesFrom first_layout 5 (is_subscription (pos birth) filter.now) old new
 Does (PutOpen birth identifier) old new =
-    PutsNumbered 7 (open_row birth identifier) (is_keyed (pos birth) (pos identifier)) old new
-Does (RemoveOpen birth identifier) old new = RemovesFrom 7 (is_keyed (pos birth) (pos identifier)) old new
+    PutsNumbered first_layout 7 (open_row birth identifier) (is_keyed (pos birth) (pos identifier)) old new
+Does (RemoveOpen birth identifier) old new = RemovesFrom first_layout 7 (is_keyed (pos birth) (pos identifier)) old new
 Does (PutCopy birth place copy) old new =
-    PutsNumbered 9 (copy_row birth place copy) (is_keyed (pos birth) (pos place)) old new
+    PutsNumbered first_layout 9 (copy_row birth place copy) (is_keyed (pos birth) (pos place)) old new
 Does (SetCopy birth place identifier phase order) old new =
     (id : ℤ) × (c : CopyColumns) × Has (old 9) (Int id ∷ copy_row birth place c) × SetsCopy birth place phase identifier order id c old new
-Does (RemoveCopy birth place) old new = RemovesFrom 9 (is_keyed (pos birth) (pos place)) old new
-Does (PutRetained place message) old new = PutsInto 11 (retained_row place message) (is_retained place message.topic) old new
-Does (RemoveRetained place) old new = RemovesFrom 11 (is_of 0 (pos place)) old new
+Does (RemoveCopy birth place) old new = RemovesFrom first_layout 9 (is_keyed (pos birth) (pos place)) old new
+Does (PutRetained place message) old new = PutsInto first_layout 11 (retained_row place message) (is_retained place message.topic) old new
+Does (RemoveRetained place) old new = RemovesFrom first_layout 11 (is_of 0 (pos place)) old new
 
 -- one after the other
 abbrev pub DoAll : List Statement → Trees → Trees → Type 0

@@ -4,8 +4,9 @@ ghost use Rattle.sqlite_value.specs.declared.value.Value.TheVariants.{Int};
 ghost use Rattle.sqlite_rules.specs.Lists.{Has};
 ghost use Rattle.sqlite.specs.Held.{state};
 ghost use Rattle.mqtt_store_schema.specs.Settled.{StaysInside};
+ghost use Rattle.mqtt_store_write.specs.Layout.{Layout, IsLayout, first_layout};
 ghost use Rattle.mqtt_store_write.specs.Writing.{Writes, StaysWhole};
-ghost use Rattle.mqtt_store_write.specs.Content.{IsReady, IsWhole};
+ghost use Rattle.mqtt_store_write.specs.Content.{IsWhole};
 ghost use Rattle.mqtt_store_write.specs.Copy.{CopyColumns as Columns, copy_row, IsSized, SetsCopy};
 ghost use Rattle.mqtt_store_write.specs.Removal.{is_keyed, RemovesFrom};
 ghost use Rattle.mqtt_store_write.specs.Put.{open_row, PutsNumbered};
@@ -95,11 +96,11 @@ pub fn set_copy<S: Alter>(
     ensures same_reference { tx.new.conn.ghost_name ≡ tx.old.conn.ghost_name }
     ensures set { (id : ℤ) (c : Columns)
         → Has ((state S.Store tx.old.conn.now).now.trees 9) (Int id ∷ copy_row birth place c)
-        → Writes S.Store tx.old.conn.now tx.new.conn.now result IsReady
+        → Writes S.Store tx.old.conn.now tx.new.conn.now result (IsWhole first_layout)
         (SetsCopy birth place phase pid rel id c) }
 
     // Where no copy has that place nothing is set.
-    ensures whole { StaysWhole S.Store tx.old.conn.now tx.new.conn.now result }
+    ensures whole { StaysWhole first_layout S.Store tx.old.conn.now tx.new.conn.now result }
     ensures inside { StaysInside (state S.Store tx.old.conn.now) (state S.Store tx.new.conn.now) }
 {
     let birth = whole(birth);
@@ -121,8 +122,8 @@ pub fn remove_copy<S: Alter>(
     requires birth { birth < 2 ^ 63 }
     requires place { place < 2 ^ 63 }
     ensures same_reference { tx.new.conn.ghost_name ≡ tx.old.conn.ghost_name }
-    ensures removed { Writes S.Store tx.old.conn.now tx.new.conn.now result IsReady
-        (RemovesFrom 9 (is_keyed (pos birth) (pos place))) }
+    ensures removed { Writes S.Store tx.old.conn.now tx.new.conn.now result (IsWhole first_layout)
+        (RemovesFrom first_layout 9 (is_keyed (pos birth) (pos place))) }
     ensures inside { StaysInside (state S.Store tx.old.conn.now) (state S.Store tx.new.conn.now) }
 {
     let birth = whole(birth);
@@ -142,8 +143,8 @@ pub fn remove_open<S: Alter>(
     requires birth { birth < 2 ^ 63 }
     requires identifier { identifier < 2 ^ 63 }
     ensures same_reference { tx.new.conn.ghost_name ≡ tx.old.conn.ghost_name }
-    ensures removed { Writes S.Store tx.old.conn.now tx.new.conn.now result IsReady
-        (RemovesFrom 7 (is_keyed (pos birth) (pos identifier))) }
+    ensures removed { (l : Layout) → IsLayout l → Writes S.Store tx.old.conn.now tx.new.conn.now result (IsWhole l)
+        (RemovesFrom l 7 (is_keyed (pos birth) (pos identifier))) }
     ensures inside { StaysInside (state S.Store tx.old.conn.now) (state S.Store tx.new.conn.now) }
 {
     let birth = whole(birth);
@@ -163,8 +164,8 @@ pub fn put_open<S: Alter>(
     requires birth { birth < 2 ^ 63 }
     requires identifier { identifier < 2 ^ 63 }
     ensures same_reference { tx.new.conn.ghost_name ≡ tx.old.conn.ghost_name }
-    ensures put { Writes S.Store tx.old.conn.now tx.new.conn.now result IsWhole
-        (PutsNumbered 7 (open_row birth identifier) (is_keyed (pos birth) (pos identifier))) }
+    ensures put { (l : Layout) → IsLayout l → Writes S.Store tx.old.conn.now tx.new.conn.now result (IsWhole l)
+        (PutsNumbered l 7 (open_row birth identifier) (is_keyed (pos birth) (pos identifier))) }
     ensures inside { StaysInside (state S.Store tx.old.conn.now) (state S.Store tx.new.conn.now) }
 {
     let birth = whole(birth);
@@ -186,8 +187,8 @@ pub fn put_copy<S: Alter>(
     requires place { place < 2 ^ 63 }
     requires sized { IsSized copy.now }
     ensures same_reference { tx.new.conn.ghost_name ≡ tx.old.conn.ghost_name }
-    ensures put { Writes S.Store tx.old.conn.now tx.new.conn.now result IsWhole
-        (PutsNumbered 9 (copy_row birth place copy.now) (is_keyed (pos birth) (pos place))) }
+    ensures put { Writes S.Store tx.old.conn.now tx.new.conn.now result (IsWhole first_layout)
+        (PutsNumbered first_layout 9 (copy_row birth place copy.now) (is_keyed (pos birth) (pos place))) }
     ensures inside { StaysInside (state S.Store tx.old.conn.now) (state S.Store tx.new.conn.now) }
 {
     let birth = whole(birth);

@@ -4,17 +4,21 @@ ghost use Rattle.sqlite_value.specs.declared.value.Value.TheVariants.{Int};
 ghost use Rattle.sqlite_value.specs.Order.{Row};
 ghost use Rattle.sqlite_trees.specs.Tree.{Trees};
 ghost use Rattle.sqlite_rules.specs.Lists.{Has};
+ghost use Rattle.mqtt_store_schema.specs.Tables.{keep_schema};
+ghost use Rattle.mqtt_store_schema_two.specs.Tables.{second_schema};
+ghost use Rattle.mqtt_store_schema_two.specs.declared.tables.Making.{Making};
+ghost use Rattle.mqtt_store_write.specs.Layout.{Layout, IsLayout, schema_of, first_layout, second_layout};
 ghost use Rattle.mqtt_store_write.specs.Content.{is_of, IsShapedAt};
 ghost use Rattle.mqtt_store_write.specs.Removal.{RemovesFrom};
 ghost use Rattle.mqtt_store_write.specs.Put.{PutsInto, numbered, IsFree};
 
 /// The row that is put stands, and each other that was not out.
 pub fn row_is_put()
-    ensures new { (tree : ℕ) (put : Row) (gone : Row → Bool) (before after : Trees) (x : Row)
-        → PutsInto tree put gone before after → Has (after tree) x
+    ensures new { (l : Layout) (tree : ℕ) (put : Row) (gone : Row → Bool) (before after : Trees) (x : Row)
+        → PutsInto l tree put gone before after → Has (after tree) x
         → (x ≡ put) ⊎ (Has (before tree) x × (gone x ≡ false)) }
-    ensures old { (tree : ℕ) (put : Row) (gone : Row → Bool) (before after : Trees) (x : Row)
-        → PutsInto tree put gone before after → IsFree put gone (before tree)
+    ensures old { (l : Layout) (tree : ℕ) (put : Row) (gone : Row → Bool) (before after : Trees) (x : Row)
+        → PutsInto l tree put gone before after → IsFree put gone (before tree)
         → (x ≡ put) ⊎ (Has (before tree) x × (gone x ≡ false)) → Has (after tree) x }
 {}
 
@@ -29,10 +33,16 @@ pub fn number_is_free()
 
 /// The rows that are removed are gone, and all others stand.
 pub fn row_is_removed()
-    ensures new { (tree : ℕ) (gone : Row → Bool) (before after : Trees) (x : Row)
-        → RemovesFrom tree gone before after → Has (after tree) x
+    ensures new { (l : Layout) (tree : ℕ) (gone : Row → Bool) (before after : Trees) (x : Row)
+        → RemovesFrom l tree gone before after → Has (after tree) x
         → Has (before tree) x × (gone x ≡ false) }
-    ensures old { (tree : ℕ) (gone : Row → Bool) (before after : Trees) (x : Row)
-        → RemovesFrom tree gone before after → Has (before tree) x × (gone x ≡ false)
+    ensures old { (l : Layout) (tree : ℕ) (gone : Row → Bool) (before after : Trees) (x : Row)
+        → RemovesFrom l tree gone before after → Has (before tree) x × (gone x ≡ false)
         → Has (after tree) x }
+{}
+
+/// Both schemas of the store are laid out as the statements on their first five tables ask.
+pub fn schemas_are_laid_out()
+    ensures first { (schema_of first_layout ≡ keep_schema) × IsLayout first_layout }
+    ensures second { (making : Making) → (schema_of (second_layout making) ≡ second_schema making) × IsLayout (second_layout making) }
 {}

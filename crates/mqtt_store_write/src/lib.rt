@@ -11,7 +11,7 @@ mod subscriptions;
 mod wills;
 
 pub use copies::{CopyColumns, put_copy, put_open, remove_copy, remove_open, set_copy};
-pub use laws::{number_is_free, row_is_put, row_is_removed};
+pub use laws::{number_is_free, row_is_put, row_is_removed, schemas_are_laid_out};
 pub use numbers::set_number;
 pub use retained::{RetainedColumns, put_retained, remove_retained};
 pub use sessions::{SessionColumns, put_session, remove_session};

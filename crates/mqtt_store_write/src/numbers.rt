@@ -4,6 +4,7 @@ ghost use Rattle.sqlite_value.specs.declared.value.Value.TheVariants.{Int};
 ghost use Rattle.sqlite_rules.specs.Lists.{Has};
 ghost use Rattle.sqlite.specs.Held.{state};
 ghost use Rattle.mqtt_store_schema.specs.Settled.{StaysInside};
+ghost use Rattle.mqtt_store_write.specs.Layout.{Layout, IsLayout};
 ghost use Rattle.mqtt_store_write.specs.Writing.{Writes, StaysWhole};
 ghost use Rattle.mqtt_store_write.specs.Content.{IsWhole};
 ghost use Rattle.mqtt_store_write.specs.Numbers.{number_row, SetsNumber};
@@ -19,13 +20,13 @@ pub fn set_number<S: Alter>(
 ) -> Result<usize, Error>
     requires { value < 2 ^ 63 }
     ensures same_reference { tx.new.conn.ghost_name ≡ tx.old.conn.ghost_name }
-    ensures set { (id : ℤ) (n : ℕ)
+    ensures set { (l : Layout) → IsLayout l → (id : ℤ) (n : ℕ)
         → Has ((state S.Store tx.old.conn.now).now.trees 0) (Int id ∷ number_row name.now n)
-        → Writes S.Store tx.old.conn.now tx.new.conn.now result IsWhole
-        (SetsNumber name.now value id) }
+        → Writes S.Store tx.old.conn.now tx.new.conn.now result (IsWhole l)
+        (SetsNumber l name.now value id) }
 
     // Where no row has that name nothing is set.
-    ensures whole { StaysWhole S.Store tx.old.conn.now tx.new.conn.now result }
+    ensures whole { (l : Layout) → IsLayout l → StaysWhole l S.Store tx.old.conn.now tx.new.conn.now result }
     ensures inside { StaysInside (state S.Store tx.old.conn.now) (state S.Store tx.new.conn.now) }
 {
     let value = whole(value);

@@ -2,6 +2,7 @@
 ghost use Rattle.std.specs.Prelude.{◌≡◌, ◌<◌, ◌^◌, pos};
 ghost use Rattle.sqlite.specs.Held.{state};
 ghost use Rattle.mqtt_store_schema.specs.Settled.{StaysInside};
+ghost use Rattle.mqtt_store_write.specs.Layout.{first_layout};
 ghost use Rattle.mqtt_store_write.specs.Writing.{Writes};
 ghost use Rattle.mqtt_store_write.specs.Content.{is_of, IsWhole};
 ghost use Rattle.mqtt_store_write.specs.Removal.{RemovesFrom};
@@ -57,8 +58,8 @@ pub fn put_retained<S: Alter>(
     requires publication { message.now.publication < 2 ^ 63 }
     requires arrived { message.now.arrived < 2 ^ 63 }
     ensures same_reference { tx.new.conn.ghost_name ≡ tx.old.conn.ghost_name }
-    ensures put { Writes S.Store tx.old.conn.now tx.new.conn.now result IsWhole
-        (PutsInto 11 (retained_row place message.now) (is_retained place message.now.topic)) }
+    ensures put { Writes S.Store tx.old.conn.now tx.new.conn.now result (IsWhole first_layout)
+        (PutsInto first_layout 11 (retained_row place message.now) (is_retained place message.now.topic)) }
     ensures inside { StaysInside (state S.Store tx.old.conn.now) (state S.Store tx.new.conn.now) }
 {
     let place = whole(place);
@@ -84,8 +85,8 @@ pub fn put_retained<S: Alter>(
 pub fn remove_retained<S: Alter>(tx: &mut Transaction<'_, S>, place: u64) -> Result<usize, Error>
     requires { place < 2 ^ 63 }
     ensures same_reference { tx.new.conn.ghost_name ≡ tx.old.conn.ghost_name }
-    ensures removed { Writes S.Store tx.old.conn.now tx.new.conn.now result IsWhole
-        (RemovesFrom 11 (is_of 0 (pos place))) }
+    ensures removed { Writes S.Store tx.old.conn.now tx.new.conn.now result (IsWhole first_layout)
+        (RemovesFrom first_layout 11 (is_of 0 (pos place))) }
     ensures inside { StaysInside (state S.Store tx.old.conn.now) (state S.Store tx.new.conn.now) }
 {
     let place = whole(place);

@@ -2,8 +2,9 @@
 ghost use Rattle.std.specs.Prelude.{◌≡◌, ◌<◌, ◌^◌, pos, IfSome};
 ghost use Rattle.sqlite.specs.Held.{state};
 ghost use Rattle.mqtt_store_schema.specs.Settled.{StaysInside};
+ghost use Rattle.mqtt_store_write.specs.Layout.{Layout, IsOurs, first_layout};
 ghost use Rattle.mqtt_store_write.specs.Writing.{Writes};
-ghost use Rattle.mqtt_store_write.specs.Content.{is_of, RemovesSession, IsReady, IsWhole};
+ghost use Rattle.mqtt_store_write.specs.Content.{is_of, RemovesSession, IsWhole};
 ghost use Rattle.mqtt_store_write.specs.Columns.{session_row};
 ghost use Rattle.mqtt_store_write.specs.Put.{PutsInto};
 
@@ -42,7 +43,7 @@ pub(crate) fn whole(n: u64) -> i64
 pub fn remove_session<S: Alter>(tx: &mut Transaction<'_, S>, birth: u64) -> Result<usize, Error>
     requires { birth < 2 ^ 63 }
     ensures same_reference { tx.new.conn.ghost_name ≡ tx.old.conn.ghost_name }
-    ensures removed { Writes S.Store tx.old.conn.now tx.new.conn.now result IsReady
+    ensures removed { Writes S.Store tx.old.conn.now tx.new.conn.now result (IsWhole first_layout)
         (RemovesSession (pos birth)) }
     ensures inside { StaysInside (state S.Store tx.old.conn.now) (state S.Store tx.new.conn.now) }
 {
@@ -60,8 +61,8 @@ pub fn put_session<S: Alter>(
     requires birth { birth < 2 ^ 63 }
     requires closed { IfSome session.now.closed (λ n. n < 2 ^ 63) }
     ensures same_reference { tx.new.conn.ghost_name ≡ tx.old.conn.ghost_name }
-    ensures put { Writes S.Store tx.old.conn.now tx.new.conn.now result IsWhole
-        (PutsInto 2 (session_row birth session.now) (is_of 0 (pos birth))) }
+    ensures put { (l : Layout) → IsOurs l → Writes S.Store tx.old.conn.now tx.new.conn.now result (IsWhole l)
+        (PutsInto l 2 (session_row birth session.now) (is_of 0 (pos birth))) }
     ensures inside { StaysInside (state S.Store tx.old.conn.now) (state S.Store tx.new.conn.now) }
 {
     let birth = whole(birth);

@@ -2,6 +2,7 @@
 ghost use Rattle.std.specs.Prelude.{◌≡◌};
 ghost use Rattle.sqlite.specs.Held.{state};
 ghost use Rattle.mqtt_store_schema.specs.Settled.{StaysInside};
+ghost use Rattle.mqtt_store_write.specs.Layout.{first_layout};
 ghost use Rattle.mqtt_store_write.specs.Writing.{WritesIf, StaysWhole};
 ghost use Rattle.mqtt_store_write.specs.Step.{IsSized, Asks, Does};
 
@@ -77,15 +78,16 @@ pub enum Statement<'a> {
 }
 
 /// Writes what a statement says.
+#[tactic(auto, using(crate::proofs::tables::First::is_first, crate::proofs::tables::Second::first_is_ours))]
 pub fn write<S: Alter>(
     tx: &mut Transaction<'_, S>,
     statement: &Statement<'_>,
 ) -> Result<usize, Error>
     requires { IsSized statement.now }
     ensures same_reference { tx.new.conn.ghost_name ≡ tx.old.conn.ghost_name }
-    ensures made { WritesIf S.Store tx.old.conn.now tx.new.conn.now result
+    ensures made { WritesIf first_layout S.Store tx.old.conn.now tx.new.conn.now result
         (Asks statement.now) (Does statement.now) }
-    ensures whole { StaysWhole S.Store tx.old.conn.now tx.new.conn.now result }
+    ensures whole { StaysWhole first_layout S.Store tx.old.conn.now tx.new.conn.now result }
     ensures inside { StaysInside (state S.Store tx.old.conn.now) (state S.Store tx.new.conn.now) }
 {
     match statement {

@@ -2,6 +2,7 @@
 ghost use Rattle.std.specs.Prelude.{◌≡◌, ◌<◌, ◌^◌, pos};
 ghost use Rattle.sqlite.specs.Held.{state};
 ghost use Rattle.mqtt_store_schema.specs.Settled.{StaysInside};
+ghost use Rattle.mqtt_store_write.specs.Layout.{Layout, IsLayout};
 ghost use Rattle.mqtt_store_write.specs.Writing.{Writes};
 ghost use Rattle.mqtt_store_write.specs.Content.{IsWhole};
 ghost use Rattle.mqtt_store_write.specs.Removal.{is_subscription, RemovesFrom};
@@ -39,8 +40,8 @@ pub fn put_subscription<S: Alter>(
     requires birth { birth < 2 ^ 63 }
     requires place { subscription.now.place < 2 ^ 63 }
     ensures same_reference { tx.new.conn.ghost_name ≡ tx.old.conn.ghost_name }
-    ensures put { Writes S.Store tx.old.conn.now tx.new.conn.now result IsWhole
-        (PutsNumbered 5 (subscription_row birth filter.now subscription.now) (is_subscription (pos birth) filter.now)) }
+    ensures put { (l : Layout) → IsLayout l → Writes S.Store tx.old.conn.now tx.new.conn.now result (IsWhole l)
+        (PutsNumbered l 5 (subscription_row birth filter.now subscription.now) (is_subscription (pos birth) filter.now)) }
     ensures inside { StaysInside (state S.Store tx.old.conn.now) (state S.Store tx.new.conn.now) }
 {
     let birth = whole(birth);
@@ -70,8 +71,8 @@ pub fn remove_subscription<S: Alter>(
 ) -> Result<usize, Error>
     requires { birth < 2 ^ 63 }
     ensures same_reference { tx.new.conn.ghost_name ≡ tx.old.conn.ghost_name }
-    ensures removed { Writes S.Store tx.old.conn.now tx.new.conn.now result IsWhole
-        (RemovesFrom 5 (is_subscription (pos birth) filter.now)) }
+    ensures removed { (l : Layout) → IsLayout l → Writes S.Store tx.old.conn.now tx.new.conn.now result (IsWhole l)
+        (RemovesFrom l 5 (is_subscription (pos birth) filter.now)) }
     ensures inside { StaysInside (state S.Store tx.old.conn.now) (state S.Store tx.new.conn.now) }
 {
     let birth = whole(birth);

@@ -2,6 +2,7 @@
 ghost use Rattle.std.specs.Prelude.{◌≡◌, ◌<◌, ◌^◌, pos};
 ghost use Rattle.sqlite.specs.Held.{state};
 ghost use Rattle.mqtt_store_schema.specs.Settled.{StaysInside};
+ghost use Rattle.mqtt_store_write.specs.Layout.{Layout, IsLayout};
 ghost use Rattle.mqtt_store_write.specs.Writing.{Writes};
 ghost use Rattle.mqtt_store_write.specs.Content.{is_of, IsWhole};
 ghost use Rattle.mqtt_store_write.specs.Removal.{RemovesFrom};
@@ -52,8 +53,8 @@ pub fn put_will<S: Alter>(
 ) -> Result<usize, Error>
     requires { birth < 2 ^ 63 }
     ensures same_reference { tx.new.conn.ghost_name ≡ tx.old.conn.ghost_name }
-    ensures put { Writes S.Store tx.old.conn.now tx.new.conn.now result IsWhole
-        (PutsInto 4 (will_row birth will.now) (is_of 0 (pos birth))) }
+    ensures put { (l : Layout) → IsLayout l → Writes S.Store tx.old.conn.now tx.new.conn.now result (IsWhole l)
+        (PutsInto l 4 (will_row birth will.now) (is_of 0 (pos birth))) }
     ensures inside { StaysInside (state S.Store tx.old.conn.now) (state S.Store tx.new.conn.now) }
 {
     let birth = whole(birth);
@@ -76,8 +77,8 @@ pub fn put_will<S: Alter>(
 pub fn remove_will<S: Alter>(tx: &mut Transaction<'_, S>, birth: u64) -> Result<usize, Error>
     requires { birth < 2 ^ 63 }
     ensures same_reference { tx.new.conn.ghost_name ≡ tx.old.conn.ghost_name }
-    ensures removed { Writes S.Store tx.old.conn.now tx.new.conn.now result IsWhole
-        (RemovesFrom 4 (is_of 0 (pos birth))) }
+    ensures removed { (l : Layout) → IsLayout l → Writes S.Store tx.old.conn.now tx.new.conn.now result (IsWhole l)
+        (RemovesFrom l 4 (is_of 0 (pos birth))) }
     ensures inside { StaysInside (state S.Store tx.old.conn.now) (state S.Store tx.new.conn.now) }
 {
     let birth = whole(birth);

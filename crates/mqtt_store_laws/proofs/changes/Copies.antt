@@ -14,6 +14,7 @@ use Rattle.mqtt_records.specs.Session.{copy_place, with_copy, without_copy}
 use Rattle.mqtt_records_rows.specs.Order.{IsAscending}
 use Rattle.mqtt_store_laws.specs.Members.{Has as HasItem, IsKept, IsOrdered, AllOrdered, IsOther}
 use Rattle.mqtt_store_laws.proofs.records.Queues.{put_new, put_old, removed_copy_new, removed_copy_old}
+use Rattle.mqtt_store_write.specs.Layout.{first_layout}
 use Rattle.mqtt_store_write.specs.Copy.{copy_row}
 use Rattle.mqtt_store_write.specs.Put.{PutsInto, numbered}
 use Rattle.mqtt_store_write.specs.Removal.{RemovesFrom, is_keyed}
@@ -28,9 +29,11 @@ use Rattle.mqtt_store_laws.proofs.tables.Edited.{sessions_stay, wills_stay, subs
 use Rattle.mqtt_store_laws.proofs.tables.Kept.{moved, numbers_same}
 use Rattle.mqtt_store_laws.proofs.tables.Single.{placed_put, placed_left}
 
+-- a copy's row names its session in the column of births
 pub copy_birth : (x : ℕ × CopyRow) (row : Row) → IsCopyRow x row → column row 1 ≡ Int (pos x.0)
 copy_birth x row is = ap (λ (r : Row). column r 1) is.1
 
+-- a copy's row has its place in the column of places
 pub copy_at : (x : ℕ × CopyRow) (row : Row) → IsCopyRow x row → column row 2 ≡ Int (pos x.1.place)
 copy_at x row is = ap (λ (r : Row). column r 2) is.1
 
@@ -38,6 +41,7 @@ queues_kept : (sessions : List Session) → AllByRecursion IsOrdered sessions �
 queues_kept [] all = tt
 queues_kept (s ∷ sessions) all = (all.0.queue, queues_kept sessions all.1)
 
+-- records in order have queues in order
 pub kept_of : (r : Records) → AllOrdered r → IsKept r
 kept_of r h = record { sessions = h.sessions; queues = queues_kept r.sessions h.lists }
 
@@ -59,7 +63,7 @@ module _ (db next : Trees) (r : Records) (keeps : KeepsRows db r) (order : AreIn
     stay x row is other = other_key x.0 x.1.place birth place row (copy_birth x row is) (copy_at x row is) other
 
   module _ (entry : CopyRow) (fits : Fits (PutCopy birth entry) r)
-      (h : PutsInto 9 (numbered 9 (copy_row birth entry.place (copy_columns entry)) db) (gone entry.place) db next) where
+      (h : PutsInto first_layout 9 (numbered 9 (copy_row birth entry.place (copy_columns entry)) db) (gone entry.place) db next) where
     abbrev put : Row
     put = numbered 9 (copy_row birth entry.place (copy_columns entry)) db
 
@@ -82,6 +86,7 @@ module _ (db next : Trees) (r : Records) (keeps : KeepsRows db r) (order : AreIn
           (λ b there missed one two. missed_key birth entry.place birth entry.place b one two missed refl refl) keeps.single.copies;
     }
 
+    -- after a copy is put, the tables have the rows of the changed records
     pub put_keeps : IsSayableCopy entry.copy → KeepsRows next (changed (PutCopy birth entry) r)
     put_keeps says =
         let f = with_copy entry in
@@ -116,10 +121,11 @@ module _ (db next : Trees) (r : Records) (keeps : KeepsRows db r) (order : AreIn
           };
         }
 
+    -- after a copy is put, the tables are in order
     pub put_order : AreInOrder next
     put_order = order_put 9 (next_rowid (db 9)) put (gone entry.place) db next refl h order.shaped.copy order
 
-  module _ (place : ℕ) (h : RemovesFrom 9 (gone place) db next) where
+  module _ (place : ℕ) (h : RemovesFrom first_layout 9 (gone place) db next) where
     removed_table : AreWritten IsCopyRow (IsCopyOf (changed (RemoveCopy birth place) r)) (next 9)
     removed_table = without_rows IsCopyRow (IsCopyOf r) (IsCopyOf (changed (RemoveCopy birth place) r)) (Other place) (gone place) (db 9)
         (λ x row item there is missed. out place x row is missed)
@@ -134,6 +140,7 @@ module _ (db next : Trees) (r : Records) (keeps : KeepsRows db r) (order : AreIn
       copies = placed_left (gone place) (db 9) (next 9) h.rows keeps.single.copies;
     }
 
+    -- after a copy is removed, the tables have the rows of the changed records
     pub removal_keeps : KeepsRows next (changed (RemoveCopy birth place) r)
     removal_keeps =
         let f = without_copy place in
@@ -162,5 +169,6 @@ module _ (db next : Trees) (r : Records) (keeps : KeepsRows db r) (order : AreIn
           };
         }
 
+    -- after a copy is removed, the tables are in order
     pub removal_order : AreInOrder next
     removal_order = order_removed 9 (gone place) db next h order.shaped.copy order

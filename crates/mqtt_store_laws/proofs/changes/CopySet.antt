@@ -19,6 +19,7 @@ use Rattle.mqtt_records.specs.Records.{changed}
 use Rattle.mqtt_records.specs.Session.{in_phase, with_phase}
 use Rattle.mqtt_store_laws.specs.Members.{Has as HasItem, IsKept, IsOther, InQueue}
 use Rattle.mqtt_store_laws.proofs.records.Queues.{set_new, set_old}
+use Rattle.mqtt_store_write.specs.Layout.{first_layout}
 use Rattle.mqtt_store_write.specs.Copy.{CopyColumns, copy_row, number_or_null, set_copy, SetsCopy}
 use Rattle.mqtt_store_write.specs.Put.{PutsInto}
 use Rattle.mqtt_store_write.proofs.tables.Rows.{equal_is}
@@ -54,7 +55,7 @@ module _ (db next : Trees) (r : Records) (keeps : KeepsRows db r) (order : AreIn
   abbrev gone : Row → Bool
   gone = has_rowid id
 
-  h : PutsInto 9 put gone db next
+  h : PutsInto first_layout 9 put gone db next
   h = record { rows = sets.rows; others = sets.others }
 
   abbrev Other : ℕ × CopyRow → Type 0
@@ -114,6 +115,7 @@ module _ (db next : Trees) (r : Records) (keeps : KeepsRows db r) (order : AreIn
         (λ b there missed one two. true≢false (sym (number_gone b (is_was b there one two)) ∙ missed)) keeps.single.copies;
   }
 
+  -- after a copy's phase is set, the tables have the rows of the changed records
   pub set_keeps : KeepsRows next (changed (SetCopy birth place phase) r)
   set_keeps =
       let f = with_phase place phase in
@@ -148,5 +150,6 @@ module _ (db next : Trees) (r : Records) (keeps : KeepsRows db r) (order : AreIn
         };
       }
 
+  -- after a copy's phase is set, the tables are in order
   pub set_order : AreInOrder next
   set_order = order_put 9 id put gone db next refl h order.shaped.copy order

@@ -55,6 +55,7 @@ module _ (db next : Trees) (r : Records) (keeps : KeepsRows db r) (order : AreIn
       (λ x row item there is other. other_number 1 x.0 birth row (ap (λ (a : Row). column a 1) is.1) other)
       keeps.rows.copies (next 9) h.copy (λ x. left_new queue_of birth r.sessions x.0 x.1) (λ x. left_old queue_of birth r.sessions x.0 x.1)
 
+  -- after a session is removed, the tables have the rows of the changed records
   pub ended_keeps : KeepsRows next (changed (RemoveSession birth) r)
   ended_keeps = record {
     rows = record {
@@ -81,5 +82,6 @@ module _ (db next : Trees) (r : Records) (keeps : KeepsRows db r) (order : AreIn
     };
   }
 
+  -- after a session is removed, the tables are in order
   pub ended_order : AreInOrder next
   ended_order = order_ended (pos birth) db next h order

@@ -11,6 +11,7 @@ use Rattle.mqtt_records.specs.Records.{changed, Fits}
 use Rattle.mqtt_records.specs.Session.{with_open, without_open}
 use Rattle.mqtt_store_laws.specs.Members.{Has as HasItem}
 use Rattle.mqtt_store_laws.proofs.records.Lists.{open_new, open_old, open_out_new, open_out_old}
+use Rattle.mqtt_store_write.specs.Layout.{first_layout}
 use Rattle.mqtt_store_write.specs.Put.{PutsInto, numbered, open_row}
 use Rattle.mqtt_store_write.specs.Removal.{RemovesFrom, is_keyed}
 use Rattle.mqtt_store_write.proofs.steps.Stands.{given_free}
@@ -42,7 +43,7 @@ module _ (db next : Trees) (r : Records) (keeps : KeepsRows db r) (order : AreIn
   stay : (x : ℕ × ℕ) (row : Row) → IsOpenRow x row → Other x → gone row ≡ false
   stay x row is other = other_key x.0 x.1 birth n row (open_birth x row is) (open_number x row is) other
 
-  module _ (fits : Fits (PutInbound birth n) r) (h : PutsInto 7 (numbered 7 (open_row birth n) db) gone db next) where
+  module _ (fits : Fits (PutInbound birth n) r) (h : PutsInto first_layout 7 (numbered 7 (open_row birth n) db) gone db next) where
     put_table : AreWritten IsOpenRow (IsOpenOf (changed (PutInbound birth n) r)) (next 7)
     put_table = with_row IsOpenRow (IsOpenOf r) (IsOpenOf (changed (PutInbound birth n) r)) Other gone (db 7)
         (λ x row item there is missed. out x row is missed)
@@ -55,6 +56,7 @@ module _ (db next : Trees) (r : Records) (keeps : KeepsRows db r) (order : AreIn
         (λ x next. open_new r keeps.ordered birth n fits x.0 x.1 next)
         (λ x it. open_old r keeps.ordered birth n fits x.0 x.1 it)
 
+    -- after an identifier is opened, the tables have the rows of the changed records
     pub put_keeps : KeepsRows next (changed (PutInbound birth n) r)
     put_keeps =
         let f = with_open n in
@@ -84,10 +86,11 @@ module _ (db next : Trees) (r : Records) (keeps : KeepsRows db r) (order : AreIn
           };
         }
 
+    -- after an identifier is opened, the tables are in order
     pub put_order : AreInOrder next
     put_order = order_put 7 (next_rowid (db 7)) (numbered 7 (open_row birth n) db) gone db next refl h order.shaped.inbound order
 
-  module _ (h : RemovesFrom 7 gone db next) where
+  module _ (h : RemovesFrom first_layout 7 gone db next) where
     removed_table : AreWritten IsOpenRow (IsOpenOf (changed (RemoveInbound birth n) r)) (next 7)
     removed_table = without_rows IsOpenRow (IsOpenOf r) (IsOpenOf (changed (RemoveInbound birth n) r)) Other gone (db 7)
         (λ x row item there is missed. out x row is missed)
@@ -96,6 +99,7 @@ module _ (db next : Trees) (r : Records) (keeps : KeepsRows db r) (order : AreIn
         (λ x next. open_out_new r keeps.ordered birth n x.0 x.1 next)
         (λ x it. open_out_old r keeps.ordered birth n x.0 x.1 it)
 
+    -- after an identifier is closed, the tables have the rows of the changed records
     pub removal_keeps : KeepsRows next (changed (RemoveInbound birth n) r)
     removal_keeps =
         let f = without_open n in
@@ -125,5 +129,6 @@ module _ (db next : Trees) (r : Records) (keeps : KeepsRows db r) (order : AreIn
           };
         }
 
+    -- after an identifier is closed, the tables are in order
     pub removal_order : AreInOrder next
     removal_order = order_removed 7 gone db next h order.shaped.inbound order

@@ -17,6 +17,7 @@ use Rattle.mqtt_records.specs.declared.change.Change.TheVariants.{SetCounter}
 use Rattle.mqtt_records.specs.declared.records.Records.{Records}
 use Rattle.mqtt_records.specs.Records.{changed, with_counter, counter_of}
 use Rattle.mqtt_store_laws.specs.Members.{Has as HasItem, HasColumns}
+use Rattle.mqtt_store_write.specs.Layout.{first_layout}
 use Rattle.mqtt_store_write.specs.Numbers.{number_row, SetsNumber}
 use Rattle.mqtt_store_write.specs.Put.{PutsInto}
 use Rattle.mqtt_store_write.proofs.tables.Rows.{equal_is}
@@ -45,6 +46,7 @@ numbers_set Subscribes value r = refl
 numbers_set Autos value r = refl
 numbers_set Moment value r = refl
 
+-- each of the five numbers is there under its name
 pub number_there : (counter : Counter) (r : Records) → HasItem (numbers_in r) (counter_name counter, counter_of counter r)
 number_there Births r = inl refl
 number_there Publications r = inr (inl refl)
@@ -113,7 +115,7 @@ number_name : (x : Number) (row : Row) → IsNumberRow x row → column row 1 �
 number_name x row is = ap (λ (r : Row). column r 1) is.1
 
 module _ (db next : Trees) (r : Records) (keeps : KeepsRows db r) (order : AreInOrder db) (counter : Counter) (value n : ℕ) (id : ℤ)
-    (stood : Has (db 0) (Int id ∷ number_row (counter_name counter) n)) (sets : SetsNumber (counter_name counter) value id db next) where
+    (stood : Has (db 0) (Int id ∷ number_row (counter_name counter) n)) (sets : SetsNumber first_layout (counter_name counter) value id db next) where
   abbrev name : List ℕ
   name = counter_name counter
 
@@ -126,7 +128,7 @@ module _ (db next : Trees) (r : Records) (keeps : KeepsRows db r) (order : AreIn
   abbrev gone : Row → Bool
   gone = has_rowid id
 
-  h : PutsInto 0 put gone db next
+  h : PutsInto first_layout 0 put gone db next
   h = record { rows = sets.rows; others = sets.others }
 
   number_gone : (row : Row) → row ≡ was → gone row ≡ true
@@ -170,6 +172,7 @@ module _ (db next : Trees) (r : Records) (keeps : KeepsRows db r) (order : AreIn
     copies = copies_same db next (copy_same 0 db next h.others (omega arith)) keeps.single;
   }
 
+  -- after a number is set, the tables are in order
   pub set_order : AreInOrder next
   set_order = order_put 0 id put gone db next refl h order.meta order
 
@@ -195,6 +198,7 @@ module _ (db next : Trees) (r : Records) (keeps : KeepsRows db r) (order : AreIn
       retained = rw retained keeps.sayable.retained;
     }
 
+  -- after a number is set, the tables have the rows of the changed records
   pub set_keeps : KeepsRows next (changed (SetCounter counter value) r)
   set_keeps =
       let q = with_counter counter value r in

@@ -15,6 +15,7 @@ use Rattle.mqtt_records.specs.declared.change.Change.TheVariants.{PutRetained, R
 use Rattle.mqtt_records.specs.Records.{changed, Fits}
 use Rattle.mqtt_store_laws.specs.Members.{Has as HasItem, HasColumns}
 use Rattle.mqtt_store_laws.proofs.records.Owns.{retained_new, retained_old, retained_out_new, retained_out_old}
+use Rattle.mqtt_store_write.specs.Layout.{first_layout}
 use Rattle.mqtt_store_write.specs.Columns.{retained_row}
 use Rattle.mqtt_store_write.specs.Content.{is_of}
 use Rattle.mqtt_store_write.specs.Put.{PutsInto, is_retained}
@@ -52,7 +53,7 @@ both_missed false b h k = k
 
 module _ (db next : Trees) (r : Records) (keeps : KeepsRows db r) (order : AreInOrder db) where
   module _ (kept : RetainedMessage) (fits : Fits (PutRetained kept) r)
-      (h : PutsInto 11 (retained_row kept.place (retained_columns kept)) (is_retained kept.place kept.content.topic) db next) where
+      (h : PutsInto first_layout 11 (retained_row kept.place (retained_columns kept)) (is_retained kept.place kept.content.topic) db next) where
     abbrev put : Row
     put = retained_row kept.place (retained_columns kept)
 
@@ -87,6 +88,7 @@ module _ (db next : Trees) (r : Records) (keeps : KeepsRows db r) (order : AreIn
         (λ x n. retained_new kept r fits.0 keeps.by_place x n)
         (λ x it. retained_old kept r fits.0 keeps.by_place x it)
 
+    -- after a message is retained, the tables have the rows of the changed records
     pub put_keeps : IsSayableRetained kept → KeepsRows next (changed (PutRetained kept) r)
     put_keeps says =
         let meta = meta_same 11 db next h.others (omega arith) in
@@ -116,10 +118,11 @@ module _ (db next : Trees) (r : Records) (keeps : KeepsRows db r) (order : AreIn
           };
         }
 
+    -- after a message is retained, the tables are in order
     pub put_order : AreInOrder next
     put_order = order_put 11 (pos kept.place) put gone db next refl h order.retained order
 
-  module _ (place : ℕ) (h : RemovesFrom 11 (is_of 0 (pos place)) db next) where
+  module _ (place : ℕ) (h : RemovesFrom first_layout 11 (is_of 0 (pos place)) db next) where
     removed_table : AreWritten IsRetainedRow (HasItem (changed (RemoveRetained place) r).retained) (next 11)
     removed_table = without_rows IsRetainedRow (HasItem r.retained) (HasItem (changed (RemoveRetained place) r).retained) (λ x. x.place ≢ place) (is_of 0 (pos place)) (db 11)
         (λ x row item there is missed. missed_number 0 x.place place row (kept_at x row is) missed)
@@ -128,6 +131,7 @@ module _ (db next : Trees) (r : Records) (keeps : KeepsRows db r) (order : AreIn
         (λ x n. retained_out_new place r x n)
         (λ x it. retained_out_old place r x it)
 
+    -- after a retained message is removed, the tables have the rows of the changed records
     pub removal_keeps : KeepsRows next (changed (RemoveRetained place) r)
     removal_keeps =
         let meta = meta_same 11 db next h.others (omega arith) in
@@ -154,5 +158,6 @@ module _ (db next : Trees) (r : Records) (keeps : KeepsRows db r) (order : AreIn
           };
         }
 
+    -- after a retained message is removed, the tables are in order
     pub removal_order : AreInOrder next
     removal_order = order_removed 11 (is_of 0 (pos place)) db next h order.retained order

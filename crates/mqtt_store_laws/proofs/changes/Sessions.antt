@@ -10,6 +10,7 @@ use Rattle.mqtt_records.specs.Records.{changed, Fits}
 use Rattle.mqtt_records.specs.Session.{with_columns}
 use Rattle.mqtt_store_laws.specs.Members.{Has as HasItem, HasColumns, will_of, subscriptions_of, inbound_of, queue_of}
 use Rattle.mqtt_store_laws.proofs.records.Owns.{columns_put_new, columns_put_old, columns_set_new, columns_set_old, any_some}
+use Rattle.mqtt_store_write.specs.Layout.{first_layout}
 use Rattle.mqtt_store_write.specs.Columns.{session_row}
 use Rattle.mqtt_store_write.specs.Content.{is_of}
 use Rattle.mqtt_store_write.specs.Put.{PutsInto}
@@ -25,7 +26,7 @@ use Rattle.mqtt_store_laws.proofs.tables.Edited.{wills_stay, subscriptions_stay,
 use Rattle.mqtt_store_laws.proofs.tables.Kept.{moved, single_same}
 
 module _ (db next : Trees) (r : Records) (keeps : KeepsRows db r) (order : AreInOrder db) (row : Columns)
-    (h : PutsInto 2 (session_row row.birth (session_columns row)) (is_of 0 (pos row.birth)) db next) where
+    (h : PutsInto first_layout 2 (session_row row.birth (session_columns row)) (is_of 0 (pos row.birth)) db next) where
   abbrev put : Row
   put = session_row row.birth (session_columns row)
 
@@ -41,7 +42,7 @@ module _ (db next : Trees) (r : Records) (keeps : KeepsRows db r) (order : AreIn
   says : (c : Columns) → New c → IsSessionRow c put
   says c new = subst (λ (z : Columns). IsSessionRow z put) (sym new) (record { birth = refl; client = refl; expiry = refl; closed = refl })
 
-  -- the table, where the sessions' own rows are those that were, but for this one
+  -- the table, if the sessions' own rows are those that were, but for this one
   put_table : (Next : Columns → Type 0) → ((c : Columns) → Next c → New c ⊎ (HasColumns r c × Other c)) → ((c : Columns) → New c ⊎ (HasColumns r c × Other c) → Next c) → AreWritten IsSessionRow Next (next 2)
   put_table Next to back = with_row IsSessionRow (HasColumns r) Next Other gone (db 2)
       (λ c row_c item there is missed. missed_number 0 c.birth row.birth row_c is.birth missed)
@@ -50,6 +51,7 @@ module _ (db next : Trees) (r : Records) (keeps : KeepsRows db r) (order : AreIn
       (key_free 2 (pos row.birth) [] gone db order.shaped.session (λ row_c missed. missed))
       (row, refl) says to back
 
+  -- after a session's own row is put or set, the tables are in order
   pub put_order : AreInOrder next
   put_order = order_put 2 (pos row.birth) put gone db next refl h order.shaped.session order
 
@@ -57,6 +59,7 @@ module _ (db next : Trees) (r : Records) (keeps : KeepsRows db r) (order : AreIn
     abbrev after : Records
     after = changed (PutSession row) r
 
+    -- after a session's own row is put, the tables have the rows of the changed records
     pub put_keeps : KeepsRows next (changed (PutSession row) r)
     put_keeps =
         let up = keeps.ordered.sessions in
@@ -90,6 +93,7 @@ module _ (db next : Trees) (r : Records) (keeps : KeepsRows db r) (order : AreIn
         }
 
   module _ (fits : Fits (SetSession row) r) where
+    -- after a session's own row is set, the tables have the rows of the changed records
     pub set_keeps : KeepsRows next (changed (SetSession row) r)
     set_keeps =
         let birth = row.birth in

@@ -17,6 +17,7 @@ use Rattle.mqtt_records_rows.specs.Order.{has_row}
 use Rattle.mqtt_store_laws.specs.Members.{InQueue}
 use Rattle.mqtt_store_laws.proofs.records.Members.{found_has}
 use Rattle.mqtt_store_laws.proofs.records.Owns.{some_row}
+use Rattle.mqtt_store_write.specs.Layout.{first_layout}
 use Rattle.mqtt_store_write.specs.Columns.{subscription_row}
 use Rattle.mqtt_store_write.specs.Copy.{CopyColumns, copy_row}
 use Rattle.mqtt_store_write.specs.Numbers.{number_row, SetsNumber}
@@ -43,26 +44,26 @@ use Rattle.mqtt_store_laws.proofs.changes.Retained as retained
 
 module _ (db next : Trees) where
   number_done : (name : List ℕ) (value : ℕ) (s : Statement) → SetsNumberOf name value s → Does s db next
-      → (id : ℤ) × (n : ℕ) × Has (db 0) (Int id ∷ number_row name n) × SetsNumber name value id db next
+      → (id : ℤ) × (n : ℕ) × Has (db 0) (Int id ∷ number_row name n) × SetsNumber first_layout name value id db next
   number_done name value (SetNumber text v) is does = (
     does.0,
     does.1,
     subst (λ (t : List ℕ). Has (db 0) (Int does.0 ∷ number_row t does.1)) is.0 does.2,
-    subst (λ (w : ℕ). SetsNumber name w does.0 db next) is.1 (subst (λ (t : List ℕ). SetsNumber t v does.0 db next) is.0 does.3),
+    subst (λ (w : ℕ). SetsNumber first_layout name w does.0 db next) is.1 (subst (λ (t : List ℕ). SetsNumber first_layout t v does.0 db next) is.0 does.3),
   )
   number_done name value _ is does = absurd is
 
   abbrev Puts : ℕ → List ℕ → SubscriptionColumns → Type 0
-  Puts b text c = PutsInto 5 (numbered 5 (subscription_row b text c) db) (is_subscription (pos b) text) db next
+  Puts b text c = PutsInto first_layout 5 (numbered 5 (subscription_row b text c) db) (is_subscription (pos b) text) db next
 
   subscription_done : (birth : ℕ) (put : Subscription) (s : Statement) → PutsSubscriptionOf birth put s → Does s db next → Puts birth put.filter (subscription_columns put)
   subscription_done birth put (PutSubscription b text c) is does =
       subst (λ (d : SubscriptionColumns). Puts birth put.filter d) is.2 (subst (λ (t : List ℕ). Puts birth t c) is.1 (subst (λ (a : ℕ). Puts a text.now c) is.0 does))
   subscription_done birth put _ is does = absurd is
 
-  removal_done : (birth : ℕ) (name : List ℕ) (s : Statement) → RemovesSubscriptionOf birth name s → Does s db next → RemovesFrom 5 (is_subscription (pos birth) name) db next
+  removal_done : (birth : ℕ) (name : List ℕ) (s : Statement) → RemovesSubscriptionOf birth name s → Does s db next → RemovesFrom first_layout 5 (is_subscription (pos birth) name) db next
   removal_done birth name (RemoveSubscription b text) is does =
-      subst (λ (t : List ℕ). RemovesFrom 5 (is_subscription (pos birth) t) db next) is.1 (subst (λ (a : ℕ). RemovesFrom 5 (is_subscription (pos a) text.now) db next) is.0 does)
+      subst (λ (t : List ℕ). RemovesFrom first_layout 5 (is_subscription (pos birth) t) db next) is.1 (subst (λ (a : ℕ). RemovesFrom first_layout 5 (is_subscription (pos a) text.now) db next) is.0 does)
   removal_done birth name _ is does = absurd is
 
 -- ---- one change
@@ -73,10 +74,11 @@ Keeps c next r = KeepsRows next (changed c r) × AreInOrder next
 abbrev Law : Change → Statement → Trees → Trees → Records → Type 0
 Law c s db next r = KeepsRows db r → AreInOrder db → Fits c r → IsSayable c → IsStatementFor c s → Does s db next → Keeps c next r
 
--- what a statement does, where it is known which it is
+-- what a statement does, if it is known which it is
 done_as : (s t : Statement) (db next : Trees) → s ≡ t → Does s db next → Does t db next
 done_as s t db next same does = subst (λ (u : Statement). Does u db next) same does
 
+-- the statement of a change makes of the rows of records those of the changed ones, and leaves them in order
 pub statement_keeps : (c : Change) (s : Statement) (db next : Trees) (r : Records) → Law c s db next r
 statement_keeps (change.SetCounter counter value) s db next r k o fits say is does =
     let it = number_done db next (counter_name counter) value s is does in
@@ -160,6 +162,7 @@ module _ (db : Trees) (r : Records) (keeps : KeepsRows db r) where
   asked_as : (s t : Statement) → s ≡ t → Asks t db → Asks s db
   asked_as s t same asks = subst (λ (u : Statement). Asks u db) (sym same) asks
 
+  -- the rows that the statement of a change that fits asks for stand
   pub statement_asks : (c : Change) (s : Statement) → Fits c r → IsStatementFor c s → Asks s db
   statement_asks (change.SetCounter counter value) s fits is = number_asked counter value s is
   statement_asks (change.PutSession row) s fits is = asked_as s _ is tt
@@ -179,6 +182,7 @@ module _ (db : Trees) (r : Records) (keeps : KeepsRows db r) where
 
 -- ---- one after the other
 
+-- the statements of changes, one after the other, make of the rows of records those of the changed ones
 pub statements_keep : (cs : List Change) (ss : List Statement) (db next : Trees) (r : Records) → KeepsRows db r → AreInOrder db → FitAll cs r → AllSayable cs → AreStatementsFor cs ss → DoAll ss db next
     → KeepsRows next (changed_all cs r) × AreInOrder next
 statements_keep [] [] db next r k o fits say are does = (subst (λ (t : Trees). KeepsRows t r) (sym does) k, subst AreInOrder (sym does) o)
@@ -188,6 +192,7 @@ statements_keep (c ∷ cs) (s ∷ ss) db next r k o fits say are does =
     let first = statement_keeps c s db does.0 r k o fits.0 say.0 are.0 does.1 in
     statements_keep cs ss does.0 next (changed c r) first.0 first.1 fits.1 say.1 are.1 does.2
 
+-- the rows that each of the statements asks for stand when its turn comes
 pub statements_ask : (cs : List Change) (ss : List Statement) (db : Trees) (r : Records) → KeepsRows db r → AreInOrder db → FitAll cs r → AllSayable cs → AreStatementsFor cs ss → AskAll ss db
 statements_ask [] [] db r k o fits say are = tt
 statements_ask [] (s ∷ ss) db r k o fits say are = absurd are

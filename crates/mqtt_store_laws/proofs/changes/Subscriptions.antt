@@ -12,6 +12,7 @@ use Rattle.mqtt_records.specs.Records.{changed, Fits}
 use Rattle.mqtt_records.specs.Session.{with_subscription, without_subscription}
 use Rattle.mqtt_store_laws.specs.Members.{Has as HasItem}
 use Rattle.mqtt_store_laws.proofs.records.Lists.{subscription_new, subscription_old, subscription_out_new, subscription_out_old}
+use Rattle.mqtt_store_write.specs.Layout.{first_layout}
 use Rattle.mqtt_store_write.specs.Columns.{subscription_row}
 use Rattle.mqtt_store_write.specs.Put.{PutsInto, numbered}
 use Rattle.mqtt_store_write.specs.Removal.{RemovesFrom, is_subscription}
@@ -43,7 +44,7 @@ module _ (db next : Trees) (r : Records) (keeps : KeepsRows db r) (order : AreIn
     stay x row is other = other_filter x.0 birth x.1.filter text row (sub_birth x row is) (sub_filter x row is) other
 
   module _ (put : Subscription) (fits : Fits (PutSubscription birth put) r)
-      (h : PutsInto 5 (numbered 5 (subscription_row birth put.filter (subscription_columns put)) db) (is_subscription (pos birth) put.filter) db next) where
+      (h : PutsInto first_layout 5 (numbered 5 (subscription_row birth put.filter (subscription_columns put)) db) (is_subscription (pos birth) put.filter) db next) where
     abbrev Next : ℕ × Subscription → Type 0
     Next = IsSubscriptionOf (changed (PutSubscription birth put) r)
 
@@ -59,6 +60,7 @@ module _ (db next : Trees) (r : Records) (keeps : KeepsRows db r) (order : AreIn
         (λ x n. subscription_new r keeps.ordered birth put fits x.0 x.1 n)
         (λ x it. subscription_old r keeps.ordered birth put fits x.0 x.1 it)
 
+    -- after a subscription is put, the tables have the rows of the changed records
     pub put_keeps : IsSayableSubscription put → KeepsRows next (changed (PutSubscription birth put) r)
     put_keeps says =
         let f = with_subscription put in
@@ -91,10 +93,11 @@ module _ (db next : Trees) (r : Records) (keeps : KeepsRows db r) (order : AreIn
           };
         }
 
+    -- after a subscription is put, the tables are in order
     pub put_order : AreInOrder next
     put_order = order_put 5 (next_rowid (db 5)) (numbered 5 (subscription_row birth put.filter (subscription_columns put)) db) (is_subscription (pos birth) put.filter) db next refl h order.shaped.sub order
 
-  module _ (text : List ℕ) (h : RemovesFrom 5 (is_subscription (pos birth) text) db next) where
+  module _ (text : List ℕ) (h : RemovesFrom first_layout 5 (is_subscription (pos birth) text) db next) where
     removed_table : AreWritten IsSubscriptionRow (IsSubscriptionOf (changed (RemoveSubscription birth text) r)) (next 5)
     removed_table = without_rows IsSubscriptionRow (IsSubscriptionOf r) (IsSubscriptionOf (changed (RemoveSubscription birth text) r)) (Other text) (is_subscription (pos birth) text) (db 5)
         (λ x row item there is missed. out text x row is missed)
@@ -103,6 +106,7 @@ module _ (db next : Trees) (r : Records) (keeps : KeepsRows db r) (order : AreIn
         (λ x n. subscription_out_new r keeps.ordered birth text x.0 x.1 n)
         (λ x it. subscription_out_old r keeps.ordered birth text x.0 x.1 it)
 
+    -- after a subscription is removed, the tables have the rows of the changed records
     pub removal_keeps : KeepsRows next (changed (RemoveSubscription birth text) r)
     removal_keeps =
         let f = without_subscription text in
@@ -132,5 +136,6 @@ module _ (db next : Trees) (r : Records) (keeps : KeepsRows db r) (order : AreIn
           };
         }
 
+    -- after a subscription is removed, the tables are in order
     pub removal_order : AreInOrder next
     removal_order = order_removed 5 (is_subscription (pos birth) text) db next h order.shaped.sub order

@@ -11,6 +11,7 @@ use Rattle.mqtt_records.specs.declared.change.Change.TheVariants.{PutWill, Remov
 use Rattle.mqtt_records.specs.Records.{changed, Fits}
 use Rattle.mqtt_records.specs.Session.{with_will}
 use Rattle.mqtt_store_laws.proofs.records.Lists.{will_new, will_old, will_out_new, will_out_old}
+use Rattle.mqtt_store_write.specs.Layout.{first_layout}
 use Rattle.mqtt_store_write.specs.Columns.{will_row}
 use Rattle.mqtt_store_write.specs.Content.{is_of}
 use Rattle.mqtt_store_write.specs.Put.{PutsInto}
@@ -26,6 +27,7 @@ use Rattle.mqtt_store_laws.proofs.tables.Trees.{meta_same, session_same, sub_sam
 use Rattle.mqtt_store_laws.proofs.tables.Edited.{sessions_stay, subscriptions_stay, inbound_stays, copies_stay, subscriptions_said, own_said, copies_said}
 use Rattle.mqtt_store_laws.proofs.tables.Kept.{moved, single_same}
 
+-- a Will's row has the birth of its session as its number
 pub will_birth : (x : ℕ × Will) (row : Row) → IsWillRow x row → column row 0 ≡ Int (pos x.0)
 will_birth x row is = ap (λ (r : Row). column r 0) is
 
@@ -33,7 +35,7 @@ module _ (db next : Trees) (r : Records) (keeps : KeepsRows db r) (order : AreIn
   abbrev Other : ℕ × Will → Type 0
   Other x = x.0 ≢ birth
 
-  module _ (will : Will) (fits : Fits (PutWill birth will) r) (h : PutsInto 4 (will_row birth (will_columns will)) (is_of 0 (pos birth)) db next) where
+  module _ (will : Will) (fits : Fits (PutWill birth will) r) (h : PutsInto first_layout 4 (will_row birth (will_columns will)) (is_of 0 (pos birth)) db next) where
     put_table : AreWritten IsWillRow (IsWillOf (changed (PutWill birth will) r)) (next 4)
     put_table = with_row IsWillRow (IsWillOf r) (IsWillOf (changed (PutWill birth will) r)) Other (is_of 0 (pos birth)) (db 4)
         (λ x row item there is missed. missed_number 0 x.0 birth row (will_birth x row is) missed)
@@ -46,6 +48,7 @@ module _ (db next : Trees) (r : Records) (keeps : KeepsRows db r) (order : AreIn
         (λ x n. will_new r keeps.ordered birth will x.0 x.1 n)
         (λ x it. will_old r keeps.ordered birth will fits x.0 x.1 it)
 
+    -- after a Will is put, the tables have the rows of the changed records
     pub put_keeps : IsSayableWill will → KeepsRows next (changed (PutWill birth will) r)
     put_keeps says =
         let f = with_will (Some will) in
@@ -78,10 +81,11 @@ module _ (db next : Trees) (r : Records) (keeps : KeepsRows db r) (order : AreIn
           };
         }
 
+    -- after a Will is put, the tables are in order
     pub put_order : AreInOrder next
     put_order = order_put 4 (pos birth) (will_row birth (will_columns will)) (is_of 0 (pos birth)) db next refl h order.shaped.will order
 
-  module _ (h : RemovesFrom 4 (is_of 0 (pos birth)) db next) where
+  module _ (h : RemovesFrom first_layout 4 (is_of 0 (pos birth)) db next) where
     removed_table : AreWritten IsWillRow (IsWillOf (changed (RemoveWill birth) r)) (next 4)
     removed_table = without_rows IsWillRow (IsWillOf r) (IsWillOf (changed (RemoveWill birth) r)) Other (is_of 0 (pos birth)) (db 4)
         (λ x row item there is missed. missed_number 0 x.0 birth row (will_birth x row is) missed)
@@ -90,6 +94,7 @@ module _ (db next : Trees) (r : Records) (keeps : KeepsRows db r) (order : AreIn
         (λ x n. will_out_new r keeps.ordered birth x.0 x.1 n)
         (λ x it. will_out_old r keeps.ordered birth x.0 x.1 it)
 
+    -- after a Will is removed, the tables have the rows of the changed records
     pub removal_keeps : KeepsRows next (changed (RemoveWill birth) r)
     removal_keeps =
         let f = with_will None in
@@ -119,5 +124,6 @@ module _ (db next : Trees) (r : Records) (keeps : KeepsRows db r) (order : AreIn
           };
         }
 
+    -- after a Will is removed, the tables are in order
     pub removal_order : AreInOrder next
     removal_order = order_removed 4 (is_of 0 (pos birth)) db next h order.shaped.will order

@@ -26,6 +26,7 @@ module _ {X : Type 0} (key : X → ℕ) where
     | inr there ↦ there
   ]
 
+  -- two lists in the order of their keys that have the same members are the same
   pub same_members : (xs ys : List X) → IsAscending key xs → IsAscending key ys → ((z : X) → Has xs z → Has ys z) → ((z : X) → Has ys z → Has xs z) → xs ≡ ys
   same_members [] [] up vp to back = refl
   same_members [] (y ∷ ys) up vp to back = absurd (back y (inl refl))
@@ -66,6 +67,7 @@ module _ (q r : Records) (oq : AllOrdered q) (vr : AllOrdered r) (rows : SameRow
       ∙ (ap (λ (l : List ℕ). session_of (columns_of t) t.will t.subscriptions l s.queue) inbound
       ∙ ap (λ (l : List CopyRow). session_of (columns_of t) t.will t.subscriptions t.inbound l) queues)))
 
+  -- records whose sessions have the same rows have the same sessions
   pub determined : q.sessions ≡ r.sessions
   determined = same_members birth_of q.sessions r.sessions oq.sessions vr.sessions
       (λ s h. let it = (rows.columns (columns_of s)).0 (s, h, refl) in subst (Has r.sessions) (sym (same_session s it.0 h it.1 (sym it.2))) it.1)

@@ -76,21 +76,25 @@ module _ (r : Records) (kept : AllOrdered r) where
   -- ---- Wills
 
   module _ (birth : ℕ) where
+    -- after a Will is put, a Will that stands is that one, or one of another session
     pub will_new : (will : Will) (b : ℕ) (x : Will) → InPart will_of (changed (PutWill birth will) r).sessions b x → ((b ≡ birth) × (x ≡ will)) ⊎ (InPart will_of r.sessions b x × b ≢ birth)
     will_new will = edited_new will_of birth (with_will (Some will)) r.sessions kept.sessions (λ s. refl) (λ x. x ≡ will) (λ _. ⊥)
         (λ s x h same there. elim there [ inl here ↦ inl here | inr none ↦ absurd none ])
 
+    -- after a Will is put, that one stands and those of other sessions do
     pub will_old : (will : Will) → Fits (PutWill birth will) r → (b : ℕ) (x : Will) → ((b ≡ birth) × (x ≡ will)) ⊎ (InPart will_of r.sessions b x × b ≢ birth) → InPart will_of (changed (PutWill birth will) r).sessions b x
     will_old will fits = edited_old will_of birth (with_will (Some will)) r.sessions kept.sessions (λ s. refl) (λ x. x ≡ will) (λ _. ⊥)
         (λ s x h same it. elim it [ inl here ↦ inl here | inr old ↦ absurd old.1 ])
         (λ x new. let it = home birth (λ _. Unit {0}) fits in (it.0, it.1, it.2))
 
+    -- after a Will is removed, a Will that stands is one of another session
     pub will_out_new : (b : ℕ) (x : Will) → InPart will_of (changed (RemoveWill birth) r).sessions b x → InPart will_of r.sessions b x × b ≢ birth
     will_out_new b x it = elim (edited_new will_of birth (with_will None) r.sessions kept.sessions (λ s. refl) (λ _. ⊥) (λ _. ⊥) (λ s x h same there. absurd there) b x it) [
       | inl none ↦ absurd none.1
       | inr old ↦ old
     ]
 
+    -- after a Will is removed, those of other sessions stand
     pub will_out_old : (b : ℕ) (x : Will) → InPart will_of r.sessions b x × b ≢ birth → InPart will_of (changed (RemoveWill birth) r).sessions b x
     will_out_old b x it = edited_old will_of birth (with_will None) r.sessions kept.sessions (λ s. refl) (λ _. ⊥) (λ _. ⊥)
         (λ s x h same it. elim it [ inl none ↦ absurd none | inr old ↦ absurd old.1 ]) (λ x none. absurd none) b x (inr it)
@@ -101,21 +105,25 @@ module _ (r : Records) (kept : AllOrdered r) where
     abbrev Room : Session → Type 0
     Room s = HasRoomFor number_of OPEN_LIMIT n s.inbound
 
+    -- after an identifier is opened, an open one is that, or was open before
     pub open_new : Fits (PutInbound birth n) r → (b x : ℕ) → InPart inbound_of (changed (PutInbound birth n) r).sessions b x → ((b ≡ birth) × (x ≡ n)) ⊎ (InPart inbound_of r.sessions b x × (b ≡ birth → x ≢ n))
     open_new fits = edited_new inbound_of birth (with_open n) r.sessions kept.sessions (λ s. refl) (λ x. x ≡ n) (λ x. x ≢ n)
         (λ s x h same there. inserted_new number_of n s.inbound x (ordered s h).inbound (rw (asked birth Room fits s h same) at there))
 
+    -- after an identifier is opened, that one is open and those before are
     pub open_old : Fits (PutInbound birth n) r → (b x : ℕ) → ((b ≡ birth) × (x ≡ n)) ⊎ (InPart inbound_of r.sessions b x × (b ≡ birth → x ≢ n)) → InPart inbound_of (changed (PutInbound birth n) r).sessions b x
     open_old fits = edited_old inbound_of birth (with_open n) r.sessions kept.sessions (λ s. refl) (λ x. x ≡ n) (λ x. x ≢ n)
         (λ s x h same it. rw (asked birth Room fits s h same) (inserted_old number_of n s.inbound x it))
         (λ x new. let it = home birth Room fits in (it.0, it.1, it.2))
 
+    -- after an identifier is closed, an open one was open before and is another
     pub open_out_new : (b x : ℕ) → InPart inbound_of (changed (RemoveInbound birth n) r).sessions b x → InPart inbound_of r.sessions b x × (b ≡ birth → x ≢ n)
     open_out_new b x it = elim (edited_new inbound_of birth (without_open n) r.sessions kept.sessions (λ s. refl) (λ _. ⊥) (λ x. x ≢ n) (λ s x h same there. inr (removed_new number_of n s.inbound x there)) b x it) [
       | inl none ↦ absurd none.1
       | inr old ↦ old
     ]
 
+    -- after an identifier is closed, the others are still open
     pub open_out_old : (b x : ℕ) → InPart inbound_of r.sessions b x × (b ≡ birth → x ≢ n) → InPart inbound_of (changed (RemoveInbound birth n) r).sessions b x
     open_out_old b x it = edited_old inbound_of birth (without_open n) r.sessions kept.sessions (λ s. refl) (λ _. ⊥) (λ x. x ≢ n)
         (λ s x h same it. elim it [ inl none ↦ absurd none | inr old ↦ removed_old number_of n s.inbound x old.0 old.1 ]) (λ x none. absurd none) b x (inr it)
@@ -132,12 +140,14 @@ module _ (r : Records) (kept : AllOrdered r) where
     out_old : (subscriptions : List Subscription) (x : Subscription) → Has subscriptions x → Other x → Has (without_filter text subscriptions) x
     out_old subscriptions x h other = filter_has (λ s. not (bytes_eq s.filter text)) subscriptions x h (ap not other)
 
+    -- after a filter is unsubscribed, a subscription that stands did before and is to another filter
     pub subscription_out_new : (b : ℕ) (x : Subscription) → InPart subscriptions_of (changed (RemoveSubscription birth text) r).sessions b x → InPart subscriptions_of r.sessions b x × (b ≡ birth → Other x)
     subscription_out_new b x it = elim (edited_new subscriptions_of birth (without_subscription text) r.sessions kept.sessions (λ s. refl) (λ _. ⊥) Other (λ s x h same there. inr (out_new s.subscriptions x there)) b x it) [
       | inl none ↦ absurd none.1
       | inr old ↦ old
     ]
 
+    -- after a filter is unsubscribed, subscriptions to other filters stand
     pub subscription_out_old : (b : ℕ) (x : Subscription) → InPart subscriptions_of r.sessions b x × (b ≡ birth → Other x) → InPart subscriptions_of (changed (RemoveSubscription birth text) r).sessions b x
     subscription_out_old b x it = edited_old subscriptions_of birth (without_subscription text) r.sessions kept.sessions (λ s. refl) (λ _. ⊥) Other
         (λ s x h same it. elim it [ inl none ↦ absurd none | inr old ↦ out_old s.subscriptions x old.0 old.1 ]) (λ x none. absurd none) b x (inr it)
@@ -152,6 +162,7 @@ module _ (r : Records) (kept : AllOrdered r) where
     room : (s : Session) → Takes s → HasRoomFor place_of SUBSCRIPTION_LIMIT new.place (rest s)
     room s takes = or_right _ _ (lt-ltb (length (rest s)) SUBSCRIPTION_LIMIT takes.1)
 
+    -- after a subscription is put, one that stands is that, or to another filter and stood before
     pub subscription_new : (b : ℕ) (x : Subscription) → InPart subscriptions_of (changed (PutSubscription birth new) r).sessions b x
         → ((b ≡ birth) × (x ≡ new)) ⊎ (InPart subscriptions_of r.sessions b x × (b ≡ birth → bytes_eq x.filter new.filter ≡ false))
     subscription_new = edited_new subscriptions_of birth (with_subscription new) r.sessions kept.sessions (λ s. refl) (λ x. x ≡ new) (λ x. bytes_eq x.filter new.filter ≡ false)
@@ -162,6 +173,7 @@ module _ (r : Records) (kept : AllOrdered r) where
           | inr old ↦ inr (out_new birth new.filter s.subscriptions x old.0)
         ])
 
+    -- after a subscription is put, that one stands and those to other filters do
     pub subscription_old : (b : ℕ) (x : Subscription) → ((b ≡ birth) × (x ≡ new)) ⊎ (InPart subscriptions_of r.sessions b x × (b ≡ birth → bytes_eq x.filter new.filter ≡ false))
         → InPart subscriptions_of (changed (PutSubscription birth new) r).sessions b x
     subscription_old = edited_old subscriptions_of birth (with_subscription new) r.sessions kept.sessions (λ s. refl) (λ x. x ≡ new) (λ x. bytes_eq x.filter new.filter ≡ false)

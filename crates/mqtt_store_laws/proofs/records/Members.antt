@@ -8,6 +8,7 @@ use Rattle.mqtt_records.specs.Session.{birth_of}
 use Rattle.mqtt_records.specs.Records.{HasSome}
 use Rattle.mqtt_store_laws.specs.Members.{Has, InPart}
 
+-- what holds of all members holds of each
 pub has_all : {X : Type 0} (P : X → Type 0) (xs : List X) (x : X) → AllByRecursion P xs → Has xs x → P x
 has_all P [] x all h = absurd h
 has_all P (y ∷ ys) x all (inl same) = subst P (sym same) all.0
@@ -17,6 +18,7 @@ module _ {X : Type 0} (key : X → ℕ) where
   differs : (m n : ℕ) → nat_eq m n ≡ false → m ≢ n
   differs m n isnt same = let yes : nat_eq m n ≡ true = eq-eqb m n same in let both : true ≡ false = sym yes ∙ isnt in absurd cc
 
+  -- if all keys are above a number, so is each member's
   pub has_above : (n : ℕ) (xs : List X) (x : X) → IsAbove key n xs → Has xs x → n < key x
   has_above n [] x up h = absurd h
   has_above n (y ∷ ys) x up (inl same) = subst (λ z. n < key z) (sym same) up.0
@@ -24,6 +26,7 @@ module _ {X : Type 0} (key : X → ℕ) where
 
   -- ---- the row with a key changed
 
+  -- after a row is changed, a member is that one changed, or another that stood before
   pub changed_new : (k : ℕ) (f : X → X) (xs : List X) (x : X) → IsAscending key xs → Has (change_row key k f xs) x
       → ((y : X) × Has xs y × (key y ≡ k) × (x ≡ f y)) ⊎ (Has xs x × (key x ≢ k))
   changed_new k f [] x up h = absurd h
@@ -46,6 +49,7 @@ module _ {X : Type 0} (key : X → ℕ) where
         ]
   ]
 
+  -- after a row is changed, that one stands changed and the others do as before
   pub changed_old : (k : ℕ) (f : X → X) (xs : List X) (x : X) → IsAscending key xs
       → ((y : X) × Has xs y × (key y ≡ k) × (x ≡ f y)) ⊎ (Has xs x × (key x ≢ k)) → Has (change_row key k f xs) x
   changed_old k f [] x up (inl it) = absurd it.1
@@ -80,6 +84,7 @@ module _ {X : Type 0} (key : X → ℕ) where
 
   -- ---- a row put
 
+  -- after a row is put, a member is that one, or another with another key
   pub inserted_new : (row : X) (xs : List X) (x : X) → IsAscending key xs → Has (insert_row key row xs) x → (x ≡ row) ⊎ (Has xs x × (key x ≢ key row))
   inserted_new row [] x up (inl here) = inl here
   inserted_new row [] x up (inr h) = absurd h
@@ -114,6 +119,7 @@ module _ {X : Type 0} (key : X → ℕ) where
     ]
   ]
 
+  -- after a row is put, that one stands and those with other keys do
   pub inserted_old : (row : X) (xs : List X) (x : X) → (x ≡ row) ⊎ (Has xs x × (key x ≢ key row)) → Has (insert_row key row xs) x
   inserted_old row [] x (inl here) = inl here
   inserted_old row [] x (inr it) = absurd it.0
@@ -144,6 +150,7 @@ module _ {X : Type 0} (key : X → ℕ) where
 
   -- ---- a row removed
 
+  -- after a row is removed, a member stood before and has another key
   pub removed_new : (k : ℕ) (xs : List X) (x : X) → Has (remove_row key k xs) x → Has xs x × (key x ≢ k)
   removed_new k [] x h = absurd h
   removed_new k (y ∷ ys) x h = elim (cases_Bool (nat_eq (key y) k)) [
@@ -156,6 +163,7 @@ module _ {X : Type 0} (key : X → ℕ) where
         ]
   ]
 
+  -- after a row is removed, those with other keys stand
   pub removed_old : (k : ℕ) (xs : List X) (x : X) → Has xs x → key x ≢ k → Has (remove_row key k xs) x
   removed_old k [] x h other = absurd h
   removed_old k (y ∷ ys) x h other = elim (cases_Bool (nat_eq (key y) k)) [
@@ -192,6 +200,7 @@ module _ {X : Type 0} (part : Session → List X) (birth : ℕ) (f : Session →
     | inr stays ↦ inr ((it.0, stays.0, it.2, it.3), λ e. absurd (stays.1 (it.2 ∙ e)))
   ]
 
+  -- after one session's list is edited, what is new stands there, and what was to stay stands, as in all others
   pub edited_old : (New Old : X → Type 0) → ((s : Session) (x : X) → Has sessions s → s.birth ≡ birth → New x ⊎ (Has (part s) x × Old x) → Has (part (f s)) x)
       → ((x : X) → New x → (s : Session) × Has sessions s × (s.birth ≡ birth))
       → (b : ℕ) (x : X) → ((b ≡ birth) × New x) ⊎ (InPart part sessions b x × (b ≡ birth → Old x)) → InPart part (change_row birth_of birth f sessions) b x

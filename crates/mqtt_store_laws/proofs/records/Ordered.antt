@@ -78,6 +78,7 @@ counted_ordered Subscribes value r h = record { sessions = h.sessions; lists = h
 counted_ordered Autos value r h = record { sessions = h.sessions; lists = h.lists }
 counted_ordered Moment value r h = record { sessions = h.sessions; lists = h.lists }
 
+-- a change leaves the lists of records in the order of their keys
 pub ordered_after : (change : Change) (r : Records) → AllOrdered r → AllOrdered (changed change r)
 ordered_after (SetCounter counter value) r h = counted_ordered counter value r h
 ordered_after (PutSession row) r h = put_ordered r h row
@@ -133,6 +134,7 @@ counted_place Subscribes value r h = h
 counted_place Autos value r h = h
 counted_place Moment value r h = h
 
+-- a change leaves retained messages in the order of their places
 pub by_place_after : (change : Change) (r : Records) → IsAscending kept_place r.retained → IsAscending kept_place (changed change r).retained
 by_place_after (SetCounter counter value) r h = counted_place counter value r h
 by_place_after (PutSession row) r h = h

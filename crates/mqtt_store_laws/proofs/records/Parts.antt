@@ -1,4 +1,4 @@
--- What sessions have, where a change leaves it alone or takes the session away.
+-- What sessions have, if a change leaves it alone or takes the session away.
 use Rattle.std.proofs.Common.{◌≡◌, ◌≢◌, ℕ, nat_eq, Bool, true, false, ◌||◌, List, [], ◌∷◌, ap, refl, sym, subst, ◌∙◌, inl, inr, true≢false}
 use Rattle.std.proofs.lemmas.Bool.{cases_Bool, eq-eqb, eqb-true}
 use Rattle.mqtt_base.specs.declared.limits.TheConstants.{SESSION_LIMIT}
@@ -29,6 +29,7 @@ OwnRow sessions c = (s : Session) × Has sessions s × (columns_of s ≡ c)
 
 module _ (birth : ℕ) (f : Session → Session) (sessions : List Session) (up : IsAscending birth_of sessions) (keeps : (s : Session) → (f s).birth ≡ s.birth) where
   module _ {X : Type 0} (part : Session → List X) (same : (s : Session) → part (f s) ≡ part s) where
+    -- what a session has of a part that the change leaves alone it had before
     pub part_new : (b : ℕ) (x : X) → InPart part (change_row birth_of birth f sessions) b x → InPart part sessions b x
     part_new b x it = elim (edited_new part birth f sessions up keeps (λ _. ⊥) (λ _. Unit {0})
         (λ s x h at there. inr (subst (λ (l : List X). Has l x) (same s) there, tt)) b x it) [
@@ -36,18 +37,21 @@ module _ (birth : ℕ) (f : Session → Session) (sessions : List Session) (up :
           | inr old ↦ old.0
         ]
 
+    -- what a session had of a part that the change leaves alone it has still
     pub part_old : (b : ℕ) (x : X) → InPart part sessions b x → InPart part (change_row birth_of birth f sessions) b x
     part_old b x it = edited_old part birth f sessions up keeps (λ _. ⊥) (λ _. Unit {0})
         (λ s x h at it. elim it [ inl none ↦ absurd none | inr old ↦ subst (λ (l : List X). Has l x) (sym (same s)) old.0 ])
         (λ x none. absurd none) b x (inr (it, λ _. tt))
 
   module _ (same : (s : Session) → columns_of (f s) ≡ columns_of s) where
+    -- if the change leaves own rows alone, one that stands stood before
     pub own_new : (c : Columns) → OwnRow (change_row birth_of birth f sessions) c → OwnRow sessions c
     own_new c it = elim (changed_new birth_of birth f sessions it.0 up it.1) [
       | inl set ↦ (set.0, set.1, sym (same set.0) ∙ (sym (ap columns_of set.3) ∙ it.2))
       | inr stays ↦ (it.0, stays.0, it.2)
     ]
 
+    -- if the change leaves own rows alone, one that stood stands
     pub own_old : (c : Columns) → OwnRow sessions c → OwnRow (change_row birth_of birth f sessions) c
     own_old c it = elim (cases_Bool (nat_eq it.0.birth birth)) [
       | inl is ↦ (f it.0, changed_old birth_of birth f sessions (f it.0) up (inl (it.0, it.1, eqb-true it.0.birth birth is, refl)), same it.0 ∙ it.2)
@@ -62,6 +66,7 @@ or_right_true false b e h = h
 
 module _ (row : Columns) (sessions : List Session) (up : IsAscending birth_of sessions) (room : HasRoomFor birth_of SESSION_LIMIT row.birth sessions) where
   module _ {X : Type 0} (part : Session → List X) (same : (s : Session) → part (with_columns row s) ≡ part s) (none : part (fresh row) ≡ []) where
+    -- after a session's own row is put, what sessions have of a part they had before
     pub put_part_new : (b : ℕ) (x : X) → InPart part (put_session row sessions) b x → InPart part sessions b x
     put_part_new b x it = elim (cases_Bool (has_row birth_of row.birth sessions)) [
       | inl stands ↦
@@ -76,6 +81,7 @@ module _ (row : Columns) (sessions : List Session) (up : IsAscending birth_of se
           ]
     ]
 
+    -- after a session's own row is put, what sessions had of a part they have still
     pub put_part_old : (b : ℕ) (x : X) → InPart part sessions b x → InPart part (put_session row sessions) b x
     put_part_old b x it = elim (cases_Bool (has_row birth_of row.birth sessions)) [
       | inl stands ↦
@@ -90,8 +96,10 @@ module _ (row : Columns) (sessions : List Session) (up : IsAscending birth_of se
 -- ---- a session removed
 
 module _ {X : Type 0} (part : Session → List X) (birth : ℕ) (sessions : List Session) where
+  -- after a session is removed, what sessions have of a part another session had
   pub left_new : (b : ℕ) (x : X) → InPart part (remove_row birth_of birth sessions) b x → InPart part sessions b x × b ≢ birth
   left_new b x it = let there = removed_new birth_of birth sessions it.0 it.1 in ((it.0, there.0, it.2, it.3), λ e. there.1 (it.2 ∙ e))
 
+  -- after a session is removed, what other sessions had of a part they have
   pub left_old : (b : ℕ) (x : X) → InPart part sessions b x × b ≢ birth → InPart part (remove_row birth_of birth sessions) b x
   left_old b x it = let home = it.0 in (home.0, removed_old birth_of birth sessions home.0 home.1 (λ e. it.1 (sym home.2 ∙ e)), home.2, home.3)

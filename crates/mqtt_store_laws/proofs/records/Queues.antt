@@ -40,10 +40,12 @@ module _ (r : Records) (kept : IsKept r) where
     abbrev Old : CopyRow → Type 0
     Old x = x.place ≢ entry.place
 
+    -- after a copy is put, one that is queued is that, or another that was queued before
     pub put_new : (b : ℕ) (x : CopyRow) → InQueue (changed (PutCopy birth entry) r) b x → ((b ≡ birth) × (x ≡ entry)) ⊎ (InQueue r b x × IsOther b x birth entry.place)
     put_new = edited_new queue_of birth (with_copy entry) r.sessions kept.sessions (λ s. refl) New Old
         (λ s x h same there. inserted_new copy_place entry s.queue x (queue_up s h) (rw (room s h same) at there))
 
+    -- after a copy is put, that one is queued and the others are
     pub put_old : (b : ℕ) (x : CopyRow) → ((b ≡ birth) × (x ≡ entry)) ⊎ (InQueue r b x × IsOther b x birth entry.place) → InQueue (changed (PutCopy birth entry) r) b x
     put_old = edited_old queue_of birth (with_copy entry) r.sessions kept.sessions (λ s. refl) New Old
         (λ s x h same it. rw (room s h same) (inserted_old copy_place entry s.queue x it))
@@ -53,6 +55,7 @@ module _ (r : Records) (kept : IsKept r) where
     abbrev Stays : CopyRow → Type 0
     Stays x = x.place ≢ place
 
+    -- after a copy is removed, one that is queued was before and is another
     pub removed_copy_new : (b : ℕ) (x : CopyRow) → InQueue (changed (RemoveCopy birth place) r) b x → InQueue r b x × IsOther b x birth place
     removed_copy_new b x it = elim (edited_new queue_of birth (without_copy place) r.sessions kept.sessions (λ s. refl) (λ _. ⊥) Stays
         (λ s x h same there. inr (removed_new copy_place place s.queue x there)) b x it) [
@@ -60,6 +63,7 @@ module _ (r : Records) (kept : IsKept r) where
           | inr old ↦ old
         ]
 
+    -- after a copy is removed, the others are still queued
     pub removed_copy_old : (b : ℕ) (x : CopyRow) → InQueue r b x × IsOther b x birth place → InQueue (changed (RemoveCopy birth place) r) b x
     removed_copy_old b x it = edited_old queue_of birth (without_copy place) r.sessions kept.sessions (λ s. refl) (λ _. ⊥) Stays
         (λ s x h same it. elim it [ inl none ↦ absurd none | inr old ↦ removed_old copy_place place s.queue x old.0 old.1 ])
@@ -69,6 +73,7 @@ module _ (r : Records) (kept : IsKept r) where
       abbrev Set : CopyRow → Type 0
       Set x = (y : CopyRow) × (y.place ≡ place) × InQueue r birth y × (x ≡ in_phase phase y)
 
+      -- after a copy's phase is set, one that is queued is that copy in this phase, or another that was queued before
       pub set_new : (b : ℕ) (x : CopyRow) → InQueue (changed (SetCopy birth place phase) r) b x
           → ((y : CopyRow) × (b ≡ birth) × (y.place ≡ place) × InQueue r b y × (x ≡ in_phase phase y)) ⊎ (InQueue r b x × IsOther b x birth place)
       set_new b x it = elim (edited_new queue_of birth (with_phase place phase) r.sessions kept.sessions (λ s. refl) Set Stays
@@ -80,6 +85,7 @@ module _ (r : Records) (kept : IsKept r) where
             | inr old ↦ inr old
           ]
 
+      -- after a copy's phase is set, that copy is queued in it and the others are as before
       pub set_old : (b : ℕ) (x : CopyRow)
           → ((y : CopyRow) × (b ≡ birth) × (y.place ≡ place) × InQueue r b y × (x ≡ in_phase phase y)) ⊎ (InQueue r b x × IsOther b x birth place)
           → InQueue (changed (SetCopy birth place phase) r) b x
@@ -97,8 +103,10 @@ module _ (r : Records) (kept : IsKept r) where
             | inr old ↦ inr old
           ])
 
+-- after a session is removed, a queued copy is in another session's queue
 pub ended_new : (birth : ℕ) (r : Records) (b : ℕ) (x : CopyRow) → InQueue (changed (RemoveSession birth) r) b x → InQueue r b x × (b ≡ birth → ⊥)
 ended_new birth r b x it = let there = removed_new birth_of birth r.sessions it.0 it.1 in ((it.0, there.0, it.2, it.3), λ e. there.1 (it.2 ∙ e))
 
+-- after a session is removed, the copies in other queues are there
 pub ended_old : (birth : ℕ) (r : Records) (b : ℕ) (x : CopyRow) → InQueue r b x × (b ≡ birth → ⊥) → InQueue (changed (RemoveSession birth) r) b x
 ended_old birth r b x it = let home = it.0 in (home.0, removed_old birth_of birth r.sessions home.0 home.1 (λ e. it.1 (sym home.2 ∙ e)), home.2, home.3)

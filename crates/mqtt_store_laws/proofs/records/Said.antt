@@ -13,6 +13,7 @@ said (PutCopy birth row) say on = record { passed = on; spelled = say.spelled; s
 said (PutRetained kept) say on = say
 said change say on = tt
 
+-- changes that a store is asked to keep, with the types of the code, are such that rows can say them
 pub all_said : (changes : List Change) → asked.AllSayable changes → AllPassOn changes → AllSayable changes
 all_said [] say on = tt
 all_said (change ∷ changes) say on = (said change say.0 on.0, all_said changes say.1 on.1)

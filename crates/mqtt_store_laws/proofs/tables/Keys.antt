@@ -25,6 +25,7 @@ abbrev whole : ℤ → ℕ
 whole (pos n) = n
 whole _ = zero
 
+-- equal whole numbers are equal numbers
 pub same_pos : (m n : ℕ) → pos m ≡ pos n → m ≡ n
 same_pos m n h = ap whole h
 
@@ -35,12 +36,15 @@ is_of_int at m n r h = ap (λ v. equal Binary v (Int n)) h ∙ (equal_ids (Int m
 pub found_number : (at m n : ℕ) (r : Row) → column r at ≡ Int (pos m) → is_of at (pos n) r ≡ true → m ≡ n
 found_number at m n r h found = same_pos m n (same_int (pos m) (pos n) (sym (is_of_int at (pos m) (pos n) r h) ∙ found))
 
+-- the number in the column is found
 pub number_found : (at m n : ℕ) (r : Row) → column r at ≡ Int (pos m) → m ≡ n → is_of at (pos n) r ≡ true
 number_found at m n r h same = is_of_int at (pos n) (pos n) r (h ∙ ap (λ (k : ℕ). Int (pos k)) same) ∙ ap is_eq (sym (value_cmp-Int (pos n) (pos n)) ∙ tied_itself value_cmp_total (Int (pos n)))
 
+-- another number than the one in the column is not found
 pub other_number : (at m n : ℕ) (r : Row) → column r at ≡ Int (pos m) → m ≢ n → is_of at (pos n) r ≡ false
 other_number at m n r h other = false_from_ne_true _ (λ found. other (found_number at m n r h found))
 
+-- a number that isn't found is another than the one in the column
 pub missed_number : (at m n : ℕ) (r : Row) → column r at ≡ Int (pos m) → is_of at (pos n) r ≡ false → m ≢ n
 missed_number at m n r h missed same = true≢false (sym (number_found at m n r h same) ∙ missed)
 
@@ -52,6 +56,7 @@ equal_texts : (s t : List ℕ) → equal Binary (Text s) (Text t) ≡ is_eq (val
 unfolding binary
 equal_texts s t = truth_of (is_eq (value_cmp (Text s) (Text t)))
 
+-- SQL compares a text with the one in the column byte by byte
 pub is_text_bytes : (at : ℕ) (s t : List ℕ) (r : Row) → column r at ≡ Text s → is_text at t r ≡ bytes_eq s t
 is_text_bytes at s t r h = ap (λ v. equal Binary v (Text t)) h ∙ (equal_texts s t ∙ (ap is_eq (value_cmp-Text s t) ∙ is_eq-slice_cmp s t))
 
@@ -65,17 +70,21 @@ and_false false b h = refl
 
 -- both numbers of a key
 module _ (b n birth place : ℕ) (r : Row) (at_birth : column r 1 ≡ Int (pos b)) (at_place : column r 2 ≡ Int (pos n)) where
+  -- a row of another birth or place is not found by this birth and place
   pub other_key : (b ≡ birth → n ≢ place) → is_keyed (pos birth) (pos place) r ≡ false
   other_key other = and_false _ _ (λ found. other_number 2 n place r at_place (other (found_number 1 b birth r at_birth found)))
 
+  -- a row of this birth that isn't found by birth and place is of another place
   pub missed_key : is_keyed (pos birth) (pos place) r ≡ false → b ≡ birth → n ≢ place
   missed_key missed same = missed_number 2 n place r at_place (and_missed _ _ missed (number_found 1 b birth r at_birth same))
 
 -- a session's subscription
 module _ (b birth : ℕ) (s t : List ℕ) (r : Row) (at_birth : column r 1 ≡ Int (pos b)) (at_text : column r 2 ≡ Text s) where
+  -- a row of another birth or filter is not found by this birth and filter
   pub other_filter : (b ≡ birth → bytes_eq s t ≡ false) → is_subscription (pos birth) t r ≡ false
   other_filter other = and_false _ _ (λ found. is_text_bytes 2 s t r at_text ∙ other (found_number 1 b birth r at_birth found))
 
+  -- a row of this birth that isn't found by birth and filter is of another filter
   pub missed_filter : is_subscription (pos birth) t r ≡ false → b ≡ birth → bytes_eq s t ≡ false
   missed_filter missed same = sym (is_text_bytes 2 s t r at_text) ∙ and_missed _ _ missed (number_found 1 b birth r at_birth same)
 
@@ -83,5 +92,6 @@ abbrev number_of : Value → ℕ
 number_of (Int n) = whole n
 number_of _ = zero
 
+-- equal values that are numbers are equal numbers
 pub same_number : {m n : ℕ} → ◌≡◌ {A = Value} (Int (pos m)) (Int (pos n)) → m ≡ n
 same_number h = ap number_of h

@@ -4,6 +4,7 @@ use Rattle.sqlite_value.specs.Order.{Row}
 use Rattle.sqlite_trees.specs.Tree.{Trees}
 use Rattle.sqlite_rules.specs.Lists.{Has}
 use Rattle.sqlite_rules.proofs.ListLemmas.{has_filtered, has_kept}
+use Rattle.mqtt_store_write.specs.Layout.{Layout}
 use Rattle.mqtt_store_write.specs.Put.{PutsInto, IsFree}
 use Rattle.mqtt_store_write.proofs.steps.Stands.{put_new, put_old}
 use Rattle.mqtt_store_laws.specs.Written.{AreWritten}
@@ -25,6 +26,7 @@ module _ {X : Type 0} (IsRow : X → Row → Type 0) (Item Next : X → Type 0) 
       (out : (x : X) (row : Row) → Item x → Has old row → IsRow x row → gone row ≡ false → Other x)
       (stay : (x : X) (row : Row) → Item x → Has old row → IsRow x row → Other x → gone row ≡ false)
       (written : AreWritten IsRow Item old) where
+    -- a table without the rows that went is written with the items that stay
     pub without_rows : (new : List Row) → new ≡ filter (λ r. not (gone r)) old → ((x : X) → Next x → Item x × Other x) → ((x : X) → Item x × Other x → Next x)
         → AreWritten IsRow Next new
     without_rows new same to back = record {
@@ -40,18 +42,18 @@ module _ {X : Type 0} (IsRow : X → Row → Type 0) (Item Next : X → Type 0) 
     }
 
     -- a row is put: that of each new item
-    pub with_row : (New : X → Type 0) (tree : ℕ) (put : Row) (before after : Trees) → before tree ≡ old → PutsInto tree put gone before after → IsFree put gone (before tree)
+    pub with_row : {l : Layout} (New : X → Type 0) (tree : ℕ) (put : Row) (before after : Trees) → before tree ≡ old → PutsInto l tree put gone before after → IsFree put gone (before tree)
         → (x : X) × New x → ((x : X) → New x → IsRow x put) → ((x : X) → Next x → New x ⊎ (Item x × Other x)) → ((x : X) → New x ⊎ (Item x × Other x) → Next x)
         → AreWritten IsRow Next (after tree)
     with_row New tree put before after is h free some says to back = record {
       each = λ x n. elim (to x n) [
-        | inl new ↦ (put, put_old tree gone before after put put h free (inl refl), says x new)
+        | inl new ↦ (put, put_old _ tree gone before after put put h free (inl refl), says x new)
         | inr was ↦
             let it = written.each x was.0 in
             let there = subst (λ (l : List Row). Has l it.0) (sym is) it.1 in
-            (it.0, put_old tree gone before after it.0 put h free (inr (there, stay x it.0 was.0 it.1 it.2 was.1)), it.2)
+            (it.0, put_old _ tree gone before after it.0 put h free (inr (there, stay x it.0 was.0 it.1 it.2 was.1)), it.2)
       ];
-      only = λ row h_row. elim (put_new tree gone before after row put h h_row) [
+      only = λ row h_row. elim (put_new _ tree gone before after row put h h_row) [
         | inl same ↦ (some.0, back some.0 (inl some.1), subst (IsRow some.0) (sym same) (says some.0 some.1))
         | inr was ↦
             let there = subst (λ (l : List Row). Has l row) is was.0 in

@@ -14,6 +14,7 @@ use Rattle.sqlite_rules.specs.Action.{Work, works, is_child_of, action_edit, Lea
 use Rattle.mqtt_store_schema.specs.Tables.{keep_schema, to_session}
 use Rattle.mqtt_store_write.proofs.tables.Rows.{without_those}
 
+-- equal lists with one item at the end are equal before it, and end with the same
 pub last_same : {X : Type 0} (xs ys : List X) (x y : X) → xs ++ x ∷ [] ≡ ys ++ y ∷ [] → (xs ≡ ys) × (x ≡ y)
 last_same [] [] x y h = (refl, cc)
 last_same [] (z ∷ ys) x y h = absurd (omega (arith, ap length h, length-append ys (y ∷ [])))
@@ -29,6 +30,7 @@ last_same (z ∷ xs) (v ∷ ys) x y h =
 abbrev pub work : Table → ℕ → Row → Work
 work child at parent = record { depth = 0; child = child; ref = to_session at; places = 0 ∷ []; order = plain; deed = Delete; moves = (parent, []) ∷ [] }
 
+-- one action of the cascade is carried out: the child rows are gone, other tables stay, and the other actions are left
 pub record Stepped (child : Table) (at : ℕ) (parent : Row) (db : Trees) (below : List Work) (end : Trees) : Type 0 where
   pub mid : Trees
   pub rows : mid child.tree ≡ filter (λ r. not (list_any (is_child_of (work child at parent) r) (work child at parent).moves)) (db child.tree)
@@ -68,18 +70,22 @@ module _ (child : Table) (at : ℕ) (parent : Row) (db : Trees) (below : List Wo
       let acts = rw (sym same.0, sym same.1) at h.3 in
       stepped_on n acts.0 acts.1 acts.2
 
+-- no table refers to Wills, so a Will that goes in the cascade sets nothing off
 pub will_childless : (olds : List Row) → works keep_schema Enforced 1 4 olds [] ≡ []
 unfolding same_name joined
 will_childless olds = refl
 
+-- no table refers to subscriptions, so one that goes in the cascade sets nothing off
 pub sub_childless : (olds : List Row) → works keep_schema Enforced 1 5 olds [] ≡ []
 unfolding same_name joined
 sub_childless olds = refl
 
+-- no table refers to open identifiers, so one that goes in the cascade sets nothing off
 pub inbound_childless : (olds : List Row) → works keep_schema Enforced 1 7 olds [] ≡ []
 unfolding same_name joined
 inbound_childless olds = refl
 
+-- no table refers to copies, so one that goes in the cascade sets nothing off
 pub copy_childless : (olds : List Row) → works keep_schema Enforced 1 9 olds [] ≡ []
 unfolding same_name joined
 copy_childless olds = refl

@@ -25,19 +25,21 @@ use Rattle.sqlite.specs.Does.{Does}
 use Rattle.sqlite.specs.Listing.{understood}
 use Rattle.sqlite.specs.State.{State, ExecutesInside, mode_of}
 use Rattle.sqlite.proofs.Callers.{IsPlain, command_of, statement_of, runs_as, one_step}
-use Rattle.mqtt_store_schema.specs.Tables.{keep_schema}
-use Rattle.mqtt_store_write.specs.Content.{IsShapedAt, IsReady, IsWhole}
+use Rattle.mqtt_store_write.specs.Layout.{Layout, IsLayout, schema_of}
+use Rattle.mqtt_store_write.specs.Content.{IsShapedAt, IsWhole}
 use Rattle.mqtt_store_write.specs.Removal.{RemovesFrom}
 use Rattle.mqtt_store_write.proofs.tables.Rows.{without_those, has_permuted, filter_alike}
 use Rattle.mqtt_store_write.proofs.tables.Commands.{over, program}
 use Rattle.mqtt_store_write.proofs.tables.Parts.{passes, shows, answers_over, deleted}
-use Rattle.mqtt_store_write.proofs.tables.Whole.{ready_after, whole_after}
+use Rattle.mqtt_store_write.proofs.tables.Whole.{whole_after}
 
+-- what is in a mapped list was made of an item
 pub has_map : {X Y : Type 0} (f : X → Y) (xs : List X) (y : Y) → Has (map f xs) y → (x : X) × Has xs x × (y ≡ f x)
 has_map f [] y h = absurd h
 has_map f (x ∷ xs) y (inl here) = (x, inl refl, here)
 has_map f (x ∷ xs) y (inr later) = let it = has_map f xs y later in (it.0, inr it.1, it.2)
 
+-- what is made of an item is in the mapped list
 pub map_has : {X Y : Type 0} (f : X → Y) (xs : List X) (x : X) → Has xs x → Has (map f xs) (f x)
 map_has f [] x h = absurd h
 map_has f (y ∷ ys) x (inl here) = inl (ap f here)
@@ -64,28 +66,31 @@ gone_are tree tests params db rows shaped a =
     let shown = has_permuted (map (shows params numbers) found) rows (shows params numbers r) p (map_has (shows params numbers) found r (has_kept (passes params tests) (db tree) r h same)) in
     subst (Has (ids_of rows)) (ap id_in there) (map_has (λ (z : Row). id_in (rowid z)) rows (shows params numbers r) shown))
 
+-- rows that are left in a table still rise by their numbers
 pub shaped_left : (a b : Trees) (t : ℕ) (gone : Row → Bool) → b t ≡ filter (λ r. not (gone r)) (a t) → IsShapedAt a t → IsShapedAt b t
 shaped_left a b t gone same h =
     let both = IsShaped-filter TableShape (λ r. not (gone r)) (a t) (h.up, h.ints) in
     record { up = rw same both.0; ints = rw same both.1 }
 
-module _ (text : List ℕ) (at : ℕ) (table : Table) (tests : List Term) (params : Row) (is : command_of (understood keep_schema text) ≡ Delete at (program (over table.tree tests numbers))) (plain : IsPlain (understood keep_schema text))
-    (is_at : slice_get keep_schema.tables at ≡ Some table) (childless : (olds : List Row) → works keep_schema Enforced 0 table.tree olds [] ≡ []) where
+module _ (l : Layout) (asked : IsLayout l) (text : List ℕ) (at : ℕ) (table : Table) (tests : List Term) (params : Row) (is : command_of (understood (schema_of l) text) ≡ Delete at (program (over table.tree tests numbers))) (plain : IsPlain (understood (schema_of l) text))
+    (is_at : slice_get (schema_of l).tables at ≡ Some table) (childless : (olds : List Row) → works (schema_of l) Enforced 0 table.tree olds [] ≡ []) where
+  -- what such a DELETE leaves: the rows that pass are gone, the schema stays, and the transaction goes on
   pub record Removed (old new : State) : Type 0 where
-    pub removes : RemovesFrom table.tree (passes params tests) old.now.trees new.now.trees
-    pub schema : new.now.schema ≡ keep_schema
+    pub removes : RemovesFrom l table.tree (passes params tests) old.now.trees new.now.trees
+    pub schema : new.now.schema ≡ schema_of l
     pub inside : IsTrue new.in_transaction
-    pub obeys : Obeys keep_schema new.now.trees
+    pub obeys : Obeys (schema_of l) new.now.trees
 
-  pub removed : (old new : State) (count : ℕ) → IsReady old → IsShapedAt old.now.trees table.tree → ExecutesInside 0 text params old new (Ok count) → Removed old new
+  -- a DELETE that answers a count has taken out the rows that pass
+  pub removed : (old new : State) (count : ℕ) → IsWhole l old → IsShapedAt old.now.trees table.tree → ExecutesInside 0 text params old new (Ok count) → Removed old new
   removed old new count ready shaped h =
       let db = old.now.trees in
       let query = program (over table.tree tests numbers) in
-      let w = runs_as text params old new keep_schema ready.schema (Delete at query) is plain count h.0 in
-      let d = deleted old.step_limit params (record { schema = keep_schema; trees = db }) (statement_of text (understood keep_schema text)) at query table w.tally new.now is_at
-      (subst (λ s. Does old.step_limit (mode_of old) params (record old.now { schema = s }) (statement_of text (understood keep_schema text)) None (Delete at query) (Ok (w.tally, new.now))) ready.schema w.changed) in
+      let w = runs_as text params old new (schema_of l) ready.schema (Delete at query) is plain count h.0 in
+      let d = deleted old.step_limit params (record { schema = schema_of l; trees = db }) (statement_of text (understood (schema_of l) text)) at query table w.tally new.now is_at
+      (subst (λ s. Does old.step_limit (mode_of old) params (record old.now { schema = s }) (statement_of text (understood (schema_of l) text)) None (Delete at query) (Ok (w.tally, new.now))) ready.schema w.changed) in
       let edit = edit_of db table (ids_of d.rows) Given 0 [] in
-      let step = one_step keep_schema Enforced db new.now.trees edit (childless (taken_by db edit)) d.writes in
+      let step = one_step (schema_of l) Enforced db new.now.trees edit (childless (taken_by db edit)) d.writes in
       record {
         removes = record { rows = step.rows ∙ gone_are table.tree tests params db d.rows shaped (d.answers.answer Null); others = step.others };
         schema = d.schema;
@@ -95,24 +100,17 @@ module _ (text : List ℕ) (at : ℕ) (table : Table) (tests : List Term) (param
 
   -- the tests pass the rows that go
   module _ (gone : Row → Bool) (same : (r : Row) → passes params tests r ≡ gone r) where
-    gone_from : (old new : State) → Removed old new → RemovesFrom table.tree gone old.now.trees new.now.trees
+    gone_from : (old new : State) → Removed old new → RemovesFrom l table.tree gone old.now.trees new.now.trees
     gone_from old new it = record {
       rows = it.removes.rows ∙ filter_alike (λ r. not (passes params tests r)) (λ r. not (gone r)) (old.now.trees table.tree) (λ r has. ap not (same r));
       others = it.removes.others;
     }
 
-    pub deletes_ready : (old new : State) (r : Result ℕ Error) → IsReady old → IsShapedAt old.now.trees table.tree → ExecutesInside 0 text params old new r
-        → OnOk r (RemovesFrom table.tree gone old.now.trees new.now.trees) × OnOk r (IsReady new)
-    deletes_ready old new (Err e) ready shaped h = (tt, tt)
-    deletes_ready old new (Ok count) ready shaped h =
-        let it = removed old new count ready shaped h in
-        let from = gone_from old new it in
-        (from, ready_after table.tree old new ready from.others (shaped_left old.now.trees new.now.trees table.tree gone from.rows shaped) it.schema it.inside it.obeys)
-
-    pub deletes : (old new : State) (r : Result ℕ Error) → IsWhole old → IsShapedAt old.now.trees table.tree → ExecutesInside 0 text params old new r
-        → OnOk r (RemovesFrom table.tree gone old.now.trees new.now.trees) × OnOk r (IsWhole new)
+    -- a DELETE by key takes out the rows of that key, and leaves the transaction whole
+    pub deletes : (old new : State) (r : Result ℕ Error) → IsWhole l old → IsShapedAt old.now.trees table.tree → ExecutesInside 0 text params old new r
+        → OnOk r (RemovesFrom l table.tree gone old.now.trees new.now.trees) × OnOk r (IsWhole l new)
     deletes old new (Err e) whole shaped h = (tt, tt)
     deletes old new (Ok count) whole shaped h =
-        let it = removed old new count whole.ready shaped h in
+        let it = removed old new count whole shaped h in
         let from = gone_from old new it in
-        (from, whole_after table.tree old new whole from.others (shaped_left old.now.trees new.now.trees table.tree gone from.rows shaped) it.schema it.inside it.obeys)
+        (from, whole_after l asked table.tree old new whole from.others (shaped_left old.now.trees new.now.trees table.tree gone from.rows shaped) it.schema it.inside it.obeys)

@@ -1,4 +1,4 @@
--- DELETE FROM session, where the session stands and where it does not.
+-- DELETE FROM session, whether the session stands or not.
 use Rattle.std.proofs.Common.{◌≡◌, ◌≢◌, ℕ, ℤ, Bool, true, false, not, ◌&&◌, ◌||◌, List, [], ◌∷◌, filter, map, Option, Some, None, Ok, Err, Result, OnOk, refl, sym, ap, ◌∙◌, subst, inl, inr, true≢false, arith}
 use Rattle.std.specs.List.{list_any}
 use Rattle.std.specs.List.Sorted.{IsPermutation}
@@ -32,12 +32,13 @@ use Rattle.sqlite.specs.Listing.{understood}
 use Rattle.sqlite.specs.State.{State, ExecutesInside, mode_of}
 use Rattle.sqlite.proofs.Callers.{statement_of, runs_as, one_step}
 use Rattle.mqtt_store_schema.specs.Tables.{keep_schema, to_session, session, will, sub, inbound, copy}
-use Rattle.mqtt_store_write.specs.Content.{is_of, without, RemovesSession, IsReady}
+use Rattle.mqtt_store_write.specs.Layout.{first_layout}
+use Rattle.mqtt_store_write.specs.Content.{is_of, without, RemovesSession, IsWhole}
 use Rattle.mqtt_store_write.proofs.tables.Commands.{over, program, equals, remove_session_is}
 use Rattle.mqtt_store_write.proofs.tables.Parts.{passes, shows, answers_over, deleted}
-use Rattle.mqtt_store_write.proofs.tables.Spared.{meta_spared, will_spared, sub_spared, inbound_spared, copy_spared, retained_spared}
+use Rattle.mqtt_store_write.proofs.tables.First.{meta_spared, will_spared, sub_spared, inbound_spared, copy_spared, retained_spared}
 use Rattle.mqtt_store_write.proofs.deletes.RemovesSession.{and_true, remove_session_text, remove_session_plain}
-use Rattle.mqtt_store_write.proofs.deletes.RemoveSessionRuns.{removes_inside, shaped_after}
+use Rattle.mqtt_store_write.proofs.deletes.RemoveSessionRuns.{removes_inside, whole_still}
 use Rattle.mqtt_store_write.proofs.puts.PutSession.{own_number}
 
 no_works : works keep_schema Enforced 0 2 [] [] ≡ []
@@ -95,8 +96,8 @@ module _ (birth : ℤ) (db : Trees) (obeys : Obeys keep_schema db) (none : (p : 
         retained = at 11 (omega arith) retained_spared;
       }
 
-removes_none : (birth : ℤ) (old new : State) (count : ℕ) → IsReady old → ((p : Row) → Has (old.now.trees 2) p → is_of 0 birth p ≡ true → ⊥) → ExecutesInside 0 remove_session_text (Int birth ∷ []) old new (Ok count)
-    → RemovesSession birth old.now.trees new.now.trees × IsReady new
+removes_none : (birth : ℤ) (old new : State) (count : ℕ) → IsWhole first_layout old → ((p : Row) → Has (old.now.trees 2) p → is_of 0 birth p ≡ true → ⊥) → ExecutesInside 0 remove_session_text (Int birth ∷ []) old new (Ok count)
+    → RemovesSession birth old.now.trees new.now.trees × IsWhole first_layout new
 removes_none birth old new count ready none h =
     let params = Int birth ∷ [] in
     let db = old.now.trees in
@@ -107,15 +108,16 @@ removes_none birth old new count ready none h =
     (subst (λ s. Does old.step_limit (mode_of old) params (record old.now { schema = s }) text None command (Ok (w.tally, new.now))) ready.schema w.changed) in
     let rows = asked birth db ready.obeys none d.rows (d.answers.answer Null) in
     let removes = same_rows birth db ready.obeys none new.now.trees (subst (λ l. Writes keep_schema Enforced db (edit_of db session (ids_of l) Given 0 []) (Ok new.now.trees)) rows d.writes) in
-    (removes, record { schema = d.schema; inside = h.1.mode; shaped = shaped_after birth db new.now.trees removes ready.shaped; obeys = rw d.schema at w.sound.obeys })
+    (removes, whole_still birth old new ready removes d.schema h.1.mode (rw d.schema at w.sound.obeys))
 
-pub removes_any : (birth : ℤ) (old new : State) (r : Result ℕ Error) → IsReady old → ExecutesInside 0 remove_session_text (Int birth ∷ []) old new r
-    → OnOk r (RemovesSession birth old.now.trees new.now.trees) × OnOk r (IsReady new)
+-- the DELETE of a session takes out its rows in all tables, whether it stands or not
+pub removes_any : (birth : ℤ) (old new : State) (r : Result ℕ Error) → IsWhole first_layout old → ExecutesInside 0 remove_session_text (Int birth ∷ []) old new r
+    → OnOk r (RemovesSession birth old.now.trees new.now.trees) × OnOk r (IsWhole first_layout new)
 removes_any birth old new (Err e) ready h = (tt, tt)
 removes_any birth old new (Ok count) ready h = elim (cases_Bool (list_any (is_of 0 birth) (old.now.trees 2))) [
   | inl stands ↦
       let one = some_has (is_of 0 birth) (old.now.trees 2) stands in
-      let number = own_number (rowid one.0) birth (all_has _ (old.now.trees 2) one.0 ready.shaped.session.ints one.1) one.2 in
+      let number = own_number (rowid one.0) birth (all_has _ (old.now.trees 2) one.0 ready.session.ints one.1) one.2 in
       removes_inside birth old new (Ok count) ready (one.0, one.1, number) h
   | inr isnt ↦ removes_none birth old new count ready (λ p there is. true≢false (sym (some_from (is_of 0 birth) (old.now.trees 2) p there is) ∙ isnt)) h
 ]

@@ -27,6 +27,7 @@ truth_of : (b : Bool) → is_true (from_truth (Some b)) ≡ b
 truth_of true = refl
 truth_of false = refl
 
+-- SQL's = of a whole number and another is the order's
 pub equal_ids : (v : Value) (n : ℤ) → is_int v ≡ true → equal Binary v (Int n) ≡ is_eq (value_cmp v (Int n))
 unfolding binary
 equal_ids Null n h = absurd (cc)
@@ -46,6 +47,7 @@ pub children_are : (child : Table) (at : ℕ) (parent : Row) (birth : ℤ) (r : 
 unfolding first_key
 children_are child at parent birth r is lost = tidy (loses plain (0 ∷ []) (parent, [])) (equal Binary (column r at) (rowid parent)) lost ∙ ap (equal Binary (column r at)) is
 
+-- a session that goes sets off one action in each table that refers to it
 pub works_are : (parent : Row) → loses plain (0 ∷ []) (parent, []) ≡ true
     → works keep_schema Enforced 0 2 (parent ∷ []) [] ≡ work will 0 parent ∷ work sub 1 parent ∷ work inbound 1 parent ∷ work copy 1 parent ∷ []
 unfolding same_name joined

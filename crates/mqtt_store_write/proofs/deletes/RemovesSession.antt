@@ -22,10 +22,11 @@ use Rattle.sqlite.proofs.Callers.{IsPlain}
 use Rattle.mqtt_store_schema.specs.Tables.{keep_schema, will, sub, inbound, copy, session}
 use Rattle.mqtt_store_write.specs.Content.{is_of, without, RemovesSession, AreShaped}
 use Rattle.mqtt_store_write.proofs.tables.Rows.{filter_alike, equal_is}
-use Rattle.mqtt_store_write.proofs.tables.Spared.{meta_spared, session_spared, will_spared, sub_spared, inbound_spared, copy_spared, retained_spared}
+use Rattle.mqtt_store_write.proofs.tables.First.{meta_spared, session_spared, will_spared, sub_spared, inbound_spared, copy_spared, retained_spared}
 use Rattle.mqtt_store_write.proofs.deletes.Cascade.{work, stepped, will_childless, sub_childless, inbound_childless, copy_childless}
 use Rattle.mqtt_store_write.proofs.deletes.RemoveSession.{equal_ids, children_are}
 
+-- and true changes nothing
 pub and_true : (b : Bool) → (b && true) ≡ b
 and_true true = refl
 and_true false = refl
@@ -41,13 +42,16 @@ tied_ids a b n ia ib ea eb =
 abbrev pub remove_session_text : List ℕ
 remove_session_text = codes "DELETE FROM session WHERE birth = ?1"
 
+-- the text of the DELETE of a session is a plain command
 pub remove_session_plain : IsPlain (understood keep_schema remove_session_text)
 unfolding understood everything
 remove_session_plain = (refl, refl)
 
+-- a session's row is found by its birth
 pub is_own : (one : Row) (birth : ℤ) → rowid one ≡ Int birth → is_of 0 birth one ≡ true
 is_own one birth is = rw is (equal_ids (Int birth) birth refl ∙ ap is_eq (tied_itself value_cmp_total (Int birth)))
 
+-- a session's row that goes loses its key
 pub lost : (one : Row) (birth : ℤ) → rowid one ≡ Int birth → loses plain (0 ∷ []) (one, []) ≡ true
 unfolding first_key binary
 lost one birth is = rw is (rw (ap is_eq (tied_itself value_cmp_total (Int birth))))

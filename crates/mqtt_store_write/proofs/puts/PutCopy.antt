@@ -25,11 +25,13 @@ use Rattle.sqlite.specs.State.{State, ExecutesInside}
 use Rattle.sqlite_tied.specs.Compute.{everything}
 use Rattle.sqlite.proofs.Callers.{IsPlain, command_of}
 use Rattle.mqtt_store_schema.specs.Tables.{keep_schema, copy}
+use Rattle.mqtt_store_write.specs.Layout.{first_layout}
 use Rattle.mqtt_store_write.specs.Content.{is_of, IsWhole}
 use Rattle.mqtt_store_write.specs.Removal.{is_keyed}
 use Rattle.mqtt_store_write.specs.Copy.{CopyColumns, copy_row}
 use Rattle.mqtt_store_write.specs.Put.{PutsInto, numbered}
 use Rattle.mqtt_store_write.proofs.sets.SetCopy.{cast_int, cast_null, cast_number}
+use Rattle.mqtt_store_write.proofs.tables.First.{is_first}
 use Rattle.mqtt_store_write.proofs.tables.Fresh.{apart, and_true, or_false}
 use Rattle.mqtt_store_write.proofs.puts.Replace.{replaces}
 
@@ -62,16 +64,17 @@ conflict_is : (next : ℤ) (birth : ℕ) (place : ℕ) (m : CopyColumns) (r : Ro
 unfolding first_key joined
 conflict_is next birth place m r other = rw (other, and_true (is_of 2 (pos place) r)) (or_false (is_keyed (pos birth) (pos place) r))
 
-pub puts : (birth : ℕ) (place : ℕ) (m : CopyColumns) (old new : State) (r : Result ℕ Error) → IsWhole old → ExecutesInside 0 put_text (copy_row birth place m) old new r
-    → OnOk r (PutsInto 9 (numbered 9 (copy_row birth place m) old.now.trees) (is_keyed (pos birth) (pos place)) old.now.trees new.now.trees) × OnOk r (IsWhole new)
+-- the INSERT of a copy puts its row, with the next number, in place of that of its session and place
+pub puts : (birth : ℕ) (place : ℕ) (m : CopyColumns) (old new : State) (r : Result ℕ Error) → IsWhole first_layout old → ExecutesInside 0 put_text (copy_row birth place m) old new r
+    → OnOk r (PutsInto first_layout 9 (numbered 9 (copy_row birth place m) old.now.trees) (is_keyed (pos birth) (pos place)) old.now.trees new.now.trees) × OnOk r (IsWhole first_layout new)
 puts birth place m old new r whole h =
     let db = old.now.trees in
     let next = next_rowid (db 9) in
     let row = copy_row birth place m in
     let put = numbered 9 row db in
-    replaces put_text 5 copy terms 16 row (Null ∷ row) (is_keyed (pos birth) (pos place)) put_is put_plain refl refl put old new r whole whole.ready.shaped.copy
+    replaces first_layout is_first put_text 5 copy terms 16 row (Null ∷ row) (is_keyed (pos birth) (pos place)) put_is put_plain refl refl put old new r whole whole.behind.0
     (record { uncounted = refl; kept = cast_put birth place m (Int next) (cast_int next); int = refl; childless = λ olds. no_works olds put })
     no_works_out
-    (λ r h. conflict_is next birth place m r (apart db 9 r whole.ready.shaped.copy h))
+    (λ r h. conflict_is next birth place m r (apart db 9 r whole.behind.0 h))
     (λ top. ap (with_rowid Chosen (db 9)) (cast_put birth place m Null cast_null))
     h

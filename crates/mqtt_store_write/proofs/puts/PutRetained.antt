@@ -20,10 +20,12 @@ use Rattle.sqlite.specs.State.{State, ExecutesInside}
 use Rattle.sqlite_tied.specs.Compute.{everything}
 use Rattle.sqlite.proofs.Callers.{IsPlain, command_of}
 use Rattle.mqtt_store_schema.specs.Tables.{keep_schema, retained}
+use Rattle.mqtt_store_write.specs.Layout.{first_layout}
 use Rattle.mqtt_store_write.specs.Content.{is_of, is_text, IsWhole}
 use Rattle.mqtt_store_write.specs.Columns.{RetainedColumns, retained_row}
 use Rattle.mqtt_store_write.specs.Put.{PutsInto, is_retained}
 use Rattle.mqtt_store_write.proofs.sets.SetCopy.{cast_int, cast_null}
+use Rattle.mqtt_store_write.proofs.tables.First.{is_first}
 use Rattle.mqtt_store_write.proofs.tables.Fresh.{and_true, or_false}
 use Rattle.mqtt_store_write.proofs.puts.Replace.{replaces}
 
@@ -56,12 +58,13 @@ conflict_is : (place : ℕ) (m : RetainedColumns) (r : Row) → conflicts None k
 unfolding first_key joined
 conflict_is place m r = rw (and_true (is_of 0 (pos place) r), and_true (is_text 2 m.topic r), or_false (is_text 2 m.topic r))
 
-pub puts : (place : ℕ) (m : RetainedColumns) (old new : State) (r : Result ℕ Error) → IsWhole old → ExecutesInside 0 put_text (Int (pos place) ∷ Text m.topic ∷ Text m.sender ∷ Int (pos m.publication) ∷ Int (pos m.qos) ∷ Blob m.props ∷ Blob m.payload ∷ Int (pos m.arrived) ∷ []) old new r
-    → OnOk r (PutsInto 11 (retained_row place m) (is_retained place m.topic) old.now.trees new.now.trees) × OnOk r (IsWhole new)
+-- the INSERT of a retained message puts its row in place of those of its place and of its topic
+pub puts : (place : ℕ) (m : RetainedColumns) (old new : State) (r : Result ℕ Error) → IsWhole first_layout old → ExecutesInside 0 put_text (Int (pos place) ∷ Text m.topic ∷ Text m.sender ∷ Int (pos m.publication) ∷ Int (pos m.qos) ∷ Blob m.props ∷ Blob m.payload ∷ Int (pos m.arrived) ∷ []) old new r
+    → OnOk r (PutsInto first_layout 11 (retained_row place m) (is_retained place m.topic) old.now.trees new.now.trees) × OnOk r (IsWhole first_layout new)
 puts place m old new r whole h =
     let db = old.now.trees in
     let put = retained_row place m in
-    replaces put_text 6 retained terms 9 (Int (pos place) ∷ Text m.topic ∷ Text m.sender ∷ Int (pos m.publication) ∷ Int (pos m.qos) ∷ Blob m.props ∷ Blob m.payload ∷ Int (pos m.arrived) ∷ []) put (is_retained place m.topic) put_is put_plain refl refl put old new r whole whole.retained
+    replaces first_layout is_first put_text 6 retained terms 9 (Int (pos place) ∷ Text m.topic ∷ Text m.sender ∷ Int (pos m.publication) ∷ Int (pos m.qos) ∷ Blob m.props ∷ Blob m.payload ∷ Int (pos m.arrived) ∷ []) put (is_retained place m.topic) put_is put_plain refl refl put old new r whole whole.behind.1.0
     (record { uncounted = refl; kept = cast_put place m; int = refl; childless = λ olds. no_works olds put })
     no_works_out
     (λ r h. conflict_is place m r)

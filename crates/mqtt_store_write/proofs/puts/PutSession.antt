@@ -38,13 +38,17 @@ use Rattle.sqlite.specs.Listing.{understood}
 use Rattle.sqlite.specs.State.{State, ExecutesInside}
 use Rattle.sqlite_tied.specs.Compute.{everything}
 use Rattle.sqlite.proofs.Callers.{IsPlain, command_of, one_permutation, one_step}
-use Rattle.mqtt_store_schema.specs.Tables.{keep_schema, session}
-use Rattle.mqtt_store_write.specs.Content.{is_of, AreShaped, IsWhole}
+use Rattle.mqtt_store_schema.specs.Tables.{session}
+use Rattle.mqtt_store_write.specs.Layout.{Layout, IsLayout, IsOurs, schema_of, first_layout, second_layout}
+use Rattle.mqtt_store_schema_two.specs.declared.tables.Making.{Making}
+use Rattle.mqtt_store_schema_two.specs.declared.tables.Making.TheVariants.{New, TakenOver}
+use Rattle.mqtt_store_write.specs.Content.{is_of, IsShapedAt, IsWhole}
 use Rattle.mqtt_store_write.specs.Copy.{number_or_null}
 use Rattle.mqtt_store_write.specs.Columns.{SessionColumns, session_row}
 use Rattle.mqtt_store_write.specs.Put.{PutsInto}
 use Rattle.mqtt_store_write.proofs.tables.Commands.{over, program, equals}
 use Rattle.mqtt_store_write.proofs.tables.Parts.{went, same_value, passes, shows, answers_over}
+use Rattle.mqtt_store_write.proofs.tables.Second.{laid_out}
 use Rattle.mqtt_store_write.proofs.tables.Rows.{equal_is}
 use Rattle.mqtt_store_write.proofs.deletes.RemoveSession.{equal_ids, only_row}
 use Rattle.mqtt_store_write.proofs.deletes.RemovesSession.{tied_ids}
@@ -68,20 +72,30 @@ project = col 1 0 ∷ col 1 0 ∷ lit Null ∷ col 0 7 ∷ col 0 8 ∷ col 0 9 �
 abbrev clause : Upsert
 clause = record { target = Some (0 ∷ []); update = Some (program (over 2 tests project)) }
 
-put_is : command_of (understood keep_schema put_text) ≡ InsertOr 1 Abort (Values terms 5) (clause ∷ [])
-unfolding understood everything
-put_is = refl
+abbrev Means : Layout → Type 0
+Means l = (command_of (understood (schema_of l) put_text) ≡ InsertOr 1 Abort (Values terms 5) (clause ∷ [])) × IsPlain (understood (schema_of l) put_text)
 
-put_plain : IsPlain (understood keep_schema put_text)
+first_means : Means first_layout
 unfolding understood everything
-put_plain = (refl, refl)
+first_means = (refl, (refl, refl))
+
+second_means : (making : Making) → Means (second_layout making)
+unfolding understood everything
+second_means New = (refl, (refl, refl))
+second_means TakenOver = (refl, (refl, refl))
+
+-- the text has the new row behind all tables, and so it is computed in each layout for itself
+means : (l : Layout) → IsOurs l → Means l
+means l (inl first) = subst Means (sym first) first_means
+means l (inr second) = subst Means (sym second.1) (second_means second.0)
 
 -- an UPDATE of a session sets nothing off
-no_works : (olds : List Row) (new : Row) → works keep_schema Enforced 0 2 olds (new ∷ []) ≡ []
+no_works : (l : Layout) → IsLayout l → (olds : List Row) (new : Row) → works (schema_of l) Enforced 0 2 olds (new ∷ []) ≡ []
 unfolding same_name joined
-no_works [] new = refl
-no_works (old ∷ olds) new = refl
+no_works l asked [] new = asked.unmoved [] new
+no_works l asked (old ∷ olds) new = asked.unmoved (old ∷ olds) new
 
+-- a whole number that SQL finds equal to another is that one
 pub own_number : (v : Value) (n : ℤ) → is_int v ≡ true → equal Binary v (Int n) ≡ true → v ≡ Int n
 own_number Null n int h = absurd (cc)
 own_number (Int m) n int h = ap Int (same_int m n (ap is_eq (sym (value_cmp-Int m n) ∙ equal_is (value_cmp (Int m) (Int n)) (sym (equal_ids (Int m) n refl) ∙ h))))
@@ -89,7 +103,7 @@ own_number (Real x) n int h = absurd (cc)
 own_number (Text t) n int h = absurd (cc)
 own_number (Blob b) n int h = absurd (cc)
 
-module _ (birth : ℕ) (s : SessionColumns) (db : Trees) (shaped : AreShaped db) where
+module _ (l : Layout) (asked : IsLayout l) (birth : ℕ) (s : SessionColumns) (db : Trees) (shaped : IsShapedAt db 2) where
   abbrev put : Row
   put = session_row birth s
 
@@ -100,20 +114,22 @@ module _ (birth : ℕ) (s : SessionColumns) (db : Trees) (shaped : AreShaped db)
   abbrev all_params : Row
   all_params = Int (pos birth) ∷ Text s.client ∷ Int (pos s.expiry) ∷ number_or_null s.closed ∷ Int (pos birth) ∷ shown session put
 
+  -- a session's row is as the table keeps it
   pub cast_put : cast_row session put ≡ put
   cast_put = rw (cast_int (pos birth), cast_null, cast_int (pos s.expiry), cast_number s.closed)
 
-  pub known : IsPutOf session put
-  known = record { uncounted = refl; kept = cast_put; int = refl; childless = λ olds. no_works olds put }
+  -- what is asked of a row that is put holds of a session's
+  pub known : IsPutOf l session put
+  known = record { uncounted = refl; kept = cast_put; int = refl; childless = λ olds. no_works l asked olds put }
 
-  conflict_is : (r : Row) → conflicts (Some (0 ∷ [])) keep_schema.indexes session put r ≡ is_of 0 (pos birth) r
+  conflict_is : (r : Row) → conflicts (Some (0 ∷ [])) (schema_of l).indexes session put r ≡ is_of 0 (pos birth) r
   unfolding first_key joined
-  conflict_is r = or_false _ ∙ and_true (is_of 0 (pos birth) r)
+  conflict_is r = rw (asked.keyless.1.0 (Some (0 ∷ [])) put r) (or_false _ ∙ and_true (is_of 0 (pos birth) r))
 
   abbrev Result_is : Trees → Type 0
-  Result_is = PutsInto 2 put (is_of 0 (pos birth)) db
+  Result_is = PutsInto l 2 put (is_of 0 (pos birth)) db
 
-  cleared : (limit : Option ℕ) (one : Written) (found : List Row) → Clears (task session put known limit params) Abort put db found (Ok one) → Puts (task session put known limit params) put db (Ok one)
+  cleared : (limit : Option ℕ) (one : Written) (found : List Row) → Clears (task l session put known limit params) Abort put db found (Ok one) → Puts (task l session put known limit params) put db (Ok one)
   cleared limit one [] h = h
   cleared limit one (x ∷ more) h = h
 
@@ -122,11 +138,11 @@ module _ (birth : ℕ) (s : SessionColumns) (db : Trees) (shaped : AreShaped db)
     own = Rattle.mqtt_store_write.proofs.deletes.RemovesSession.is_own row (pos birth) is
 
     alone : filter (passes all_params tests) (db 2) ≡ row ∷ []
-    alone = only_row (db 2) (passes all_params tests) row shaped.session.up has (and_true (is_of 0 (pos birth) row) ∙ own)
-        (λ r h p. tied_ids (rowid r) (rowid row) (pos birth) (all_has _ (db 2) r shaped.session.ints h) (all_has _ (db 2) row shaped.session.ints has) (sym (and_true (is_of 0 (pos birth) r)) ∙ p) own)
+    alone = only_row (db 2) (passes all_params tests) row shaped.up has (and_true (is_of 0 (pos birth) row) ∙ own)
+        (λ r h p. tied_ids (rowid r) (rowid row) (pos birth) (all_has _ (db 2) r shaped.ints h) (all_has _ (db 2) row shaped.ints has) (sym (and_true (is_of 0 (pos birth) r)) ∙ p) own)
 
-    asked : (rows : List Row) → IsAnswer (over 2 tests project) (overlay db []) all_params rows → rows ≡ (Int (pos birth) ∷ put) ∷ []
-    asked rows a =
+    found : (rows : List Row) → IsAnswer (over 2 tests project) (overlay db []) all_params rows → rows ≡ (Int (pos birth) ∷ put) ∷ []
+    found rows a =
         let p = subst (λ l. IsPermutation (map (shows all_params project) l) rows) alone (answers_over 2 tests project db all_params rows a) in
         one_permutation (rowid row ∷ rowid row ∷ Null ∷ Text s.client ∷ Int (pos s.expiry) ∷ number_or_null s.closed ∷ []) rows p
         ∙ ap (λ v. (v ∷ v ∷ Null ∷ Text s.client ∷ Int (pos s.expiry) ∷ number_or_null s.closed ∷ []) ∷ []) is
@@ -134,45 +150,48 @@ module _ (birth : ℕ) (s : SessionColumns) (db : Trees) (shaped : AreShaped db)
     edit_is : edit_of db session (pos birth ∷ []) Given 1 ((Int (pos birth) ∷ put) ∷ []) ≡ record { table = session; gone = pos birth ∷ []; news = put ∷ [] }
     edit_is = ap (λ (news : List Row). record { table = session; gone = pos birth ∷ []; news = news }) (given (without_all (db 2) (pos birth ∷ [])) (cast_row session put ∷ []) ∙ ap (λ r. r ∷ []) cast_put)
 
-    changes : (limit : Option ℕ) (one : Written) → Updates (task session put known limit params) (program (over 2 tests project)) all_params db (Ok one) → Result_is one.trees
+    changes : (limit : Option ℕ) (one : Written) → Updates (task l session put known limit params) (program (over 2 tests project)) all_params db (Ok one) → Result_is one.trees
     changes limit one h =
         let read = went h in
         let wrote = went read.2 in
-        let rows = asked read.0 (read.1.answer Null) in
+        let rows = found read.0 (read.1.answer Null) in
         let edit : Edit = record { table = session; gone = pos birth ∷ []; news = put ∷ [] } in
-        let writes = subst (λ l. Writes keep_schema Enforced db (edit_of db session (ids_of l) Given 1 l) (Ok wrote.0)) rows wrote.1 in
-        let a = one_step keep_schema Enforced db wrote.0 edit (no_works (taken_by db edit) put) (subst (λ e. Writes keep_schema Enforced db e (Ok wrote.0)) edit_is writes) in
+        let writes = subst (λ rows. Writes (schema_of l) Enforced db (edit_of db session (ids_of rows) Given 1 rows) (Ok wrote.0)) rows wrote.1 in
+        let a = one_step (schema_of l) Enforced db wrote.0 edit (no_works l asked (taken_by db edit) put) (subst (λ e. Writes (schema_of l) Enforced db e (Ok wrote.0)) edit_is writes) in
         let trees : one.trees ≡ wrote.0 = ap (λ (w : Written). w.trees) (same_value wrote.2) in
         record {
           rows = ap (λ (x : Trees). x 2) trees ∙ (a.rows ∙ ap (put_row put) (went_out (pos birth) db wrote.0 row shaped has is));
           others = λ t n spared. ap (λ (x : Trees). x t) trees ∙ a.others t n spared;
         }
 
-  upserts : (limit : Option ℕ) (one : Written) (found : List Row) → AreConflicts (Some (0 ∷ [])) keep_schema.indexes session (db 2) put found
-      → Meets (task session put known limit params) (Upserts (task session put known limit params) Abort put db []) put db clause found (Ok one) → Result_is one.trees
+  upserts : (limit : Option ℕ) (one : Written) (found : List Row) → AreConflicts (Some (0 ∷ [])) (schema_of l).indexes session (db 2) put found
+      → Meets (task l session put known limit params) (Upserts (task l session put known limit params) Abort put db []) put db clause found (Ok one) → Result_is one.trees
   upserts limit one [] are h =
-      let p = puts_row session put known limit params db one (cleared limit one h.0 h.2) in
-      record { rows = p.0 ∙ ap (put_row put) (left session put db (is_of 0 (pos birth)) (Some (0 ∷ [])) shaped.session (λ r has. conflict_is r) [] are); others = p.1 }
+      let p = puts_row l session put known limit params db one (cleared limit one h.0 h.2) in
+      record { rows = p.0 ∙ ap (put_row put) (left l session put db (is_of 0 (pos birth)) (Some (0 ∷ [])) shaped (λ r has. conflict_is r) [] are); others = p.1 }
   upserts limit one (there ∷ more) are h =
       let r = are.sound there (inl refl) in
-      let is = own_number (rowid r.0) (pos birth) (all_has _ (db 2) r.0 shaped.session.ints r.1) (sym (conflict_is r.0) ∙ r.2) in
+      let is = own_number (rowid r.0) (pos birth) (all_has _ (db 2) r.0 shaped.ints r.1) (sym (conflict_is r.0) ∙ r.2) in
       let number : rowid there ≡ Int (pos birth) = ap rowid r.3 ∙ is in
       changes r.0 r.1 is limit one
-      (subst (λ v. Updates (task session put known limit params) (program (over 2 tests project)) (Int (pos birth) ∷ Text s.client ∷ Int (pos s.expiry) ∷ number_or_null s.closed ∷ v ∷ shown session put) db (Ok one)) number h)
+      (subst (λ v. Updates (task l session put known limit params) (program (over 2 tests project)) (Int (pos birth) ∷ Text s.client ∷ Int (pos s.expiry) ∷ number_or_null s.closed ∷ v ∷ shown session put) db (Ok one)) number h)
 
-  pub tries : (limit : Option ℕ) (one : Written) → Tries (task session put known limit params) Abort (clause ∷ []) put db (Ok one) → Result_is one.trees
+  -- a session's row that is tried stands in place of the one with its birth, or is new
+  pub tries : (limit : Option ℕ) (one : Written) → Tries (task l session put known limit params) Abort (clause ∷ []) put db (Ok one) → Result_is one.trees
   tries limit one (inl none) = absurd (let e = none.1 in cc)
   tries limit one (inr judged) = go judged.0 judged.2
     where
-      go : (verdict : Option Refusal) → Judged (task session put known limit params) Abort (clause ∷ []) put db verdict (Ok one) → Result_is one.trees
+      go : (verdict : Option Refusal) → Judged (task l session put known limit params) Abort (clause ∷ []) put db verdict (Ok one) → Result_is one.trees
       go None h = upserts limit one h.0 h.1 h.2
       go (Some why) h = absurd (let e : ◌≡◌ {A = Result Written (Option Error)} (Ok one) (Err (Some (edit_error why))) = h in cc)
 
-pub puts : (birth : ℕ) (s : SessionColumns) (old new : State) (r : Result ℕ Error) → IsWhole old
+-- the INSERT of a session puts its own row in place of the one with its birth, and leaves its other rows
+pub puts : (l : Layout) → IsOurs l → (birth : ℕ) (s : SessionColumns) (old new : State) (r : Result ℕ Error) → IsWhole l old
     → ExecutesInside 0 put_text (Int (pos birth) ∷ Text s.client ∷ Int (pos s.expiry) ∷ number_or_null s.closed ∷ []) old new r
-    → OnOk r (PutsInto 2 (session_row birth s) (is_of 0 (pos birth)) old.now.trees new.now.trees) × OnOk r (IsWhole new)
-puts birth s old new r whole h =
+    → OnOk r (PutsInto l 2 (session_row birth s) (is_of 0 (pos birth)) old.now.trees new.now.trees) × OnOk r (IsWhole l new)
+puts l ours birth s old new r whole h =
+    let asked = laid_out l ours in
     let db = old.now.trees in
-    let shaped = whole.ready.shaped in
-    inserts put_text 1 session terms 5 (Int (pos birth) ∷ Text s.client ∷ Int (pos s.expiry) ∷ number_or_null s.closed ∷ []) (session_row birth s) (is_of 0 (pos birth)) Abort (clause ∷ []) put_is put_plain refl refl
-    (session_row birth s) old new r whole shaped.session (known birth s db shaped) (tries birth s db shaped) (λ top. ap (with_rowid Chosen (db 2)) (cast_put birth s db shaped)) h
+    let shaped = whole.session in
+    inserts l asked put_text 1 session terms 5 (Int (pos birth) ∷ Text s.client ∷ Int (pos s.expiry) ∷ number_or_null s.closed ∷ []) (session_row birth s) (is_of 0 (pos birth)) Abort (clause ∷ []) (means l ours).0 (means l ours).1 refl refl
+    (session_row birth s) old new r whole shaped (known l asked birth s db shaped) (tries l asked birth s db shaped) (λ top. ap (with_rowid Chosen (db 2)) (cast_put l asked birth s db shaped)) h

@@ -24,7 +24,8 @@ use Rattle.sqlite.specs.Listing.{understood}
 use Rattle.sqlite.specs.State.{State, ExecutesInside}
 use Rattle.sqlite_tied.specs.Compute.{everything}
 use Rattle.sqlite.proofs.Callers.{IsPlain, command_of}
-use Rattle.mqtt_store_schema.specs.Tables.{keep_schema, sub}
+use Rattle.mqtt_store_schema.specs.Tables.{sub}
+use Rattle.mqtt_store_write.specs.Layout.{Layout, IsLayout, schema_of}
 use Rattle.mqtt_store_write.specs.Content.{is_text, IsWhole}
 use Rattle.mqtt_store_write.specs.Removal.{is_subscription}
 use Rattle.mqtt_store_write.specs.Columns.{subscription_row}
@@ -40,39 +41,40 @@ put_text = codes "INSERT OR REPLACE INTO sub VALUES (?1, ?2, ?3, ?4, ?5, ?6, ?7,
 abbrev terms : List Term
 terms = lit Null ∷ col 0 0 ∷ col 0 1 ∷ col 0 2 ∷ col 0 3 ∷ col 0 4 ∷ col 0 5 ∷ col 0 6 ∷ col 0 7 ∷ []
 
-put_is : command_of (understood keep_schema put_text) ≡ InsertOr 3 Replace (Values terms 9) []
+put_is : (l : Layout) → command_of (understood (schema_of l) put_text) ≡ InsertOr 3 Replace (Values terms 9) []
 unfolding understood everything
-put_is = refl
+put_is l = refl
 
-put_plain : IsPlain (understood keep_schema put_text)
+put_plain : (l : Layout) → IsPlain (understood (schema_of l) put_text)
 unfolding understood everything
-put_plain = (refl, refl)
+put_plain l = (refl, refl)
 
-no_works : (olds : List Row) (new : Row) → works keep_schema Enforced 0 5 olds (new ∷ []) ≡ []
+no_works : (l : Layout) → IsLayout l → (olds : List Row) (new : Row) → works (schema_of l) Enforced 0 5 olds (new ∷ []) ≡ []
 unfolding same_name joined
-no_works olds new = refl
+no_works l asked olds new = asked.childless.1.1.0.put 0 olds new
 
-no_works_out : (olds : List Row) → works keep_schema Enforced 0 5 olds [] ≡ []
+no_works_out : (l : Layout) → IsLayout l → (olds : List Row) → works (schema_of l) Enforced 0 5 olds [] ≡ []
 unfolding same_name joined
-no_works_out olds = refl
+no_works_out l asked olds = asked.childless.1.1.0.out 0 olds
 
 cast_put : (birth : ℕ) (text : List ℕ) (m : SubscriptionColumns) (v : Value) → cast Integer v ≡ v → cast_row sub (v ∷ subscription_row birth text m) ≡ v ∷ subscription_row birth text m
 cast_put birth text m v is = rw (is, cast_int (pos birth), cast_int (pos m.place), cast_int (pos m.qos), cast_int (pos (Rattle.std.proofs.Common.cond m.no_local 1 0)), cast_int (pos (Rattle.std.proofs.Common.cond m.retain_as_published 1 0)), cast_int (pos m.handling), cast_int (pos m.identifier))
 
-conflict_is : (next : ℤ) (birth : ℕ) (text : List ℕ) (m : SubscriptionColumns) (r : Row) → equal Binary (rowid r) (Int next) ≡ false → conflicts None keep_schema.indexes sub (Int next ∷ subscription_row birth text m) r ≡ is_subscription (pos birth) text r
+conflict_is : (l : Layout) → IsLayout l → (next : ℤ) (birth : ℕ) (text : List ℕ) (m : SubscriptionColumns) (r : Row) → equal Binary (rowid r) (Int next) ≡ false → conflicts None (schema_of l).indexes sub (Int next ∷ subscription_row birth text m) r ≡ is_subscription (pos birth) text r
 unfolding first_key joined
-conflict_is next birth text m r other = rw (other, and_true (is_text 2 text r)) (or_false (is_subscription (pos birth) text r))
+conflict_is l asked next birth text m r other = rw (other, and_true (is_text 2 text r), asked.keyless.1.1.1.0 None (Int next ∷ subscription_row birth text m) r) (or_false (is_subscription (pos birth) text r))
 
-pub puts : (birth : ℕ) (text : List ℕ) (m : SubscriptionColumns) (old new : State) (r : Result ℕ Error) → IsWhole old → ExecutesInside 0 put_text (subscription_row birth text m) old new r
-    → OnOk r (PutsInto 5 (numbered 5 (subscription_row birth text m) old.now.trees) (is_subscription (pos birth) text) old.now.trees new.now.trees) × OnOk r (IsWhole new)
-puts birth text m old new r whole h =
+-- the INSERT of a subscription puts its row, with the next number, in place of that of its session and filter
+pub puts : (l : Layout) → IsLayout l → (birth : ℕ) (text : List ℕ) (m : SubscriptionColumns) (old new : State) (r : Result ℕ Error) → IsWhole l old → ExecutesInside 0 put_text (subscription_row birth text m) old new r
+    → OnOk r (PutsInto l 5 (numbered 5 (subscription_row birth text m) old.now.trees) (is_subscription (pos birth) text) old.now.trees new.now.trees) × OnOk r (IsWhole l new)
+puts l asked birth text m old new r whole h =
     let db = old.now.trees in
     let next = next_rowid (db 5) in
     let row = subscription_row birth text m in
     let put = numbered 5 row db in
-    replaces put_text 3 sub terms 9 row (Null ∷ row) (is_subscription (pos birth) text) put_is put_plain refl refl put old new r whole whole.ready.shaped.sub
-    (record { uncounted = refl; kept = cast_put birth text m (Int next) (cast_int next); int = refl; childless = λ olds. no_works olds put })
-    no_works_out
-    (λ r h. conflict_is next birth text m r (apart db 5 r whole.ready.shaped.sub h))
+    replaces l asked put_text 3 sub terms 9 row (Null ∷ row) (is_subscription (pos birth) text) (put_is l) (put_plain l) refl refl put old new r whole whole.sub
+    (record { uncounted = refl; kept = cast_put birth text m (Int next) (cast_int next); int = refl; childless = λ olds. no_works l asked olds put })
+    (no_works_out l asked)
+    (λ r h. conflict_is l asked next birth text m r (apart db 5 r whole.sub h))
     (λ top. ap (with_rowid Chosen (db 5)) (cast_put birth text m Null cast_null))
     h

@@ -49,13 +49,15 @@ use Rattle.sqlite.specs.State.{ExecutesInside}
 use Rattle.sqlite.specs.Values.{bound_value, or_null}
 use Rattle.sqlite.proofs.Callers.{command_of}
 use Rattle.mqtt_store_schema.specs.Tables.{keep_schema, copy}
-use Rattle.mqtt_store_write.specs.Content.{IsShapedAt, IsReady, IsWhole}
+use Rattle.mqtt_store_write.specs.Layout.{first_layout}
+use Rattle.mqtt_store_write.specs.Content.{IsShapedAt, IsWhole}
 use Rattle.mqtt_store_write.specs.Copy.{CopyColumns, set_copy, number_or_null, copy_row, is_copy, SetsCopy}
+use Rattle.mqtt_store_write.proofs.tables.First.{is_first}
 use Rattle.mqtt_store_write.proofs.tables.Commands.{over, program, equals}
 use Rattle.mqtt_store_write.proofs.tables.Parts.{passes, shows, answers_over, updated}
 use Rattle.mqtt_store_write.proofs.deletes.RemoveSession.{equal_ids, only_row}
 use Rattle.mqtt_store_write.proofs.sets.SetAny.{any_whole}
-use Rattle.mqtt_store_write.proofs.tables.Whole.{ready_after}
+use Rattle.mqtt_store_write.proofs.tables.Whole.{whole_after}
 
 abbrev pub set_copy_text : List ℕ
 set_copy_text = codes "UPDATE copy SET pid = ?3, phase = ?4, rel = ?5 WHERE birth = ?1 AND place = ?2"
@@ -64,18 +66,22 @@ cast_either : (b : Bool) (x : Value) → cond b x x ≡ x
 cast_either true x = refl
 cast_either false x = refl
 
+-- a whole number is kept as it is
 pub cast_int : (n : ℤ) → cast Integer (Int n) ≡ Int n
 unfolding unary
 cast_int n = cast_either _ (Int n)
 
+-- no number is kept as it is
 pub cast_null : cast Integer Null ≡ Null
 unfolding unary
 cast_null = cast_either _ Null
 
+-- a number that may be none is kept as it is
 pub cast_number : (o : Option ℕ) → cast Integer (number_or_null o) ≡ number_or_null o
 cast_number None = cast_null
 cast_number (Some n) = cast_int (pos n)
 
+-- rowids that don't differ are equal
 pub same_rowid : (m n : ℤ) → differ (Int m) (Int n) ≡ false → value_cmp (Int m) (Int n) ≡ Equal
 unfolding binary
 same_rowid m n h = go (value_cmp (Int m) (Int n)) refl (h)
@@ -100,10 +106,12 @@ one_copy db b p x one obeys shaped hx ho px po =
     let io = int_is (rowid one) (all_has _ (db 9) one shaped.ints ho) in
     tied_same (db 9) x one shaped.up hx ho (rw (ix, io) (same_rowid _ _ (rw (ix, io) at near)))
 
+-- the text of the UPDATE of a copy means: of copies, the one with this birth and place, with three columns set
 pub set_copy_is : command_of (understood keep_schema set_copy_text) ≡ Update 5 (program (over 9 (equals 1 0 ∷ equals 2 1 ∷ []) (col 1 0 ∷ col 1 0 ∷ col 1 1 ∷ col 1 2 ∷ col 1 3 ∷ col 1 4 ∷ col 1 5 ∷ col 1 6 ∷ col 0 2 ∷ col 0 3 ∷ col 0 4 ∷ col 1 10 ∷ col 1 11 ∷ col 1 12 ∷ col 1 13 ∷ col 1 14 ∷ col 1 15 ∷ [])))
 unfolding understood everything
 set_copy_is = refl
 
+-- the text of the UPDATE of a copy is a plain command
 pub set_copy_plain : IsPlain (understood keep_schema set_copy_text)
 unfolding understood everything
 set_copy_plain = (refl, refl)
@@ -124,6 +132,7 @@ and_true true true = refl
 and_true true false = refl
 and_true false c = refl
 
+-- SQL finds a number equal to itself
 pub own_number : (n : ℕ) → equal Binary (Int (pos n)) (Int (pos n)) ≡ true
 own_number n = equal_ids (Int (pos n)) (pos n) refl ∙ ap is_eq (tied_itself value_cmp_total (Int (pos n)))
 
@@ -140,6 +149,7 @@ module _ (birth place phase : ℕ) (pid rel : Option ℕ) (db after : Trees) (c 
   is_own : is_copy birth place one ≡ true
   is_own = and_from _ _ (own_number birth) (own_number place)
 
+  -- the UPDATE of a copy finds its row alone, with the three columns set
   pub found : Has (db 9) one → (rows : List Row) → IsAnswer (over 9 set_tests set_project) (overlay db []) params rows → rows ≡ (Int id ∷ new) ∷ []
   found has rows a =
       let alone : filter (passes params set_tests) (db 9) ≡ one ∷ [] = only_row (db 9) (passes params set_tests) one shaped.up has (and_true _ _ ∙ is_own)
@@ -152,12 +162,14 @@ module _ (birth place phase : ℕ) (pid rel : Option ℕ) (db after : Trees) (c 
   edit_is : edit_of db copy (id ∷ []) Given 1 ((Int id ∷ new) ∷ []) ≡ record { table = copy; gone = id ∷ []; news = new ∷ [] }
   edit_is = ap (λ (news : List Row). record { table = copy; gone = id ∷ []; news = news }) (given (without_all (db 9) (id ∷ [])) (cast_row copy new ∷ []) ∙ ap (λ r. r ∷ []) cast_new)
 
+  -- what the UPDATE writes is the table with that copy set
   pub goes : Writes keep_schema Enforced db (edit_of db copy (id ∷ []) Given 1 ((Int id ∷ new) ∷ [])) (Ok after) → SetsCopy birth place phase pid rel id c db after
   goes h =
       let edit : Edit = record { table = copy; gone = id ∷ []; news = new ∷ [] } in
       let a = one_step keep_schema Enforced db after edit (no_works (taken_by db edit) new) (subst (λ e. Writes keep_schema Enforced db e (Ok after)) edit_is h) in
       record { rows = a.rows; others = a.others }
 
+  -- the table of copies still rises by its numbers when one is set
   pub set_shaped : SetsCopy birth place phase pid rel id c db after → IsShapedAt after 9
   set_shaped s =
       let both = IsShaped-put_row new (without_rowid id (db 9)) refl (IsShaped-filter Table (λ r. not (has_rowid id r)) (db 9) (shaped.up, shaped.ints)) in
@@ -166,29 +178,31 @@ module _ (birth place phase : ℕ) (pid rel : Option ℕ) (db after : Trees) (c 
 abbrev set_program : Rattle.sqlite_schema.specs.declared.program.Program.Program
 set_program = program (over 9 set_tests set_project)
 
-pub sets_copy : (birth place phase : ℕ) (pid rel : Option ℕ) (old new : State) (id : ℤ) (c : CopyColumns) (r : Result ℕ Error) → IsReady old → Has (old.now.trees 9) (Int id ∷ copy_row birth place c)
+-- the UPDATE of a copy that stands sets its phase, identifier and order, and leaves the transaction ready
+pub sets_copy : (birth place phase : ℕ) (pid rel : Option ℕ) (old new : State) (id : ℤ) (c : CopyColumns) (r : Result ℕ Error) → IsWhole first_layout old → Has (old.now.trees 9) (Int id ∷ copy_row birth place c)
     → ExecutesInside 0 set_copy_text (Int (pos birth) ∷ Int (pos place) ∷ number_or_null pid ∷ Int (pos phase) ∷ number_or_null rel ∷ []) old new r
-    → OnOk r (SetsCopy birth place phase pid rel id c old.now.trees new.now.trees) × OnOk r (IsReady new)
+    → OnOk r (SetsCopy birth place phase pid rel id c old.now.trees new.now.trees) × OnOk r (IsWhole first_layout new)
 sets_copy birth place phase pid rel old new id c (Err e) ready there h = (tt, tt)
 sets_copy birth place phase pid rel old new id c (Ok count) ready there h =
     let has = ready.schema in
-    let shaped = ready.shaped in
+    let shaped = ready.behind.0 in
     let obeys = ready.obeys in
     let params = Int (pos birth) ∷ Int (pos place) ∷ number_or_null pid ∷ Int (pos phase) ∷ number_or_null rel ∷ [] in
     let text = statement_of set_copy_text (understood keep_schema set_copy_text) in
     let w = runs_as set_copy_text params old new keep_schema has (Update 5 set_program) set_copy_is set_copy_plain count h.0 in
     let d = updated old.step_limit params (record { schema = keep_schema; trees = old.now.trees }) text 5 set_program copy w.tally new.now refl
     (subst (λ s. Does old.step_limit (mode_of old) params (record old.now { schema = s }) text None (Update 5 set_program) (Ok (w.tally, new.now))) has w.changed) in
-    let shown = found birth place phase pid rel old.now.trees new.now.trees c id shaped.copy obeys there d.rows (d.answers.answer Null) in
-    let s = goes birth place phase pid rel old.now.trees new.now.trees c id shaped.copy obeys
+    let shown = found birth place phase pid rel old.now.trees new.now.trees c id shaped obeys there d.rows (d.answers.answer Null) in
+    let s = goes birth place phase pid rel old.now.trees new.now.trees c id shaped obeys
     (subst (λ l. Writes keep_schema Enforced old.now.trees (edit_of old.now.trees copy (ids_of l) Given 1 l) (Ok new.now.trees)) shown d.writes) in
-    (s, ready_after 9 old new ready s.others (set_shaped birth place phase pid rel old.now.trees new.now.trees c id shaped.copy obeys s) d.schema h.1.mode (rw d.schema at w.sound.obeys))
+    (s, whole_after first_layout is_first 9 old new ready s.others (set_shaped birth place phase pid rel old.now.trees new.now.trees c id shaped obeys s) d.schema h.1.mode (rw d.schema at w.sound.obeys))
 
--- what is bound where there may be no number
+-- what is bound if there may be no number
 pub bound_is : (n : Option ℕ) → bound_value (or_null Int (option_map pos n)) ≡ number_or_null n
 bound_is None = refl
 bound_is (Some n) = refl
 
+-- an identifier or an order that may be none is bound as its column has it
 pub args_are : (text : List ℕ) (old new : State) (res : Result ℕ Error) (a b d : Value) (pid rel : Option ℕ)
     → ExecutesInside 0 text (a ∷ b ∷ bound_value (or_null Int (option_map pos pid)) ∷ d ∷ bound_value (or_null Int (option_map pos rel)) ∷ []) old new res
     → ExecutesInside 0 text (a ∷ b ∷ number_or_null pid ∷ d ∷ number_or_null rel ∷ []) old new res
@@ -199,15 +213,15 @@ unfolding same_name joined
 none_works = refl
 
 -- be there a copy at that place or not
-pub any_copy : (birth place phase : ℕ) (pid rel : Option ℕ) (old after : State) (r : Result ℕ Error) → IsWhole old
-    → ExecutesInside 0 set_copy_text (Int (pos birth) ∷ Int (pos place) ∷ number_or_null pid ∷ Int (pos phase) ∷ number_or_null rel ∷ []) old after r → OnOk r (IsWhole after)
+pub any_copy : (birth place phase : ℕ) (pid rel : Option ℕ) (old after : State) (r : Result ℕ Error) → IsWhole first_layout old
+    → ExecutesInside 0 set_copy_text (Int (pos birth) ∷ Int (pos place) ∷ number_or_null pid ∷ Int (pos phase) ∷ number_or_null rel ∷ []) old after r → OnOk r (IsWhole first_layout after)
 any_copy birth place phase pid rel old after (Err e) whole h = tt
 any_copy birth place phase pid rel old after (Ok count) whole h =
-    any_whole set_copy_text 5 copy set_tests set_project (Int (pos birth) ∷ Int (pos place) ∷ number_or_null pid ∷ Int (pos phase) ∷ number_or_null rel ∷ []) set_copy_is set_copy_plain refl none_works no_works
+    any_whole first_layout is_first set_copy_text 5 copy set_tests set_project (Int (pos birth) ∷ Int (pos place) ∷ number_or_null pid ∷ Int (pos phase) ∷ number_or_null rel ∷ []) set_copy_is set_copy_plain refl none_works no_works
     (λ x. (
       column x 1 ∷ column x 2 ∷ column x 3 ∷ column x 4 ∷ column x 5 ∷ column x 6 ∷ number_or_null pid ∷ Int (pos phase) ∷ number_or_null rel ∷ column x 10 ∷ column x 11 ∷ column x 12 ∷ column x 13
           ∷ column x 14 ∷ column x 15 ∷ [],
       refl,
     ))
-    (λ id rest. cast_int id) old after count whole whole.ready.shaped.copy
-    (λ r x hr hx pr px. one_copy old.now.trees birth place r x whole.ready.obeys whole.ready.shaped.copy hr hx (sym (and_true _ _) ∙ pr) (sym (and_true _ _) ∙ px)) h
+    (λ id rest. cast_int id) old after count whole whole.behind.0
+    (λ r x hr hx pr px. one_copy old.now.trees birth place r x whole.obeys whole.behind.0 hr hx (sym (and_true _ _) ∙ pr) (sym (and_true _ _) ∙ px)) h

@@ -39,7 +39,8 @@ use Rattle.sqlite.specs.State.{State, mode_of, ExecutesInside}
 use Rattle.sqlite.specs.Does.{Does}
 use Rattle.sqlite_tied.specs.Compute.{everything}
 use Rattle.sqlite.proofs.Callers.{IsPlain, command_of, statement_of, runs_as, one_permutation, one_step}
-use Rattle.mqtt_store_schema.specs.Tables.{keep_schema, meta}
+use Rattle.mqtt_store_schema.specs.Tables.{meta}
+use Rattle.mqtt_store_write.specs.Layout.{Layout, IsLayout, schema_of}
 use Rattle.mqtt_store_write.specs.Content.{is_text, IsShapedAt, IsWhole}
 use Rattle.mqtt_store_write.specs.Numbers.{number_row, SetsNumber}
 use Rattle.mqtt_store_write.proofs.tables.Commands.{over, program, equals}
@@ -62,31 +63,32 @@ project = col 1 0 ∷ col 1 0 ∷ col 1 1 ∷ col 0 1 ∷ []
 abbrev set_program : Program
 set_program = program (over 0 tests project)
 
-set_is : command_of (understood keep_schema set_text) ≡ Update 0 set_program
+set_is : (l : Layout) → command_of (understood (schema_of l) set_text) ≡ Update 0 set_program
 unfolding understood everything
-set_is = refl
+set_is l = refl
 
-set_plain : IsPlain (understood keep_schema set_text)
+set_plain : (l : Layout) → IsPlain (understood (schema_of l) set_text)
 unfolding understood everything
-set_plain = (refl, refl)
+set_plain l = (refl, refl)
 
-no_works : (olds : List Row) (new : Row) → works keep_schema Enforced 0 0 olds (new ∷ []) ≡ []
+no_works : (l : Layout) → IsLayout l → (olds : List Row) (new : Row) → works (schema_of l) Enforced 0 0 olds (new ∷ []) ≡ []
 unfolding same_name joined
-no_works olds new = refl
+no_works l asked olds new = asked.childless.0.put 0 olds new
 
 truth_of : (b : Bool) → Rattle.sqlite_sql.specs.Ops.is_true (Rattle.sqlite_sql.specs.Ops.from_truth (Some b)) ≡ b
 truth_of true = refl
 truth_of false = refl
 
+-- SQL finds a text equal to itself
 pub own_text : (t : List ℕ) → equal Binary (Text t) (Text t) ≡ true
 unfolding binary
 own_text t = truth_of _ ∙ ap is_eq (tied_itself value_cmp_total (Text t))
 
 -- no two rows have one name
-pub one_name : (db : Trees) (name : List ℕ) (x one : Row) → Obeys keep_schema db → IsShapedAt db 0 → Has (db 0) x → Has (db 0) one → is_text 1 name x ≡ true → is_text 1 name one ≡ true → x ≡ one
+pub one_name : (l : Layout) (db : Trees) (name : List ℕ) (x one : Row) → Obeys (schema_of l) db → IsShapedAt db 0 → Has (db 0) x → Has (db 0) one → is_text 1 name x ≡ true → is_text 1 name one ≡ true → x ≡ one
 unfolding first_key
-one_name db name x one obeys shaped hx ho px po =
-    let passes = keeps_at Unique keep_schema db meta one (obeys.rules Unique) (inl refl) ho in
+one_name l db name x one obeys shaped hx ho px po =
+    let passes = keeps_at Unique (schema_of l) db meta one (obeys.rules Unique) (inl refl) ho in
     let params = Text name ∷ [] in
     let ax : agree plain (1 ∷ []) x (0 ∷ []) params ≡ true = and_from _ _ px refl in
     let ao : agree plain (1 ∷ []) one (0 ∷ []) params ≡ true = and_from _ _ po refl in
@@ -97,7 +99,7 @@ one_name db name x one obeys shaped hx ho px po =
     let io = int_is (rowid one) (all_has _ (db 0) one shaped.ints ho) in
     tied_same (db 0) x one shaped.up hx ho (rw (ix, io) (same_rowid _ _ (rw (ix, io) at near)))
 
-module _ (name : List ℕ) (value n : ℕ) (db after : Trees) (id : ℤ) (shaped : IsShapedAt db 0) (obeys : Obeys keep_schema db) where
+module _ (l : Layout) (asked : IsLayout l) (name : List ℕ) (value n : ℕ) (db after : Trees) (id : ℤ) (shaped : IsShapedAt db 0) (obeys : Obeys (schema_of l) db) where
   abbrev params : Row
   params = Text name ∷ Int (pos value) ∷ []
 
@@ -110,7 +112,7 @@ module _ (name : List ℕ) (value n : ℕ) (db after : Trees) (id : ℤ) (shaped
   found : Has (db 0) one → (rows : List Row) → IsAnswer (over 0 tests project) (overlay db []) params rows → rows ≡ (Int id ∷ new) ∷ []
   found has rows a =
       let alone : filter (passes params tests) (db 0) ≡ one ∷ [] = only_row (db 0) (passes params tests) one shaped.up has (and_true _ ∙ own_text name)
-      (λ r h p. rw (one_name db name r one obeys shaped h has (sym (and_true _) ∙ p) (own_text name)) (tied_itself value_cmp_total (Int id))) in
+      (λ r h p. rw (one_name l db name r one obeys shaped h has (sym (and_true _) ∙ p) (own_text name)) (tied_itself value_cmp_total (Int id))) in
       one_permutation (Int id ∷ new) rows (subst (λ l. IsPermutation (map (shows params project) l) rows) alone (answers_over 0 tests project db params rows a))
 
   cast_new : cast_row meta new ≡ new
@@ -119,41 +121,42 @@ module _ (name : List ℕ) (value n : ℕ) (db after : Trees) (id : ℤ) (shaped
   edit_is : edit_of db meta (id ∷ []) Given 1 ((Int id ∷ new) ∷ []) ≡ record { table = meta; gone = id ∷ []; news = new ∷ [] }
   edit_is = ap (λ (news : List Row). record { table = meta; gone = id ∷ []; news = news }) (given (without_all (db 0) (id ∷ [])) (cast_row meta new ∷ []) ∙ ap (λ r. r ∷ []) cast_new)
 
-  goes : Writes keep_schema Enforced db (edit_of db meta (id ∷ []) Given 1 ((Int id ∷ new) ∷ [])) (Ok after) → SetsNumber name value id db after
+  goes : Writes (schema_of l) Enforced db (edit_of db meta (id ∷ []) Given 1 ((Int id ∷ new) ∷ [])) (Ok after) → SetsNumber l name value id db after
   goes h =
       let edit : Edit = record { table = meta; gone = id ∷ []; news = new ∷ [] } in
-      let a = one_step keep_schema Enforced db after edit (no_works (taken_by db edit) new) (subst (λ e. Writes keep_schema Enforced db e (Ok after)) edit_is h) in
+      let a = one_step (schema_of l) Enforced db after edit (no_works l asked (taken_by db edit) new) (subst (λ e. Writes (schema_of l) Enforced db e (Ok after)) edit_is h) in
       record { rows = a.rows; others = a.others }
 
-  set_shaped : SetsNumber name value id db after → IsShapedAt after 0
+  set_shaped : SetsNumber l name value id db after → IsShapedAt after 0
   set_shaped s =
       let both = IsShaped-put_row new (without_rowid id (db 0)) refl (IsShaped-filter Table (λ r. not (has_rowid id r)) (db 0) (shaped.up, shaped.ints)) in
       record { up = rw s.rows both.0; ints = rw s.rows both.1 }
 
-pub sets_number : (name : List ℕ) (value : ℕ) (old new : State) (id : ℤ) (n : ℕ) (r : Result ℕ Error) → IsWhole old → Has (old.now.trees 0) (Int id ∷ number_row name n)
+-- the UPDATE of a number that stands sets it, and leaves the transaction whole
+pub sets_number : (l : Layout) → IsLayout l → (name : List ℕ) (value : ℕ) (old new : State) (id : ℤ) (n : ℕ) (r : Result ℕ Error) → IsWhole l old → Has (old.now.trees 0) (Int id ∷ number_row name n)
     → ExecutesInside 0 set_text (Text name ∷ Int (pos value) ∷ []) old new r
-    → OnOk r (SetsNumber name value id old.now.trees new.now.trees) × OnOk r (IsWhole new)
-sets_number name value old new id n (Err e) whole there h = (tt, tt)
-sets_number name value old new id n (Ok count) whole there h =
-    let has = whole.ready.schema in
+    → OnOk r (SetsNumber l name value id old.now.trees new.now.trees) × OnOk r (IsWhole l new)
+sets_number l asked name value old new id n (Err e) whole there h = (tt, tt)
+sets_number l asked name value old new id n (Ok count) whole there h =
+    let has = whole.schema in
     let db = old.now.trees in
     let params = Text name ∷ Int (pos value) ∷ [] in
-    let text = statement_of set_text (understood keep_schema set_text) in
-    let w = runs_as set_text params old new keep_schema has (Update 0 set_program) set_is set_plain count h.0 in
-    let d = updated old.step_limit params (record { schema = keep_schema; trees = db }) text 0 set_program meta w.tally new.now refl
+    let text = statement_of set_text (understood (schema_of l) set_text) in
+    let w = runs_as set_text params old new (schema_of l) has (Update 0 set_program) (set_is l) (set_plain l) count h.0 in
+    let d = updated old.step_limit params (record { schema = schema_of l; trees = db }) text 0 set_program meta w.tally new.now refl
     (subst (λ s. Does old.step_limit (mode_of old) params (record old.now { schema = s }) text None (Update 0 set_program) (Ok (w.tally, new.now))) has w.changed) in
-    let shown = found name value n db new.now.trees id whole.meta whole.ready.obeys there d.rows (d.answers.answer Null) in
-    let s = goes name value n db new.now.trees id whole.meta whole.ready.obeys (subst (λ l. Writes keep_schema Enforced db (edit_of db meta (ids_of l) Given 1 l) (Ok new.now.trees)) shown d.writes) in
-    (s, whole_after 0 old new whole s.others (set_shaped name value n db new.now.trees id whole.meta whole.ready.obeys s) d.schema h.1.mode (rw d.schema at w.sound.obeys))
+    let shown = found l asked name value n db new.now.trees id whole.meta whole.obeys there d.rows (d.answers.answer Null) in
+    let s = goes l asked name value n db new.now.trees id whole.meta whole.obeys (subst (λ rows. Writes (schema_of l) Enforced db (edit_of db meta (ids_of rows) Given 1 rows) (Ok new.now.trees)) shown d.writes) in
+    (s, whole_after l asked 0 old new whole s.others (set_shaped l asked name value n db new.now.trees id whole.meta whole.obeys s) d.schema h.1.mode (rw d.schema at w.sound.obeys))
 
-none_works : works keep_schema Enforced 0 0 [] [] ≡ []
+none_works : (l : Layout) → IsLayout l → works (schema_of l) Enforced 0 0 [] [] ≡ []
 unfolding same_name joined
-none_works = refl
+none_works l asked = asked.childless.0.out 0 []
 
 -- be there a number of that name or not
-pub any_number : (name : List ℕ) (value : ℕ) (old after : State) (r : Result ℕ Error) → IsWhole old → ExecutesInside 0 set_text (Text name ∷ Int (pos value) ∷ []) old after r → OnOk r (IsWhole after)
-any_number name value old after (Err e) whole h = tt
-any_number name value old after (Ok count) whole h =
-    any_whole set_text 0 meta tests project (Text name ∷ Int (pos value) ∷ []) set_is set_plain refl none_works no_works
+pub any_number : (l : Layout) → IsLayout l → (name : List ℕ) (value : ℕ) (old after : State) (r : Result ℕ Error) → IsWhole l old → ExecutesInside 0 set_text (Text name ∷ Int (pos value) ∷ []) old after r → OnOk r (IsWhole l after)
+any_number l asked name value old after (Err e) whole h = tt
+any_number l asked name value old after (Ok count) whole h =
+    any_whole l asked set_text 0 meta tests project (Text name ∷ Int (pos value) ∷ []) (set_is l) (set_plain l) refl (none_works l asked) (no_works l asked)
     (λ x. (column x 1 ∷ Int (pos value) ∷ [], refl)) (λ id rest. cast_int id) old after count whole whole.meta
-    (λ r x hr hx pr px. one_name old.now.trees name r x whole.ready.obeys whole.meta hr hx (sym (and_true _) ∙ pr) (sym (and_true _) ∙ px)) h
+    (λ r x hr hx pr px. one_name l old.now.trees name r x whole.obeys whole.meta hr hx (sym (and_true _) ∙ pr) (sym (and_true _) ∙ px)) h

@@ -9,6 +9,7 @@ use Rattle.sqlite_rules.specs.Lists.{Has}
 use Rattle.sqlite_rules.specs.Edit.{next_rowid, is_taken}
 use Rattle.sqlite_rules.proofs.ListLemmas.{all_has, some_has, has_filtered, has_kept}
 use Rattle.sqlite_rules.proofs.TableLemmas.{has_put, put_has, put_all_keeps}
+use Rattle.mqtt_store_write.specs.Layout.{Layout}
 use Rattle.mqtt_store_write.specs.Content.{is_of, IsShapedAt}
 use Rattle.mqtt_store_write.specs.Removal.{RemovesFrom}
 use Rattle.mqtt_store_write.specs.Put.{PutsInto, numbered, IsFree}
@@ -26,16 +27,19 @@ module _ (gone : Row → Bool) (rows : List Row) (x : Row) where
   stays_old : Has rows x × (gone x ≡ false) → Has (filter (λ r. not (gone r)) rows) x
   stays_old it = has_kept (λ r. not (gone r)) rows x it.0 (ap not it.1)
 
-module _ (tree : ℕ) (gone : Row → Bool) (before after : Trees) (x : Row) where
-  pub removed_new : RemovesFrom tree gone before after → Has (after tree) x → Has (before tree) x × (gone x ≡ false)
-  removed_new h there = stays_new gone (before tree) x (subst (λ (l : List Row). Has l x) h.rows there)
+module _ (l : Layout) (tree : ℕ) (gone : Row → Bool) (before after : Trees) (x : Row) where
+  -- after rows are removed, one that stands did before and was not of them
+  pub removed_new : RemovesFrom l tree gone before after → Has (after tree) x → Has (before tree) x × (gone x ≡ false)
+  removed_new h there = stays_new gone (before tree) x (subst (λ (rows : List Row). Has rows x) h.rows there)
 
-  pub removed_old : RemovesFrom tree gone before after → Has (before tree) x × (gone x ≡ false) → Has (after tree) x
-  removed_old h it = subst (λ (l : List Row). Has l x) (sym h.rows) (stays_old gone (before tree) x it)
+  -- after rows are removed, those that were not of them stand
+  pub removed_old : RemovesFrom l tree gone before after → Has (before tree) x × (gone x ≡ false) → Has (after tree) x
+  removed_old h it = subst (λ (rows : List Row). Has rows x) (sym h.rows) (stays_old gone (before tree) x it)
 
   module _ (put : Row) where
-    pub put_new : PutsInto tree put gone before after → Has (after tree) x → (x ≡ put) ⊎ (Has (before tree) x × (gone x ≡ false))
-    put_new h there = elim (put_has put (filter (λ r. not (gone r)) (before tree)) x (subst (λ (l : List Row). Has l x) h.rows there)) [
+    -- after a row is put, one that stands is that, or stood before and made no way
+    pub put_new : PutsInto l tree put gone before after → Has (after tree) x → (x ≡ put) ⊎ (Has (before tree) x × (gone x ≡ false))
+    put_new h there = elim (put_has put (filter (λ r. not (gone r)) (before tree)) x (subst (λ (rows : List Row). Has rows x) h.rows there)) [
       | inl same ↦ inl same
       | inr stays ↦ inr (stays_new gone (before tree) x stays)
     ]
@@ -46,16 +50,19 @@ module _ (tree : ℕ) (gone : Row → Bool) (before after : Trees) (x : Row) whe
         let it = has_filtered (λ r. not (gone r)) (before tree) one.0 one.1 in
         true≢false (sym one.2 ∙ free one.0 it.0 (untrue (gone one.0) it.1)))
 
-    pub put_old : PutsInto tree put gone before after → IsFree put gone (before tree) → (x ≡ put) ⊎ (Has (before tree) x × (gone x ≡ false)) → Has (after tree) x
+    -- after a row is put, that one stands and those that made no way do
+    pub put_old : PutsInto l tree put gone before after → IsFree put gone (before tree) → (x ≡ put) ⊎ (Has (before tree) x × (gone x ≡ false)) → Has (after tree) x
     put_old h free it =
         let rest = filter (λ r. not (gone r)) (before tree) in
-        subst (λ (l : List Row). Has l x) (sym h.rows) (elim it [
+        subst (λ (rows : List Row). Has rows x) (sym h.rows) (elim it [
           | inl same ↦ subst (Has (put_row put rest)) (sym same) (has_put put rest)
           | inr old ↦ put_all_keeps (put ∷ []) rest x (and_from _ _ (ap not (untaken free)) refl) (stays_old gone (before tree) x old)
         ])
 
+-- the number that the table gives a new row is no other row's
 pub given_free : (tree : ℕ) (row : Row) (gone : Row → Bool) (db : Trees) → IsShapedAt db tree → IsFree (numbered tree row db) gone (db tree)
 given_free tree row gone db shaped r h stays = sym (equal_ids (rowid r) (next_rowid (db tree)) (all_has _ (db tree) r shaped.ints h)) ∙ apart db tree r shaped h
 
+-- a key that is the row's number is free once the rows with it are gone
 pub key_free : (tree : ℕ) (n : ℤ) (rest : Row) (gone : Row → Bool) (db : Trees) → IsShapedAt db tree → ((r : Row) → gone r ≡ false → is_of 0 n r ≡ false) → IsFree (Int n ∷ rest) gone (db tree)
 key_free tree n rest gone db shaped out r h stays = sym (equal_ids (rowid r) n (all_has _ (db tree) r shaped.ints h)) ∙ out r stays

@@ -8,6 +8,7 @@ use Rattle.sqlite.specs.State.{State, IsRolledBack}
 use Rattle.sqlite.specs.Effect.{Database}
 use Rattle.sqlite.specs.Steps.{FailsToCommit}
 use Rattle.mqtt_store_schema.specs.Tables.{keep_schema}
+use Rattle.mqtt_store_write.specs.Layout.{first_layout}
 use Rattle.mqtt_store_write.specs.Content.{AreShaped, IsShapedAt, IsWhole}
 use Rattle.mqtt_store_write.specs.Copy.{CopyColumns, copy_row, SetsCopy}
 use Rattle.mqtt_store_write.specs.Numbers.{number_row, SetsNumber}
@@ -27,13 +28,24 @@ copy_set birth place phase pid rel id c old new r there h =
 
 -- the row that is set stood
 pub number_set : (name : List ℕ) (value : ℕ) (id : ℤ) (n : ℕ) (old new : State) (r : Result ℕ Error) → Has (old.now.trees 0) (Int id ∷ number_row name n)
-    → OnOk r (SetsNumber name value id old.now.trees new.now.trees)
-    → OnOk r ((id : ℤ) × (n : ℕ) × Has (old.now.trees 0) (Int id ∷ number_row name n) × SetsNumber name value id old.now.trees new.now.trees)
+    → OnOk r (SetsNumber first_layout name value id old.now.trees new.now.trees)
+    → OnOk r ((id : ℤ) × (n : ℕ) × Has (old.now.trees 0) (Int id ∷ number_row name n) × SetsNumber first_layout name value id old.now.trees new.now.trees)
 number_set name value id n old new r there h =
-    on_ok (SetsNumber name value id old.now.trees new.now.trees) ((id : ℤ) × (n : ℕ) × Has (old.now.trees 0) (Int id ∷ number_row name n) × SetsNumber name value id old.now.trees new.now.trees) r (λ x. (id, n, there, x)) h
+    on_ok (SetsNumber first_layout name value id old.now.trees new.now.trees) ((id : ℤ) × (n : ℕ) × Has (old.now.trees 0) (Int id ∷ number_row name n) × SetsNumber first_layout name value id old.now.trees new.now.trees) r (λ x. (id, n, there, x)) h
 
-pub begun_whole : (old begun : State) → begun ≡ record old { in_transaction = true } → IsSettled old → IsWhole begun
-begun_whole old begun same s = rw same (record { ready = record { schema = s.schema; inside = refl; shaped = s.shaped; obeys = s.obeys }; meta = s.meta; retained = s.retained })
+-- a transaction that begins between two steps is whole
+pub begun_whole : (old begun : State) → begun ≡ record old { in_transaction = true } → IsSettled old → IsWhole first_layout begun
+begun_whole old begun same s = rw same (record {
+  schema = s.schema;
+  inside = refl;
+  meta = s.meta;
+  session = s.shaped.session;
+  will = s.shaped.will;
+  sub = s.shaped.sub;
+  inbound = s.shaped.inbound;
+  behind = (s.shaped.copy, (s.retained, tt));
+  obeys = s.obeys;
+})
 
 settled_as : (old new : State) → IsSettled old → new.now ≡ old.now → new.committed ≡ old.now → IsTrue new.is_open → IsSettled new
 settled_as old new s n c up = record {
@@ -53,6 +65,7 @@ back old tx new s kept b up =
     let n : new.now ≡ old.now = u.0 ∙ (was ∙ s.same) in
     (n, settled_as old new s n (u.1 ∙ (was ∙ s.same)) up)
 
+-- a commit that fails, and leaves the connection open, leaves the tables as they were between two steps
 pub commit_err : (old tx new : State) (res : Result (Unit {0}) Error) → IsSettled old → (IsTrue tx.is_open → tx.committed ≡ old.committed) → IsTrue tx.in_transaction → IfErr res (FailsToCommit tx new) → IsTrue new.is_open
     → OnErr res ((new.now ≡ old.now) × IsSettled new)
 commit_err old tx new (Ok t) s kept inside h up = tt

@@ -22,6 +22,7 @@ program q = record { lets = []; body = q }
 abbrev pub equals : ℕ → ℕ → Term
 equals at param = op2 (Compare Eq Binary) (col 1 at) (col 0 param)
 
+-- the text of the DELETE of a session means: from sessions, the one with this birth
 pub remove_session_is : command_of (understood keep_schema (codes "DELETE FROM session WHERE birth = ?1")) ≡ Delete 1 (program (over 2 (equals 0 0 ∷ []) (col 1 0 ∷ [])))
 unfolding understood everything
 remove_session_is = refl

@@ -16,16 +16,19 @@ use Rattle.mqtt_store_write.specs.Content.{IsShapedAt}
 use Rattle.mqtt_store_write.specs.Columns.{flag}
 use Rattle.mqtt_store_write.proofs.deletes.RemoveSession.{equal_ids}
 
+-- the number that a table gives is no row's of it
 pub apart : (db : Trees) (tree : ℕ) (r : Row) → IsShapedAt db tree → Has (db tree) r → equal Binary (rowid r) (Int (next_rowid (db tree))) ≡ false
 apart db tree r shaped h =
     let next = next_rowid (db tree) in
     let free : is_eq (value_cmp (rowid r) (Int next)) ≡ false = false_from_ne_true _ (λ t. true≢false (sym (some_from (λ y. is_eq (value_cmp (rowid y) (Int next))) (db tree) r h t) ∙ next_is_free Chosen (db tree) [] shaped.up shaped.ints)) in
     equal_ids (rowid r) next (all_has _ (db tree) r shaped.ints h) ∙ free
 
+-- and true changes nothing
 pub and_true : (b : Bool) → (b && true) ≡ b
 and_true true = refl
 and_true false = refl
 
+-- or false changes nothing
 pub or_false : (b : Bool) → (b || false) ≡ b
 or_false true = refl
 or_false false = refl

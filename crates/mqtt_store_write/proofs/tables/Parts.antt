@@ -22,16 +22,19 @@ use Rattle.sqlite.specs.Effect.{Database, Answers}
 use Rattle.sqlite.specs.Does.{Tally, Does}
 use Rattle.mqtt_store_write.proofs.tables.Commands.{over}
 
+-- what can't have stopped has gone on
 pub went : {B E R : Type 0} {b : B} {Stops : E → Type 0} → ((stop : E) × Stops stop × (Ok b ≡ Err stop)) ⊎ R → R
 went (inl stopped) = absurd (let e = stopped.2 in cc)
 went (inr on) = on
 
+-- equal answers answer equal values
 pub same_value : {B E : Type 0} {a b : B} → ◌≡◌ {A = Result B E} (Ok a) (Ok b) → a ≡ b
 same_value e = cc
 
 abbrev no_lists : List (List Row)
 no_lists = []
 
+-- with no lists beside them the tables are the database's
 pub overlay_none : (db : Trees) (t : ℕ) → overlay db [] t ≡ db t
 overlay_none db t = elim (nat_le (2 ^ 31) t) as (λ b. unwrap_or (cond b (slice_get no_lists (t - 2 ^ 31)) None) (db t) ≡ db t) [ true ↦ refl | false ↦ refl ]
 
@@ -63,6 +66,7 @@ answers_over tree tests project db params rows a =
     let moved : IsPermutation (map (λ (o : Output). o.1) a.kept) (map (λ (o : Output). o.1) a.ordered) = IsPermutation-map (λ (o : Output). o.1) a.kept a.ordered a.same in
     rw (← shown) (subst (IsPermutation (map (λ (o : Output). o.1) a.kept)) (sym a.shown) moved)
 
+-- what a DELETE leaves: its query is answered, and the rows of those rowids are taken out
 pub record Deleted (db : Database) (table : Table) (q : Program) (params : Row) (after : Database) : Type 0 where
   pub rows : List Row
   pub answers : Answers db q params rows
@@ -72,6 +76,7 @@ pub record Deleted (db : Database) (table : Table) (q : Program) (params : Row) 
 abbrev pub plain_mode : Mode
 plain_mode = record { keys = Enforced; in_doubt = false; may_wait = false }
 
+-- a DELETE that is done has answered its query and taken out those rows
 pub deleted : (limit : Option ℕ) (params : Row) (db : Database) (text : List ℕ) (at : ℕ) (q : Program) (table : Table) (tally : Tally) (after : Database)
     → slice_get db.schema.tables at ≡ Some table → Does limit plain_mode params db text None (Delete at q) (Ok (tally, after)) → Deleted db table q params after
 deleted limit params db text at q table tally after is h =
@@ -90,12 +95,14 @@ deleted limit params db text at q table tally after is h =
       schema = ap (λ (d : Database). d.schema) is_after;
     }
 
+-- what an UPDATE leaves: its query is answered, and its rows stand in place of those of their rowids
 pub record Updated (db : Database) (table : Table) (q : Program) (params : Row) (after : Database) : Type 0 where
   pub rows : List Row
   pub answers : Answers db q params rows
   pub writes : Writes db.schema Enforced db.trees (edit_of db.trees table (ids_of rows) Given 1 rows) (Ok after.trees)
   pub schema : after.schema ≡ db.schema
 
+-- an UPDATE that is done has answered its query and put those rows in place
 pub updated : (limit : Option ℕ) (params : Row) (db : Database) (text : List ℕ) (at : ℕ) (q : Program) (table : Table) (tally : Tally) (after : Database)
     → slice_get db.schema.tables at ≡ Some table → Does limit plain_mode params db text None (Update at q) (Ok (tally, after)) → Updated db table q params after
 updated limit params db text at q table tally after is h =

@@ -2,6 +2,7 @@ use Rattle.std.proofs.Common.{◌≡◌, length}
 use Rattle.sqlite.specs.State.{HasCleanDisk}
 use Rattle.sqlite.specs.Held.{state}
 use Rattle.mqtt_store_schema.specs.Settled.{StaysInside}
+use Rattle.mqtt_store_write.specs.Layout.{first_layout}
 use Rattle.mqtt_store_write.specs.Content.{IsWhole}
 use Rattle.mqtt_store.specs.Making.{NeedAll}
 use Rattle.mqtt_store.specs.Shortened.{KnowsEnd, shortened}
@@ -15,8 +16,8 @@ invariant-loop-change g l =
     record {
       same : l.tx.conn.ghost_name ≡ l.fn.tx.conn.ghost_name;
       inside : StaysInside old now;
-      whole : HasCleanDisk now → IsWhole old → IsWhole now;
-      left : HasCleanDisk now → IsWhole old → NeedAll (shortened l.changes) old.now.trees → Leads l.changes l.rest old.now.trees now.now.trees;
+      whole : HasCleanDisk now → IsWhole first_layout old → IsWhole first_layout now;
+      left : HasCleanDisk now → IsWhole first_layout old → NeedAll (shortened l.changes) old.now.trees → Leads l.changes l.rest old.now.trees now.now.trees;
       knows : KnowsEnd l.known l.rest;
     }
 

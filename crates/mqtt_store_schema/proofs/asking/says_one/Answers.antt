@@ -1,29 +1,6 @@
-use Rattle.std.proofs.Common.{inr}
-use Rattle.sqlite.specs.Held.{state}
-use Rattle.mqtt_store_schema.specs.Asking.{ask_text}
-use Rattle.mqtt_store_schema.proofs.Said.{said}
-use Rattle.mqtt_store_schema.proofs.Plain.{ask_shows}
-use Rattle.mqtt_store_schema.proofs.Staying.{query_reads}
+use Rattle.std.proofs.Common.{rules}
+use Rattle.mqtt_store_schema.proofs.Said.{said_one}
 use Rattle.mqtt_store_schema.proofs.asking.says_one.Goals as goal
 
-pub returns-in-Ok-clause-said : goal.returns-in-Ok-clause-said
-returns-in-Ok-clause-said g c clean = said (state g.S.Store c.args.conn.now) (state g.S.Store c.query_all.new.self) c.are_one.result c.in-Ok.rows.items (rw c.as_slice.ensures.value at c.are_one.ensures) (c.in-Ok.ensures.ok clean)
-
-pub returns-in-Err-SqlInputError-clause-said : goal.returns-in-Err-SqlInputError-clause-said
-returns-in-Err-SqlInputError-clause-said g c clean = inr (_, c.in-Err-SqlInputError.ensures.err clean)
-
-pub returns-in-Ok-clause-reads : goal.returns-in-Ok-clause-reads
-returns-in-Ok-clause-reads g c =
-    query_reads ask_text (state g.S.Store c.args.conn.now) (state g.S.Store c.query_all.new.self) (ask_shows _) c.query_all.result c.query_all.ensures.ok c.query_all.ensures.err c.query_all.ensures.mode c.query_all.ensures.survives
-
-pub returns-in-Err-SqlInputError-clause-reads : goal.returns-in-Err-SqlInputError-clause-reads
-returns-in-Err-SqlInputError-clause-reads g c =
-    query_reads ask_text (state g.S.Store c.args.conn.now) (state g.S.Store c.query_all.new.self) (ask_shows _) c.query_all.result c.query_all.ensures.ok c.query_all.ensures.err c.query_all.ensures.mode c.query_all.ensures.survives
-
-pub returns-in-Err : goal.returns-in-Err
-returns-in-Err g c = record {
-  said = λ _. tt;
-  reads =
-      query_reads ask_text (state g.S.Store c.args.conn.now) (state g.S.Store c.query_all.new.self) (ask_shows _) c.query_all.result c.query_all.ensures.ok c.query_all.ensures.err c.query_all.ensures.mode
-      c.query_all.ensures.survives;
-}
+pub returns-in-Some-clause-said : goal.returns-in-Some-clause-said
+returns-in-Some-clause-said g c clean = said_one _ _ c.in-Some.n _ (search rules) (rw c.in-Some.is at (c.in_ok-n.ensures.said clean))

@@ -2,6 +2,7 @@ use Rattle.std.proofs.Common.{arith, w64, pos, ap, subst, OnOk}
 use Rattle.std.proofs.lemmas.Int.{to_z-of_z}
 use Rattle.sqlite.specs.Held.{state}
 use Rattle.mqtt_store_schema.proofs.Kept.{stays_inside}
+use Rattle.mqtt_store_write.specs.Layout.{first_layout}
 use Rattle.mqtt_store_write.specs.Content.{IsWhole}
 use Rattle.mqtt_store_write.specs.Removal.{is_keyed}
 use Rattle.mqtt_store_write.specs.Copy.{CopyColumns, copy_row}
@@ -19,7 +20,7 @@ returns-clause-put g c clean whole =
     let publication = ap (λ (m : CopyColumns). m.publication) c.copy.view_is in
     let cause_n = ap (λ (m : CopyColumns). m.cause_n) c.copy.view_is in
     let arrived = ap (λ (m : CopyColumns). m.arrived) c.copy.view_is in
-    subst (λ (m : CopyColumns). OnOk c.execute.result (PutsInto 9 (numbered 9 (copy_row c.args.birth c.args.place m) old.now.trees) (is_keyed (pos c.args.birth) (pos c.args.place)) old.now.trees new.now.trees) × OnOk c.execute.result (IsWhole new)) c.copy.view_is
+    subst (λ (m : CopyColumns). OnOk c.execute.result (PutsInto first_layout 9 (numbered 9 (copy_row c.args.birth c.args.place m) old.now.trees) (is_keyed (pos c.args.birth) (pos c.args.place)) old.now.trees new.now.trees) × OnOk c.execute.result (IsWhole first_layout new)) c.copy.view_is
     (puts c.args.birth c.args.place _ old new c.execute.result whole
     (rw (
       c.params-to_sql.ensures,
@@ -55,7 +56,7 @@ returns-clause-put g c clean whole =
       bound_is w.identifier,
       bound_is w.order,
       flag_is w.retain,
-    ) at (c.execute.ensures.runs clean whole.ready.inside)))
+    ) at (c.execute.ensures.runs clean whole.inside)))
 
 pub returns-clause-inside : goal.returns-clause-inside
 returns-clause-inside g c = stays_inside g.S.Store _ _ _ _ c.execute.result c.execute.ensures.ended c.execute.ensures.runs c.execute.ensures.survives

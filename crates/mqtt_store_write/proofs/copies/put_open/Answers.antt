@@ -6,8 +6,8 @@ use Rattle.mqtt_store_write.proofs.puts.PutOpen.{puts_open}
 use Rattle.mqtt_store_write.proofs.copies.put_open.Goals as goal
 
 pub returns-clause-put : goal.returns-clause-put
-returns-clause-put g c clean whole =
-    puts_open c.args.birth c.args.identifier (state g.S.Store c.args.tx.now.conn.now) (state g.S.Store c.execute.new.self.conn.now) c.execute.result whole
+returns-clause-put g c l asked clean whole =
+    puts_open l asked c.args.birth c.args.identifier (state g.S.Store c.args.tx.now.conn.now) (state g.S.Store c.execute.new.self.conn.now) c.execute.result whole
     (rw (
       c.params-to_sql.ensures,
       c.params-to_sql-2.ensures,
@@ -15,7 +15,7 @@ returns-clause-put g c clean whole =
       c.whole-identifier.ensures,
       to_z-of_z w64 (pos c.args.birth) (omega arith),
       to_z-of_z w64 (pos c.args.identifier) (omega arith),
-    ) at (c.execute.ensures.runs clean whole.ready.inside))
+    ) at (c.execute.ensures.runs clean whole.inside))
 
 pub returns-clause-inside : goal.returns-clause-inside
 returns-clause-inside g c = stays_inside g.S.Store _ _ _ _ c.execute.result c.execute.ensures.ended c.execute.ensures.runs c.execute.ensures.survives

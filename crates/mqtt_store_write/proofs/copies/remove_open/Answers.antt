@@ -6,8 +6,8 @@ use Rattle.mqtt_store_write.proofs.deletes.Deletes.{removes_open}
 use Rattle.mqtt_store_write.proofs.copies.remove_open.Goals as goal
 
 pub returns-clause-removed : goal.returns-clause-removed
-returns-clause-removed g c clean ready =
-    removes_open (pos c.args.birth) (pos c.args.identifier) (state g.S.Store c.args.tx.now.conn.now) (state g.S.Store c.execute.new.self.conn.now) c.execute.result ready
+returns-clause-removed g c l asked clean ready =
+    removes_open l asked (pos c.args.birth) (pos c.args.identifier) (state g.S.Store c.args.tx.now.conn.now) (state g.S.Store c.execute.new.self.conn.now) c.execute.result ready
     (rw (
       c.params-to_sql.ensures,
       c.params-to_sql-2.ensures,

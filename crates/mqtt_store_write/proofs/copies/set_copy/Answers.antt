@@ -49,4 +49,4 @@ returns-clause-whole g c clean whole =
       c.from.ensures,
       to_z-of_z w64 (pos c.args.birth) (omega arith),
       to_z-of_z w64 (pos c.args.place) (omega arith),
-    ) at (c.execute.ensures.runs clean whole.ready.inside)))
+    ) at (c.execute.ensures.runs clean whole.inside)))

@@ -6,14 +6,14 @@ use Rattle.mqtt_store_write.proofs.sets.SetNumber.{sets_number, any_number}
 use Rattle.mqtt_store_write.proofs.numbers.set_number.Goals as goal
 
 pub returns-clause-set : goal.returns-clause-set
-returns-clause-set g c id n there clean whole =
-    sets_number c.args.name.now c.args.value (state g.S.Store c.args.tx.now.conn.now) (state g.S.Store c.execute.new.self.conn.now) id n c.execute.result whole there
-    (rw (c.params-to_sql.ensures, c.params-to_sql-2.ensures, c.whole-value.ensures, to_z-of_z w64 (pos c.args.value) (omega arith)) at (c.execute.ensures.runs clean whole.ready.inside))
+returns-clause-set g c l asked id n there clean whole =
+    sets_number l asked c.args.name.now c.args.value (state g.S.Store c.args.tx.now.conn.now) (state g.S.Store c.execute.new.self.conn.now) id n c.execute.result whole there
+    (rw (c.params-to_sql.ensures, c.params-to_sql-2.ensures, c.whole-value.ensures, to_z-of_z w64 (pos c.args.value) (omega arith)) at (c.execute.ensures.runs clean whole.inside))
 
 pub returns-clause-inside : goal.returns-clause-inside
 returns-clause-inside g c = stays_inside g.S.Store _ _ _ _ c.execute.result c.execute.ensures.ended c.execute.ensures.runs c.execute.ensures.survives
 
 pub returns-clause-whole : goal.returns-clause-whole
-returns-clause-whole g c clean whole =
-    any_number c.args.name.now c.args.value (state g.S.Store c.args.tx.now.conn.now) (state g.S.Store c.execute.new.self.conn.now) c.execute.result whole
-    (rw (c.params-to_sql.ensures, c.params-to_sql-2.ensures, c.whole-value.ensures, to_z-of_z w64 (pos c.args.value) (omega arith)) at (c.execute.ensures.runs clean whole.ready.inside))
+returns-clause-whole g c l asked clean whole =
+    any_number l asked c.args.name.now c.args.value (state g.S.Store c.args.tx.now.conn.now) (state g.S.Store c.execute.new.self.conn.now) c.execute.result whole
+    (rw (c.params-to_sql.ensures, c.params-to_sql-2.ensures, c.whole-value.ensures, to_z-of_z w64 (pos c.args.value) (omega arith)) at (c.execute.ensures.runs clean whole.inside))

@@ -2,6 +2,7 @@ use Rattle.std.proofs.Common.{arith, w64, pos, ap, subst, OnOk}
 use Rattle.std.proofs.lemmas.Int.{to_z-of_z}
 use Rattle.sqlite.specs.Held.{state}
 use Rattle.mqtt_store_schema.proofs.Kept.{stays_inside}
+use Rattle.mqtt_store_write.specs.Layout.{first_layout}
 use Rattle.mqtt_store_write.specs.Content.{IsWhole}
 use Rattle.mqtt_store_write.specs.Columns.{RetainedColumns, retained_row}
 use Rattle.mqtt_store_write.specs.Put.{PutsInto, is_retained}
@@ -14,7 +15,7 @@ returns-clause-put g c clean whole =
     let new = state g.S.Store c.execute.new.self.conn.now in
     let publication = ap (λ (m : RetainedColumns). m.publication) c.message.view_is in
     let arrived = ap (λ (m : RetainedColumns). m.arrived) c.message.view_is in
-    subst (λ (m : RetainedColumns). OnOk c.execute.result (PutsInto 11 (retained_row c.args.place m) (is_retained c.args.place m.topic) old.now.trees new.now.trees) × OnOk c.execute.result (IsWhole new)) c.message.view_is
+    subst (λ (m : RetainedColumns). OnOk c.execute.result (PutsInto first_layout 11 (retained_row c.args.place m) (is_retained c.args.place m.topic) old.now.trees new.now.trees) × OnOk c.execute.result (IsWhole first_layout new)) c.message.view_is
     (puts c.args.place _ old new c.execute.result whole
     (rw (
       c.params-to_sql.ensures,
@@ -32,7 +33,7 @@ returns-clause-put g c clean whole =
       to_z-of_z w64 (pos c.args.place) (omega arith),
       to_z-of_z w64 (pos c.message.inside.publication) (omega (arith, publication)),
       to_z-of_z w64 (pos c.message.inside.arrived) (omega (arith, arrived)),
-    ) at (c.execute.ensures.runs clean whole.ready.inside)))
+    ) at (c.execute.ensures.runs clean whole.inside)))
 
 pub returns-clause-inside : goal.returns-clause-inside
 returns-clause-inside g c = stays_inside g.S.Store _ _ _ _ c.execute.result c.execute.ensures.ended c.execute.ensures.runs c.execute.ensures.survives

@@ -8,7 +8,7 @@ use Rattle.mqtt_store_write.proofs.retained.remove_retained.Goals as goal
 pub returns-clause-removed : goal.returns-clause-removed
 returns-clause-removed g c clean whole =
     removes_retained (pos c.args.place) (state g.S.Store c.args.tx.now.conn.now) (state g.S.Store c.execute.new.self.conn.now) c.execute.result whole
-    (rw (c.params-to_sql.ensures, c.whole-place.ensures, to_z-of_z w64 (pos c.args.place) (omega arith)) at (c.execute.ensures.runs clean whole.ready.inside))
+    (rw (c.params-to_sql.ensures, c.whole-place.ensures, to_z-of_z w64 (pos c.args.place) (omega arith)) at (c.execute.ensures.runs clean whole.inside))
 
 pub returns-clause-inside : goal.returns-clause-inside
 returns-clause-inside g c = stays_inside g.S.Store _ _ _ _ c.execute.result c.execute.ensures.ended c.execute.ensures.runs c.execute.ensures.survives

@@ -10,11 +10,11 @@ use Rattle.mqtt_store_write.proofs.puts.PutSession.{puts}
 use Rattle.mqtt_store_write.proofs.sessions.put_session.Goals as goal
 
 pub returns-clause-put : goal.returns-clause-put
-returns-clause-put g c clean whole =
+returns-clause-put g c l ours clean whole =
     let old = state g.S.Store c.args.tx.now.conn.now in
     let new = state g.S.Store c.execute.new.self.conn.now in
-    subst (λ (s : SessionColumns). OnOk c.execute.result (PutsInto 2 (session_row c.args.birth s) (is_of 0 (pos c.args.birth)) old.now.trees new.now.trees) × OnOk c.execute.result (IsWhole new)) c.session.view_is
-    (puts c.args.birth _ old new c.execute.result whole
+    subst (λ (s : SessionColumns). OnOk c.execute.result (PutsInto l 2 (session_row c.args.birth s) (is_of 0 (pos c.args.birth)) old.now.trees new.now.trees) × OnOk c.execute.result (IsWhole l new)) c.session.view_is
+    (puts l ours c.args.birth _ old new c.execute.result whole
     (rw (
       c.params-to_sql.ensures,
       c.params-to_sql-2.ensures,
@@ -24,7 +24,7 @@ returns-clause-put g c clean whole =
       c.whole_or_none-closed.ensures,
       to_z-of_z w64 (pos c.args.birth) (omega arith),
       bound_is c.session.inside.closed,
-    ) at (c.execute.ensures.runs clean whole.ready.inside)))
+    ) at (c.execute.ensures.runs clean whole.inside)))
 
 pub returns-clause-inside : goal.returns-clause-inside
 returns-clause-inside g c = stays_inside g.S.Store _ _ _ _ c.execute.result c.execute.ensures.ended c.execute.ensures.runs c.execute.ensures.survives

@@ -7,10 +7,10 @@ use Rattle.mqtt_store_write.proofs.puts.PutSubscription.{puts}
 use Rattle.mqtt_store_write.proofs.subscriptions.put_subscription.Goals as goal
 
 pub returns-clause-put : goal.returns-clause-put
-returns-clause-put g c clean whole =
+returns-clause-put g c l asked clean whole =
     let old = state g.S.Store c.args.tx.now.conn.now in
     let new = state g.S.Store c.execute.new.self.conn.now in
-    (puts c.args.birth c.args.filter.now c.args.subscription.now old new c.execute.result whole
+    (puts l asked c.args.birth c.args.filter.now c.args.subscription.now old new c.execute.result whole
     (rw (
       c.params-to_sql.ensures,
       c.params-to_sql-2.ensures,
@@ -28,7 +28,7 @@ returns-clause-put g c clean whole =
       to_z-of_z w64 (pos c.args.subscription.now.place) (omega arith),
       flag_is c.args.subscription.now.no_local,
       flag_is c.args.subscription.now.retain_as_published,
-    ) at (c.execute.ensures.runs clean whole.ready.inside)))
+    ) at (c.execute.ensures.runs clean whole.inside)))
 
 pub returns-clause-inside : goal.returns-clause-inside
 returns-clause-inside g c = stays_inside g.S.Store _ _ _ _ c.execute.result c.execute.ensures.ended c.execute.ensures.runs c.execute.ensures.survives

@@ -6,9 +6,9 @@ use Rattle.mqtt_store_write.proofs.deletes.Deletes.{removes_will}
 use Rattle.mqtt_store_write.proofs.wills.remove_will.Goals as goal
 
 pub returns-clause-removed : goal.returns-clause-removed
-returns-clause-removed g c clean whole =
-    removes_will (pos c.args.birth) (state g.S.Store c.args.tx.now.conn.now) (state g.S.Store c.execute.new.self.conn.now) c.execute.result whole
-    (rw (c.params-to_sql.ensures, c.whole-birth.ensures, to_z-of_z w64 (pos c.args.birth) (omega arith)) at (c.execute.ensures.runs clean whole.ready.inside))
+returns-clause-removed g c l asked clean whole =
+    removes_will l asked (pos c.args.birth) (state g.S.Store c.args.tx.now.conn.now) (state g.S.Store c.execute.new.self.conn.now) c.execute.result whole
+    (rw (c.params-to_sql.ensures, c.whole-birth.ensures, to_z-of_z w64 (pos c.args.birth) (omega arith)) at (c.execute.ensures.runs clean whole.inside))
 
 pub returns-clause-inside : goal.returns-clause-inside
 returns-clause-inside g c = stays_inside g.S.Store _ _ _ _ c.execute.result c.execute.ensures.ended c.execute.ensures.runs c.execute.ensures.survives

@@ -3,7 +3,7 @@ use Rattle.sqlite.specs.Held.{state}
 use Rattle.sqlite.specs.State.{HasCleanDisk}
 use Rattle.mqtt_store_schema.specs.Creation.{HasTables}
 use Rattle.mqtt_store_schema.specs.Settled.{StaysInside}
-use Rattle.mqtt_store_schema.proofs.making.make_all.Given as goal
+use Rattle.mqtt_store_schema.proofs.making.make_tables.Given as goal
 
 abbrev pub invariant-loop-at : goal.invariant-loop-at
 invariant-loop-at g l =

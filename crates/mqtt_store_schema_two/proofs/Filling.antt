@@ -1,0 +1,31 @@
+-- What the INSERT of a new store's numbers makes of a database of schema 2.
+use Rattle.std.proofs.Common.{arith, ℕ, [], drop, Ok, Err, Result, OnOk, refl, IsTrue}
+use Rattle.sqlite_value.specs.Order.{value_cmp}
+use Rattle.sqlite_value.specs.Keys.{joined}
+use Rattle.sqlite_schema.specs.Names.{same_name}
+use Rattle.sqlite_sql.specs.Ops.{unary}
+use Rattle.sqlite.specs.declared.error.Error.{Error}
+use Rattle.sqlite.specs.Listing.{understood}
+use Rattle.sqlite.specs.State.{State, ExecutesInside}
+use Rattle.sqlite_tied.specs.Compute.{everything}
+use Rattle.mqtt_store_schema.proofs.Fills.{FillsMeta, writes_numbers, stay_empty}
+use Rattle.mqtt_store_schema_two.specs.Tables.{second_schema}
+use Rattle.mqtt_store_schema_two.specs.Creation.{fill_text, IsBare, IsNewSecond}
+use Rattle.mqtt_store_schema_two.specs.declared.tables.Making.TheVariants.{New}
+
+fills_meta : FillsMeta (second_schema New) 2 fill_text
+unfolding understood unary value_cmp lib.Ieee.is_nan lib.Ieee.lt same_name joined everything
+fills_meta = record { command = refl; plain = (refl, refl); numbered_are = refl; unworked = λ olds. refl }
+
+-- the text that fills meta leaves a new store of schema 2, inside the transaction
+pub fills : (old new : State) (r : Result ℕ Error) → IsBare old → ExecutesInside 0 fill_text [] old new r → OnOk r (IsNewSecond new.now × IsTrue new.in_transaction)
+fills old new (Err e) has h = tt
+fills old new (Ok count) has h =
+    let it = writes_numbers _ _ 2 fill_text fills_meta old new (Ok count) has.schema has.empty.0 h in (
+      record {
+        schema = it.schema_is;
+        meta_rows = it.numbers;
+        empty = stay_empty (drop 1 (second_schema New).tables) old.now.trees new.now.trees it.others.1 (omega arith, (omega arith, (omega arith, (omega arith, (omega arith, (omega arith, (omega arith, tt))))))) has.empty.1;
+      },
+      it.inside,
+    )
