@@ -1,22 +1,35 @@
 -- The size of a copy's PUBLISH, and its spelling by parts (MQTT 5.0, 2.1, 3.3).
-use Rattle.std.proofs.Common.{◌≡◌, ℕ, ◌+◌, Bool, true, false, List, [], ◌∷◌, ◌++◌, length, map, Result, Ok, Err, OnOk, refl, sym, ap, subst, ◌∙◌, append_assoc, arith}
+use Rattle.std.proofs.Common.{◌≡◌, ℕ, ◌+◌, Bool, true, false, List, [], ◌∷◌, ◌++◌, length, map, Option, Some, None, Result, Ok, Err, OnOk, refl, sym, ap, subst, ◌∙◌, append_assoc, arith}
+use Rattle.std.specs.Prelude.{◌↔◌, IsTrue, MatchOption, is_some}
 use Rattle.std.proofs.lemmas.List.{length-append}
 use Rattle.std.proofs.lemmas.List.Concat.{flat_map-cons}
+use Rattle.std.proofs.lemmas.Grind.{flat_map-append}
 use Rattle.mqtt_base.specs.declared.session.Qos.{Qos}
 use Rattle.mqtt_base.specs.declared.session.Qos.TheVariants.{AtMostOnce, AtLeastOnce, ExactlyOnce}
 use Rattle.mqtt_base.specs.Values.{varint, blob, two_bytes}
 use Rattle.std.specs.List.{AllByRecursion}
-use Rattle.mqtt_props.specs.declared.table.PropName.TheVariants.{AssignedClientIdentifier}
-use Rattle.mqtt_props.specs.Properties.{Prop, IsProp, Text, prop, block, props}
-use Rattle.mqtt_records_message.specs.PassedOn.{identified, property, sent_after}
+use Rattle.mqtt_props.specs.declared.table.PropName.TheVariants.{AssignedClientIdentifier, TopicAlias, UserProperty}
+use Rattle.mqtt_props.specs.Properties.{Prop, IsProp, Text, U16, prop, block, props}
+use Rattle.mqtt_props.specs.Edits.{only, without}
+use Rattle.mqtt_topic_aliases.specs.declared.form.Form.{Form}
+use Rattle.mqtt_topic_aliases.specs.declared.form.Form.TheVariants.{Plain}
+use Rattle.mqtt_topic_aliases.specs.Told.{alias_in, topic_in}
+use Rattle.mqtt_topic_aliases.specs.Sizes.{alias_size}
+use Rattle.mqtt_records_message.specs.PassedOn.{aged, identified, property, sent_after}
 use Rattle.mqtt_codec.specs.Publish.{identifier_field, delivery_head}
 use Rattle.mqtt_codec.specs.Heads.{first}
+use Rattle.mqtt_codec.specs.declared.packet.Packet.TheVariants as packets
 use Rattle.mqtt_codec.specs.Packets.{shortest_of}
 use Rattle.mqtt_records_message.specs.declared.message.MessageCopy.{MessageCopy}
-use Rattle.mqtt_records_message.specs.Queue.{IsSpelled, identifier_len, first_sent, remaining, publish_size}
-use Rattle.mqtt_rules.specs.Packets.{delivery_by, properties_sent, publish_of, seconds_waited, size_of, suback, unsuback}
+use Rattle.mqtt_records_message.specs.Queue.{IsSpelled, first_sent, publish_size}
+use Rattle.mqtt_rules.specs.Forms.{form_remaining, in_form, published_of, with_alias}
+use Rattle.mqtt_rules.specs.Packets.{delivery_by, properties_sent, seconds_waited, size_of, suback, unsuback}
 use Rattle.mqtt_rules.specs.Connect.{connack_properties}
-use Rattle.mqtt_broker_packets.specs.Frames.{identifier_bytes, IsSizeOf, sent_body, frame}
+use Rattle.mqtt_rules.proofs.contents.CopySizes.{sent_size}
+use Rattle.mqtt_rules.proofs.forms.FormBlocks.{alias_between}
+use Rattle.mqtt_rules.proofs.forms.FormSizes.{copy_body, copy_in_form, plain_remaining, props_in_form}
+use Rattle.mqtt_broker_packets.specs.declared.copies.Lengths.{Lengths}
+use Rattle.mqtt_broker_packets.specs.Frames.{alias_alone, identifier_bytes, IsSizeIn, IsSizeOf, IsSpelledIn, Measures, sent_body, frame}
 use Rattle.mqtt_broker_packets.proofs.Sizes.{sent-length, own-each}
 
 -- ---- the body
@@ -26,38 +39,19 @@ field_is AtMostOnce dup id = refl
 field_is AtLeastOnce dup id = refl
 field_is ExactlyOnce dup id = refl
 
-field-length : (qos : Qos) (id : ℕ) → length (identifier_bytes qos id) ≡ identifier_len qos
-field-length AtMostOnce id = refl
-field-length AtLeastOnce id = refl
-field-length ExactlyOnce id = refl
-
--- bytes of the properties: the same at each moment
-pub block-length : (now : ℕ) (copy : MessageCopy) → length (block (properties_sent now copy)) ≡ length (block (first_sent copy))
-block-length now copy =
-    let same = sent-length (seconds_waited now copy.content) copy.identifiers copy.content.properties in
-    let here = length-append (varint (length (props (properties_sent now copy)))) (props (properties_sent now copy)) in
-    let there = length-append (varint (length (props (first_sent copy)))) (props (first_sent copy)) in
-    let head : length (varint (length (props (properties_sent now copy)))) ≡ length (varint (length (props (first_sent copy)))) = ap (λ (n : ℕ). length (varint n)) same in
-    omega (arith, here, there, head, same)
-
--- a copy's body is as long as its Remaining Length says
-pub body-length : (now id : ℕ) (copy : MessageCopy) → length (sent_body now id copy) ≡ remaining copy
-body-length now id copy =
-    let field = identifier_bytes copy.qos id in
-    let rest = block (properties_sent now copy) ++ copy.content.payload in
-    let first = length-append (blob copy.content.topic) (field ++ rest) in
-    let second = length-append field rest in
-    let third = length-append (block (properties_sent now copy)) copy.content.payload in
-    let few = field-length copy.qos id in
-    let same = block-length now copy in
-    omega (arith, first, second, third, few, same)
-
--- a copy's PUBLISH is spelled by its head and body
-pub spelled_by : (now id : ℕ) (dup : Bool) (copy : MessageCopy) → shortest_of (publish_of now dup id copy) ≡ frame (first (delivery_head (delivery_by copy.qos dup id) copy.retain)) (sent_body now id copy)
-spelled_by now id dup copy =
-    let rest = block (properties_sent now copy) ++ copy.content.payload in
+-- a copy's PUBLISH in a form is spelled by its head and body
+pub spelled_by : (now id : ℕ) (dup : Bool) (form : Form) (copy : MessageCopy) → shortest_of (packets.Publish (in_form form (published_of now dup id copy))) ≡ frame (first (delivery_head (delivery_by copy.qos dup id) copy.retain)) (sent_body now id form copy)
+spelled_by now id dup form copy =
+    let rest = block (with_alias (alias_in form) (properties_sent now copy)) ++ copy.content.payload in
     let head = first (delivery_head (delivery_by copy.qos dup id) copy.retain) in
-    ap (λ (f : List ℕ). frame head (blob copy.content.topic ++ (f ++ rest))) (field_is copy.qos dup id)
+    ap (λ (f : List ℕ). frame head (blob (topic_in form copy.content.topic) ++ (f ++ rest))) (field_is copy.qos dup id)
+
+-- its body is as long as its Remaining Length says
+pub body-length : (now id : ℕ) (dup : Bool) (form : Form) (copy : MessageCopy) → length (sent_body now id form copy) ≡ form_remaining form copy
+body-length now id dup form copy =
+    let rest = block (with_alias (alias_in form) (properties_sent now copy)) ++ copy.content.payload in
+    ap (λ (f : List ℕ). length (blob (topic_in form copy.content.topic) ++ (f ++ rest))) (sym (field_is copy.qos dup id))
+    ∙ copy_body form copy now id dup
 
 -- a frame is its first byte, its length and its body
 pub frame-length : (head : ℕ) (body : List ℕ) → length (frame head body) ≡ 1 + length (varint (length body)) + length body
@@ -65,41 +59,78 @@ frame-length head body = let sum = length-append (varint (length body)) body in 
 
 -- a copy has the size of its PUBLISH
 pub size_stays : (copy : MessageCopy) → IsSizeOf copy (publish_size copy)
-size_stays copy now id dup =
-    let head = first (delivery_head (delivery_by copy.qos dup id) copy.retain) in
-    let body = sent_body now id copy in
-    let long = body-length now id copy in
-    let prefix : length (varint (length body)) ≡ length (varint (remaining copy)) = ap (λ (n : ℕ). length (varint n)) long in
-    let sum = frame-length head body in
-    let whole : publish_size copy ≡ length (frame head body) = omega (arith, long, prefix, sum) in
-    whole ∙ sym (ap length (spelled_by now id dup copy))
+size_stays copy now id dup = sym (sent_size now dup id copy)
 
--- that size is made of the Remaining Length
-pub publish_size_is : (len size : ℕ) (copy : MessageCopy) → len ≡ remaining copy → size ≡ 1 + length (varint len) + len → IsSizeOf copy size
-publish_size_is len size copy is sum = subst (IsSizeOf copy) (sym (sum ∙ ap (λ (n : ℕ). 1 + length (varint n) + n) is)) (size_stays copy)
+-- in a form the size is made of the Remaining Length
+pub size_in_is : (len size : ℕ) (form : Form) (copy : MessageCopy) → len ≡ form_remaining form copy → size ≡ 1 + length (varint len) + len → IsSizeIn form copy size
+size_in_is len size form copy is sum now id dup =
+    sum ∙ ap (λ (n : ℕ). 1 + length (varint n) + n) is ∙ sym (copy_in_form form copy now id dup)
 
--- what was written is the copy's PUBLISH
-pub publish_spelled : (now id : ℕ) (dup : Bool) (copy : MessageCopy) (head len : ℕ) (bytes : List ℕ) → head ≡ first (delivery_head (delivery_by copy.qos dup id) copy.retain) → len ≡ remaining copy → bytes ≡ (head ∷ varint len) ++ sent_body now id copy → bytes ≡ shortest_of (publish_of now dup id copy)
-publish_spelled now id dup copy head len bytes first_is len_is is =
-    let long : length (sent_body now id copy) ≡ len = body-length now id copy ∙ sym len_is in
-    is ∙ ap (λ (h : ℕ). (h ∷ varint len) ++ sent_body now id copy) first_is
-    ∙ ap (λ (n : ℕ). (first (delivery_head (delivery_by copy.qos dup id) copy.retain) ∷ varint n) ++ sent_body now id copy) (sym long)
-    ∙ sym (spelled_by now id dup copy)
+-- what was written is the copy's PUBLISH in that form
+pub publish_spelled : (now id : ℕ) (dup : Bool) (form : Form) (copy : MessageCopy) (head len : ℕ) (bytes : List ℕ) → head ≡ first (delivery_head (delivery_by copy.qos dup id) copy.retain) → len ≡ form_remaining form copy → bytes ≡ (head ∷ varint len) ++ sent_body now id form copy → bytes ≡ shortest_of (packets.Publish (in_form form (published_of now dup id copy)))
+publish_spelled now id dup form copy head len bytes first_is len_is is =
+    let long : length (sent_body now id form copy) ≡ len = body-length now id dup form copy ∙ sym len_is in
+    is ∙ ap (λ (h : ℕ). (h ∷ varint len) ++ sent_body now id form copy) first_is
+    ∙ ap (λ (n : ℕ). (first (delivery_head (delivery_by copy.qos dup id) copy.retain) ∷ varint n) ++ sent_body now id form copy) (sym long)
+    ∙ sym (spelled_by now id dup form copy)
+
+-- a copy whose PUBLISH has a spelling has one in the plain form
+pub spelled_plain : (copy : MessageCopy) → IsSpelled copy → IsSpelledIn Plain copy
+spelled_plain copy spelled =
+    let same = plain_remaining copy in
+    let short = spelled.short in
+    record { properties = spelled.properties; short = omega (arith, same, short) }
+
+-- and the other way
+pub plain_spelled : (copy : MessageCopy) → IsSpelledIn Plain copy → IsSpelled copy
+plain_spelled copy spelled =
+    let same = plain_remaining copy in
+    let short = spelled.short in
+    record { properties = spelled.properties; short = omega (arith, same, short) }
+
+-- lengths in the plain form tell it
+pub told_plain : (is : Bool) (o : Option Lengths) (copy : MessageCopy) → is ≡ is_some o → MatchOption o (¬ IsSpelledIn Plain copy) (Measures Plain copy) → IsTrue is ↔ IsSpelled copy
+told_plain is None copy same none = (λ t. absurd cc, λ spelled. absurd (none (spelled_plain copy spelled)))
+told_plain is (Some lengths) copy same measured = (λ t. plain_spelled copy measured.spelled, λ spelled. same)
 
 -- ---- the properties
 
 -- the identifiers of a copy with a spelling have one
-pub own_spelled : (copy : MessageCopy) (ids : List ℕ) → ids ≡ copy.identifiers → IsSpelled copy → AllByRecursion IsProp (map identified ids)
-own_spelled copy ids same spelled =
+pub own_spelled : (form : Form) (copy : MessageCopy) (ids : List ℕ) → ids ≡ copy.identifiers → IsSpelledIn form copy → AllByRecursion IsProp (map identified ids)
+own_spelled form copy ids same spelled =
     subst (λ (xs : List ℕ). AllByRecursion IsProp (map identified xs)) (sym same)
     (own-each copy.identifiers copy.content.properties spelled.properties.each)
 
--- what was written is the block of what is sent
-pub block_written : (now pairs waited : ℕ) (ids : List ℕ) (ps : List Prop) (copy : MessageCopy) (old mid new : List ℕ) → pairs ≡ length (props (first_sent copy)) → waited ≡ seconds_waited now copy.content → ids ≡ copy.identifiers → ps ≡ copy.content.properties → mid ≡ old ++ varint pairs → new ≡ mid ++ props (sent_after waited ids ps) → new ≡ old ++ block (properties_sent now copy)
-block_written now pairs waited ids ps copy old mid new few wait same own first is =
-    let all = properties_sent now copy in
-    let long : pairs ≡ length (props all) = few ∙ sym (sent-length (seconds_waited now copy.content) copy.identifiers copy.content.properties) in
-    is ∙ rw (first, wait, same, own, append_assoc) (ap (λ (n : ℕ). old ++ (varint n ++ props all)) long)
+-- four parts, with the alias between the identifiers and the User Properties, are the block's pairs
+pub sent_written : (alias : Option ℕ) (waited : ℕ) (ids : List ℕ) (ps : List Prop) (old a b c new : List ℕ) → a ≡ old ++ props (map (aged waited) (without UserProperty ps)) → b ≡ a ++ props (map identified ids) → c ≡ b ++ props (alias_alone alias) → new ≡ c ++ props (only UserProperty ps) → new ≡ old ++ props (with_alias alias (sent_after waited ids ps))
+sent_written alias waited ids ps old a b c new a_is b_is c_is is =
+    let aging = map (aged waited) (without UserProperty ps) in
+    let own = map identified ids in
+    let user = only UserProperty ps in
+    let first : new ≡ ((old ++ props aging) ++ props own) ++ props (alias_alone alias) ++ props user = is ∙ rw (c_is, b_is, a_is) refl in
+    let second : ((old ++ props aging) ++ props own) ++ props (alias_alone alias) ++ props user ≡ old ++ (props aging ++ (props own ++ (props (alias_alone alias) ++ props user))) = simp append_assoc in
+    first ∙ second ∙ ap (λ (xs : List ℕ). old ++ xs) (by alias)
+  where
+    joined : (xs ys zs : List Prop) → props xs ++ (props ys ++ props zs) ≡ props (xs ++ ys ++ zs)
+    joined xs ys zs = rw (flat_map-append prop (xs ++ ys) zs, flat_map-append prop xs ys) (sym (append_assoc (props xs) (props ys) (props zs)))
+
+    by : (alias : Option ℕ) → props (map (aged waited) (without UserProperty ps)) ++ (props (map identified ids) ++ (props (alias_alone alias) ++ props (only UserProperty ps))) ≡ props (with_alias alias (sent_after waited ids ps))
+    by None = joined (map (aged waited) (without UserProperty ps)) (map identified ids) (only UserProperty ps)
+    by (Some n) =
+        let user = only UserProperty ps in
+        let behind = property TopicAlias (U16 n) in
+        ap (λ (xs : List ℕ). props (map (aged waited) (without UserProperty ps)) ++ (props (map identified ids) ++ xs)) (sym (flat_map-append prop (behind ∷ []) user))
+        ∙ joined (map (aged waited) (without UserProperty ps)) (map identified ids) (behind ∷ user)
+        ∙ ap props (sym (alias_between n waited ids ps))
+
+-- what was written is the block of what is sent in a form
+pub block_written : (now pairs waited : ℕ) (ids : List ℕ) (ps : List Prop) (form : Form) (alias : Option ℕ) (copy : MessageCopy) (old mid new : List ℕ) → pairs ≡ length (props (first_sent copy)) + alias_size form → waited ≡ seconds_waited now copy.content → ids ≡ copy.identifiers → ps ≡ copy.content.properties → alias ≡ alias_in form → mid ≡ old ++ varint pairs → new ≡ mid ++ props (with_alias alias (sent_after waited ids ps)) → new ≡ old ++ block (with_alias (alias_in form) (properties_sent now copy))
+block_written now pairs waited ids ps form alias copy old mid new few wait same own form_is first is =
+    let all = with_alias (alias_in form) (properties_sent now copy) in
+    let sent = sent-length (seconds_waited now copy.content) copy.identifiers copy.content.properties in
+    let more = props_in_form form (properties_sent now copy) in
+    let long : pairs ≡ length (props all) = omega (arith, few, sent, more) in
+    is ∙ rw (first, wait, same, own, form_is) (append_assoc old (varint pairs) (props all) ∙ ap (λ (n : ℕ). old ++ (varint n ++ props all)) long)
 
 -- what follows behind an Ok follows behind this one
 pub on_ok : {T E A B : Type 0} (r : Result T E) → (A → B) → OnOk r A → OnOk r B

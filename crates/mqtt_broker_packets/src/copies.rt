@@ -1,22 +1,27 @@
-//! PUBLISH: a copy of a publication for a client (3.3).
-ghost use Rattle.std.specs.Prelude.{◌≡◌, ◌++◌, ◌+◌, ◌<◌, ◌^◌, ◌↔◌, ℕ, length, IfOk, IsTrue, MatchOption, OnOk};
+//! PUBLISH: a copy of a publication for a client, plain or in another form (3.3).
+ghost use Rattle.std.specs.Prelude.{◌≡◌, ◌++◌, ◌+◌, ◌<◌, ◌^◌, ◌↔◌, ℕ, length, IfOk, IfSome, IsTrue, MatchOption, OnOk, OnSome};
 ghost use Rattle.mqtt_base.specs.Values.{blob};
-ghost use Rattle.mqtt_props.specs.Properties.{block, props};
+ghost use Rattle.mqtt_props.specs.Properties.{FitsBlock, block, props};
+ghost use Rattle.mqtt_topic_aliases.specs.Told.{alias_in, topic_in};
+ghost use Rattle.mqtt_topic_aliases.specs.Sizes.{alias_size};
+ghost use Rattle.mqtt_codec.specs.declared.packet.Packet.TheVariants as packets;
 ghost use Rattle.mqtt_codec.specs.Heads.{first};
 ghost use Rattle.mqtt_codec.specs.Packets.{shortest_of};
 ghost use Rattle.mqtt_codec.specs.Publish.{delivery_head};
-ghost use Rattle.mqtt_records_message.specs.Queue.{first_sent, identifier_len, remaining, IsSpelled};
+ghost use Rattle.mqtt_records_message.specs.Queue.{first_sent, identifier_len, IsSpelled};
+ghost use Rattle.mqtt_rules.specs.Forms.{in_form, other_bytes, published_of, with_alias};
 ghost use Rattle.mqtt_rules.specs.Packets.{delivery_by, properties_sent, publish_of, seconds_waited};
-ghost use Rattle.mqtt_broker_packets.specs.Frames.{identifier_bytes, IsSizeOf, Measures, sent_body};
+ghost use Rattle.mqtt_broker_packets.specs.Frames.{identifier_bytes, IsSizeIn, IsSizeOf, IsSpelledIn, Measures, sent_body};
 
 use crate::frame::{frame_begin, frame_end};
 use crate::sent::{sent_len, sent_push};
 use bytes::Bytes;
 use mqtt_base::{Qos, VARINT_LIMIT, blob_push, u16_push, varint_len, varint_push};
 use mqtt_records_message::{Content, CopyRow, MessageCopy};
+use mqtt_topic_aliases::{Form, OtherBytes};
 use std::alloc::{AllocError, Global};
 
-/// Lengths of a copy's PUBLISH, in bytes.
+/// Lengths of a copy's PUBLISH in a form, in bytes.
 #[derive(Clone, Copy, Debug, PartialEq, Eq)]
 pub(crate) struct Lengths {
     /// Of its properties, their length left out.
@@ -67,50 +72,120 @@ fn seconds_waited(now: u64, content: &Content) -> u64
     now.saturating_sub(content.arrived) / 1_000
 }
 
-/// The lengths of a copy's PUBLISH, if it has a spelling.
-fn lengths_of(copy: &MessageCopy) -> Option<Lengths>
-    ensures { MatchOption result (¬ IsSpelled copy.now) (Measures copy.now) }
+/// The bytes that a copy's PUBLISH has besides its topic and a Topic Alias, if the properties are a
+/// block: the same at each moment, with DUP or without, under each identifier (3.3). Takes no memory.
+pub fn other_bytes(copy: &MessageCopy) -> Option<OtherBytes>
+    ensures exact { MatchOption result (¬ FitsBlock (first_sent copy.now))
+        (λ other. other ≡ other_bytes copy.now) }
+    ensures fits { OnSome result (FitsBlock (first_sent copy.now)) }
+{
+    let list = copy.content.properties.lend();
+    let properties = sent_len(&list, copy.identifiers.as_slice())?;
+    let rest = identifier_len(copy.qos) + copy.content.payload.len();
+    Some(OtherBytes { properties, rest })
+}
+
+/// The bytes of the topic that stands in a form, without its length (3.3.2.1).
+fn topic_len(form: Form, copy: &MessageCopy) -> usize
+    ensures value { result ≡ length (topic_in form copy.now.content.topic) }
+    ensures below { result < 2 ^ 16 }
+{
+    match form {
+        Form::Plain | Form::Named(_) => copy.content.topic.as_str().len(),
+        Form::Short(_) => 0,
+    }
+}
+
+/// The bytes of the Topic Alias that stands in a form (3.3.2.3.4).
+fn alias_len(form: Form) -> usize
+    ensures value { result ≡ alias_size form }
+    ensures below { result < 4 }
+{
+    match form {
+        Form::Plain => 0,
+        Form::Named(_) | Form::Short(_) => 3,
+    }
+}
+
+/// The lengths of a copy's PUBLISH in a form, by its other bytes, if it has a spelling.
+fn lengths_by(form: Form, other: OtherBytes, copy: &MessageCopy) -> Option<Lengths>
+    requires other { other ≡ other_bytes copy.now }
+    requires fits { FitsBlock (first_sent copy.now) }
+    ensures { MatchOption result (¬ IsSpelledIn form copy.now) (Measures form copy.now) }
 {
     let limit = VARINT_LIMIT as usize;
-    let list = copy.content.properties.lend();
-    let pairs = sent_len(&list, copy.identifiers.as_slice())?;
-    let payload = copy.content.payload.len();
-    if payload >= limit {
+    if other.rest >= limit {
         return None;
     }
-    let topic = copy.content.topic.as_str().len();
+    let pairs = other.properties + alias_len(form);
+    if pairs >= limit {
+        return None;
+    }
     let block = varint_len(pairs as u32) + pairs;
-    let remaining = 2 + topic + identifier_len(copy.qos) + block + payload;
+    let remaining = 2 + topic_len(form, copy) + block + other.rest;
     if remaining >= limit {
         return None;
     }
     Some(Lengths { pairs, remaining })
 }
 
-/// Writes the topic and the packet identifier at the end (3.3.2.1, 3.3.2.2).
-fn head_push(out: &mut Vec<u8>, identifier: u16, copy: &MessageCopy) -> Result<(), AllocError>
-    ensures { OnOk result (out.new.items
-        ≡ out.old.items ++ (blob copy.now.content.topic ++ identifier_bytes copy.now.qos identifier)) }
+/// The lengths of a copy's PUBLISH in a form, if it has a spelling.
+fn lengths_in(form: Form, copy: &MessageCopy) -> Option<Lengths>
+    ensures { MatchOption result (¬ IsSpelledIn form copy.now) (Measures form copy.now) }
 {
-    blob_push(out, copy.content.topic.as_str().as_bytes())?;
+    let other = other_bytes(copy)?;
+    lengths_by(form, other, copy)
+}
+
+/// Writes the topic of a form at the end (3.3.2.1).
+fn topic_push(out: &mut Vec<u8>, form: Form, copy: &MessageCopy) -> Result<(), AllocError>
+    ensures { OnOk result (out.new.items
+        ≡ out.old.items ++ blob (topic_in form copy.now.content.topic)) }
+{
+    match form {
+        Form::Plain | Form::Named(_) => blob_push(out, copy.content.topic.as_str().as_bytes()),
+        Form::Short(_) => u16_push(out, 0),
+    }
+}
+
+/// Writes the topic of a form and the packet identifier at the end (3.3.2.1, 3.3.2.2).
+fn head_push(
+    out: &mut Vec<u8>,
+    identifier: u16,
+    form: Form,
+    copy: &MessageCopy,
+) -> Result<(), AllocError>
+    ensures { OnOk result (out.new.items ≡ out.old.items
+        ++ (blob (topic_in form copy.now.content.topic) ++ identifier_bytes copy.now.qos identifier)) }
+{
+    topic_push(out, form, copy)?;
     identifier_push(out, copy.qos, identifier)
 }
 
-/// Writes the properties of a copy at a moment at the end; their pairs have so many bytes (3.3.2.3).
+/// Writes the properties of a copy at a moment at the end, with the Topic Alias of a form; their pairs
+/// have so many bytes (3.3.2.3).
 fn block_push(
     out: &mut Vec<u8>,
     now: u64,
     pairs: usize,
+    form: Form,
     copy: &MessageCopy,
 ) -> Result<(), AllocError>
-    requires spelled { IsSpelled copy.now }
-    requires pairs { pairs ≡ length (props (first_sent copy.now)) }
-    ensures { OnOk result (out.new.items ≡ out.old.items ++ block (properties_sent now copy.now)) }
+    requires spelled { IsSpelledIn form copy.now }
+    requires pairs { pairs ≡ length (props (first_sent copy.now)) + alias_size form }
+    ensures { OnOk result (out.new.items
+        ≡ out.old.items ++ block (with_alias (alias_in form) (properties_sent now copy.now))) }
 {
     varint_push(out, pairs as u32)?;
     let list = copy.content.properties.lend();
     let waited = seconds_waited(now, &copy.content);
-    sent_push(out, &list, waited, copy.identifiers.as_slice())
+    sent_push(
+        out,
+        &list,
+        waited,
+        copy.identifiers.as_slice(),
+        form.alias(),
+    )
 }
 
 /// Writes all behind the fixed header at the end.
@@ -119,14 +194,16 @@ fn body_push(
     now: u64,
     identifier: u16,
     pairs: usize,
+    form: Form,
     copy: &MessageCopy,
 ) -> Result<(), AllocError>
-    requires spelled { IsSpelled copy.now }
-    requires pairs { pairs ≡ length (props (first_sent copy.now)) }
-    ensures { OnOk result (out.new.items ≡ out.old.items ++ sent_body now identifier copy.now) }
+    requires spelled { IsSpelledIn form copy.now }
+    requires pairs { pairs ≡ length (props (first_sent copy.now)) + alias_size form }
+    ensures { OnOk result (out.new.items
+        ≡ out.old.items ++ sent_body now identifier form copy.now) }
 {
-    head_push(out, identifier, copy)?;
-    block_push(out, now, pairs, copy)?;
+    head_push(out, identifier, form, copy)?;
+    block_push(out, now, pairs, form, copy)?;
     out.extend_from_slice(copy.content.payload.as_slice())
 }
 
@@ -134,24 +211,58 @@ fn body_push(
 pub fn has_spelling(copy: &MessageCopy) -> bool
     ensures { IsTrue result ↔ IsSpelled copy.now }
 {
-    lengths_of(copy).is_some()
+    lengths_in(Form::Plain, copy).is_some()
+}
+
+/// How many bytes a copy's PUBLISH takes in a form, fixed header included: the same at each moment,
+/// with DUP or without, under each identifier; none where it has no spelling (2.1.4, 3.3). Takes no
+/// memory.
+#[tactic(auto, using(crate::proofs::Spelled::size_in_is))]
+pub fn publish_in_len(form: Form, copy: &MessageCopy) -> Option<usize>
+    ensures exact { MatchOption result (¬ IsSpelledIn form copy.now) (IsSizeIn form copy.now) }
+    ensures spelled { OnSome result (IsSpelledIn form copy.now) }
+    ensures bound { IfSome result (λ size. size < 2 ^ 28 + 5) }
+{
+    let remaining = lengths_in(form, copy)?.remaining;
+    Some(1 + varint_len(remaining as u32) + remaining)
 }
 
 /// How many bytes a copy's PUBLISH takes, fixed header included: the same at each moment, with DUP
 /// or without, under each identifier (3.3). Takes no memory.
-#[tactic(auto, using(crate::proofs::Spelled::publish_size_is))]
+#[tactic(auto, using(crate::proofs::Spelled::spelled_plain))]
 pub fn publish_len(copy: &MessageCopy) -> usize
     requires { IsSpelled copy.now }
     ensures exact { IsSizeOf copy.now result }
     ensures bound { result < 2 ^ 28 + 5 }
 {
-    let remaining = lengths_of(copy).unwrap().remaining;
-    1 + varint_len(remaining as u32) + remaining
+    publish_in_len(Form::Plain, copy).unwrap()
+}
+
+/// A copy's PUBLISH in a form, at a moment in milliseconds, with its DUP flag and its packet identifier;
+/// at QoS 0 it has neither (3.3). Topic, properties and payload are copied into it alone.
+#[tactic(auto, using(crate::proofs::Spelled::publish_spelled))]
+pub fn publish_in(
+    alloc: Global,
+    now: u64,
+    dup: bool,
+    identifier: u16,
+    form: Form,
+    copy: &MessageCopy,
+) -> Result<Bytes, AllocError>
+    requires { IsSpelledIn form copy.now }
+    ensures { IfOk result (λ bytes. bytes
+        ≡ shortest_of (packets.Publish (in_form form (published_of now dup identifier copy.now)))) }
+{
+    let lengths = lengths_in(form, copy).unwrap();
+    let first = first_byte(copy.qos, dup, copy.retain);
+    let mut out = frame_begin(alloc, first, lengths.remaining)?;
+    let written = body_push(&mut out, now, identifier, lengths.pairs, form, copy);
+    frame_end(out, written)
 }
 
 /// A copy's PUBLISH at a moment in milliseconds, with its DUP flag and its packet identifier; at QoS 0
 /// it has neither (3.3). Topic, properties and payload are copied into it alone.
-#[tactic(auto, using(crate::proofs::Spelled::publish_spelled))]
+#[tactic(auto, using(crate::proofs::Spelled::spelled_plain))]
 pub fn publish(
     alloc: Global,
     now: u64,
@@ -162,11 +273,7 @@ pub fn publish(
     requires { IsSpelled copy.now }
     ensures { IfOk result (λ bytes. bytes ≡ shortest_of (publish_of now dup identifier copy.now)) }
 {
-    let lengths = lengths_of(copy).unwrap();
-    let first = first_byte(copy.qos, dup, copy.retain);
-    let mut out = frame_begin(alloc, first, lengths.remaining)?;
-    let written = body_push(&mut out, now, identifier, lengths.pairs, copy);
-    frame_end(out, written)
+    publish_in(alloc, now, dup, identifier, Form::Plain, copy)
 }
 
 /// How many bytes the PUBLISH of a copy in a queue takes, fixed header included (3.3). Takes no memory.

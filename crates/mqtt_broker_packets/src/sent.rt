@@ -5,9 +5,11 @@ ghost use Rattle.mqtt_props.specs.declared.table.PropName.TheVariants.{UserPrope
 ghost use Rattle.mqtt_props.specs.Edits.{only, without};
 ghost use Rattle.mqtt_props.specs.Properties.{FitsBlock, IsProp, prop, props};
 ghost use Rattle.mqtt_records_message.specs.PassedOn.{aged, identified, sent_after};
+ghost use Rattle.mqtt_rules.specs.Forms.{with_alias};
+ghost use Rattle.mqtt_broker_packets.specs.Frames.{alias_alone};
 
 use crate::property::aged_push;
-use mqtt_base::{VARINT_LIMIT, varint_len, varint_push};
+use mqtt_base::{VARINT_LIMIT, u16_push, varint_len, varint_push};
 use mqtt_props::{PropName, PropsRef, prop_push};
 use std::alloc::AllocError;
 
@@ -62,19 +64,35 @@ fn user_push(out: &mut Vec<u8>, list: &PropsRef<'_>) -> Result<(), AllocError>
     Ok(())
 }
 
-/// Writes the properties of a copy that has waited so many seconds at the end.
+/// Writes a Topic Alias at the end, if there is one (3.3.2.3.4).
+fn alias_push(out: &mut Vec<u8>, alias: Option<u16>) -> Result<(), AllocError>
+    ensures { OnOk result (out.new.items ≡ out.old.items ++ props (alias_alone alias)) }
+{
+    match alias {
+        None => Ok(()),
+        Some(alias) => {
+            out.push(PropName::TopicAlias.id())?;
+            u16_push(out, alias)
+        }
+    }
+}
+
+/// Writes the properties of a copy that has waited so many seconds at the end, with a Topic Alias if
+/// there is one.
 pub(crate) fn sent_push(
     out: &mut Vec<u8>,
     list: &PropsRef<'_>,
     waited: u64,
     identifiers: &[u32],
+    alias: Option<u16>,
 ) -> Result<(), AllocError>
     requires { AllByRecursion IsProp (map identified identifiers.now) }
     ensures { OnOk result (out.new.items
-        ≡ out.old.items ++ props (sent_after waited identifiers.now list.now)) }
+        ≡ out.old.items ++ props (with_alias alias (sent_after waited identifiers.now list.now))) }
 {
     aged_all_push(out, list, waited)?;
     identifiers_push(out, identifiers)?;
+    alias_push(out, alias)?;
     user_push(out, list)
 }
 

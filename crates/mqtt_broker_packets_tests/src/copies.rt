@@ -10,7 +10,7 @@ use std::process::Abort;
 use std::test::Fail;
 
 /// The properties of a PUBLISH: the interval, if there is one, and behind it a User Property, if asked.
-fn passed(alloc: Global, expiry: Option<u32>, has_user: bool) -> Result<PassedOn, Fail> {
+pub(crate) fn passed(alloc: Global, expiry: Option<u32>, has_user: bool) -> Result<PassedOn, Fail> {
     let mut list = PropList::new();
     if has_user {
         let value = ValueRef::Pair("k", "v");
@@ -65,7 +65,7 @@ fn content(alloc: Global, properties: PassedOn) -> Result<Content, AllocError> {
 }
 
 /// A copy of it for the first session.
-fn copy(
+pub(crate) fn copy(
     alloc: Global,
     qos: Qos,
     identifiers: &[u32],

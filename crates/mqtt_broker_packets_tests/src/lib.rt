@@ -5,3 +5,5 @@
 mod answers;
 #[cfg(test)]
 mod copies;
+#[cfg(test)]
+mod forms;

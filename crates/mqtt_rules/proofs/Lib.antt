@@ -1,5 +1,6 @@
 pub mod examples
 pub mod contents
+pub mod forms
 pub mod flight
 pub mod lines
 pub mod numbers

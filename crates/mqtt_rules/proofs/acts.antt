@@ -6,4 +6,5 @@ pub mod Leads
 pub mod LookedUp
 pub mod Meanings
 pub mod Names
+pub mod Offers
 pub mod Reached

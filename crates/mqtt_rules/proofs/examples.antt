@@ -6,6 +6,7 @@ pub mod ExamplesChoices
 pub mod ExamplesClosing
 pub mod ExamplesExpiry
 pub mod ExamplesFilters
+pub mod ExamplesForms
 pub mod ExamplesKept
 pub mod ExamplesLimits
 pub mod ExamplesOpen

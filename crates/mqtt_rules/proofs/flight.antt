@@ -4,3 +4,4 @@ pub mod FlightQueue
 pub mod FlightRecords
 pub mod FlightRows
 pub mod FlightStep
+pub mod SizedRows

@@ -15,3 +15,4 @@ pub mod Flight
 pub mod Lines
 pub mod Numbers
 pub mod Contents
+pub mod Forms

@@ -6,6 +6,7 @@ mod content_laws;
 mod copy_laws;
 mod fit_laws;
 mod flight_laws;
+mod form_laws;
 mod lawful_laws;
 mod laws;
 mod line_laws;
@@ -18,6 +19,10 @@ pub use content_laws::{contents_are_lawful, stored_copies_have_a_spelling};
 pub use copy_laws::copies_keep_their_size;
 pub use fit_laws::rows_always_fit;
 pub use flight_laws::identifiers_in_flight_are_unique;
+pub use form_laws::{
+    alias_stands_behind_identifiers, forms_are_found_by_size, forms_keep_their_size,
+    plain_is_the_publish,
+};
 pub use lawful_laws::{lawful_records_may_be_opened, open_identifiers_are_one_list};
 pub use laws::{at_most_twenty_open, limits_are_kept, stored_part_follows, tables_are_ordered};
 pub use line_laws::lines_are_unique;

@@ -160,6 +160,7 @@ module _ (P : Type 0) where
 
     -- ---- calls
 
+    -- a call does alike, if it may send what copies say
     pub call_alike : (call : Call) → MayCall call → AlikeActs P (deeds_of env call) (deeds_of (beside env old) call)
     call_alike NewLine m = record { does = λ b ss h. same_deeds P (deeds_of env NewLine b) }
     call_alike (Input n packet) m = record {
@@ -187,6 +188,7 @@ module _ (P : Type 0) where
     closes_alike (s ∷ ss) (t ∷ ts) h =
         (on_session P (λ x. close_if (is_connected x) env x) (λ x. close_if (is_connected x) (beside env old) x) (λ x q k. close_if_alike (is_connected x) x q) s t h.0, closes_alike ss ts h.1)
 
+    -- an opening does alike
     pub opening_alike : AlikeActs P (opening env) (opening (beside env old))
     opening_alike = record {
       does = λ b ss h. (series_alike P (map (λ s. close_if (is_connected s) env s) b.records.sessions) (map (λ s. close_if (is_connected s) (beside env old) s) ss) (closes_alike b.records.sessions ss h)).does b ss h;

@@ -51,9 +51,11 @@ module _ (env : Env) (old : List Session) where
     routing_same : (m : Message) → routing_of env m r ≡ routing_of (beside env old) m (with_sessions ss r)
     routing_same m = ap₂ (λ a us. acceptance.routed a (publication_of m) (env.choice (next_publication r) m.sender) us) answers_same subscribers_same
 
+    -- whether a message is wanted is the same of both
     pub wanted_same : (m : Message) → is_wanted env m r ≡ is_wanted (beside env old) m (with_sessions ss r)
     wanted_same m = ap₂ (λ a us. intended.is_wanted a (publication_of m) us) answers_same subscribers_same
 
+  -- in which copies a message is accepted is the same of both
   pub accepted_same : (m : Message) (b : Broker) (ss : List Session) → Each AlikeSessions b.records.sessions ss → accepted_copies env m b ≡ accepted_copies (beside env old) m (like ss b)
   accepted_same m b ss h = ap (λ (o : Option Routed). accepted_if (finds_place env m b.records) (option_map (copies_to (next_publication b.records) b.now m) o)) (routing_same b.records ss h m)
 
@@ -67,9 +69,11 @@ module _ (P : Type 0) (env : Env) (old : List Session) where
   }
   deliver_by_alike false d = record { does = λ b ss h. same_deeds P (deliver_by false env d b) }
 
+  -- a copy that is handed over does alike
   pub deliver_alike : (d : CopyTo) → AlikeActs P (deliver env d) (deliver (beside env old) d)
   deliver_alike d = record { does = (deliver_by_alike (is_queued d) d).does }
 
+  -- copies that are handed over do alike
   pub deliver_all_alike : (ds : List CopyTo) → Each (AlikeActs P) (map (deliver env) ds) (map (deliver (beside env old)) ds)
   deliver_all_alike [] = tt
   deliver_all_alike (d ∷ ds) = (deliver_alike d, deliver_all_alike ds)
@@ -79,6 +83,7 @@ module _ (P : Type 0) (env : Env) (old : List Session) where
   retain_alike true true number m = record { does = λ b ss h. same_deeds P (retain_by true true number m b) }
   retain_alike true false number m = record { does = λ b ss h. same_deeds P (retain_by true false number m b) }
 
+  -- a publication does alike
   pub publish_alike : (origin : Origin) (m : Message) (ds : List CopyTo) → AlikeActs P (publish env origin m ds) (publish (beside env old) origin m ds)
   publish_alike origin m ds = record {
     does = λ b ss h.
@@ -97,6 +102,7 @@ module _ (P : Type 0) (env : Env) (old : List Session) where
   will_acts : Env → Whose → Message → Option (List CopyTo) → Act
   will_acts e who m o b = series (publish_or_refuse e who m o ∷ always (At who DropWill ∷ []) ∷ []) b
 
+  -- a Will does alike
   pub will_alike : (who : Whose) (o : Option Will) → AlikeActs P (will_deeds env who o) (will_deeds (beside env old) who o)
   will_alike who None = record { does = λ b ss h. tt }
   will_alike who (Some w) = record {
@@ -109,11 +115,13 @@ module _ (P : Type 0) (env : Env) (old : List Session) where
         ((two_alike P (refuse_alike who m ds) (always_same P (At who DropWill ∷ []))).does b ss h);
   }
 
+  -- a session's Will that is published does alike
   pub publish_will_alike : (s : Session) (q : List CopyRow) → AlikeActs P (publish_will env s) (publish_will (beside env old) (with_queue q s))
   publish_will_alike s q = record { does = (will_alike (whose s) s.will).does }
 
   -- ---- settling and closing
 
+  -- what is due of a session does alike
   pub settle_alike : (birth : ℕ) → AlikeActs P (settle env birth) (settle (beside env old) birth)
   settle_alike birth = record {
     does = λ b ss h. ((two_alike P)
@@ -132,8 +140,10 @@ module _ (P : Type 0) (env : Env) (old : List Session) where
   connected_alike keeps None = record { does = λ b ss h. tt }
   connected_alike keeps (Some birth) = record { does = (of_session_alike P (close_session env keeps) (close_session (beside env old) keeps) (close_session_alike keeps) birth).does }
 
+  -- the closing of a line does alike
   pub close_alike : (keeps : Bool) (l : Line) → AlikeActs P (close env keeps l) (close (beside env old) keeps l)
   close_alike keeps l = record { does = (two_alike P (always_same P (Gone l.number ∷ [])) (connected_alike keeps l.session)).does }
 
+  -- a line that is dropped does alike
   pub drop_alike : (code : ℕ) (l : Line) → AlikeActs P (drop_line env code l) (drop_line (beside env old) code l)
   drop_alike code l = record { does = (two_alike P (always_same P (Send l.number (disconnect code) ∷ [])) (close_alike true l)).does }

@@ -116,6 +116,7 @@ module _ (P : Type 0) where
           joins_after_alike l c b.now ds es k (after_all ds b).records (after_all es (like ss b)).records a.records;
     }
 
+    -- a CONNECT does alike
     pub on_connect_alike : (l : Line) (c : Connect) → AlikeActs P (on_connect env l c) (on_connect (beside env old) l c)
     on_connect_alike l c = record {
       does = λ b ss h. subst (λ (o : Option ℕ). Each (AlikeDeeds P) (on_connect env l c b) (connect_by o (beside env old) l c (like ss b))) (refusal_same c b.records ss h)

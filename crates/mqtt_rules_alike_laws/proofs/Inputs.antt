@@ -37,6 +37,7 @@ pub pump_same : (l : Line) (now : ℕ) (s : Session) (q : List CopyRow) → Each
 pump_same l now s q h = ap (pump (way_of l now)) (queue_same l.went s q h)
 
 module _ (P : Type 0) where
+  -- a pump does alike, if it may send what copies say
   pub pump_alike : P → (l : Line) (now : ℕ) (s : Session) (q : List CopyRow) → Each AlikeRows s.queue q → Each (AlikeDeeds P) (pump_deeds l now s) (pump_deeds l now (with_queue q s))
   pump_alike p l now s q h =
       subst (λ (ts : List Turn). Each (AlikeDeeds P) (pump_deeds l now s) (all_turn_deeds now l.number (with_queue q s) ts)) (pump_same l now s q h)
@@ -117,6 +118,7 @@ module _ (P : Type 0) where
           (by_alike (standing p.delivery s.inbound) p (message_of s.client topic p))).does;
     }
 
+    -- a PUBLISH does alike
     pub on_publish_alike : (p : Publish) → AlikeActs P (on_publish env l s p) (on_publish (beside env old) l (with_queue q s) p)
     on_publish_alike p = record { does = (meant_alike (meaning p l.aliases) p).does }
 
@@ -133,12 +135,15 @@ module _ (P : Type 0) where
         subst (λ (x : Answer). AlikeActs P (on_answer (a (queue_on l.went s)) env l s) (on_answer x (beside env old) l (with_queue q s))) (ap a (queue_same l.went s q h))
         (turned_alike (a (queue_on l.went s)) (m (queue_on l.went s)))
 
+    -- a PUBACK does alike
     pub on_puback_alike : (id code : ℕ) → AlikeActs P (on_puback env l s id code) (on_puback (beside env old) l (with_queue q s) id code)
     on_puback_alike id code = record { does = (answer_alike (rules.puback id code) (λ es. puback_may code (holder id es))).does }
 
+    -- a PUBREC does alike
     pub on_pubrec_alike : (id code : ℕ) → AlikeActs P (on_pubrec env l s id code) (on_pubrec (beside env old) l (with_queue q s) id code)
     on_pubrec_alike id code = record { does = (answer_alike (rules.pubrec id code) (λ es. pubrec_may id code (next_order es) (holder id es))).does }
 
+    -- a PUBCOMP does alike
     pub on_pubcomp_alike : (id : ℕ) → AlikeActs P (on_pubcomp env l s id) (on_pubcomp (beside env old) l (with_queue q s) id)
     on_pubcomp_alike id = record { does = (answer_alike (rules.pubcomp id) (λ es. pubcomp_may (holder id es))).does }
 
@@ -149,5 +154,6 @@ module _ (P : Type 0) where
     leave_by_alike false code None = record { does = (two_alike P ((always_same P) []) (close_alike P env old (not (nat_eq code normal_disconnection)) l)).does }
     leave_by_alike false code (Some n) = record { does = (two_alike P (always_same P (new_expiry (Some n) s)) (close_alike P env old (not (nat_eq code normal_disconnection)) l)).does }
 
+    -- a DISCONNECT does alike
     pub on_disconnect_alike : (code : ℕ) (expiry : Option ℕ) → AlikeActs P (on_disconnect env l s code expiry) (on_disconnect (beside env old) l (with_queue q s) code expiry)
     on_disconnect_alike code expiry = record { does = (leave_by_alike (is_late_expiry expiry s.expiry) code expiry).does }

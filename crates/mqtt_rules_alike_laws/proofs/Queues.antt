@@ -54,9 +54,11 @@ module _ (env : Env) (old : List Session) where
   since_same s q h = given_same (find (λ e. is_new env.start e.copy) s.queue) (find (λ e. is_new env.start e.copy) q)
       (both_found AlikeRows (λ e. is_new env.start e.copy) (λ e. is_new env.start e.copy) (new_same env.start) s.queue q h) s.queue q h
 
+  -- both have room for as many copies
   pub room_same : (s : Session) (q : List CopyRow) → Each AlikeRows s.queue q → room env s ≡ room beside (with_queue q s)
   room_same s q h = ap₂ (λ n es. env.limits.queue - staying env.limits.full n es) (since_same s q h) (queue_same [] s q h)
 
+  -- the same copies make way in both
   pub ways_same : (s : Session) (q : List CopyRow) → Each AlikeRows s.queue q
       → way_made (queue_limits env) (since env s) (queue_on [] s) ≡ way_made (queue_limits env) (since beside (with_queue q s)) (queue_on [] (with_queue q s))
   ways_same s q h = ap₂ (way_made (queue_limits env)) (since_same s q h) (queue_same [] s q h)
@@ -67,6 +69,7 @@ module _ (P : Type 0) where
   ended_alike : (s : Session) (x y : CopyRow) → AlikeRows x y → AlikeDeeds P (At (whose s) (Leave x SessionEnded)) (At (whose s) (Leave y SessionEnded))
   ended_alike s x y h = leaves (record { who = whose s; ending = SessionEnded; row = x; other_row = y; rows = h; first = refl; second = refl })
 
+  -- a session's end does alike
   pub end_alike : (s : Session) (q : List CopyRow) → Each AlikeRows s.queue q → Each (AlikeDeeds P) (end_session s) (end_session (with_queue q s))
   end_alike s q h =
       each_append (AlikeDeeds P) (map (λ e. At (whose s) (Leave e SessionEnded)) s.queue) (map (λ e. At (whose s) (Leave e SessionEnded)) q) (Finish (whose s) ∷ []) (Finish (whose s) ∷ [])
@@ -83,6 +86,7 @@ module _ (P : Type 0) where
       → Each (AlikeDeeds P) (of_entry (row_at copy_place place s.queue) f) (of_entry (row_at copy_place place q) g)
   place_alike place s q h f g k = entry_alike f g k (row_at copy_place place s.queue) (row_at copy_place place q) (both_at AlikeRows copy_place place_same place s.queue q h)
 
+  -- a copy's leaving does alike
   pub leave_alike : (s : Session) (q : List CopyRow) → Each AlikeRows s.queue q → (t : Turn) → Each (AlikeDeeds P) (leave_deeds s t) (leave_deeds (with_queue q s) t)
   leave_alike s q h (turns.Send place id) = tt
   leave_alike s q h (turns.Resend place id) = tt
@@ -126,10 +130,12 @@ module _ (P : Type 0) where
   may_say p (turns.Unknown id) = tt
   may_say p (turns.Leave place ending) = tt
 
+  -- if anything may be said, all turns may say it
   pub all_may_say : P → (ts : List Turn) → AllMaySay ts
   all_may_say p [] = tt
   all_may_say p (t ∷ ts) = (may_say p t, all_may_say p ts)
 
+  -- a turn does alike, if it may send what a copy says
   pub turn_alike : (now line : ℕ) (s : Session) (q : List CopyRow) → Each AlikeRows s.queue q → (t : Turn) → MaySay t → Each (AlikeDeeds P) (turn_deeds now line s t) (turn_deeds now line (with_queue q s) t)
   turn_alike now line s q h (turns.Send place id) p = place_alike place s q h
       (λ e. At (whose s) (deeds.Mark place (Sent id)) ∷ deeds.On line (deeds.Went place) ∷ deeds.Send line (publish_of now false id e.copy) ∷ [])
@@ -145,6 +151,7 @@ module _ (P : Type 0) where
   turn_alike now line s q h (turns.Unknown id) p = same_deeds P (turn_deeds now line s (turns.Unknown id))
   turn_alike now line s q h (turns.Leave place ending) p = leave_alike s q h (turns.Leave place ending)
 
+  -- turns do alike, if they may send what copies say
   pub turns_alike : (now line : ℕ) (s : Session) (q : List CopyRow) → Each AlikeRows s.queue q → (ts : List Turn) → AllMaySay ts
       → Each (AlikeDeeds P) (all_turn_deeds now line s ts) (all_turn_deeds now line (with_queue q s) ts)
   turns_alike now line s q h [] m = tt
@@ -153,6 +160,7 @@ module _ (P : Type 0) where
       (turn_alike now line s q h t m.0) (turns_alike now line s q h ts m.1)
 
   module _ (env : Env) (old : List Session) where
+    -- a copy that enters does alike
     pub enter_alike : (copy : MessageCopy) (s : Session) (q : List CopyRow) → Each AlikeRows s.queue q → Each (AlikeDeeds P) (enter_deeds env copy s) (enter_deeds (beside env old) copy (with_queue q s))
     enter_alike copy s q h =
         let ts = way_made (queue_limits env) (since env s) (queue_on [] s) in

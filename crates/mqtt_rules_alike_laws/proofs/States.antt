@@ -48,6 +48,7 @@ session_is s t h = ap (with_queue t.queue) h.rest
 pub by_queue : (P : Session → Type 0) (s : Session) → ((q : List CopyRow) → Each AlikeRows s.queue q → P (with_queue q s)) → (t : Session) → AlikeSessions s t → P t
 by_queue P s k t h = subst P (session_is s t h) (k t.queue h.queue)
 
+-- records with alike sessions are alike
 pub records_put : (r : Records) (ss : List Session) → Each AlikeSessions r.sessions ss → AlikeRecords r (with_sessions ss r)
 records_put r ss h = record { rest = refl; sessions = h }
 
@@ -204,12 +205,14 @@ module _ (P : Type 0) where
   deeds_do d e (leaves l) = subst₂ DoSame (sym l.first) (sym l.second) (leave_does l.who l.row l.other_row l.ending l.rows.place)
   deeds_do d e (sends m l) = subst₂ DoSame (sym l.first) (sym l.second) (λ r now ls given. (refl, refl, refl))
 
+  -- alike deeds write the same rows
   pub rows_alike : (d e : Deed) → AlikeDeeds P d e → (r : Records) (ss : List Session) → Each AlikeSessions r.sessions ss → rows_of d r ≡ rows_of e (with_sessions ss r)
   rows_alike d e k r ss h = rows_same d r ss h ∙ (deeds_do d e k (with_sessions ss r) 0 [] 0).0
 
   abbrev with_all : Records → List Line → ℕ → ℕ → Broker
   with_all r ls given now = record { records = r; lines = ls; given = given; now = now }
 
+  -- an alike deed leaves alike brokers alike
   pub after_alike : (d e : Deed) → AlikeDeeds P d e → (b : Broker) (ss : List Session) → Each AlikeSessions b.records.sessions ss → AlikeBrokers (after d b) (after e (like ss b))
   after_alike d e k b ss h =
       let does = deeds_do d e k b.records b.now b.lines b.given in
@@ -220,6 +223,7 @@ module _ (P : Type 0) where
             (changed_all_alike (rows_of d b.records) b.records o (records_put b.records ss h));
       }
 
+  -- alike deeds leave alike brokers alike
   pub all_after_alike : (ds es : List Deed) → Each (AlikeDeeds P) ds es → (b c : Broker) → AlikeBrokers b c → AlikeBrokers (after_all ds b) (after_all es c)
   all_after_alike [] [] k b c h = h
   all_after_alike [] (e ∷ es) k b c h = absurd k

@@ -31,6 +31,7 @@ module _ (P : Type 0) where
   stored_alike d e k r o h =
       subst (λ (rows : List Change). AlikeRecords (stored_after d r) (changed_all rows o)) (rows_same d e k r o h) (changed_all_alike (rows_of d r) r o h)
 
+  -- alike deeds write the same rows, one after the other
   pub all_rows_same : (ds es : List Deed) → Each (AlikeDeeds P) ds es → (r o : Records) → AlikeRecords r o → rows_of_all ds r ≡ rows_of_all es o
   all_rows_same [] [] k r o h = refl
   all_rows_same [] (e ∷ es) k r o h = absurd k
@@ -93,6 +94,7 @@ module _ (P : Type 0) where
   again_same (Pump n) ds es k = ap (λ (ns : List ℕ). nat_eq (length ns) PUMP_LIMIT) (picked_same (AlikeDeeds P) publish_out out_same ds es k)
   again_same Tick ds es k = ap (λ (t : Bool). cond t false true) (none_same ds es k)
 
+  -- alike deeds tell alike
   pub outcome_alike : (call : Call) (ds es : List Deed) → Each (AlikeDeeds P) ds es → AlikeOutcomes P (outcome_of call ds) (outcome_of call es)
   outcome_alike call ds es k = record {
     outputs = each_picked (AlikeDeeds P) (AlikeOutputs P) output output_alike ds es k;
@@ -116,26 +118,32 @@ module _ (limits : Limits) (choice : MemberChoice) (now : ℕ) where
   put_deeds : (call : Call) (b : Broker) (ss : List Session) → Each AlikeSessions b.records.sessions ss → Each (AlikeDeeds (IsPump call)) (deeds limits choice now call b) (deeds limits choice now call (like ss b))
   put_deeds call b ss h = (call_alike (IsPump call) (env_of limits choice b) ss call (may_call call)).does (at_moment now b) ss h
 
+  -- a call does alike deeds on brokers that are alike
   pub deeds_alike : (call : Call) (b c : Broker) → AlikeBrokers b c → Each (AlikeDeeds (IsPump call)) (deeds limits choice now call b) (deeds limits choice now call c)
   deeds_alike call b c h = by_broker (λ (x : Broker). Each (AlikeDeeds (IsPump call)) (deeds limits choice now call b) (deeds limits choice now call x)) b (put_deeds call b) c h
 
+  -- a step leaves alike brokers alike
   pub step_alike : (call : Call) (b c : Broker) → AlikeBrokers b c → AlikeBrokers (stepped limits choice now call b) (stepped limits choice now call c)
   step_alike call b c h = by_broker (λ (x : Broker). AlikeBrokers (stepped limits choice now call b) (stepped limits choice now call x)) b
       (λ ss k. done_alike (IsPump call) (deeds limits choice now call b) (deeds limits choice now call (like ss b)) (put_deeds call b ss k) (at_moment now b) ss k) c h
 
+  -- a step on alike brokers tells alike
   pub told_alike : (call : Call) (b c : Broker) → AlikeBrokers b c → AlikeOutcomes (IsPump call) (told limits choice now call b) (told limits choice now call c)
   told_alike call b c h = outcome_alike (IsPump call) call (deeds limits choice now call b) (deeds limits choice now call c) (deeds_alike call b c h)
 
+  -- a step on alike brokers writes the same
   pub written_same : (call : Call) (b c : Broker) → AlikeBrokers b c
       → rows_written (deeds limits choice now call b) (at_moment now b) ≡ rows_written (deeds limits choice now call c) (at_moment now c)
   written_same call b c h = by_broker (λ (x : Broker). rows_written (deeds limits choice now call b) (at_moment now b) ≡ rows_written (deeds limits choice now call x) (at_moment now x)) b
       (λ ss k. ap (stamped (at_moment now b).now) (all_rows_same (IsPump call) (deeds limits choice now call b) (deeds limits choice now call (like ss b)) (put_deeds call b ss k) b.records (with_sessions ss b.records) (records_put b.records ss k))) c h
 
+  -- a step is spent on both or on none
   pub spent_same : (call : Call) (b c : Broker) → AlikeBrokers b c → is_step_spent limits choice now call b ≡ is_step_spent limits choice now call c
   spent_same call b c h = ap is_spent (written_same call b c h)
 
   -- ---- openings
 
+  -- an opening on alike records leaves alike brokers
   pub opened_alike : (r o : Records) → AlikeRecords r o → AlikeBrokers (opened limits choice now r) (opened limits choice now o)
   opened_alike r o h = by_sessions (λ (x : Records). AlikeBrokers (opened limits choice now r) (opened limits choice now x)) r
       (λ ss k. done_alike ⊥ (opening_deeds limits choice now r) (opening_deeds limits choice now (with_sessions ss r))

@@ -127,6 +127,7 @@ module _ (P : Type 0) where
           (subst (Each (AlikeDeeds P) (late_sent line b a.late)) (ap (late_sent line b) k.lates) (same_deeds P (late_sent line b a.late)));
     }
 
+    -- a SUBSCRIBE does alike
     pub on_subscribe_alike : (line : ℕ) (s : Session) (q : List CopyRow) (p : Subscribe) → AlikeActs P (on_subscribe env line s p) (on_subscribe (beside env old) line (with_queue q s) p)
     on_subscribe_alike line s q p = record { does = (subscribe_by_alike (is_among p.identifier s.inbound) line s q p).does }
 
@@ -134,5 +135,6 @@ module _ (P : Type 0) where
   unsubscribe_by_alike true line s q p = record { does = λ b ss h. same_deeds P (unsubscribe_by true line s p b) }
   unsubscribe_by_alike false line s q p = record { does = λ b ss h. same_deeds P (unsubscribe_by false line s p b) }
 
+  -- an UNSUBSCRIBE does alike
   pub on_unsubscribe_alike : (line : ℕ) (s : Session) (q : List CopyRow) (p : Unsubscribe) → AlikeActs P (on_unsubscribe line s p) (on_unsubscribe line (with_queue q s) p)
   on_unsubscribe_alike line s q p = record { does = (unsubscribe_by_alike (is_among p.identifier s.inbound) line s q p).does }

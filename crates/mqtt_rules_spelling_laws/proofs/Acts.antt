@@ -634,6 +634,7 @@ module _ (env : Env) where
   on_its_line None f b q = saying [] b tt
   on_its_line (Some l) f b q = q l refl
 
+  -- what a call with a lawful packet sends has a spelling
   pub call_said : (call : Call) (b : Broker) → TakesLawful call → TellsFault call → AllByRecursion HasTopics b.lines → IsOrdered b.records → Says (deeds_of env call b) b
   call_said NewLine b taken tells topics ordered = says_cond (can_link b) (Link (suc b.given) ∷ []) [] b (saying (Link (suc b.given) ∷ []) b (tt, tt)) (saying [] b tt)
   call_said (Input n packet) b taken tells topics ordered =
@@ -657,5 +658,6 @@ module _ (env : Env) where
   each_act f h [] = tt
   each_act f h (x ∷ xs) = (h x, each_act f h xs)
 
+  -- what an opening sends has a spelling
   pub opening_said : SaysAct (opening env)
   opening_said b = acts (map (λ s. close_if (is_connected s) env s) b.records.sessions) (each_act (λ (s : Session). close_if (is_connected s) env s) (λ s. closed_if (is_connected s) s) b.records.sessions) b

@@ -75,6 +75,7 @@ AreSaid ds = AllByRecursion IsSaid ds
 
 -- ---- what is stored
 
+-- contents are lawful, and the identifiers of sent copies are from 1 and of two bytes
 pub record IsFine (r : Records) : Type 0 where
   pub contents : HasLawfulContentsOf of_rows r
   pub phases : HaveSentPhases r

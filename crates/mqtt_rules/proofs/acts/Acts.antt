@@ -44,6 +44,7 @@ use Rattle.mqtt_rules.specs.Inbound.{Meaning, Means, Wrong, meaning, sets_alias,
 use Rattle.mqtt_rules.specs.Subscribe as sub
 use Rattle.mqtt_rules.specs.Tick.{is_silent, silence, has_lapsed, lapse_deeds, is_stale, first_due, due, on_tick}
 use Rattle.mqtt_rules.specs.Step.{Call, NewLine, Input, BadInput, Lost, Pump, Tick, first_packet, next_packet, on_packet, on_fault, late_code, on_pump, can_link, deeds_of, close_if, opening}
+use Rattle.mqtt_rules.proofs.acts.Offers.{of_offer}
 use Rattle.mqtt_rules.proofs.flight.FlightRows.{found_key}
 use Rattle.mqtt_rules.proofs.fit.StoredLaw.{now_stays}
 use Rattle.mqtt_rules.specs.Laws.{IsAmong}
@@ -143,7 +144,7 @@ pub record IsCleared (env : Env) (Keep : Broker → Type 0) (s : Session) (b : B
   pub is : b ≡ after_all (publish_will env other (settled env client before)) (settled env client before)
   pub named : session_named other.client b.records ≡ Some s
 
--- a session ends where its end is due, or by Clean Start
+-- a session ends if its end is due, or by Clean Start
 abbrev pub MayEnd : Env → (Broker → Type 0) → Session → Broker → Type 0
 MayEnd env Keep s b = (has_due_end b.now s ≡ true) ⊎ IsCleared env Keep s b
 
@@ -164,6 +165,7 @@ IsAsked about w = (p : Asking) × about.packet (packets.Subscribe p) × (w.ident
 
 -- ---- what a law has to say: look-ups stay among those concerned, and each unit of deeds is good and keeps what is kept
 
+-- what look-ups find of those whom the law is about is about them too
 pub record Finds (about : About) (Keep : Broker → Type 0) : Type 0 where
   pub its_number : (l : Line) → about.line l → about.number l.number
   pub its_session : (l : Line) (birth : ℕ) → about.line l → l.session ≡ Some birth → about.session birth
@@ -174,6 +176,7 @@ pub record Finds (about : About) (Keep : Broker → Type 0) : Type 0 where
       → about.message (message_of s.client topic p)
   pub willed : (s : Session) (w : Will) (b : Broker) → Keep b → IsAmong s b.records.sessions → s.will ≡ Some w → about.message (will_message s.client w)
 
+-- what a law says of each unit of deeds that comes as one: all are good, and what is kept holds again behind them
 pub record Law (env : Env) (about : About) (Keep : Broker → Type 0) (Good : Deed → Broker → Type 0) : Type 0 where
   pub finds : Finds about Keep
   pub client_stays : (client : List ℕ) (ds : List Deed) (b : Broker) → Keep b → Leads Keep Good ds b → about.client client b → about.client client (after_all ds b)
@@ -312,17 +315,15 @@ module _ (env : Env) (about : About) (Keep : Broker → Type 0) (Good : Deed →
       → ((s : Session) → session_named client b.records ≡ Some s → about.session s.birth → Led (f s b) b) → Led (of_client client f b) b
   of_named client f b k its h = leads_of_client Keep Good client f b k (λ s e. h s e (law.finds.named client s b k its e))
 
+  -- a packet that goes out leads
   pub leads_send : (n : ℕ) (packet : Packet) → about.number n → Lead (always (Send n packet ∷ []))
   leads_send n packet its b k = law.sends n packet b k its
 
+  -- a packet that is offered to a line leads
   pub leads_offer : (n : ℕ) (packet : Packet) (b c : Broker) → Keep c → about.number n → Led (offer (line_at n b) packet) c
-  leads_offer n packet b c k its = found (line_at n b) refl
-    where
-      found : (o : Option Line) → line_at n b ≡ o → Led (offer o packet) c
-      found None e = (tt, k)
-      found (Some l) e =
-          leads_cond Keep Good _ (Send l.number packet ∷ []) [] c
-          (λ t. law.sends l.number packet c k (subst about.number (sym (found_number n l b.lines e)) its)) (λ t. (tt, k))
+  leads_offer n packet b c k its =
+      of_offer (λ (ds : List Deed). Led ds c) (line_at n b) packet (tt, k)
+      (λ l there. law.sends l.number packet c k (subst about.number (sym (found_number n l b.lines there)) its))
 
   -- Wills, ends, settling and closing
 
@@ -338,6 +339,7 @@ module _ (env : Env) (about : About) (Keep : Broker → Type 0) (Good : Deed →
       (leads_publish_or_refuse (whose s) m (accepted_copies env m b) b k its (law.finds.willed s w b k among e) refl)
       (λ h. law.alone (whose s) DropWill _ h its refl)
 
+  -- a session's Will that is published leads
   pub leads_publish_will : (s : Session) (b : Broker) → Keep b → about.session s.birth → IsAmong s b.records.sessions → Led (publish_will env s b) b
   leads_publish_will s b k its among = leads_will s s.will b k its among refl
 
@@ -345,6 +347,7 @@ module _ (env : Env) (about : About) (Keep : Broker → Type 0) (Good : Deed →
   if_here true act b k h = h refl
   if_here false act b k h = (tt, k)
 
+  -- what is due of a session, its Will and then its end, leads
   pub leads_settle : (birth : ℕ) (b : Broker) → Keep b → about.session birth → Led (settle env birth b) b
   leads_settle birth b k its =
       leads_two Keep Good (of_session birth (λ s. only_if (has_due_will b.now s) (publish_will env s))) (of_session birth (λ s. only_if (has_due_end b.now s) (always (end_session s)))) b
@@ -360,6 +363,7 @@ module _ (env : Env) (about : About) (Keep : Broker → Type 0) (Good : Deed →
       leads_append Keep Good (settle env birth b ++ []) [] b
       (leads_append Keep Good (settle env birth b) [] b (leads_settle birth b k its) (λ h. (tt, h))) (λ h. (tt, h))
 
+  -- a line that closes, and its session with it, leads
   pub leads_closing : (keeps_will : Bool) (l : Line) (session : Option ℕ) (b : Broker) → about.line l → l.session ≡ session
       → Led (Gone l.number ∷ closing_on keeps_will b.now session b.records) b → Led (series (always (Gone l.number ∷ []) ∷ close_connected env keeps_will session ∷ []) b) b
   leads_closing keeps_will l None b its e h = h
@@ -376,9 +380,11 @@ module _ (env : Env) (about : About) (Keep : Broker → Type 0) (Good : Deed →
           let own = subst about.session (sym (found_key birth_of birth s b.records.sessions is)) (law.finds.its_session l birth its e) in
           leads_append Keep Good (Gone l.number ∷ closing_session false b.now (Some s)) _ b h (λ k. leads_settled s.birth _ k own)
 
+  -- the closing of a line leads, with the Will of its session or without it
   pub leads_close : (keeps_will : Bool) (l : Line) (b : Broker) → Keep b → about.line l → IsOn l.number l.session b.lines → Led (close env keeps_will l b) b
   leads_close keeps_will l b k its on = leads_closing keeps_will l l.session b its refl (law.closes keeps_will l b k its on)
 
+  -- a line that is dropped with a code leads
   pub leads_drop : (code : ℕ) (l : Line) (b : Broker) → Keep b → about.line l → IsOn l.number l.session b.lines → Led (drop_line env code l b) b
   leads_drop code l b k its on =
       leads_two Keep Good (always (Send l.number (disconnect code) ∷ [])) (close env true l) b
@@ -390,6 +396,7 @@ module _ (env : Env) (about : About) (Keep : Broker → Type 0) (Good : Deed →
   leads_gone : (l : Line) (b : Broker) → Keep b → about.line l → l.session ≡ None → IsOn l.number l.session b.lines → Led (Gone l.number ∷ []) b
   leads_gone l b k its none on = subst (λ (o : Option ℕ). Led (Gone l.number ∷ closing_on true b.now o b.records) b) none (law.closes true l b k its on)
 
+  -- a CONNECT that is refused leads
   pub leads_refused : (l : Line) (c : Greeting) (code : ℕ) (b : Broker) → Keep b → about.line l → l.session ≡ None → IsOn l.number l.session b.lines → Led (refused l c code) b
   leads_refused l c code b k its none on = first (nat_lt (largest_of c) 5)
     where
@@ -400,11 +407,13 @@ module _ (env : Env) (about : About) (Keep : Broker → Type 0) (Good : Deed →
           (law.sends l.number (connack false code []) b k (law.finds.its_number l its))
           (λ h. leads_gone l (after (Send l.number (connack false code [])) b) h its none on)
 
+  -- the closing of a session's old line leads
   pub leads_take_over : (s : Session) (b : Broker) → Keep b → about.session s.birth → Led (take_over env s b) b
   leads_take_over s b k its =
       leads_with_line Keep Good (line_of s.birth b) (drop_line env session_taken_over) b k
       (λ l e. leads_drop session_taken_over l b k (law.finds.its_line s.birth l b k its e) (found_on l b.lines (found_among _ l b.lines e)))
 
+  -- the end of a session that was settled, for a Clean Start, leads
   pub leads_clear : (client : List ℕ) (s : Session) (before : Broker) → Keep before → Keep (settled env client before) → about.client client (settled env client before)
       → session_named client (settled env client before).records ≡ Some s → Led (clear env s (settled env client before)) (settled env client before)
   leads_clear client s before kept k its e =
@@ -436,6 +445,7 @@ module _ (env : Env) (about : About) (Keep : Broker → Type 0) (Good : Deed →
       (if_here c.clean_start (of_client name (clear env)) y g (λ t. of_named name (clear env) y g name_y (λ s e own. leads_clear name s b k g name_y e)))
       (λ f. (tt, f))))
 
+  -- all that comes before a new connection leads
   pub leads_prepare : (c : Greeting) (b : Broker) → Keep b → about.client c.client_identifier b → Led (prepare env c b) b
   leads_prepare c b k its =
       let name = c.client_identifier in
@@ -448,6 +458,7 @@ module _ (env : Env) (about : About) (Keep : Broker → Type 0) (Good : Deed →
       let d = Send line (pubrel (id x) success) in
       leads_append Keep Good (d ∷ []) (all_turn_deeds now line s (map (λ y. turns.Repeat (id y)) xs)) b (law.sends line (pubrel (id x) success) b k its) (λ h. leads_repeats now line s xs id (after d b) h its)
 
+  -- a session that is resumed leads
   pub leads_resume : (l : Line) (c : Greeting) (now : ℕ) (s : Session) (b : Broker)
       → Keep b → about.line l → l.session ≡ None → about.packet (packets.Connect c) → IsAdmitted c → about.session s.birth → session_named c.client_identifier b.records ≡ Some s → IsPrepared env Keep l c b
       → Led (resume l c now s) b
@@ -480,6 +491,7 @@ module _ (env : Env) (about : About) (Keep : Broker → Type 0) (Good : Deed →
           (λ h. law.begins l c (after_all ds b) h its none came taken name e room prepared))
           (λ full. leads_refused l c quota_exceeded b k its none on)
 
+  -- a CONNECT leads, whatever comes of it
   pub leads_connect : (l : Line) (c : Greeting) (b : Broker) → Keep b → about.line l → l.session ≡ None → IsOn l.number l.session b.lines → about.packet (packets.Connect c) → Led (on_connect env l c b) b
   leads_connect l c b k its none on came = by (refusal c b.records) refl
     where
@@ -491,6 +503,7 @@ module _ (env : Env) (about : About) (Keep : Broker → Type 0) (Good : Deed →
 
   -- PUBLISH
 
+  -- the answer to a PUBLISH leads
   pub leads_answer : (line : ℕ) (q : Quality) (code : ℕ) (b : Broker) → Keep b → about.number line → Led (answer line q code) b
   leads_answer line delivery.AtMostOnce code b k its = (tt, k)
   leads_answer line (delivery.AtLeastOnce dup id) code b k its = law.sends line (puback id code) b k its
@@ -518,6 +531,7 @@ module _ (env : Env) (about : About) (Keep : Broker → Type 0) (Good : Deed →
       (λ h. leads_append Keep Good (opens s p.delivery) (answer l.number p.delivery code ++ []) c (leads_opens s p.delivery m ds b k h own there new is)
       (λ g. leads_append Keep Good (answer l.number p.delivery code) [] d (leads_answer l.number p.delivery code d g (law.finds.its_number l its)) (λ f. (tt, f))))
 
+  -- a PUBLISH leads, whatever its identifier is
   pub leads_publish_by : (x : Published) (l : Line) (s : Session) (p : Publication) (m : Message) (b : Broker)
       → Keep b → about.line l → IsOn l.number l.session b.lines → about.session s.birth → about.message m
       → session_at s.birth b.records ≡ Some s → standing p.delivery s.inbound ≡ x
@@ -536,6 +550,7 @@ module _ (env : Env) (about : About) (Keep : Broker → Type 0) (Good : Deed →
   set_alias false (Some n) l topic b k its on said =
       (law.sets l.number n topic b k (law.finds.its_number l its) said, refl, stays_on b.now l.number (SetAlias n topic) l.number l.session b.lines refl on)
 
+  -- a PUBLISH leads, whatever topic it means, or none
   pub leads_publish_meant : (x : Meaning) (l : Line) (s : Session) (p : Publication) (b : Broker)
       → Keep b → about.line l → IsOn l.number l.session b.lines → about.session s.birth → about.packet (packets.Publish p)
       → session_at s.birth b.records ≡ Some s → meaning p l.aliases ≡ x
@@ -614,6 +629,7 @@ module _ (env : Env) (about : About) (Keep : Broker → Type 0) (Good : Deed →
       (λ w e. (came.0, came.1, wished a.filter identifier (options_of a.options) w e ∙ came.2)) refl)
       (λ h. leads_all_granted birth identifier rest (after_all g.deeds b) h own came)
 
+  -- a SUBSCRIBE leads, whether its identifier is in use or not
   pub leads_subscribe : (t : Bool) (line : ℕ) (s : Session) (p : Asking) (b : Broker) → Keep b → about.number line → about.session s.birth → about.packet (packets.Subscribe p) → Led (sub.subscribe_by t env line s p b) b
   leads_subscribe true line s p b k its own came = leads_offer line (suback p.identifier (map (λ a. identifier_in_use) p.subscriptions)) b b k its
   leads_subscribe false line s p b k its own came =
@@ -625,6 +641,7 @@ module _ (env : Env) (about : About) (Keep : Broker → Type 0) (Good : Deed →
       (λ h. leads_offer line (suback p.identifier a.codes) b (after_all a.deeds b) h its))
       (λ h. leads_flat Keep Good (λ d. sub.late_sends line b.now d b) (λ d c g. leads_offer line (publish_of b.now false 0 d.copy) b c g its) a.late _ h)
 
+  -- an UNSUBSCRIBE leads, whether its identifier is in use or not
   pub leads_unsubscribe : (t : Bool) (line : ℕ) (s : Session) (p : GivingUp) (b : Broker) → Keep b → about.number line → about.session s.birth → Led (sub.unsubscribe_by t line s p b) b
   leads_unsubscribe true line s p b k its own = leads_offer line (unsuback p.identifier (map (λ f. identifier_in_use) p.filters)) b b k its
   leads_unsubscribe false line s p b k its own =
@@ -635,6 +652,7 @@ module _ (env : Env) (about : About) (Keep : Broker → Type 0) (Good : Deed →
 
   -- a receiver's answers
 
+  -- a receiver's answer leads, whatever the session makes of it
   pub leads_answered : (a : Answer) (l : Line) (s : Session) (b : Broker)
       → Keep b → about.line l → IsOn l.number l.session b.lines → about.session s.birth → session_at s.birth b.records ≡ Some s → IsAnswer a l s → Led (on_answer a env l s b) b
   leads_answered (Ok None) l s b k its on own there is = (tt, k)
@@ -663,6 +681,7 @@ module _ (env : Env) (about : About) (Keep : Broker → Type 0) (Good : Deed →
   leads_first l (packets.Connect c) b k its none on came = leads_connect l c b k its none on came
   leads_first l packet b k its none on came = leads_close true l b k its on
 
+  -- a packet leads, by the session that is on its line or none
   pub leads_packet : (l : Line) (packet : Packet) (session : Option ℕ) (b : Broker) → Keep b → about.line l → l.session ≡ session → IsOn l.number l.session b.lines → about.packet packet → Led (on_packet env l packet session b) b
   leads_packet l packet None b k its is on came = leads_first l packet b k its is on came
   leads_packet l packet (Some birth) b k its is on came =
@@ -676,6 +695,7 @@ module _ (env : Env) (about : About) (Keep : Broker → Type 0) (Good : Deed →
   leads_fault l true code (Some birth) b k its on = leads_drop (late_code code) l b k its on
   leads_fault l false code (Some birth) b k its on = leads_drop (late_code code) l b k its on
 
+  -- a turn of sending leads
   pub leads_pump : (l : Line) (session : Option ℕ) (b : Broker) → Keep b → about.line l → l.session ≡ session → Led (on_pump l session b) b
   leads_pump l None b k its is = (tt, k)
   leads_pump l (Some birth) b k its is =
@@ -743,6 +763,7 @@ module _ (env : Env) (about : About) (Keep : Broker → Type 0) (Good : Deed →
   line_on : (n : ℕ) (l : Line) (b : Broker) → line_at n b ≡ Some l → IsOn l.number l.session b.lines
   line_on n l b e = found_on l b.lines (found_among _ l b.lines e)
 
+  -- all deeds of a call lead
   pub leads_call : (call : Call) (b : Broker) → Keep b → IsCallOf about call b → Led (deeds_of env call b) b
   leads_call NewLine b k its = leads_cond Keep Good (can_link b) (Link (suc b.given) ∷ []) [] b (λ t. law.links b k t) (λ t. (tt, k))
   leads_call (Input n packet) b k its =
@@ -770,6 +791,7 @@ module _ (env : Env) (about : About) (Keep : Broker → Type 0) (Good : Deed →
       none_is None h = refl
       none_is (Some n) h = absurd cc
 
+  -- all deeds of an opening lead, if closing each session that stood connected does
   pub leads_opening : Shuts → ((birth : ℕ) → about.session birth) → (b : Broker) → Keep b → Led (opening env b) b
   leads_opening shuts all b k =
       leads_series Keep Good (map (λ s. close_if (is_connected s) env s) b.records.sessions)

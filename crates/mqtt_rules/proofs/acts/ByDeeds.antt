@@ -34,21 +34,23 @@ use Rattle.mqtt_rules.specs.Inbound.{pump_turns, pump_deeds}
 use Rattle.mqtt_rules.specs.Subscribe as sub
 use Rattle.mqtt_rules.specs.Step.{Call, deeds_of, opening}
 use Rattle.mqtt_rules.specs.Tick.{lapses, lapse_deeds}
+use Rattle.mqtt_rules.proofs.acts.Offers.{of_offer}
 use Rattle.mqtt_rules.proofs.flight.FlightRows.{found_key}
 use Rattle.mqtt_rules.proofs.acts.Goods.{AreGood}
-use Rattle.mqtt_rules.proofs.acts.Leads.{Leads, leads_end, leads_append, leads_flat, leads_cond, leads_with_session, leads_of_entry}
+use Rattle.mqtt_rules.proofs.acts.Leads.{Leads, leads_end, leads_append, leads_flat, leads_with_session, leads_of_entry}
 use Rattle.mqtt_rules.proofs.acts.Acts.{About, anyone, call_of_anyone, leads_call, leads_opening, IsAnswer, is_alone, closing_session, closing_on, closing, brought_to, Finds, Law, IsAdmitted, IsGranted}
 use Rattle.mqtt_rules.proofs.numbers.Copies.{AreNumbered, IsMade, AreMade, routed_numbered, brought_made, made_numbered, beside_leaves, beside_deliver, made_stays, are_made_stay, each_filter}
 
 -- ---- what is said of each kind of deed, on the state that it comes on
 
+-- what a law says of each kind of deed, on the state that the deed comes on
 pub record DeedLaw (env : Env) (about : About) (Keeps : Broker → Type 0) (Good : Deed → Broker → Type 0) : Type 0 where
   pub finds : Finds about Keeps
   pub client_stays : (client : List ℕ) (d : Deed) (b : Broker) → Keeps b → Good d b → about.client client b → about.client client (after d b)
   -- a good deed keeps what is kept
   pub kept : (d : Deed) (b : Broker) → Keeps b → Good d b → Keeps (after d b)
   pub accept : (origin : Origin) (m : Message) (b : Broker) → Keeps b → about.message m → Good (Accept (next_publication b.records) origin m) b
-  -- a message is retained of the publication that was just accepted, where it finds a place
+  -- a message is retained of the publication that was just accepted, if it finds a place
   pub keep : (m : Message) (b : Broker) → Keeps b → about.message m → m.retain ≡ true → is_empty m.payload ≡ false → finds_place env m b.records ≡ true
       → Good (Keep (kept_message b.records.publications b.now m (place_of_kept (retained_of m.topic b.records) b.records.retained))) b
   pub forget : (place : ℕ) (b : Broker) → Keeps b → Good (Forget place) b
@@ -56,7 +58,7 @@ pub record DeedLaw (env : Env) (about : About) (Keeps : Broker → Type 0) (Good
   pub enter : (who : Whose) (copy : MessageCopy) (b : Broker) → Keeps b → IsMade who.birth copy b → Good (At who (Enter copy)) b
   pub leave : (who : Whose) (e : CopyRow) (ending : Ending) (b : Broker) → Keeps b → Good (At who (Leave e ending)) b
   pub refuse_will : (who : Whose) (b : Broker) → Keeps b → about.session who.birth → Good (RefuseWill who) b
-  -- an identifier opens where its PUBLISH was new to the session, which stood before the publication's deeds
+  -- an identifier opens if its PUBLISH was new to the session, which stood before the publication's deeds
   pub open_id : (s : Session) (id : ℕ) (m : Message) (ds : List CopyTo) (b : Broker)
       → Keeps b → Keeps (after_all (publish env FromClient m ds b) b) → about.session s.birth
       → session_at s.birth b.records ≡ Some s → answer_to id s.inbound ≡ New → accepted_copies env m b ≡ Some ds
@@ -123,6 +125,7 @@ module _ (env : Env) (about : About) (Keeps : Broker → Type 0) (Good : Deed �
   abbrev Led : List Deed → Broker → Type 0
   Led = Leads Keeps Good
 
+  -- one good deed leads
   pub one : (d : Deed) (b : Broker) → Keeps b → Good d b → Led (d ∷ []) b
   one d b k g = ((g, tt), law.kept d b k g)
 
@@ -133,8 +136,8 @@ module _ (env : Env) (about : About) (Keeps : Broker → Type 0) (Good : Deed �
   nothing b k = (tt, k)
 
   leads_offer : (o : Option Line) (packet : Packet) (b : Broker) → Keeps b → Led (offer o packet) b
-  leads_offer None packet b k = nothing b k
-  leads_offer (Some l) packet b k = leads_cond Keeps Good _ (Send l.number packet ∷ []) [] b (λ t. one (Send l.number packet) b k (law.send l.number packet b k)) (λ t. nothing b k)
+  leads_offer o packet b k =
+      of_offer (λ (ds : List Deed). Led ds b) o packet (nothing b k) (λ l there. one (Send l.number packet) b k (law.send l.number packet b k))
 
   -- ---- queues
 
@@ -143,6 +146,7 @@ module _ (env : Env) (about : About) (Keeps : Broker → Type 0) (Good : Deed �
       leads_of_entry Keeps Good (row_at copy_place place s.queue) (λ e. At (whose s) (Leave e ending) ∷ []) b k
       (λ e is. one (At (whose s) (Leave e ending)) b k (law.leave (whose s) e ending b k))
 
+  -- a copy's leaving leads
   pub leads_leave : (s : Session) (t : Turn) (b : Broker) → Keeps b → Led (leave_deeds s t) b
   leads_leave s (turns.Leave place ending) b k = leads_left s place ending b k
   leads_leave s (turns.Send place id) b k = nothing b k
@@ -152,6 +156,7 @@ module _ (env : Env) (about : About) (Keeps : Broker → Type 0) (Good : Deed �
   leads_leave s (turns.Repeat id) b k = nothing b k
   leads_leave s (turns.Unknown id) b k = nothing b k
 
+  -- a copy that enters, and those that make way for it, lead
   pub leads_enter : (copy : MessageCopy) (s : Session) (b : Broker) → Keeps b → IsMade s.birth copy b → Led (enter_deeds env copy s) b
   leads_enter copy s b k made =
       let ts = way_made (queue_limits env) (since env s) (queue_on [] s) in
@@ -168,6 +173,7 @@ module _ (env : Env) (about : About) (Keeps : Broker → Type 0) (Good : Deed �
       (λ s e. leads_enter d.copy s b k (subst (λ (birth : ℕ). IsMade birth d.copy b) (sym (found_key birth_of d.birth s b.records.sessions e)) made))
   leads_deliver_by false d b k made = leads_offer (line_of d.birth b) (publish_of b.now false 0 d.copy) b k
 
+  -- copies that are handed over, one after the other, lead
   pub leads_deliveries : (ds : List CopyTo) (b : Broker) → Keeps b → AreMade ds b → Led (series (map (deliver env) ds) b) b
   leads_deliveries [] b k made = nothing b k
   leads_deliveries (d ∷ ds) b k made =
@@ -186,6 +192,7 @@ module _ (env : Env) (about : About) (Keeps : Broker → Type 0) (Good : Deed �
   leads_retain true true m b k said is none found = leads_forgets (retained_of m.topic b.records) b k
   leads_retain true false m b k said is none found = one (Keep _) b k (law.keep m b k said is none found)
 
+  -- an accepted publication with its copies leads
   pub leads_publish : (origin : Origin) (m : Message) (ds : List CopyTo) (b : Broker) → Keeps b → about.message m → accepted_copies env m b ≡ Some ds → Led (publish env origin m ds b) b
   leads_publish origin m ds b k said e =
       let number = next_publication b.records in
@@ -242,6 +249,7 @@ module _ (env : Env) (about : About) (Keeps : Broker → Type 0) (Good : Deed �
       more d (begin l c true (auto ++ decimal (suc b.records.autos)) (suc b.records.births)) b k (law.name b k)
       (λ h. leads_born l c true (auto ++ decimal (suc b.records.autos)) (after d b) h (law.begin_assigned c b k h came taken room))
 
+  -- a granted filter with the copies that it brings leads
   pub leads_grants : (w : sub.Wish) (s : Session) (b : Broker) → Keeps b → about.session s.birth → IsGranted env w s b → Led (sub.granted_filter env (sub.next_number b.records) s w (brought_to w s b) b).deeds b
   leads_grants w s b k its granted =
       let number = sub.next_number b.records in
@@ -279,6 +287,7 @@ module _ (env : Env) (about : About) (Keeps : Broker → Type 0) (Good : Deed �
     leads_turn now line s (turns.Unknown id) b k = one (Send line (pubrel id identifier_not_found)) b k (law.send line (pubrel id identifier_not_found) b k)
     leads_turn now line s (turns.Leave place ending) b k = leads_left s place ending b k
 
+    -- if phases may be set, turns of a queue lead
     pub turn_law : TurnLaw about Keeps Good
     turn_law = record {
       pumps = λ l s b k its is there. leads_flat Keeps Good (turn_deeds b.now l.number s) (leads_turn b.now l.number s) (pump_turns l b.now s) b k;
@@ -288,6 +297,7 @@ module _ (env : Env) (about : About) (Keeps : Broker → Type 0) (Good : Deed �
   -- for what is good by each deed, or for what follows from it
   module _ (Told : Deed → Broker → Type 0) (tell : (ds : List Deed) (b : Broker) → Led ds b → Leads Keeps Told ds b)
       (stays : (client : List ℕ) (ds : List Deed) (b : Broker) → Keeps b → Leads Keeps Told ds b → about.client client b → about.client client (after_all ds b)) where
+    -- a law of each kind of deed is a law of units also for what follows from good deeds
     pub law_told : TurnLaw about Keeps Told → Law env about Keeps Told
     law_told turn = record {
       finds = law.finds;
@@ -313,6 +323,7 @@ module _ (env : Env) (about : About) (Keeps : Broker → Type 0) (Good : Deed �
       sends = λ n packet b k its. tell (Send n packet ∷ []) b (one (Send n packet) b k (law.send n packet b k));
     }
 
+  -- a law of each kind of deed is a law of units
   pub by_deeds : TurnLaw about Keeps Good → Law env about Keeps Good
   by_deeds turn = law_told Good (λ ds b h. h) (λ client ds b k led its. client_stays client ds b k led.0 its) turn
     where
@@ -320,10 +331,11 @@ module _ (env : Env) (about : About) (Keeps : Broker → Type 0) (Good : Deed �
       client_stays client [] b k good its = its
       client_stays client (d ∷ ds) b k good its = client_stays client ds (after d b) (law.kept d b k good.0) good.1 (law.client_stays client d b k good.0 its)
 
-  -- where the end alone says all
+  -- if the end alone says all
   pub by_ends : ((client : List ℕ) (b c : Broker) → about.client client b → about.client client c) → TurnLaw about Keeps (λ d b. ⊤) → Law env about Keeps (λ d b. ⊤)
   by_ends stays turn = law_told (λ d b. ⊤) (λ ds b h. leads_end Keeps ds b h.1) (λ client ds b k led its. stays client b (after_all ds b) its) turn
 
+  -- to close a session that stood connected when the broker opens leads
   pub by_deeds_shuts : ((birth : ℕ) → about.session birth) → (s : Session) (b : Broker) → Keeps b → s.closed ≡ None → Led (At (whose s) (Close b.now) ∷ []) b
   by_deeds_shuts all s b k is = one (At (whose s) (Close b.now)) b k (law.close (whose s) b k (all s.birth))
 
@@ -333,8 +345,10 @@ module _ (env : Env) (Keeps : Broker → Type 0) (Good : Deed → Broker → Typ
   the_law : Law env anyone Keeps Good
   the_law = by_deeds env anyone Keeps Good law (turn_law env anyone Keeps Good law mark)
 
+  -- all deeds of a call are good
   pub leads_deeds : (call : Call) (b : Broker) → Keeps b → Leads Keeps Good (deeds_of env call b) b
   leads_deeds call b k = leads_call env anyone Keeps Good the_law call b k (call_of_anyone call b)
 
+  -- all deeds of an opening are good
   pub leads_opened : (b : Broker) → Keeps b → Leads Keeps Good (opening env b) b
   leads_opened b k = leads_opening env anyone Keeps Good the_law (by_deeds_shuts env anyone Keeps Good law (λ birth. tt)) (λ birth. tt) b k

@@ -21,6 +21,7 @@ use Rattle.mqtt_rules.proofs.flight.FlightRows.{found_key}
 -- ---- rows
 
 module _ {X : Type 0} (key : X → ℕ) where
+  -- after a row changes it is found changed by its key, and every other as before
   pub row_at-change_row : (k j : ℕ) (f : X → X) (xs : List X) → ((x : X) → key (f x) ≡ key x) → row_at key k (change_row key j f xs) ≡ cond (nat_eq j k) (option_map f (row_at key k xs)) (row_at key k xs)
   row_at-change_row k j f [] kept = elim (cases_Bool (nat_eq j k)) [ inl asked ↦ rw asked refl | inr other ↦ rw other refl ]
   row_at-change_row k j f (x ∷ xs) kept = elim (cases_Bool (nat_eq (key x) j)) [
@@ -63,7 +64,7 @@ module _ {Y : Type 0} (field : Session → Y) where
   map_kept f same None = refl
   map_kept f same (Some s) = ap Some (same s)
 
-  -- where the session that changes keeps it
+  -- if the session that changes keeps it
   pub field_changed : (birth k : ℕ) (f : Session → Session) (r : Records) → ((s : Session) → birth_of (f s) ≡ birth_of s) → option_map field (option_map f (session_at birth r)) ≡ field_at birth r
       → field_at k (in_session birth f r) ≡ field_at k r
   field_changed birth k f r kept same = elim (cases_Bool (nat_eq birth k)) [
@@ -75,7 +76,7 @@ module _ {Y : Type 0} (field : Session → Y) where
         ap (option_map field) (row_at-change_row birth_of k birth f r.sessions kept ∙ ap (λ (t : Bool). cond t (option_map f (session_at k r)) (session_at k r)) other)
   ]
 
-  -- where all sessions do
+  -- if all sessions do
   pub field_kept : (birth k : ℕ) (f : Session → Session) (r : Records) → ((s : Session) → birth_of (f s) ≡ birth_of s) → ((s : Session) → field (f s) ≡ field s)
       → field_at k (in_session birth f r) ≡ field_at k r
   field_kept birth k f r kept same = field_changed birth k f r kept (map_kept f same (session_at birth r))

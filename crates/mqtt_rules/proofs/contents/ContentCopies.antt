@@ -132,6 +132,7 @@ module _ (sizes : Sizes) (are : AreSizes sizes) where
 
   -- ---- a routing
 
+  -- each copy, direct or of a group, has lawful Subscription Identifiers, no more than a copy may have
   pub record IsRoutedWell (r : Routed) : Type 0 where
     pub direct : AllByRecursion IsIdentified r.direct
     pub served : AllByRecursion (λ s. AllByRecursion IsIdentified (copies_in s.copy)) r.served
@@ -150,6 +151,7 @@ module _ (sizes : Sizes) (are : AreSizes sizes) where
       with_served direct (serve at p all direct choices (groups all) []) r d
       (λ served is. serving_identified at p all direct choices (groups all) [] served h tt is) e
 
+  -- a publication that is routed has copies with such identifiers
   pub routed_identified : (at : Answers) (p : Publication) (choices : List ℕ) (xs : List Subscriber) (r : Routed) → AllByRecursion AreNumbered xs → routed at p choices xs ≡ Some r → IsRoutedWell r
   routed_identified at p choices xs r h e =
       let direct = directs at p xs in

@@ -1,5 +1,6 @@
 -- Every step and opening keeps the contents of what is stored lawful.
 use Rattle.std.proofs.Common.{◌≡◌, refl, arith, sym, ℕ, Bool, true, false, List, [], ◌∷◌, ◌++◌, filter, map, Option, Some, None, subst, inl, inr}
+use Rattle.mqtt_rules.proofs.acts.Offers.{of_offer}
 use Rattle.mqtt_rules.proofs.order.OrderedQueues.{length-mapped}
 use Rattle.std.specs.Prelude.{◌≤◌, length, suc, flat_map, option_map, not, ◌&&◌}
 use Rattle.std.specs.List.{AllByRecursion}
@@ -53,7 +54,7 @@ use Rattle.mqtt_props.specs.declared.place.Place.{Place}
 use Rattle.mqtt_props.specs.Properties.{Prop}
 use Rattle.mqtt_records_message.specs.declared.message.Content.{Content}
 use Rattle.mqtt_rules.specs.Contents.{IsAskedFor, IsTaken, TakesLawful, IsTopic, HasTopics, IsCopiedOf, AreIdentifiersOf, IsContentOf, IsPublishedOf, IsWilledOf, HasContentsOf, HasLawfulContentsOf, AreContentsOf, Sizes, AreSizes}
-use Rattle.mqtt_rules.proofs.acts.Goods.{AreGood, good_append, good_cond, good_flat, good_of_entry, good_with_session}
+use Rattle.mqtt_rules.proofs.acts.Goods.{AreGood, good_append, good_flat, good_of_entry, good_with_session}
 use Rattle.mqtt_rules.proofs.acts.Leads.{found_among, Leads, leads_good}
 use Rattle.mqtt_rules.proofs.acts.Acts.{About, anyone, closing_session, closing_on, closing, is_alone, brought_to, Finds, Law, IsCallOf, IsItsLine, leads_call, leads_opening}
 use Rattle.mqtt_rules.proofs.numbers.Copies.{each_more, each_filter, each_append, each_map}
@@ -157,9 +158,8 @@ module _ (sizes : Sizes) (are : AreSizes sizes) where
       let ts = way_made (queue_limits env) (since env s) (queue_on [] s) in
       good_append Brings (flat_map (leave_deeds s) ts) (At (whose s) (Enter copy) ∷ []) b (leaves_bring s ts b) (q, tt)
 
-  offer_brings : (l : Option Line) (packet : Packet) (b : Broker) → Brought (offer l packet) b
-  offer_brings None packet b = tt
-  offer_brings (Some l) packet b = good_cond Brings _ (Send l.number packet ∷ []) [] b (tt, tt) tt
+  offer_brings : (o : Option Line) (packet : Packet) (b : Broker) → Brought (offer o packet) b
+  offer_brings o packet b = of_offer (λ (ds : List Deed). Brought ds b) o packet tt (λ l there. (tt, tt))
 
   deliver_brings : (t : Bool) (env : Env) (d : CopyTo) (b : Broker) → IsCopiedTo d → Brought (deliver_by t env d b) b
   deliver_brings true env d b q =
@@ -349,12 +349,14 @@ module _ (sizes : Sizes) (are : AreSizes sizes) where
       let k : AreContentsLawful c = record { stored = h; lines = tt } in
       leads_opening env topical AreContentsLawful Brings (content_law env) (λ s b h is. led (At (whose s) (Close b.now) ∷ []) b h (tt, tt)) (λ birth. tt) c k
 
+  -- a step with a lawful packet keeps contents lawful
   pub step_contents : (limits : Limits) (choice : MemberChoice) (now : ℕ) (call : Call) (b : Broker) → TakesLawful call → AreContentsLawful b → AreContentsLawful (stepped limits choice now call b)
   step_contents limits choice now call b taken h =
       let c = at_moment now b in
       let ds = deeds limits choice now call b in
       stamped_lawful (rows_of_all ds c.records) (after_all ds c) (step_leads limits choice now call b taken h).1
 
+  -- an opening keeps contents lawful
   pub opening_contents : (limits : Limits) (choice : MemberChoice) (now : ℕ) (r : Records) → HasLawfulContents r → AreContentsLawful (opened limits choice now r)
   opening_contents limits choice now r h =
       let c = unopened now r in
@@ -363,6 +365,7 @@ module _ (sizes : Sizes) (are : AreSizes sizes) where
 
   -- ---- what their rows bring
 
+  -- the rows of a step with a lawful packet bring lawful contents
   pub step_brings : (limits : Limits) (choice : MemberChoice) (now : ℕ) (call : Call) (b : Broker) → TakesLawful call → AreContentsLawful b
       → rows.RowsBring sizes (rows_written (deeds limits choice now call b) (at_moment now b))
   step_brings limits choice now call b taken h =
@@ -370,6 +373,7 @@ module _ (sizes : Sizes) (are : AreSizes sizes) where
       let ds = deeds limits choice now call b in
       rows.stamped_bring sizes c.now (rows_of_all ds c.records) (rows.written_bring sizes ds c (step_leads limits choice now call b taken h).0)
 
+  -- the rows of an opening bring lawful contents
   pub opening_brings : (limits : Limits) (choice : MemberChoice) (now : ℕ) (r : Records) → HasLawfulContents r
       → rows.RowsBring sizes (rows_written (opening_deeds limits choice now r) (unopened now r))
   opening_brings limits choice now r h =

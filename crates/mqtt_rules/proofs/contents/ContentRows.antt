@@ -171,6 +171,7 @@ module _ (sizes : Sizes) where
   written_bring [] b q = tt
   written_bring (d ∷ ds) b q = both_bring (rows_of d b.records) (rows_of_all ds (stored_after d b.records)) (rows_bring d b q.0) (written_bring ds (after d b) q.1)
 
+  -- rows that bring lawful contents do with the moment in front of them too
   pub stamped_bring : (now : ℕ) (rows : List Change) → RowsBring rows → RowsBring (stamped now rows)
   stamped_bring now [] q = tt
   stamped_bring now (x ∷ rows) q = both_bring (x ∷ rows) (SetCounter Moment now ∷ []) q (tt, tt)

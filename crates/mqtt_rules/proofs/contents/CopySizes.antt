@@ -35,7 +35,8 @@ all_aged waited (p ∷ ps) =
     let new = length-append (prop (aged 0 p)) (props (map (aged 0) ps)) in
     omega (arith, one, more, old, new)
 
-props_sent : (waited : ℕ) (ids : List ℕ) (ps : List Prop) → length (props (sent_after waited ids ps)) ≡ length (props (sent_after 0 ids ps))
+-- the properties of a copy have as many bytes however long it waited
+pub props_sent : (waited : ℕ) (ids : List ℕ) (ps : List Prop) → length (props (sent_after waited ids ps)) ≡ length (props (sent_after 0 ids ps))
 props_sent waited ids ps =
     let others = length (props (map identified ids)) + length (props (only UserProperty ps)) in
     parted (map (aged waited) (without UserProperty ps)) (map identified ids) (only UserProperty ps)
@@ -57,7 +58,8 @@ block_length ps qs same =
 
 -- ---- the packet
 
-identifier_length : (q : Qos) (dup : Bool) (id : ℕ) → length (identifier_field (delivery_by q dup id)) ≡ identifier_len q
+-- the packet identifier has as many bytes whichever it is
+pub identifier_length : (q : Qos) (dup : Bool) (id : ℕ) → length (identifier_field (delivery_by q dup id)) ≡ identifier_len q
 identifier_length qos.AtMostOnce dup id = refl
 identifier_length qos.AtLeastOnce dup id = refl
 identifier_length qos.ExactlyOnce dup id = refl

@@ -25,11 +25,13 @@ module _ (sizes : Sizes) (are : AreSizes sizes) where
   rows_said [] q = tt
   rows_said (change ∷ changes) q = (row_said change q.0, rows_said changes q.1)
 
+  -- a row of a table can say what the rows of a step with a lawful packet put
   pub step_said : (limits : Limits) (choice : MemberChoice) (now : ℕ) (call : Call) (b : Broker) → TakesLawful call → AreContentsOf sizes b
       → AllSayable (rows_written (deeds limits choice now call b) (at_moment now b))
   step_said limits choice now call b taken h =
       rows_said (rows_written (deeds limits choice now call b) (at_moment now b)) (step_brings sizes are limits choice now call b taken h)
 
+  -- a row of a table can say what the rows of an opening put
   pub opening_said : (limits : Limits) (choice : MemberChoice) (now : ℕ) (r : Records) → HasLawfulContentsOf sizes r
       → AllSayable (rows_written (opening_deeds limits choice now r) (unopened now r))
   opening_said limits choice now r h =

@@ -191,7 +191,7 @@ an_unknown_alias_closes = refl
 
 -- ---- filters
 
--- the answer to a message to this topic, where a session is there for this filter
+-- the answer to a message to this topic, if a session is there for this filter
 abbrev with_filter : List ℕ → List ℕ → Outcome
 with_filter filter name =
     asks (in_line 1 (hello (codes "r1")) ++ at 0 (Input 1 (wants 1 filter ExactlyOnce)) ∷ in_line 2 (hello (codes "p1")))

@@ -45,7 +45,7 @@ another_is_not : asks (comes_later false) (at 0 (Input 2 (wants 1 topic ExactlyO
 unfolding varint
 another_is_not = refl
 
--- ---- a Session Expiry Interval above 0 where CONNECT had none breaks the protocol, 0 doesn't
+-- ---- a Session Expiry Interval above 0 when CONNECT had none breaks the protocol, 0 doesn't
 
 abbrev leaves : ℕ → Packet
 leaves seconds = Disconnect (record { reason = reason 0; properties = property SessionExpiryInterval (U32 seconds) ∷ [] })

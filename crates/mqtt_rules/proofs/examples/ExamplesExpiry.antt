@@ -12,7 +12,7 @@ use Rattle.mqtt_records_message.specs.PassedOn.{property}
 use Rattle.mqtt_rules.specs.Step.{NewLine, Input, Lost, Pump, Tick, Outcome}
 use Rattle.mqtt_rules.proofs.examples.Play.{Event, at, asks, out, hello, message, copy_out, direct, subscribed}
 
--- what is told where only the answer goes out
+-- what is told if only the answer goes out
 abbrev says : ℕ → Packet → Outcome
 says line packet = out ((line, packet) ∷ []) [] [] false
 

@@ -1,4 +1,4 @@
--- PUBLISH where twenty identifiers are open (MQTT 5.0, 4.3.2, 4.3.3, 4.9).
+-- PUBLISH while twenty identifiers are open (MQTT 5.0, 4.3.2, 4.3.3, 4.9).
 use Rattle.std.proofs.Common.{◌≡◌, ℕ, Bool, true, false, List, [], ◌∷◌, refl}
 use Rattle.std.specs.Prelude.{codes}
 use Rattle.mqtt_base.specs.Values.{varint}

@@ -60,7 +60,7 @@ before_its_interval_no_tick : asks (retained_with (expires_in 7)) (at 6999 Tick)
 unfolding varint
 before_its_interval_no_tick = refl
 
--- Retain Handling: always, where the filter is new, never
+-- Retain Handling: always, if the filter is new, never
 abbrev handled : RetainHandling → List Event → Outcome
 handled how es = asks (retained_with [] ++ es) (at 0 (Input 2 (with_options 5 (record (options ExactlyOnce) { retain_handling = how }))))
 

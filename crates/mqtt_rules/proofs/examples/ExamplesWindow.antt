@@ -14,7 +14,7 @@ use Rattle.mqtt_rules.specs.State.{Broker}
 use Rattle.mqtt_rules.specs.Step.{NewLine, Input, Lost, Pump, Outcome}
 use Rattle.mqtt_rules.proofs.examples.Play.{blank, Event, at, asks, tells, runs, reopened, out, hello_with, hello, never_expires, welcome, in_line, wants, topic, sends, copy_out, subscribed, entry, queued}
 
--- what is told where only the answer goes out
+-- what is told if only the answer goes out
 abbrev says : ℕ → Packet → Outcome
 says line packet = out ((line, packet) ∷ []) [] [] false
 

@@ -114,7 +114,7 @@ a_packet_out_of_place_breaks_the_protocol :
 unfolding varint
 a_packet_out_of_place_breaks_the_protocol = refl
 
--- a fault keeps the Will, which is published where the session ends with its line
+-- a fault keeps the Will, which is published if the session ends with its line
 abbrev mourned : List Event
 mourned =
     in_line 1 (hello (codes "r1"))

@@ -140,7 +140,7 @@ a_resumption_cancels_a_will : asks (waiting_will ++ at 3000 NewLine ∷ at 3000 
 unfolding varint
 a_resumption_cancels_a_will = refl
 
--- ---- a DISCONNECT that sets a Session Expiry Interval where CONNECT had none
+-- ---- a DISCONNECT that sets a Session Expiry Interval when CONNECT had none
 
 abbrev mortal : List Event
 mortal = mourner ++ in_line 2 (hello_with (codes "w1") [] (Some (will_with [])))

@@ -231,7 +231,7 @@ unmoved : (rows : List Change) (b : Broker) → rows ≡ [] → (with_moment row
 unmoved [] b e = refl
 unmoved (row ∷ rows) b e = absurd (cc)
 
--- where no row is written
+-- if no row is written
 pub nothing_written : (limits : Limits) (e : Event) (b : Broker) → rows_by limits e b ≡ [] → Keeps limits e b
 nothing_written limits (at now call) b e =
     let ds = deeds limits first now call b in

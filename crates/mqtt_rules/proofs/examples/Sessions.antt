@@ -193,7 +193,7 @@ the_stored_moment_counts = refl
 
 -- ---- silence
 
--- each packet counts, and none where Keep Alive is 0
+-- each packet counts, and none if Keep Alive is 0
 abbrev heard : List Event
 heard = in_line 1 nameless ++ at 60000 (Input 1 Pingreq) ∷ []
 

@@ -161,7 +161,7 @@ a_new_copy_beside_a_sent_one_stays : tells_with (narrow Drop 2) two_filters one_
 unfolding varint
 a_new_copy_beside_a_sent_one_stays = refl
 
--- both enter where both that wait make way
+-- both enter if both that wait make way
 abbrev both_wait : Broker
 both_wait = queued 1 (waiting 2 1) 4 (runs_with (narrow Drop 2) (subscribed ++ kept_messages) blank)
 

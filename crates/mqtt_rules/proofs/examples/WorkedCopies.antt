@@ -89,7 +89,7 @@ without_it_they_come_back : asks (in_line 1 (hello (codes "r1")) ++ at 0 (Input 
 unfolding varint
 without_it_they_come_back = refl
 
--- RETAIN is passed on where that is asked for
+-- RETAIN is passed on if that is asked for
 abbrev keeps : ℕ → Packet
 keeps id = publishes (delivery.ExactlyOnce false id) true [] hi
 

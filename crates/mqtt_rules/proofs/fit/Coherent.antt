@@ -29,7 +29,7 @@ use Rattle.mqtt_rules.proofs.fit.Unique.{unique_same, unique_without, unique_wit
 
 -- ---- what each deed has to bring
 
--- a session begins with the next birth, where there is room, under a client identifier that no session has
+-- a session begins with the next birth, if there is room, under a client identifier that no session has
 pub record IsFitRow (row : Columns) (r : Records) : Type 0 where
   pub next : row.birth ≡ suc r.births
   pub room : nat_lt (length r.sessions) SESSION_LIMIT ≡ true
@@ -85,6 +85,7 @@ fit_next (Gone n) b fit = tt
 
 -- ---- what is kept: client identifiers differ as long as the numbers of assigned ones are not spent
 
+-- the part of coherence that each deed keeps
 pub record Coheres (r : Records) : Type 0 where
   pub ordered : IsOrdered r
   pub clients : r.autos ≤ LAST_NUMBER → IsUnique (λ birth. client_at birth r)

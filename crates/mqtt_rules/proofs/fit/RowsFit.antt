@@ -74,6 +74,7 @@ coherent_stamped (x ∷ rows) b last h = record {
 
 -- ---- deeds that are done
 
+-- what the walk over the deeds of a step is begun with
 pub record Ready (ds : List Deed) (b : Broker) : Type 0 where
   pub records : IsCoherent b.records
   pub timed : IsTimed b

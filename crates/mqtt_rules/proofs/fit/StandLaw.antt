@@ -1,6 +1,6 @@
 -- In every step a copy that leaves stands in its queue, and so does one whose phase is set.
 use Rattle.std.proofs.Common.{◌≡◌, ℕ, suc, ◌≤◌, Bool, true, false, List, [], ◌∷◌, filter, map, Option, Some, None, ap, ◌∙◌, arith}
-use Rattle.std.specs.Prelude.{flat_map, nat_le}
+use Rattle.std.specs.Prelude.{flat_map}
 use Rattle.std.specs.List.{AllByRecursion}
 use Rattle.mqtt_base.specs.declared.session.Ending.TheVariants.{SessionEnded}
 use Rattle.mqtt_codec_connect.specs.declared.connect.Connect.{Connect as Greeting}
@@ -18,7 +18,7 @@ use Rattle.mqtt_rules.specs.State.{Line, Broker, Env, session_at, line_of, queue
 use Rattle.mqtt_rules.specs.Deeds.{Whose, whose, Message, Origin, FromClient, Part, Resume, Close, SetExpiry, DropWill, Open, Enter, Mark, Leave, Hear, SetAlias, Deed, Accept, Begin, Name, Count, At, Finish, Keep, Forget, RefuseWill, Link, On, Send, Gone, after, after_all, rows_of, series, always, with_session, offer}
 use Rattle.mqtt_rules.specs.Deeds as deeds
 use Rattle.mqtt_rules.specs.Outbound.{leave_deeds, turn_deeds, since, queue_limits, enter_deeds, way_of}
-use Rattle.mqtt_rules.specs.Packets.{publish_of, size_of}
+use Rattle.mqtt_rules.specs.Packets.{publish_of}
 use Rattle.mqtt_rules.specs.Routing.{CopyTo, is_queued, deliver_by, deliver, retained_of, forgets, retain_by, next_publication, publish}
 use Rattle.mqtt_rules.specs.Closing.{end_session}
 use Rattle.mqtt_rules.specs.Connect.{expiry_of, will_of, greet, begin_named}
@@ -27,7 +27,8 @@ use Rattle.mqtt_rules.specs.Subscribe as sub
 use Rattle.mqtt_rules.specs.Tick.{lapses, lapse_deeds}
 use Rattle.mqtt_rules.specs.Step.{Call, deeds_of, opening}
 use Rattle.mqtt_rules.specs.Laws.{IsAmong, HasTables, IsOrdered}
-use Rattle.mqtt_rules.proofs.acts.Goods.{AreGood, good_append, good_cond, good_with_session}
+use Rattle.mqtt_rules.proofs.acts.Offers.{of_offer}
+use Rattle.mqtt_rules.proofs.acts.Goods.{AreGood, good_append, good_with_session}
 use Rattle.mqtt_rules.proofs.acts.Leads.{Leads}
 use Rattle.mqtt_rules.proofs.acts.Acts.{anyone, call_of_anyone, finds_anyone, is_alone, closing_session, closing_on, closing, brought_to, Law, leads_call, leads_opening}
 use Rattle.mqtt_rules.proofs.flight.FlightRows.{found_key, all_at, all_found}
@@ -65,9 +66,8 @@ stands_enter env copy s b h there =
     good_append Stands (flat_map (leave_deeds s) ts) (At (whose s) (Enter copy) ∷ []) b
     (stands_leaves 0 0 s ts 0 b (still_now s b there) (drops_rise _ (since env s) s (rising s b h there))) (tt, tt)
 
-stands_offer : (l : Option Line) (packet : Packet) (b : Broker) → AreGood Stands (offer l packet) b
-stands_offer None packet b = tt
-stands_offer (Some l) packet b = good_cond Stands (nat_le (size_of packet) l.largest) (Send l.number packet ∷ []) [] b (tt, tt) tt
+stands_offer : (o : Option Line) (packet : Packet) (b : Broker) → AreGood Stands (offer o packet) b
+stands_offer o packet b = of_offer (λ (ds : List Deed). AreGood Stands ds b) o packet tt (λ l there. (tt, tt))
 
 stands_deliver : (t : Bool) (env : Env) (d : CopyTo) (b : Broker) → Orders b → AreGood Stands (deliver_by t env d b) b
 stands_deliver true env d b h =

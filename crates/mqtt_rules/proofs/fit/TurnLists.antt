@@ -23,6 +23,7 @@ use Rattle.mqtt_rules.specs.State.{Line, entry_on, queue_on}
 use Rattle.mqtt_rules.proofs.acts.Acts.{IsAnswer}
 use Rattle.mqtt_rules.proofs.flight.FlightRows.{all_found, all_more}
 use Rattle.mqtt_rules.proofs.fit.Turns.{Rises}
+use Rattle.mqtt_rules.proofs.flight.SizedRows.{own_size, sized}
 
 -- ---- the places of a queue, from n on
 
@@ -73,24 +74,24 @@ rises_expired q now n went (e ∷ es) up h =
 
 -- ---- a pump
 
-rises_pump : (way : Way) (q : List CopyRow) (went : List ℕ) (n : ℕ) (es : List CopyRow) (p : Pacing) → IsAscending copy_place es → From q n es → Rises q n (pump_from way (map (entry_on went) es) p)
-rises_pump way q went n [] p up h = tt
-rises_pump way q went n (e ∷ es) p up h =
-    let x = entry_on went e in
-    by p.left (verdict way x) (λ y. rises_pump way q went (suc e.place) es y up.1 (from_behind q n e.place es up.0 h.1))
+rises_pump : (size : CopyRow → ℕ) (way : Way) (q : List CopyRow) (went : List ℕ) (n : ℕ) (es : List CopyRow) (p : Pacing) → IsAscending copy_place es → From q n es → Rises q n (pump_from way (map (sized size went) es) p)
+rises_pump size way q went n [] p up h = tt
+rises_pump size way q went n (e ∷ es) p up h =
+    let x = sized size went e in
+    by p.left (verdict way x) (λ y. rises_pump size way q went (suc e.place) es y up.1 (from_behind q n e.place es up.0 h.1))
   where
-    room : (k : ℕ) (t : Turn) → Rises q n (t ∷ pump_from way (map (entry_on went) es) (paced t e.phase p)) → Rises q n (then_on (in_room k t) e.phase p (pump_from way (map (entry_on went) es)))
+    room : (k : ℕ) (t : Turn) → Rises q n (t ∷ pump_from way (map (sized size went) es) (paced t e.phase p)) → Rises q n (then_on (in_room k t) e.phase p (pump_from way (map (sized size went) es)))
     room zero t r = tt
     room (suc k) t r = r
 
-    on : (v : Verdict) → ((y : Pacing) → Rises q (suc e.place) (pump_from way (map (entry_on went) es) y)) → Rises q n (then_on (step_on v e.place p) e.phase p (pump_from way (map (entry_on went) es)))
-    on pass r = let le = h.0.0 in rises_later q n (suc e.place) (pump_from way (map (entry_on went) es) p) (omega (arith, le)) (r p)
+    on : (v : Verdict) → ((y : Pacing) → Rises q (suc e.place) (pump_from way (map (sized size went) es) y)) → Rises q n (then_on (step_on v e.place p) e.phase p (pump_from way (map (sized size went) es)))
+    on pass r = let le = h.0.0 in rises_later q n (suc e.place) (pump_from way (map (sized size went) es) p) (omega (arith, le)) (r p)
     on (end ending) r = (h.0.0, r (paced (turns.Leave e.place ending) e.phase p))
     on (outgrow i) r = (h.0.0, h.0.1, r (paced (turns.Outgrow e.place i p.order) e.phase p))
     on send r = room p.room (turns.Send e.place (free_identifier p.used)) (h.0.0, r (paced (turns.Send e.place (free_identifier p.used)) e.phase p))
     on (resend i) r = room p.room (turns.Resend e.place i) (h.0.0, r (paced (turns.Resend e.place i) e.phase p))
 
-    by : (left : ℕ) (v : Verdict) → ((y : Pacing) → Rises q (suc e.place) (pump_from way (map (entry_on went) es) y)) → Rises q n (then_on (step_by left v e.place p) e.phase p (pump_from way (map (entry_on went) es)))
+    by : (left : ℕ) (v : Verdict) → ((y : Pacing) → Rises q (suc e.place) (pump_from way (map (sized size went) es) y)) → Rises q n (then_on (step_by left v e.place p) e.phase p (pump_from way (map (sized size went) es)))
     by zero v r = tt
     by (suc k) v r = on v r
 
@@ -173,9 +174,13 @@ rises_answer a l s up is = elim is [
 pub answers_rise : (a : Answer) (t : Turn) (l : Line) (s : Session) → IsAscending copy_place s.queue → IsAnswer a l s → a ≡ Ok (Some t) → Rises s.queue 0 (t ∷ [])
 answers_rise a t l s up is e = subst (RisesAnswer s.queue) e (rises_answer a l s up is)
 
--- the turns of a pump go up the queue, one at most for a copy
+-- the turns of a pump go up the queue, one at most for a copy, whatever the sizes
+pub sized_pumps_rise : (size : CopyRow → ℕ) (way : Way) (went : List ℕ) (s : Session) → IsAscending copy_place s.queue → Rises s.queue 0 (pump way (map (sized size went) s.queue))
+sized_pumps_rise size way went s up = rises_pump size way s.queue went 0 s.queue (pace way (map (sized size went) s.queue)) up (whole s.queue up)
+
+-- by those that rows remember
 pub pumps_rise : (way : Way) (went : List ℕ) (s : Session) → IsAscending copy_place s.queue → Rises s.queue 0 (pump way (queue_on went s))
-pumps_rise way went s up = rises_pump way s.queue went 0 s.queue (pace way (queue_on went s)) up (whole s.queue up)
+pumps_rise = sized_pumps_rise own_size
 
 -- the turns by which copies expire go up the queue, one at most for a copy
 pub lapses_rise : (now : ℕ) (s : Session) → IsAscending copy_place s.queue → Rises s.queue 0 (expired now (queue_on [] s))

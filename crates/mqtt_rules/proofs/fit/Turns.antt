@@ -147,6 +147,7 @@ module _ (now line : ℕ) (s : Session) where
   stands_turn (turns.Unknown id) ts n b still rises = ((tt, tt), (n, still, rises))
   stands_turn (turns.Leave place ending) ts n b still rises = let one = stands_leave place ending n b still rises.0 in (one.0, (suc place, one.1, rises.1))
 
+  -- in turns that rise each copy that leaves or is marked stands when its turn comes
   pub stands_turns : (ts : List Turn) (n : ℕ) (b : Broker) → IsStill n s b → Rises s.queue n ts → AreGood Stands (all_turn_deeds now line s ts) b
   stands_turns [] n b still rises = tt
   stands_turns (t ∷ ts) n b still rises =

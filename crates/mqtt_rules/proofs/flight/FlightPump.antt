@@ -25,7 +25,7 @@ use Rattle.mqtt_records_rows.specs.Order.{IsAbove, IsAscending, row_at, remove_r
 use Rattle.mqtt_records.specs.Session.{copy_place, in_phase}
 use Rattle.mqtt_records_rows.proofs.OrderLemmas.{apart}
 use Rattle.mqtt_records_rows.proofs.LookUps.{row_at-remove_row}
-use Rattle.mqtt_rules.specs.State.{Broker, Line, entry_on, queue_on, session_at}
+use Rattle.mqtt_rules.specs.State.{Broker, Line, session_at}
 use Rattle.mqtt_rules.specs.Deeds.{whose, Mark, Leave, Went, At, On, Send, after, after_all}
 use Rattle.mqtt_rules.specs.Outbound.{of_entry, all_turn_deeds, way_of}
 use Rattle.mqtt_rules.specs.Packets.{publish_of}
@@ -34,6 +34,7 @@ use Rattle.mqtt_rules.specs.Flight.{identifier_in, identifier_at, IsFlight, HasD
 use Rattle.mqtt_rules.proofs.flight.FlightRows.{all_found, change_row-other}
 use Rattle.mqtt_rules.proofs.flight.FlightQueue.{place-kept, identifier-removed, identifier-marked, flight-kept, flight-sent}
 use Rattle.mqtt_rules.proofs.flight.FlightRecords.{Sits, flight_of, sits-marked, sits-left}
+use Rattle.mqtt_rules.proofs.flight.SizedRows.{own_size, sized}
 
 -- ---- the identifiers in use
 
@@ -49,11 +50,11 @@ covers-first : (o : Option ℕ) (id : ℕ) (used : List ℕ) → o ≡ Some id �
 covers-first None id used e = absurd cc
 covers-first (Some j) id used e = let is : j ≡ id = cc in rw (ap (λ n. nat_eq n id) is ∙ nat_eq_equiv.refl id) refl
 
-covers_all : (went : List ℕ) (birth : ℕ) (queue : List CopyRow) → Covers (identifiers (map (entry_on went) queue)) queue
-covers_all went birth [] place id h = absurd cc
-covers_all went birth (e ∷ es) place id h = elim (cases_Bool (nat_eq e.place place)) [
-  | inl here ↦ covers-first (identifier_of e.phase) id (identifiers (map (entry_on went) es)) (rw here at h)
-  | inr further ↦ covers-also (identifier_of e.phase) id (identifiers (map (entry_on went) es)) (covers_all went birth es place id (rw further at h))
+covers_all : (size : CopyRow → ℕ) (went : List ℕ) (birth : ℕ) (queue : List CopyRow) → Covers (identifiers (map (sized size went) queue)) queue
+covers_all size went birth [] place id h = absurd cc
+covers_all size went birth (e ∷ es) place id h = elim (cases_Bool (nat_eq e.place place)) [
+  | inl here ↦ covers-first (identifier_of e.phase) id (identifiers (map (sized size went) es)) (rw here at h)
+  | inr further ↦ covers-also (identifier_of e.phase) id (identifiers (map (sized size went) es)) (covers_all size went birth es place id (rw further at h))
 ]
 
 or_true : (b : Bool) → (b || true) ≡ true
@@ -139,7 +140,7 @@ right way copy here (Oversize i order) = tt
 
 -- ---- from copy to copy
 
-module _ (way : Way) (now line : ℕ) (s : Session) (went : List ℕ) where
+module _ (size : CopyRow → ℕ) (way : Way) (now line : ℕ) (s : Session) (went : List ℕ) where
   -- after these turns no two copies have the same identifier
   abbrev Told : List Turn → Broker → Type 0
   Told ts b = HasDistinctIdentifiers (after_all (all_turn_deeds now line s ts) b).records
@@ -210,21 +211,27 @@ module _ (way : Way) (now line : ℕ) (s : Session) (went : List ℕ) where
   walk_by zero v e es queue p b rest fits at next = at.sits.distinct
   walk_by (suc left) v e es queue p b rest fits at next = walk_on v e es queue p b rest fits at next
 
-  walk : (es : List CopyRow) → IsAscending copy_place es → Ahead s.queue es → Next es (pump_from way (map (entry_on went) es))
+  walk : (es : List CopyRow) → IsAscending copy_place es → Ahead s.queue es → Next es (pump_from way (map (sized size went) es))
   walk [] up was p queue b covers ahead sits = sits.distinct
   walk (e ∷ es) up was p queue b covers ahead sits =
-      let x = entry_on went e in
-      walk_by p.left (verdict way x) e es queue p b (pump_from way (map (entry_on went) es)) (right way x.copy x.here e.phase)
+      let x = sized size went e in
+      walk_by p.left (verdict way x) e es queue p b (pump_from way (map (sized size went) es)) (right way x.copy x.here e.phase)
       (record { was = was.0; there = ahead.0; above = up.0; ahead = ahead.1; covers = covers; sits = sits })
       (walk es up.1 was.1)
 
-  pub pump_distinct : (b : Broker) → Sits s.birth s.queue b.records → Told (pump way (queue_on went s)) b
+  -- after a pump no two copies of the session have the same identifier
+  pub pump_distinct : (b : Broker) → Sits s.birth s.queue b.records → Told (pump way (map (sized size went) s.queue)) b
   pump_distinct b sits =
       let up = (flight_of s.birth s.queue b.records sits).places in
       let all = all_found copy_place s.queue up in
-      walk s.queue up all (pace way (queue_on went s)) s.queue b (covers_all went s.birth s.queue) all sits
+      walk s.queue up all (pace way (map (sized size went) s.queue)) s.queue b (covers_all size went s.birth s.queue) all sits
 
--- a pump keeps identifiers distinct
+-- a pump keeps identifiers distinct, whatever the sizes
+pub sized_pump_keeps : (size : CopyRow → ℕ) (l : Line) (now : ℕ) (s : Session) (b : Broker) → session_at s.birth b.records ≡ Some s → HasDistinctIdentifiers b.records
+    → HasDistinctIdentifiers (after_all (all_turn_deeds now l.number s (pump (way_of l now) (map (sized size l.went) s.queue))) b).records
+sized_pump_keeps size l now s b there h =
+    pump_distinct size (way_of l now) now l.number s l.went b (record { session = s; there = there; its_queue = refl; distinct = h })
+
+-- by those that rows remember
 pub pump_keeps : (l : Line) (now : ℕ) (s : Session) (b : Broker) → session_at s.birth b.records ≡ Some s → HasDistinctIdentifiers b.records → HasDistinctIdentifiers (after_all (pump_deeds l now s) b).records
-pump_keeps l now s b there h =
-    pump_distinct (way_of l now) now l.number s l.went b (record { session = s; there = there; its_queue = refl; distinct = h })
+pump_keeps = sized_pump_keeps own_size

@@ -100,6 +100,7 @@ parts_keep part (Some s) r u h = part_keeps part s r u h
 
 -- ---- a session's queue, while it is pumped
 
+-- the session with this birth has this queue, and in no queue two copies have the same identifier
 pub record Sits (birth : ℕ) (queue : List CopyRow) (r : Records) : Type 0 where
   pub session : Session
   pub there : session_at birth r ≡ Some session

@@ -24,7 +24,8 @@ use Rattle.mqtt_rules.specs.Connect.{of_client, clear}
 use Rattle.mqtt_rules.specs.Inbound.{pump_turns, pump_deeds}
 use Rattle.mqtt_rules.specs.Subscribe as sub
 use Rattle.mqtt_rules.specs.Tick.{lapses, lapse_deeds}
-use Rattle.mqtt_rules.proofs.acts.Goods.{AreGood, GoodAct, good_append, good_series, good_two, good_map, good_flat, good_acts, good_cond, good_if, good_of_session, good_of_client, good_with_session, good_of_entry}
+use Rattle.mqtt_rules.proofs.acts.Offers.{of_offer}
+use Rattle.mqtt_rules.proofs.acts.Goods.{AreGood, GoodAct, good_append, good_series, good_two, good_map, good_flat, good_acts, good_if, good_of_session, good_of_client, good_with_session, good_of_entry}
 use Rattle.mqtt_rules.proofs.acts.Acts.{brought_to}
 use Rattle.mqtt_rules.proofs.lines.LineRows.{IsStill, IsQuiet, still_quiet}
 
@@ -62,9 +63,8 @@ quiet_enter env copy s b =
     let ts = way_made (queue_limits env) (since env s) (queue_on [] s) in
     good_append IsQuiet (flat_map (leave_deeds s) ts) (At (whose s) (Enter copy) ∷ []) b (quiet_leaves s ts b) (tt, tt)
 
-quiet_offer : (l : Option Line) (packet : Packet) (b : Broker) → AreGood IsQuiet (offer l packet) b
-quiet_offer None packet b = tt
-quiet_offer (Some l) packet b = good_cond IsQuiet _ (deeds.Send l.number packet ∷ []) [] b (tt, tt) tt
+quiet_offer : (o : Option Line) (packet : Packet) (b : Broker) → AreGood IsQuiet (offer o packet) b
+quiet_offer o packet b = of_offer (λ (ds : List Deed). AreGood IsQuiet ds b) o packet tt (λ l there. (tt, tt))
 
 quiet_deliver_by : (t : Bool) (env : Env) (d : CopyTo) (b : Broker) → AreGood IsQuiet (deliver_by t env d b) b
 quiet_deliver_by true env d b = good_with_session IsQuiet (session_at d.birth b.records) (λ s. always (enter_deeds env d.copy s)) b (λ s e. quiet_enter env d.copy s b)

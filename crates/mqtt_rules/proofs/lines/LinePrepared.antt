@@ -63,7 +63,7 @@ module _ (P : Broker → Type 0) (stays : (ds : List Deed) (x : Broker) → AreG
       by None is = absurd cc
       by (Some birth) is = let same : birth ≡ s.birth = cc in found (session_at birth b2.records) (ap (λ (n : ℕ). session_at n b.records) same ∙ there)
 
-  -- the takeover, where it has nothing to do, and where there is an old line
+  -- the takeover, if it has nothing to do, and if there is an old line
   over : (env : Env) (client : List ℕ) (b : Broker) → Coheres b.records
       → (session_named client b.records ≡ None → P b)
       → ((s : Session) → session_named client b.records ≡ Some s → line_of s.birth b ≡ None → P b)
@@ -92,9 +92,11 @@ module _ (P : Broker → Type 0) (stays : (ds : List Deed) (x : Broker) → AreG
       let x = taken_over env client b in
       stays (of_client client (λ s. settle env s.birth) x) x (good_of_client IsStill client (λ s. settle env s.birth) (λ s. still_settle env s.birth) x) p
 
+  -- what deeds that connect nobody keep is kept by what clears a session
   pub cleared : (env : Env) (client : List ℕ) (s : Session) (b : Broker) → P (settled env client b) → P (after_all (publish_will env s (settled env client b)) (settled env client b))
   cleared env client s b p = stays (publish_will env s (settled env client b)) (settled env client b) (still_publish_will env s (settled env client b)) p
 
+  -- what deeds that connect nobody keep is kept by all that comes before a new connection
   pub prepared : (env : Env) (c : Greeting) (b : Broker) → P (taken_over env c.client_identifier b) → P (after_all (prepare env c b) b)
   prepared env c b p =
       let name = c.client_identifier in
@@ -186,6 +188,7 @@ free_over env client n b h u free = over (IsFree n) (free_stays n) env client b 
 -- ---- where the session of a client is cleared, and where all is prepared
 
 module _ (Keep : Broker → Type 0) (coheres : (b : Broker) → Keep b → Coheres b.records) (unique : (b : Broker) → Keep b → b.records.autos ≤ LAST_NUMBER → HasUniqueLines b) where
+  -- a session that was cleared is not connected
   pub cleared_shut : (env : Env) (s : Session) (b : Broker) → Coheres b.records → IsCleared env Keep s b → b.records.autos ≤ LAST_NUMBER → closed_at s.birth b.records ≡ Some None → ⊥
   cleared_shut env s b h x le is =
       let a = x.before in
@@ -199,6 +202,7 @@ module _ (Keep : Broker → Type 0) (coheres : (b : Broker) → Keep b → Coher
       let shut : IsShut client b = subst (IsShut client) (sym x.is) (cleared (IsShut client) (shut_stays client) env client x.other a (behind (IsShut client) (shut_stays client) env client a over_it)) in
       shut s.birth (named_is x.other.client s b h x.named ∙ ap Some x.its) is
 
+  -- once all that comes before a new connection is done, no session of the client is connected, and nobody is on the line
   pub prepared_shut : (env : Env) (l : Line) (c : Greeting) (b : Broker) → IsPrepared env Keep l c b → b.records.autos ≤ LAST_NUMBER → l.session ≡ None → IsShut c.client_identifier b × IsFree l.number b
   prepared_shut env l c b x le none =
       let a = x.before in

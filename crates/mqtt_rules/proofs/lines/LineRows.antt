@@ -345,6 +345,7 @@ names_deed (Send n packet) b k client q e = e
 
 -- ---- lists of such deeds
 
+-- who stands on which line stays, or is taken off, and nobody else is there
 pub record Leaves (b c : Broker) : Type 0 where
   pub lines : (n : ℕ) → session_on n c ≡ session_on n b
   pub ascending : IsAscending line_number b.lines → IsAscending line_number c.lines
@@ -367,7 +368,7 @@ leaves_deed d b q =
       names = λ k client e. names_deed d b k client q e;
     }
 
--- deeds that connect nobody leave who stands on which line, or take him off
+-- deeds that connect nobody leave who stands on which line, or take it off
 pub leaves : (ds : List Deed) (b : Broker) → AreGood IsStill ds b → Leaves b (after_all ds b)
 leaves [] b q = record { lines = λ n. refl; ascending = λ up. up; below = λ n low. low; given = refl; autos = refl; falls = λ k e. e; names = λ k client e. e }
 leaves (d ∷ ds) b q =

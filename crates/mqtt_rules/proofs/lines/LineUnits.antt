@@ -6,7 +6,7 @@ use Rattle.std.proofs.lemmas.Cmp.{nat_eq_equiv}
 abbrev Found : Type 0
 Found = ℕ → Option (Option ℕ)
 
--- a session stands on at most one line, exactly where it isn't closed
+-- a session stands on at most one line, exactly if it isn't closed
 pub record AreJoined (on shut : Found) : Type 0 where
   pub once : (n m birth : ℕ) → on n ≡ Some (Some birth) → on m ≡ Some (Some birth) → n ≡ m
   pub stands : (n birth : ℕ) → on n ≡ Some (Some birth) → shut birth ≡ Some None
@@ -20,6 +20,7 @@ at_key : {X : Type 0} (k : ℕ) (a b : X) → cond (nat_eq k k) a b ≡ a
 at_key k a b = ap (λ (t : Bool). cond t a b) (here k)
 
 module _ (on shut on' shut' : Found) (j : AreJoined on shut) where
+  -- if both look-ups stay the same, sessions and lines agree as before
   pub joined_same : ((n : ℕ) → on' n ≡ on n) → ((k : ℕ) → shut' k ≡ shut k) → AreJoined on' shut'
   joined_same lines closed = record {
     once = λ n m birth p q. j.once n m birth (sym (lines n) ∙ p) (sym (lines m) ∙ q);

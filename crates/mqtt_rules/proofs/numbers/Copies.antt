@@ -27,11 +27,13 @@ use Rattle.mqtt_rules.specs.Deeds.{Whose, whose, Message, Part, Resume, Open, Re
 use Rattle.mqtt_rules.specs.Outbound.{leave_deeds, since, queue_limits, enter_deeds}
 use Rattle.mqtt_rules.specs.Routing.{CopyTo, copy_to, served_copies_to, copies_to, next_publication, routing_of, finds_place, accepted_if, accepted_copies, is_queued, deliver_by, deliver}
 use Rattle.mqtt_rules.specs.Subscribe.{Wish, has_filter, wants_retained, kept_of, message_in, is_brought, retained_copy, retained_copy_to, brought_if, brought}
-use Rattle.mqtt_rules.proofs.acts.Goods.{AreGood, good_append, good_cond, good_flat, good_of_entry, good_with_session}
+use Rattle.mqtt_rules.proofs.acts.Offers.{of_offer}
+use Rattle.mqtt_rules.proofs.acts.Goods.{AreGood, good_append, good_flat, good_of_entry, good_with_session}
 
 -- ---- lists
 
 module _ {X : Type 0} (P : X → Type 0) where
+  -- what holds of all holds of some of them
   pub each_filter : (test : X → Bool) (xs : List X) → AllByRecursion P xs → AllByRecursion P (filter test xs)
   each_filter test [] h = tt
   each_filter test (x ∷ xs) h = elim (cases_Bool (test x)) [
@@ -39,10 +41,12 @@ module _ {X : Type 0} (P : X → Type 0) where
     | inr goes ↦ rw goes (each_filter test xs h.1)
   ]
 
+  -- what holds of two lists holds of both together
   pub each_append : (xs ys : List X) → AllByRecursion P xs → AllByRecursion P ys → AllByRecursion P (xs ++ ys)
   each_append [] ys p q = q
   each_append (x ∷ xs) ys p q = (p.0, each_append xs ys p.1 q)
 
+  -- what holds of everything holds of a list
   pub each_all : ((x : X) → P x) → (xs : List X) → AllByRecursion P xs
   each_all h [] = tt
   each_all h (x ∷ xs) = (h x, each_all h xs)
@@ -214,9 +218,8 @@ beside_enter env copy s b =
     let ts = way_made (queue_limits env) (since env s) (queue_on [] s) in
     good_append IsBeside (flat_map (leave_deeds s) ts) (At (whose s) (Enter copy) ∷ []) b (beside_leaves s ts b) (tt, tt)
 
-beside_offer : (l : Option Line) (packet : Packet) (b : Broker) → AreGood IsBeside (offer l packet) b
-beside_offer None packet b = tt
-beside_offer (Some l) packet b = good_cond IsBeside _ (Send l.number packet ∷ []) [] b (tt, tt) tt
+beside_offer : (o : Option Line) (packet : Packet) (b : Broker) → AreGood IsBeside (offer o packet) b
+beside_offer o packet b = of_offer (λ (ds : List Deed). AreGood IsBeside ds b) o packet tt (λ l there. (tt, tt))
 
 beside_deliver_by : (t : Bool) (env : Env) (d : CopyTo) (b : Broker) → AreGood IsBeside (deliver_by t env d b) b
 beside_deliver_by true env d b =

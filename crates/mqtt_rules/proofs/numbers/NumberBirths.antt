@@ -24,10 +24,12 @@ use Rattle.mqtt_rules.proofs.acts.Goods.{AreGood}
 use Rattle.mqtt_rules.proofs.numbers.NumberFacts.{Counts, counts_deed, GivesNext}
 
 module _ {X : Type 0} (key : X → ℕ) where
+  -- what is below a number is below a greater one
   pub below_more : (n m : ℕ) (xs : List X) → n ≤ m → IsBelow key n xs → IsBelow key m xs
   below_more n m [] le low = tt
   below_more n m (x ∷ xs) le low = let less = low.0 in (omega (arith, less, le), below_more n m xs le low.1)
 
+  -- rows are below a number with one more that is
   pub below_insert : (n : ℕ) (row : X) (xs : List X) → key row < n → IsBelow key n xs → IsBelow key n (insert_row key row xs)
   below_insert n row [] less low = (less, tt)
   below_insert n row (x ∷ xs) less low = elim (cases_Bool (nat_lt (key row) (key x))) [
@@ -38,14 +40,17 @@ module _ {X : Type 0} (key : X → ℕ) where
     ]
   ]
 
+  -- a choice between rows below a number is below it
   pub below_cond : (n : ℕ) (t : Bool) (xs ys : List X) → IsBelow key n xs → IsBelow key n ys → IsBelow key n (cond t xs ys)
   below_cond n true xs ys p q = p
   below_cond n false xs ys p q = q
 
+  -- the same in a list with a limit
   pub below_put : (n limit : ℕ) (row : X) (xs : List X) → key row < n → IsBelow key n xs → IsBelow key n (put_row key limit row xs)
   below_put n limit row xs less low =
       below_cond n (has_row key (key row) xs || nat_lt (length xs) limit) (insert_row key row xs) xs (below_insert n row xs less low) low
 
+  -- some of the rows are below a number if all are
   pub below_filter : (n : ℕ) (test : X → Bool) (xs : List X) → IsBelow key n xs → IsBelow key n (filter test xs)
   below_filter n test [] low = tt
   below_filter n test (x ∷ xs) low = elim (cases_Bool (test x)) [
@@ -53,6 +58,7 @@ module _ {X : Type 0} (key : X → ℕ) where
     | inr goes ↦ rw goes (below_filter n test xs low.1)
   ]
 
+  -- rows are below a number after one changes and keeps its key
   pub below_change : (n k : ℕ) (f : X → X) (xs : List X) → ((x : X) → key (f x) ≡ key x) → IsBelow key n xs → IsBelow key n (change_row key k f xs)
   below_change n k f [] kept low = tt
   below_change n k f (x ∷ xs) kept low = elim (cases_Bool (nat_eq (key x) k)) [
@@ -68,6 +74,7 @@ module _ {X : Type 0} (key : X → ℕ) where
     | inr other ↦ let there : row_at key k ys ≡ Some x = rw other at e in below_found n k x ys there low.1
   ]
 
+  -- no row below a number is found by it
   pub below_none : (n : ℕ) (xs : List X) → IsBelow key n xs → row_at key n xs ≡ None
   below_none n [] low = refl
   below_none n (x ∷ xs) low =

@@ -30,6 +30,7 @@ use Rattle.mqtt_rules.proofs.acts.ByDeeds.{DeedLaw, MarkLaw, leads_deeds, leads_
 -- ---- what holds of each row, edit by edit
 
 module _ {X : Type 0} (key : X → ℕ) (P : X → Type 0) where
+  -- what holds of both choices holds of the one that is made
   pub each_cond : (t : Bool) (xs ys : List X) → AllByRecursion P xs → AllByRecursion P ys → AllByRecursion P (cond t xs ys)
   each_cond true xs ys p q = p
   each_cond false xs ys p q = q

@@ -33,6 +33,7 @@ pub length-slice_set : {X : Type 0} (xs : List X) (i : ℕ) (x : X) → length (
 length-slice_set xs i x = length-set xs i x
 
 module _ {X : Type 0} (key : X → ℕ) where
+  -- a changed row leaves as many as there were
   pub length-change_row : (k : ℕ) (f : X → X) (xs : List X) → length (change_row key k f xs) ≡ length xs
   length-change_row k f [] = refl
   length-change_row k f (x ∷ xs) = elim (cases_Bool (nat_eq (key x) k)) [
@@ -40,6 +41,7 @@ module _ {X : Type 0} (key : X → ℕ) where
     | inr other ↦ rw other (ap suc (length-change_row k f xs))
   ]
 
+  -- a row that is put makes one more at most
   pub length-insert_row : (row : X) (xs : List X) → length (insert_row key row xs) ≤ suc (length xs)
   length-insert_row row [] = omega arith
   length-insert_row row (x ∷ xs) =
@@ -52,9 +54,11 @@ module _ {X : Type 0} (key : X → ℕ) where
         ]
       ]
 
+  -- a row put in the place of another makes no more
   pub length-insert_found : (row : X) (xs : List X) → IsAscending key xs → has_row key (key row) xs ≡ true → length (insert_row key row xs) ≡ length xs
   length-insert_found row xs up found = ap length (insert-found key row xs up found) ∙ length-slice_set xs (front_len key (key row) xs) row
 
+  -- a list within its limit is within it after a row is put
   pub length-put_row : (limit : ℕ) (row : X) (xs : List X) → IsAscending key xs → length xs ≤ limit → length (put_row key limit row xs) ≤ limit
   length-put_row limit row xs up le = elim (cases_Bool (has_row key (key row) xs)) [
     | inl there ↦ let same = length-insert_found row xs up there in rw there (omega (arith, same, le))
@@ -69,18 +73,22 @@ module _ {X : Type 0} (key : X → ℕ) where
 
   -- ---- a table stays one
 
+  -- a table is one after a row is put
   pub put-table : (limit : ℕ) (row : X) (xs : List X) → IsTable key limit xs → IsTable key limit (put_row key limit row xs)
   put-table limit row xs t = record { ascending = put-ascending key limit row xs t.ascending; within = length-put_row limit row xs t.ascending t.within }
 
+  -- a table is one without some of its rows
   pub filter-table : (limit : ℕ) (keep : X → Bool) (xs : List X) → IsTable key limit xs → IsTable key limit (filter keep xs)
   filter-table limit keep xs t =
       let fewer = length-filter_le keep xs in
       let le = t.within in
       record { ascending = filter-ascending key keep xs t.ascending; within = omega (arith, fewer, le) }
 
+  -- a table is one after a row is removed
   pub remove-table : (limit k : ℕ) (xs : List X) → IsTable key limit xs → IsTable key limit (remove_row key k xs)
   remove-table limit k xs t = filter-table limit (λ x. not (nat_eq (key x) k)) xs t
 
+  -- a table is one after a row changes and keeps its key
   pub change-table : (limit k : ℕ) (f : X → X) (xs : List X) → ((x : X) → key (f x) ≡ key x) → IsTable key limit xs → IsTable key limit (change_row key k f xs)
   change-table limit k f xs kept t =
       let same = length-change_row k f xs in
@@ -89,6 +97,7 @@ module _ {X : Type 0} (key : X → ℕ) where
 
   -- ---- what holds of each row
 
+  -- what holds of each row, and of one more, holds of each after that one is put
   pub all-insert_row : (P : X → Type 0) (row : X) (xs : List X) → P row → AllByRecursion P xs → AllByRecursion P (insert_row key row xs)
   all-insert_row P row [] p all = (p, tt)
   all-insert_row P row (x ∷ xs) p all = elim (cases_Bool (nat_lt (key row) (key x))) [
@@ -99,12 +108,14 @@ module _ {X : Type 0} (key : X → ℕ) where
     ]
   ]
 
+  -- the same in a list with a limit
   pub all-put_row : (P : X → Type 0) (limit : ℕ) (row : X) (xs : List X) → P row → AllByRecursion P xs → AllByRecursion P (put_row key limit row xs)
   all-put_row P limit row xs p all = elim (cases_Bool (has_row key (key row) xs || nat_lt (length xs) limit)) [
     | inl takes ↦ rw takes (all-insert_row P row xs p all)
     | inr full ↦ rw full all
   ]
 
+  -- what holds of each row holds of each after one changes, if the change keeps it
   pub all-change_row : (P : X → Type 0) (k : ℕ) (f : X → X) (xs : List X) → ((x : X) → P x → P (f x)) → AllByRecursion P xs → AllByRecursion P (change_row key k f xs)
   all-change_row P k f [] keeps all = tt
   all-change_row P k f (x ∷ xs) keeps all = elim (cases_Bool (nat_eq (key x) k)) [

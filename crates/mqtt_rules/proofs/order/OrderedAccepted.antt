@@ -107,7 +107,7 @@ few_direct at p birth (s ∷ ss) up fits =
         omega (arith, some, zero_rest))
         (few parts.1)
 
--- ---- copies of groups: a member is eligible only where its queue has room beside the others
+-- ---- copies of groups: a member is eligible only if its queue has room beside the others
 
 many_served : (birth : ℕ) (before : List Served) (s : Served) → many birth (copies_of (before ++ s ∷ [])) ≡ many birth (copies_of before) + many birth (copies_in s.copy)
 many_served birth [] s =

@@ -26,13 +26,14 @@ use Rattle.mqtt_rules.specs.Closing.{end_session}
 use Rattle.mqtt_rules.specs.Connect.{greet, expiry_of, will_of, connack_properties, fresh_row, begin, begin_named}
 use Rattle.mqtt_rules.specs.Inbound.{pump_turns, pump_deeds}
 use Rattle.mqtt_rules.specs.Subscribe as sub
+use Rattle.mqtt_rules.proofs.acts.Offers.{of_offer}
 use Rattle.mqtt_rules.proofs.acts.Goods.{after_append, AreGood}
 use Rattle.mqtt_rules.proofs.acts.Leads.{Leads}
 use Rattle.mqtt_rules.proofs.acts.Acts.{anyone, call_of_anyone, finds_anyone, is_alone, closing_session, closing_on, closing, brought_to, Law, leads_call, leads_opening}
 use Rattle.mqtt_rules.specs.Tick.{lapses, lapse_deeds}
 use Rattle.mqtt_rules.specs.Step.{Call, deeds_of, with_moment, done, opening}
 
--- ---- deeds that let no table grow: all but those that stand only where there is room
+-- ---- deeds that let no table grow: all but those that stand only if there is room
 
 abbrev pub IsPlainPart : Part → Type 0
 IsPlainPart (Enter copy) = ⊥
@@ -71,9 +72,8 @@ plain_cond true xs ys p q = p
 plain_cond false xs ys p q = q
 
 -- offering a packet to a line is plain
-pub plain_offer : (l : Option Line) (p : Packet) → ArePlain (offer l p)
-plain_offer None p = tt
-plain_offer (Some l) p = plain_cond _ (Send l.number p ∷ []) [] (tt, tt) tt
+pub plain_offer : (o : Option Line) (p : Packet) → ArePlain (offer o p)
+plain_offer o p = of_offer ArePlain o p tt (λ l there. (tt, tt))
 
 plain_of_entry : (o : Option CopyRow) (f : CopyRow → List Deed) → ((e : CopyRow) → ArePlain (f e)) → ArePlain (of_entry o f)
 plain_of_entry None f h = tt
@@ -114,29 +114,36 @@ module _ (P : Records → Type 0) where
   KeepActs [] = Unit {0}
   KeepActs (act ∷ acts) = Keeps act × KeepActs acts
 
+  -- what holds after some deeds and then others holds after all
   pub both : (xs ys : List Deed) (b : Broker) → P (stored (after_all ys (after_all xs b))) → P (stored (after_all (xs ++ ys) b))
   both xs ys b p = subst (λ (c : Broker). P (stored c)) (sym (after_append xs ys b)) p
 
+  -- what holds after some deeds holds after an act behind them that keeps it
   pub follows : (ds : List Deed) (act : Act) (b : Broker) → P (stored (after_all ds b)) → Keeps act → P (stored (after_all (then ds act b) b))
   follows ds act b p h = both ds (act (after_all ds b)) b (h (after_all ds b) p)
 
+  -- acts that each keep something keep it one after the other
   pub keeps_series : (acts : List Act) → KeepActs acts → Keeps (series acts)
   keeps_series [] h b p = p
   keeps_series (f ∷ fs) h b p = follows (f b) (series fs) b (h.0 b p) (keeps_series fs h.1)
 
+  -- acts made of items keep what each keeps
   pub keeps_map : {X : Type 0} (f : X → Act) → ((x : X) → Keeps (f x)) → (xs : List X) → KeepActs (map f xs)
   keeps_map f h [] = tt
   keeps_map f h (x ∷ xs) = (h x, keeps_map f h xs)
 
+  -- an act of a session that is there keeps what it keeps of each session
   pub keeps_with : (s : Option Session) (f : Session → Act) → ((t : Session) → Keeps (f t)) → Keeps (with_session s f)
   keeps_with None f h b p = p
   keeps_with (Some s) f h b p = h s b p
 
+  -- an act of the session with a birth keeps what it keeps of each session
   pub keeps_of : (birth : ℕ) (f : Session → Act) → ((t : Session) → Keeps (f t)) → Keeps (of_session birth f)
   keeps_of birth f h b p = keeps_with (session_at birth b.records) f h b p
 
 -- ---- what the deeds of a step have to keep
 
+-- what a law of the records says of plain deeds, new sessions, publications and grants
 pub record Keeping (env : Env) (P : Records → Type 0) (Good : Deed → Broker → Type 0) : Type 0 where
   pub plain : (d : Deed) (r : Records) → IsPlain d → P r → P (stored_after d r)
   pub good : (d : Deed) (b : Broker) → IsPlain d → P b.records → Good d b
@@ -162,10 +169,12 @@ birth_found birth (x ∷ xs) s found = elim (cases_Bool (nat_eq (birth_of x) bir
 ]
 
 module _ (env : Env) (P : Records → Type 0) (Good : Deed → Broker → Type 0) (k : Keeping env P Good) where
+  -- plain deeds keep what such a law says of the records
   pub plains : (ds : List Deed) (b : Broker) → ArePlain ds → P b.records → P (stored (after_all ds b))
   plains [] b q p = p
   plains (d ∷ ds) b q p = plains ds (after d b) q.1 (k.plain d b.records q.0 p)
 
+  -- an act of plain deeds keeps what such a law says
   pub keeps_always : (ds : List Deed) → ArePlain ds → Keeps P (always ds)
   keeps_always ds q b p = plains ds b q p
 
@@ -212,6 +221,7 @@ module _ (env : Env) (P : Records → Type 0) (Good : Deed → Broker → Type 0
       let rest = born l c true (auto ++ decimal (suc b.records.autos)) (after d b) (k.plain d b.records tt p) room in
       ((k.good d b tt p, rest.0), rest.1)
 
+  -- what is said so of plain deeds, and of the others, is a law of all acts
   pub keeping_law : Law env anyone Keeps_ Good
   keeping_law = record {
     finds = finds_anyone Keeps_;
@@ -235,15 +245,19 @@ module _ (env : Env) (P : Records → Type 0) (Good : Deed → Broker → Type 0
     sends = λ n packet b p its. led (Send n packet ∷ []) b (tt, tt) p;
   }
 
+  -- each deed of a call is good, and the law holds of the records again behind them
   pub leads_all : (call : Call) (b : Broker) → P b.records → Led (deeds_of env call b) b
   leads_all call b p = leads_call env anyone Keeps_ Good keeping_law call b p (call_of_anyone call b)
 
+  -- each deed of an opening is good, and the law holds of the records again behind them
   pub leads_open : (b : Broker) → P b.records → Led (opening env b) b
   leads_open b p = leads_opening env anyone Keeps_ Good keeping_law (λ s c q is. led (At (whose s) (Close c.now) ∷ []) c (tt, tt) q) (λ birth. tt) b p
 
+  -- every call keeps what such a law says
   pub keeps_call : (call : Call) → Keeps P (deeds_of env call)
   keeps_call call b p = (leads_all call b p).1
 
+  -- every opening keeps what such a law says
   pub keeps_opening : Keeps P (opening env)
   keeps_opening b p = (leads_open b p).1
 
@@ -251,5 +265,6 @@ module _ (env : Env) (P : Records → Type 0) (Good : Deed → Broker → Type 0
   keeps_moment [] b p = p
   keeps_moment (row ∷ rows) b p = k.moment b.now b.records p
 
+  -- the moment that is stored behind the deeds keeps what such a law says
   pub keeps_done : (ds : List Deed) (b : Broker) → P (stored (after_all ds b)) → P (stored (done ds b))
   keeps_done ds b p = keeps_moment (rows_of_all ds b.records) (after_all ds b) p

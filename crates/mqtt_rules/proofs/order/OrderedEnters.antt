@@ -1,4 +1,4 @@
--- No queue outgrows its limit: every deed but an entering keeps that, and a copy enters where there is room.
+-- No queue outgrows its limit: every deed but an entering keeps that, and a copy enters if there is room.
 use Rattle.std.proofs.Common.{◌≡◌, ℕ, suc, ◌+◌, ◌-◌, ◌<◌, ◌≤◌, Bool, true, false, cond, not, List, [], ◌∷◌, ◌++◌, length, map, Option, Some, None, nat_eq, refl, ap, sym, subst, ◌∙◌, arith, inl, inr}
 use Rattle.std.specs.Prelude.{⊤, flat_map, is_some}
 use Rattle.std.specs.List.{AllByRecursion}
@@ -37,6 +37,7 @@ use Rattle.mqtt_rules.proofs.order.OrderedQueues.{length-mapped, stay, stay_is, 
 -- ---- a row found and changed
 
 module _ {X : Type 0} (key : X → ℕ) where
+  -- a changed row is found changed by its key
   pub change_here : (k : ℕ) (f : X → X) (xs : List X) (x : X) → ((y : X) → key (f y) ≡ key y) → row_at key k xs ≡ Some x → row_at key k (change_row key k f xs) ≡ Some (f x)
   change_here k f [] x kept found = absurd cc
   change_here k f (y ∷ ys) x kept found = elim (cases_Bool (nat_eq (key y) k)) [
@@ -48,6 +49,7 @@ module _ {X : Type 0} (key : X → ℕ) where
     | inr other ↦ rw (other, other) (change_here k f ys x kept (rw other at found))
   ]
 
+  -- a changed row leaves what other keys find
   pub change_other : (j k : ℕ) (f : X → X) (xs : List X) → ((y : X) → key (f y) ≡ key y) → nat_eq j k ≡ false → row_at key k (change_row key j f xs) ≡ row_at key k xs
   change_other j k f [] kept differ = refl
   change_other j k f (y ∷ ys) kept differ = elim (cases_Bool (nat_eq (key y) j)) [
@@ -59,6 +61,7 @@ module _ {X : Type 0} (key : X → ℕ) where
     | inr other ↦ rw other (ap (λ (o : Option X). cond (nat_eq (key y) k) (Some y) o) (change_other j k f ys kept differ))
   ]
 
+  -- what holds of each row holds of the one that is found
   pub all_found : (P : X → Type 0) (k : ℕ) (xs : List X) (x : X) → AllByRecursion P xs → row_at key k xs ≡ Some x → P x
   all_found P k [] x all found = absurd cc
   all_found P k (y ∷ ys) x all found = elim (cases_Bool (nat_eq (key y) k)) [
@@ -189,6 +192,7 @@ still_one (Gone line) p = tt
 
 -- ---- tables in order, and no queue above its limit
 
+-- the tables are in order, and no queue is longer than the limit
 pub record ShortQueues (limit : ℕ) (r : Records) : Type 0 where
   pub ordered : IsOrdered r
   pub short : AreShort limit r.sessions

@@ -1,6 +1,5 @@
 -- Every step, and every opening, keeps each queue within the limit.
-use Rattle.std.proofs.Common.{◌≡◌, ℕ, suc, ◌+◌, ◌-◌, ◌++◌, ◌≤◌, Bool, true, false, cond, ◌&&◌, List, [], ◌∷◌, length, filter, map, Option, Some, None, nat_eq, refl, ap, sym, subst, ◌∙◌, arith, inl, inr}
-use Rattle.std.specs.Prelude.{nat_le}
+use Rattle.std.proofs.Common.{◌≡◌, ℕ, suc, ◌+◌, ◌-◌, ◌++◌, ◌≤◌, Bool, true, false, ◌&&◌, List, [], ◌∷◌, length, filter, map, Option, Some, None, nat_eq, refl, ap, sym, subst, ◌∙◌, arith, inl, inr}
 use Rattle.std.specs.List.{AllByRecursion}
 use Rattle.std.proofs.lemmas.Bool.{cases_Bool, eqb-true}
 use Rattle.std.proofs.lemmas.Cmp.{nat_eq_equiv}
@@ -18,7 +17,7 @@ use Rattle.mqtt_records_rows.specs.Order.{IsAscending, row_at, change_row}
 use Rattle.mqtt_records.specs.Session.{birth_of, with_subscription}
 use Rattle.mqtt_records.specs.Records.{changed_all}
 use Rattle.mqtt_rules.specs.declared.Limits.{Limits}
-use Rattle.mqtt_rules.specs.Packets.{publish_of, size_of}
+use Rattle.mqtt_rules.specs.Packets.{publish_of}
 use Rattle.mqtt_rules.specs.State.{Line, Broker, Env, stored, session_at, line_of, MemberChoice}
 use Rattle.mqtt_rules.specs.Deeds.{whose, Message, Origin, Part, Enter, Deed, Accept, Count, At, Keep, Forget, Act, after, after_all, part_rows_of, stored_after, then, always, series, with_session, of_session, offer}
 use Rattle.mqtt_rules.specs.Deeds as deed
@@ -27,9 +26,10 @@ use Rattle.mqtt_rules.specs.Routing.{CopyTo, retained_of, next_publication, acce
 use Rattle.mqtt_rules.specs.Subscribe as sub
 use Rattle.mqtt_rules.specs.Step.{Call, stepped, env_of, unopened, opened}
 use Rattle.mqtt_rules.specs.Laws.{HasTables, IsOrdered}
+use Rattle.mqtt_rules.proofs.acts.Offers.{of_offer}
 use Rattle.mqtt_rules.proofs.order.Ordered.{length-filter_le, all-filter, changed-ordered}
 use Rattle.mqtt_rules.proofs.order.OrderedActs.{IsPlain, both, Keeping, birth_found}
-use Rattle.mqtt_rules.proofs.acts.Goods.{AreGood, good_append, good_cond}
+use Rattle.mqtt_rules.proofs.acts.Goods.{AreGood, good_append}
 use Rattle.mqtt_rules.proofs.acts.Leads.{Leads, leads_append}
 use Rattle.mqtt_rules.proofs.acts.Acts.{brought_to}
 use Rattle.mqtt_rules.proofs.order.OrderedAccepted.{is_to, accepted_within}
@@ -92,17 +92,11 @@ delivered limit env d ds b (Some s) le small queued is good =
       made.2,
     )
 
-offered : (l : Option Line) (p : Packet) (b : Broker) → stored (after_all (offer l p) b) ≡ stored b
-offered None p b = refl
-offered (Some l) p b = offered_if (nat_le (size_of p) l.largest) l p b
-  where
-    offered_if : (t : Bool) (l : Line) (p : Packet) (b : Broker) → stored (after_all (cond t (deed.Send l.number p ∷ []) []) b) ≡ stored b
-    offered_if true l p b = refl
-    offered_if false l p b = refl
+offered : (o : Option Line) (p : Packet) (b : Broker) → stored (after_all (offer o p) b) ≡ stored b
+offered o p b = of_offer (λ (ds : List Deed). stored (after_all ds b) ≡ stored b) o p refl (λ l there. refl)
 
-offer_room : (l : Option Line) (p : Packet) (b : Broker) → AreGood RoomToEnter (offer l p) b
-offer_room None p b = tt
-offer_room (Some l) p b = good_cond RoomToEnter (nat_le (size_of p) l.largest) (deed.Send l.number p ∷ []) [] b (tt, tt) tt
+offer_room : (o : Option Line) (p : Packet) (b : Broker) → AreGood RoomToEnter (offer o p) b
+offer_room o p b = of_offer (λ (ds : List Deed). AreGood RoomToEnter ds b) o p tt (λ l there. (tt, tt))
 
 deliver_good : (limit : ℕ) (t : Bool) (env : Env) (d : CopyTo) (ds : List CopyTo) (b : Broker) → env.limits.queue ≤ limit → env.limits.queue ≤ QUEUE_LIMIT → is_queued d ≡ t → Good limit env (d ∷ ds) b
     → Good limit env ds (after_all (deliver_by t env d b) b) × AreGood RoomToEnter (deliver_by t env d b) b

@@ -1,4 +1,4 @@
--- A copy enters a queue only where there is room for it.
+-- A copy enters a queue only if there is room for it.
 use Rattle.std.proofs.Common.{◌≡◌, ℕ, zero, suc, ◌<◌, ◌≤◌, Bool, true, false, not, ◌&&◌, List, [], ◌∷◌, ◌++◌, length, filter, map, Option, Some, None, nat_eq, nat_lt, refl, ap, sym, subst, ◌∙◌, arith, inl, inr, ◌⊎◌}
 use Rattle.std.specs.Prelude.{find, is_some}
 use Rattle.std.specs.List.{AllByRecursion}
@@ -227,7 +227,7 @@ length_leaving (turns.Outgrow place id order ∷ ts) q = length_leaving ts q
 length_leaving (turns.Repeat id ∷ ts) q = length_leaving ts q
 length_leaving (turns.Unknown id ∷ ts) q = length_leaving ts q
 
--- the first of some kind stays where all that leave stand before it
+-- the first of some kind stays if all that leave stand before it
 found_leaving : (p : CopyRow → Bool) (whole : List CopyRow) (ts : List Turn) (q : List CopyRow) (e : CopyRow) → AllByRecursion (GivesWay e.place whole) ts → find p q ≡ Some e → find p (leaving ts q) ≡ Some e
 found_leaving p whole [] q e all found = found
 found_leaving p whole (turns.Leave place ending ∷ ts) q e all found =

@@ -1,4 +1,4 @@
--- Sessions begin, and messages are retained, only where there is room.
+-- Sessions begin, and messages are retained, only if there is room.
 use Rattle.std.proofs.Common.{◌≡◌, ℕ, suc, ◌<◌, ◌≤◌, Bool, true, false, not, ◌&&◌, ◌||◌, List, [], ◌∷◌, ◌++◌, length, filter, map, Option, Some, None, nat_eq, nat_lt, refl, ap, sym, subst, ◌∙◌, arith, inl, inr}
 use Rattle.std.specs.Prelude.{⊤, flat_map, find, is_some}
 use Rattle.std.proofs.lemmas.Bool.{cases_Bool, ltb-true}
@@ -68,6 +68,7 @@ steady_plain : (ds : List Deed) → ArePlain ds → AreSteady ds
 steady_plain [] p = tt
 steady_plain (d ∷ ds) p = (steady_one d p.0, steady_plain ds p.1)
 
+-- what a law of the records says of steady deeds, of sessions that begin with room, and of messages that find a place
 pub record Roomy (env : Env) (P : Records → Type 0) : Type 0 where
   pub steady : (d : Deed) (r : Records) → IsSteady d → P r → P (stored_after d r)
   pub begin : (row : Columns) (will : Option Will) (r : Records) → length r.sessions < env.limits.sessions → P r → P (stored_after (Begin row will) r)
@@ -122,6 +123,7 @@ module _ (env : Env) (P : Records → Type 0) (k : Roomy env P) where
       (retains m.retain (is_empty m.payload) number m c refl refl found (k.steady (Accept number origin m) b.records tt p))
       (keeps_series P (map (deliver env) ds) (keeps_map P (deliver env) delivers ds)))
 
+  -- a law that says so much is one of all deeds
   pub roomy_keeps : Keeping env P (λ d b. ⊤)
   roomy_keeps = record {
     plain = λ d r q p. k.steady d r (steady_one d q) p;
@@ -213,6 +215,7 @@ deed_stays (Begin row will) r q = absurd q
 deed_stays (Keep kept) r q = absurd q
 
 module _ {X : Type 0} (key : X → ℕ) where
+  -- a row that is put makes one more at most
   pub length-put_row_suc : (limit : ℕ) (row : X) (xs : List X) → length (put_row key limit row xs) ≤ suc (length xs)
   length-put_row_suc limit row xs =
       either (λ (ys : List X). length ys ≤ suc (length xs)) (has_row key (key row) xs || nat_lt (length xs) limit) (insert_row key row xs) xs
