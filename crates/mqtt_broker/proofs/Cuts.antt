@@ -1,6 +1,6 @@
 -- However a stream comes, what is answered is what it is cut into.
-use Rattle.std.proofs.Common.{◌≡◌, ℕ, ◌+◌, ◌-◌, ◌≤◌, Bool, true, false, cond, not, ◌||◌, List, [], ◌∷◌, ◌++◌, length, drop, filter, take, map, Option, Some, None, nat_eq, refl, sym, ap, subst, ◌∙◌, arith, inl, inr, append_assoc, append-nil}
-use Rattle.std.specs.Prelude.{⊤, ◌&&◌, Result, Ok, Err, filter_map, find, is_some}
+use Rattle.std.proofs.Common.{◌≡◌, ℕ, Bool, true, false, List, [], ◌∷◌, ◌++◌, drop, take, map, Option, Some, None, nat_eq, refl, sym, ap, subst, ◌∙◌, inl, inr, append_assoc, append-nil}
+use Rattle.std.specs.Prelude.{◌&&◌, Ok, Err, filter_map, find, is_some}
 use Rattle.std.specs.List.{list_any}
 use Rattle.std.proofs.lemmas.Bool.{cases_Bool, eqb-true}
 use Rattle.std.proofs.lemmas.Cmp.{nat_eq_equiv}
@@ -9,18 +9,18 @@ use Rattle.mqtt_codec.specs.declared.packet.Packet.{Packet}
 use Rattle.mqtt_codec_parts.specs.Faults.{answer_to}
 use Rattle.mqtt_codec_parts.specs.declared.fault.Fault.{Fault}
 use Rattle.mqtt_packet.specs.Front.{first_of}
-use Rattle.mqtt_packet.specs.Stream.{Ending, EndsAs, Framing, IsCut, IsStream, Item, after, empty, fault_at, place_after, short_at}
+use Rattle.mqtt_packet.specs.Stream.{Ending, EndsAs, Framing, IsCut, IsStream, Item, fault_at, place_after, short_at}
 use Rattle.mqtt_packet.proofs.Cuts.{fault_stays, packet_stays}
 use Rattle.mqtt_packet.proofs.Fronts.{first_within}
 use Rattle.mqtt_rules.specs.declared.Limits.{Limits}
-use Rattle.mqtt_rules.specs.Deeds.{Deed, closing}
+use Rattle.mqtt_rules.specs.Deeds.{closing}
 use Rattle.mqtt_rules.specs.Lines.{line_number}
 use Rattle.mqtt_rules.specs.Piece.{Front, Pieced, begins_connect, bytes_taken, call_by, call_on, code_of, fed, held_on, is_whole, pieced, stepped_if, taken_on, without_by}
 use Rattle.mqtt_rules.specs.State.{Broker, Env, Line, MemberChoice, line_at}
-use Rattle.mqtt_rules.specs.Step.{BadInput, Call, at_moment, deeds, env_of, on_fault, stepped, told}
+use Rattle.mqtt_rules.specs.Step.{BadInput, Call, at_moment, env_of, on_fault, stepped, told}
 use Rattle.mqtt_rules.proofs.acts.Acts.{found_number}
 use Rattle.mqtt_broker.proofs.HeldBytes.{nothing_whole}
-use Rattle.mqtt_broker.specs.Cut.{Coming, Piece, Other, Giving, IsFrontOf, IsGivenOn, IsGivenWhole, IsNext, IsStanding, after_coming, after_comings, answered, answered_in, fault_in, given_first, packets_of, there_in, whole_in}
+use Rattle.mqtt_broker.specs.Cut.{Coming, Piece, Other, Giving, IsFrontOf, IsGivenOn, IsGivenWhole, IsStanding, after_coming, after_comings, answered, given_first, there_in, whole_in}
 use Rattle.mqtt_broker.specs.Serving.{has_closed}
 use Rattle.mqtt_broker.proofs.Framings.{taken_within}
 use Rattle.mqtt_broker.proofs.Left.{left, step_numbers}
@@ -50,6 +50,7 @@ fault_told env l false code None b = rw (nat_eq_equiv.refl l.number) refl
 fault_told env l true code (Some birth) b = rw (nat_eq_equiv.refl l.number) refl
 fault_told env l false code (Some birth) b = rw (nat_eq_equiv.refl l.number) refl
 
+-- a line on which a fault came isn't linked any more
 pub fault_closes : (limits : Limits) (choice : MemberChoice) (now line : ℕ) (is_connect : Bool) (code : ℕ) (b : Broker) (l : Line) → line_at line b ≡ Some l
     → is_some (line_at line (stepped limits choice now (BadInput line is_connect code) b)) ≡ false
 fault_closes limits choice now line is_connect code b l there =
@@ -121,6 +122,7 @@ all_stay piece f left front =
 
 -- ---- the law, along what comes
 
+-- what is answered is a front of what the stream is cut into, and all of it if all was given
 pub record IsAnswered (line : ℕ) (cs : List Coming) (g : Giving) (items : List Item) (ending : Ending) : Type 0 where
   pub front : IsFrontOf (answered line cs g) (there_in items ending)
   pub whole : IsGivenWhole line (after_comings line cs g) → answered line cs g ≡ there_in items ending
@@ -235,6 +237,7 @@ module _ (limits : Limits) (choice : MemberChoice) (now line : ℕ) (piece : Lis
 
 -- ---- all that comes
 
+-- so it is, from wherever the cut has come
 pub given_on : (line : ℕ) (cs : List Coming) (g : Giving) (place end : ℕ) (rest : List ℕ) (items : List Item) (ending : Ending)
     → TellsAgain line g → IsGivenOn line cs g → IsCut place (g.framing.held ++ g.left) items end rest → EndsAs end rest ending → IsAnswered line cs g items ending
 given_on line [] g place end rest items ending tells on cut ends = record {

@@ -1,9 +1,8 @@
--- What a line holds, taken out and put again, and that what it asks for is lawful.
-use Rattle.std.proofs.Common.{◌≡◌, ℕ, ◌-◌, ◌<◌, ◌≤◌, false, List, [], ◌++◌, length, take, refl, ap, sym, subst, ◌∙◌, inl, inr, arith}
+-- What a line holds stays bytes, and what it asks for is lawful.
+use Rattle.std.proofs.Common.{◌≡◌, ℕ, ◌-◌, false, List, [], ◌++◌, length, take, refl, ap, sym, subst, inl, inr, arith}
 use Rattle.std.proofs.lemmas.Bool.{cases_lt}
 use Rattle.std.proofs.lemmas.List.{length-take-le, get_or_append_left, get_or-append_right}
-use Rattle.std.specs.Prelude.{Option, Some, None, Result, Ok, Err, OnOk, OnErr}
-use Rattle.mqtt_base.specs.declared.limits.TheConstants.{LINE_LIMIT, PACKET_LIMIT}
+use Rattle.std.specs.Prelude.{Some, None, Result, Ok, Err, OnOk, OnErr}
 use Rattle.mqtt_codec.specs.declared.packet.Packet.{Packet}
 use Rattle.mqtt_codec.proofs.ShortestLemmas.{spelled_has}
 use Rattle.mqtt_base.proofs.Steps.{IsBytes-drop, IsBytes-take}
@@ -11,40 +10,12 @@ use Rattle.mqtt_packet.specs.Front.{first_of, size_at}
 use Rattle.mqtt_packet.specs.Stream.{Framing}
 use Rattle.mqtt_packet.proofs.Fronts.{first_within}
 use Rattle.mqtt_packet.proofs.Wholes.{first_spells}
-use Rattle.mqtt_records_rows.specs.Order.{IsAscending, row_at, put_row, remove_row}
-use Rattle.mqtt_records_rows.proofs.OrderLemmas.{change-none, remove-none}
+use Rattle.mqtt_records_rows.specs.Order.{row_at}
 use Rattle.mqtt_rules.specs.Contents.{IsTaken}
 use Rattle.mqtt_rules.specs.Piece.{Front, bytes_taken, fed, first_call, is_whole, without_by, without_first}
-use Rattle.mqtt_broker_step.proofs.AliasDeeds.{changed_put}
-use Rattle.mqtt_broker_step.proofs.Inverse.{removed_back}
-use Rattle.mqtt_broker.specs.Framers.{AreBytes, HeldLine, changed_at, framing_at, framing_of, given_back, in_framing, line_of}
+use Rattle.mqtt_broker.specs.Framers.{AreBytes, HeldLine, framing_at, framing_of, given_back, line_of}
 
-abbrev held : ℕ → Framing → HeldLine
-held line framing = record { line = line; framing = framing }
-
-pub held_is : {a b : ℕ} {f g : Framing} → a ≡ b → f ≡ g → held a f ≡ held b g
-held_is e p = rw (e, p) refl
-
--- changed, and put again
-pub changed_in : (line : ℕ) (f : Framing → Framing) (h : HeldLine) (xs rest new : List HeldLine) → IsAscending line_of xs → length xs ≤ LINE_LIMIT
-    → row_at line_of line xs ≡ Some h → rest ≡ remove_row line_of line xs → new ≡ put_row line_of LINE_LIMIT (in_framing f h) rest → new ≡ changed_at line f xs
-changed_in line f h xs rest new up few found is put =
-    put ∙ (ap (λ (ys : List HeldLine). put_row line_of LINE_LIMIT (in_framing f h) ys) is
-    ∙ changed_put line_of LINE_LIMIT line (in_framing f) h xs (λ y. refl) up found few)
-
--- as it was
-pub same_in : (line : ℕ) (h : HeldLine) (xs rest new : List HeldLine) → IsAscending line_of xs → length xs ≤ LINE_LIMIT
-    → row_at line_of line xs ≡ Some h → rest ≡ remove_row line_of line xs → new ≡ put_row line_of LINE_LIMIT h rest → new ≡ xs
-same_in line h xs rest new up few found is put =
-    put ∙ (ap (λ (ys : List HeldLine). put_row line_of LINE_LIMIT h ys) is ∙ removed_back line_of LINE_LIMIT line h xs up found few)
-
--- a line that isn't among them
-pub none_in : (line : ℕ) (xs rest : List HeldLine) → row_at line_of line xs ≡ None → rest ≡ remove_row line_of line xs → rest ≡ xs
-none_in line xs rest none is = is ∙ remove-none line_of line xs none
-
-pub none_changed : (line : ℕ) (f : Framing → Framing) (xs rest : List HeldLine) → row_at line_of line xs ≡ None → rest ≡ remove_row line_of line xs → rest ≡ changed_at line f xs
-none_changed line f xs rest none is = none_in line xs rest none is ∙ sym (change-none line_of line (in_framing f) xs none)
-
+-- what a row that is found holds
 pub framing_found : (line : ℕ) (h : HeldLine) (xs : List HeldLine) → row_at line_of line xs ≡ Some h → framing_at line xs ≡ h.framing
 framing_found line h xs found = ap framing_of found
 
@@ -56,6 +27,7 @@ append_bytes xs ys h k i = elim (cases_lt i (length xs)) [
   | inr ge ↦ rw (get_or-append_right xs ys (length xs) i 0 refl ge) (k (i - length xs))
 ]
 
+-- what is held behind a piece are bytes
 pub fed_bytes : (piece : List ℕ) (f : Framing) → AreBytes f.held → AreBytes piece → AreBytes (fed piece f).held
 fed_bytes piece f h k = append_bytes f.held (take (bytes_taken f.held piece) piece) h (IsBytes-take (bytes_taken f.held piece) piece k)
 
@@ -64,15 +36,7 @@ pub taken_bytes : {E : Type 0} (piece : List ℕ) (old new : Framing) (r : Resul
 taken_bytes piece old new (Ok n) ok err h k = subst (λ (f : Framing). AreBytes f.held) (sym ok) (fed_bytes piece old h k)
 taken_bytes piece old new (Err e) ok err h k = subst (λ (f : Framing). AreBytes f.held) (sym err) h
 
-pub taken_in : {E : Type 0} (line : ℕ) (piece : List ℕ) (old h : HeldLine) (xs rest new : List HeldLine) (r : Result ℕ E) → IsAscending line_of xs → length xs ≤ LINE_LIMIT
-    → row_at line_of line xs ≡ Some old → rest ≡ remove_row line_of line xs → new ≡ put_row line_of LINE_LIMIT h rest → h.line ≡ old.line
-    → OnOk r (h.framing ≡ fed piece old.framing) → OnErr r (h.framing ≡ old.framing)
-    → OnOk r (new ≡ changed_at line (fed piece) xs) × OnErr r (new ≡ xs)
-taken_in line piece old h xs rest new (Ok n) up few found is put same ok err =
-    (changed_in line (fed piece) old xs rest new up few found is (put ∙ ap (λ (x : HeldLine). put_row line_of LINE_LIMIT x rest) (held_is same ok)), tt)
-taken_in line piece old h xs rest new (Err e) up few found is put same ok err =
-    (tt, same_in line old xs rest new up few found is (put ∙ ap (λ (x : HeldLine). put_row line_of LINE_LIMIT x rest) (held_is same err)))
-
+-- what is held once some were given back is bytes
 pub back_bytes : (count : ℕ) (f : Framing) → AreBytes f.held → AreBytes (given_back count f).held
 back_bytes count f h = IsBytes-take (length f.held - count) f.held h
 
@@ -81,6 +45,7 @@ without_bytes f (Ok None) h = h
 without_bytes f (Ok (Some x)) h = IsBytes-drop x.1 f.held h
 without_bytes f (Err fault) h = h
 
+-- and when the first packet is gone
 pub first_bytes : (f : Framing) → AreBytes f.held → AreBytes (without_first f).held
 first_bytes f h = without_bytes f (first_of f.held) h
 

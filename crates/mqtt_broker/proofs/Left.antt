@@ -1,28 +1,27 @@
 -- The lines that stand after a call: those before it without the ones that closed, and the one that was linked.
-use Rattle.std.proofs.Common.{◌≡◌, ℕ, suc, ◌<◌, Bool, true, false, cond, not, ◌||◌, List, [], ◌∷◌, ◌++◌, length, filter, map, Option, Some, None, nat_eq, nat_lt, refl, sym, ap, subst, ◌∙◌, arith, inl, inr}
-use Rattle.std.specs.Prelude.{⊤, ◌&&◌, Result, Ok, Err, IfOk, OnErr, filter_map, find, is_some}
-use Rattle.std.proofs.lemmas.Bool.{cases_Bool, eqb-true}
-use Rattle.std.proofs.lemmas.Cmp.{nat_eq_equiv}
-use Rattle.mqtt_base.specs.declared.limits.TheConstants.{LINE_LIMIT, LAST_NUMBER}
+use Rattle.std.proofs.Common.{◌≡◌, ℕ, suc, Bool, cond, not, List, [], ◌∷◌, filter, map, nat_eq, refl, sym, ap, subst, ◌∙◌, inl, inr}
+use Rattle.std.specs.Prelude.{filter_map, find, is_some}
+use Rattle.std.proofs.lemmas.Bool.{cases_Bool}
 use Rattle.mqtt_records.specs.declared.change.Change.{Change}
 use Rattle.mqtt_records_rows.specs.Order.{IsBelow, has_row}
 use Rattle.mqtt_rules.specs.declared.Limits.{Limits}
-use Rattle.mqtt_rules.specs.Deeds.{Resume, Close, SetExpiry, DropWill, Subscribe, Unsubscribe, Open, Release, Enter, Mark, Leave, Part, LinePart, Hear, Greet, SetAlias, Went, Deed, Accept, Begin, Name, Count, At, Finish, Keep, Forget, RefuseWill, Link, On, Send, Gone, line_after, on_line, without_place, lines_at, lines_after, given_after, after, after_all, closing, rows_of_all}
+use Rattle.mqtt_rules.specs.Deeds.{Resume, Close, SetExpiry, DropWill, Subscribe, Unsubscribe, Open, Release, Enter, Mark, Leave, Part, LinePart, Hear, Greet, SetAlias, Went, Deed, Accept, Begin, Name, Count, At, Finish, Keep, Forget, RefuseWill, Link, On, Send, Gone, line_after, on_line, without_place, lines_at, after, after_all, closing, rows_of_all}
 use Rattle.mqtt_rules.specs.Lines.{line_number}
 use Rattle.mqtt_rules.specs.State.{Line, Broker, MemberChoice, is_of, line_at}
-use Rattle.mqtt_rules.specs.Step.{Call, NewLine, Outcome, BrokerStep, at_moment, can_link, deeds, done, stepped, told, with_moment, env_of}
+use Rattle.mqtt_rules.specs.Step.{Call, Outcome, BrokerStep, at_moment, deeds, stepped, told, with_moment, env_of}
 use Rattle.mqtt_rules.proofs.acts.Goods.{AreGood}
 use Rattle.mqtt_rules.proofs.numbers.NumberBirths.{below_filter}
-use Rattle.mqtt_broker.specs.Framers.{HeldLine, begun, line_of}
-use Rattle.mqtt_broker_step.specs.Doing.{next_line}
-use Rattle.mqtt_broker.specs.Serving.{IsOfLines, has_closed, with_linked, without_closed}
+use Rattle.mqtt_broker.specs.Framers.{HeldLine, line_of}
+use Rattle.mqtt_broker.specs.Serving.{IsOfLines, has_closed, without_closed}
 use Rattle.mqtt_broker.proofs.Unlinked.{IsUnlinked, IsOld, un_call}
 
 -- ---- numbers without those of lines that closed
 
+-- numbers without those of lines that closed
 abbrev pub left : List ℕ → List ℕ → List ℕ
 left closed ns = filter (λ n. not (has_closed closed n)) ns
 
+-- if none closed, all are left
 pub none_closed : (ns : List ℕ) → left [] ns ≡ ns
 none_closed [] = refl
 none_closed (n ∷ ns) = ap (λ ms. n ∷ ms) (none_closed ns)
@@ -103,14 +102,17 @@ given_deed d b un = refl
 
 -- ---- what deeds leave
 
+-- deeds that link no line leave those that they don't close
 pub numbers_all : (ds : List Deed) (b : Broker) → AreGood IsUnlinked ds b → numbers (after_all ds b) ≡ left (filter_map closing ds) (numbers b)
 numbers_all [] b un = sym (none_closed (numbers b))
 numbers_all (d ∷ ds) b un = numbers_all ds (after d b) un.1 ∙ numbers_deed d ds b un.0
 
+-- and no number is given
 pub given_all : (ds : List Deed) (b : Broker) → AreGood IsUnlinked ds b → (after_all ds b).given ≡ b.given
 given_all [] b un = refl
 given_all (d ∷ ds) b un = given_all ds (after d b) un.1 ∙ given_deed d b un.0
 
+-- to store the moment changes no line
 pub moment_lines : (rows : List Change) (b : Broker) → (with_moment rows b).lines ≡ b.lines
 moment_lines [] b = refl
 moment_lines (row ∷ rows) b = refl
@@ -128,20 +130,25 @@ module _ (limits : Limits) (choice : MemberChoice) (now : ℕ) (call : Call) (b 
   un : AreGood IsUnlinked its (at_moment now b)
   un = un_call (env_of limits choice b) call (at_moment now b) old
 
+  -- a step leaves the lines of which it isn't told that they closed
   pub step_numbers : numbers (stepped limits choice now call b) ≡ left (told limits choice now call b).closed (numbers b)
   step_numbers = ap (map line_number) (moment_lines (rows_of_all its b.records) (after_all its (at_moment now b))) ∙ numbers_all its (at_moment now b) un
 
+  -- and gives no number
   pub step_given : (stepped limits choice now call b).given ≡ b.given
   step_given = moment_given (rows_of_all its b.records) (after_all its (at_moment now b)) ∙ given_all its (at_moment now b) un
 
 -- ---- what the lines hold
 
+-- what is held goes with the lines that closed
 pub held_left : (closed : List ℕ) (held : List HeldLine) → map line_of (without_closed closed held) ≡ left closed (map line_of held)
 held_left closed held = kept_keys line_of (λ n. not (has_closed closed n)) held
 
+-- at a later moment the lines that hold bytes are those that are linked
 pub of_lines_moment : (now : ℕ) (held : List HeldLine) (b : Broker) → IsOfLines held b → IsOfLines held (at_moment now b)
 of_lines_moment now held b h = record { linked = h.linked; given = h.given }
 
+-- and so after a step, without those that it closed
 pub of_lines_step : (limits : Limits) (old : Broker) (now : ℕ) (call : Call) (out : Outcome) (new : Broker) (held : List HeldLine) → IsOld call
     → BrokerStep limits old now call out new → IsOfLines held old → IsOfLines (without_closed out.closed held) new
 of_lines_step limits old now call out new held is s h =
@@ -169,5 +176,6 @@ has_line n (h ∷ hs) (l ∷ ls) e =
       | inr other ↦ rw (first, other) (has_line n hs ls more)
     ]
 
+-- a line has a row of bytes exactly if it is linked
 pub is_linked : (n : ℕ) (held : List HeldLine) (b : Broker) → IsOfLines held b → has_row line_of n held ≡ is_some (line_at n b)
 is_linked n held b h = has_line n held b.lines h.linked

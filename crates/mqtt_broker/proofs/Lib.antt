@@ -8,3 +8,4 @@ pub mod Pieced
 pub mod Opened
 pub mod FirstPackets
 pub mod HeldBytes
+pub mod Lent

@@ -1,5 +1,5 @@
 -- A line that is linked gets the next number, and comes last among those that hold bytes.
-use Rattle.std.proofs.Common.{◌≡◌, ℕ, suc, ◌<◌, Bool, true, false, cond, List, [], ◌∷◌, ◌++◌, length, map, Option, Some, None, nat_lt, refl, sym, ap, subst, ◌∙◌, arith}
+use Rattle.std.proofs.Common.{◌≡◌, ℕ, suc, ◌<◌, Bool, true, false, cond, List, [], ◌∷◌, ◌++◌, length, map, Some, None, nat_lt, refl, sym, ap, subst, ◌∙◌, arith}
 use Rattle.std.proofs.lemmas.List.{length-map}
 use Rattle.std.specs.Prelude.{◌&&◌}
 use Rattle.std.proofs.lemmas.Bool.{ltb-true}
@@ -7,7 +7,7 @@ use Rattle.mqtt_base.specs.declared.limits.TheConstants.{LINE_LIMIT, LAST_NUMBER
 use Rattle.mqtt_records_rows.specs.Order.{IsBelow, put_row}
 use Rattle.mqtt_records_rows.proofs.LookUps.{put_row-last}
 use Rattle.mqtt_rules.specs.declared.Limits.{Limits}
-use Rattle.mqtt_rules.specs.Deeds.{Deed, Link, fresh_line}
+use Rattle.mqtt_rules.specs.Deeds.{Link, fresh_line}
 use Rattle.mqtt_rules.specs.Lines.{line_number}
 use Rattle.mqtt_rules.specs.State.{Line, Broker}
 use Rattle.mqtt_rules.specs.Step.{NewLine, Outcome, BrokerStep, at_moment, can_link, done}
@@ -37,6 +37,7 @@ linked_by true now b held h = record {
   given = below_last (suc b.given) held h.given;
 }
 
+-- when a line is linked the lines that hold bytes are those that are linked
 pub of_lines_link : (limits : Limits) (old : Broker) (now : ℕ) (out : Outcome) (new : Broker) (held : List HeldLine)
     → BrokerStep limits old now NewLine out new → IsOfLines held old → IsOfLines (with_linked (next_line old) held) new
 of_lines_link limits old now out new held s h =

@@ -3,9 +3,9 @@ use Rattle.std.proofs.Common.{◌≡◌, ℕ, List, [], map, sym, subst, ap, ◌
 use Rattle.mqtt_records.specs.declared.keep.Keep.{Ghosts}
 use Rattle.mqtt_records.specs.declared.records.Records.{Records}
 use Rattle.mqtt_rules.specs.declared.Limits.{Limits}
-use Rattle.mqtt_rules.specs.Deeds.{Deed, after_all, rows_of_all}
+use Rattle.mqtt_rules.specs.Deeds.{after_all, rows_of_all}
 use Rattle.mqtt_rules.specs.Lines.{line_number}
-use Rattle.mqtt_rules.specs.State.{Broker, MemberChoice}
+use Rattle.mqtt_rules.specs.State.{Broker}
 use Rattle.mqtt_rules.specs.Step.{BrokerOpening, env_of, opening_deeds, unopened}
 use Rattle.mqtt_broker.specs.Framers.{HeldLine}
 use Rattle.mqtt_broker_engine.specs.Running.{Running}
@@ -14,6 +14,7 @@ use Rattle.mqtt_broker.specs.Serving.{IsOfLines}
 use Rattle.mqtt_broker.proofs.Left.{moment_lines, numbers_all}
 use Rattle.mqtt_broker.proofs.Unlinked.{un_opening}
 
+-- of a broker that was just opened no line is linked
 pub of_lines_opened : (limits : Limits) (now : ℕ) (r : Records) (new : Broker) → BrokerOpening limits r now new → IsOfLines [] new
 of_lines_opened limits now r new o =
     let b = unopened now r in

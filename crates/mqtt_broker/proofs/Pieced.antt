@@ -1,27 +1,28 @@
 -- What the first bytes of a line ask, done by the engine, is the step of a piece.
 use Rattle.std.proofs.Common.{◌≡◌, ℕ, ◌<◌, ◌≤◌, Bool, true, false, cond, List, [], ◌∷◌, length, Option, Some, None, refl, sym, ap, subst, ◌∙◌, inl}
-use Rattle.std.specs.Prelude.{⊤, ◌≢◌, ◌&&◌, Result, Ok, Err, IsErrOf, is_some, map, suc}
+use Rattle.std.specs.Prelude.{◌≢◌, ◌&&◌, Result, Ok, Err, IsErrOf, is_some, map, suc}
 use Rattle.mqtt_codec_parts.specs.Faults.{answer_to}
 use Rattle.mqtt_packet.specs.Front.{first_of}
-use Rattle.mqtt_packet.specs.Stream.{Framing}
+use Rattle.mqtt_packet.specs.Stream.{Framing, empty}
 use Rattle.mqtt_records.specs.declared.keep.Keep.{Ghosts}
 use Rattle.mqtt_records.specs.declared.records.Records.{Records}
-use Rattle.mqtt_records_rows.specs.Order.{IsBelow, has_row, row_at}
+use Rattle.mqtt_records_rows.specs.Order.{IsBelow, has_row}
 use Rattle.mqtt_rules.specs.declared.Limits.{Limits}
 use Rattle.mqtt_rules.specs.Piece.{Front, begins_connect, bytes_taken, call_by, call_on, code_of, fed, first_call, held_on, is_spent_if, is_whole, pieced, stepped_if, taken_on, told_if, without_first}
-use Rattle.mqtt_rules.specs.State.{Broker, Line, MemberChoice, line_at, stored}
+use Rattle.mqtt_rules.specs.State.{Broker, Line, MemberChoice, line_at}
 use Rattle.mqtt_rules.specs.Step.{BadInput, Call, Input, at_moment, bytes_out, nothing_told, Outcome as Told}
 use Rattle.mqtt_rules.proofs.acts.Acts.{found_number}
 use Rattle.mqtt_broker_step.specs.declared.call.EngineError.{EngineError}
 use Rattle.mqtt_broker_step.specs.declared.call.EngineError.TheVariants.{Memory, Stopped, Spent}
-use Rattle.mqtt_broker.specs.Framers.{HeldLine, changed_at, framing_at, given_back, line_of, taken_of}
+use Rattle.mqtt_broker.specs.Framers.{HeldLine, changed_at, framing_at, line_of}
 use Rattle.mqtt_broker_engine.specs.declared.outcome.Outcome.{Outcome}
-use Rattle.mqtt_broker_engine.specs.Calling.{Called, KeepsLines, Tells}
+use Rattle.mqtt_broker_engine.specs.Calling.{KeepsLines, Tells}
 use Rattle.mqtt_broker_engine.specs.Running.{Running}
-use Rattle.mqtt_broker.specs.Asking.{CalledIf, Rested}
+use Rattle.mqtt_broker.specs.Asking.{CalledIf}
 use Rattle.mqtt_broker.specs.Piece.{IsLeftByAny, IsPieceAnswered, IsSpentBy, PieceCalled}
 use Rattle.mqtt_broker.specs.Serving.{IsOfLines, serving, without_closed}
-use Rattle.mqtt_broker.proofs.Framings.{back, changed_twice, fed_long, framing_changed, none_ended, numbers_stay, taken_linked, taken_within, unchanged, whole_left}
+use Rattle.mqtt_broker.proofs.Framings.{fed_long, framing_changed, none_ended, numbers_stay, taken_within, unchanged, whole_left}
+use Rattle.mqtt_broker.proofs.Lent.{returned, returned_same}
 use Rattle.mqtt_broker.proofs.Left.{is_linked}
 use Rattle.mqtt_broker.proofs.Serving.{not_refused, of_lines_called, of_lines_kept, rested_lines}
 use Rattle.mqtt_broker.proofs.Unlinked.{IsOld}
@@ -37,6 +38,7 @@ pub record IsDone (limits : Limits) (old : Broker) (now : ℕ) (call : Option Ca
   pub closed : out.closed.items ≡ (told_if limits choice now call old).closed
   pub reports : out.reports.items ≡ (told_if limits choice now call old).reports
 
+-- a call that was answered, or none, is such a step
 pub done_of : {K : Type 0} (g : Ghosts K) (now : ℕ) (call : Option Call) (old : Running K) (out : Outcome) (new : Running K)
     → CalledIf g now call old (Ok out) new → IsDone old.limits old.broker now call out new.broker
 done_of g now None old out new h = record {
@@ -79,9 +81,6 @@ module _ (line : ℕ) (piece : List ℕ) (b : Broker) (held : List HeldLine) (li
   abbrev its : Framing
   its = framing_at line held
 
-  abbrev fed_held : List HeldLine
-  fed_held = changed_at line (fed piece) held
-
   standing : (l : Line) × (line_at line b ≡ Some l)
   standing = by (line_at line b) refl (sym (is_linked line held b lines) ∙ linked)
     where
@@ -89,44 +88,26 @@ module _ (line : ℕ) (piece : List ℕ) (b : Broker) (held : List HeldLine) (li
       by None is e = absurd cc
       by (Some l) is e = (l, is)
 
-  pub fed_is : framing_at line fed_held ≡ fed piece its
-  fed_is = framing_changed line (fed piece) held linked
-
   -- what the bytes ask is what the rules say that they ask
-  pub asked_is : call_on (line_at line b) piece its ≡ first_call line (framing_at line fed_held).held
+  pub asked_is : call_on (line_at line b) piece its ≡ first_call line (fed piece its).held
   asked_is =
       ap (λ (o : Option Line). call_on o piece its) standing.1
       ∙ ap (λ (n : ℕ). first_call n (fed piece its).held) (found_number line standing.0 b.lines standing.1)
-      ∙ ap (λ (f : Framing). first_call line f.held) (sym fed_is)
 
   -- what the line holds then
   pub held_is : held_on (line_at line b) piece its ≡ without_first (fed piece its)
   held_is = ap (λ (o : Option Line). held_on o piece its) standing.1
 
+  -- as many bytes are taken as fit
   pub taken_is : taken_on (line_at line b) piece its ≡ bytes_taken its.held piece
   taken_is = ap (λ (o : Option Line). taken_on o piece its) standing.1
 
-  -- without its first packet, with the piece behind it
-  pub rest_is : changed_at line without_first fed_held ≡ changed_at line (λ f. without_first (fed piece its)) held
-  rest_is = changed_twice line without_first (fed piece) its held refl
-
-  -- given back, all is as before
-  pub back_is : (count : ℕ) → count ≡ taken_of piece (row_at line_of line held) → changed_at line (given_back count) fed_held ≡ held
-  back_is count taken =
-      let same : count ≡ bytes_taken its.held piece = taken ∙ taken_linked line piece held linked in
-      let all : given_back count (fed piece its) ≡ its = ap (λ n. given_back n (fed piece its)) same ∙ back piece its in
-      changed_twice line (given_back count) (fed piece) its held refl ∙ unchanged line (λ f. given_back count (fed piece its)) held all
-
-  pub back_fits : (count : ℕ) → count ≡ taken_of piece (row_at line_of line held) → count ≤ length (framing_at line fed_held).held
-  back_fits count taken =
-      let same : count ≡ bytes_taken its.held piece = taken ∙ taken_linked line piece held linked in
-      subst (λ (f : Framing). count ≤ length f.held) (sym fed_is) (subst (λ (n : ℕ). n ≤ length (fed piece its).held) (sym same) (fed_long piece its))
-
-  pub fed_lines : (f : Framing → Framing) → IsOfLines (changed_at line f fed_held) b
-  fed_lines f =
-      let same : map line_of (changed_at line f fed_held) ≡ map line_of held = numbers_stay line f fed_held ∙ numbers_stay line (fed piece) held in record {
+  -- the lines that hold bytes are those that are linked, whatever this one holds
+  pub changed_lines : (f : Framing → Framing) → IsOfLines (changed_at line f held) b
+  changed_lines f =
+      let same : map line_of (changed_at line f held) ≡ map line_of held = numbers_stay line f held in record {
         linked = same ∙ lines.linked;
-        given = below_numbers (suc b.given) (changed_at line f fed_held) held same lines.given;
+        given = below_numbers (suc b.given) (changed_at line f held) held same lines.given;
       }
 
 cond_and : (x y : Bool) → cond x y false ≡ (x && y)
@@ -139,7 +120,7 @@ module _ {K : Type 0} (g : Ghosts K) (now line : ℕ) (piece : List ℕ) (old ne
   its_framing = framing_at line held
 
   abbrev its_held : List HeldLine
-  its_held = changed_at line without_first (changed_at line (fed piece) held)
+  its_held = changed_at line (λ f. without_first (fed piece (framing_at line held))) held
 
   abbrev its_call : Option Call
   its_call = call_on (line_at line old.broker) piece its_framing
@@ -152,8 +133,7 @@ module _ {K : Type 0} (g : Ghosts K) (now line : ℕ) (piece : List ℕ) (old ne
       → IsPieceAnswered now line piece (serving old held) (record told { taken = count; again = again }) (serving new (without_closed told.closed.items its_held))
   piece_answered told count again done after taken whole =
       let rest = without_first (fed piece its_framing) in
-      let held_then : its_held ≡ changed_at line (λ f. rest) held = rest_is line piece old.broker held lines linked in
-      let framing_then : framing_at line its_held ≡ rest = ap (framing_at line) held_then ∙ framing_changed line (λ f. rest) held linked in
+      let framing_then : framing_at line its_held ≡ rest = framing_changed line (λ f. rest) held linked in
       let held_by : held_on (line_at line old.broker) piece its_framing ≡ rest = held_is line piece old.broker held lines linked in
       record {
         after = pieced old.limits done.choice now line piece its_framing old.broker;
@@ -171,7 +151,7 @@ module _ {K : Type 0} (g : Ghosts K) (now line : ℕ) (piece : List ℕ) (old ne
               ∙ ap (λ (b : Broker). is_some (line_at line b) && is_whole (first_of (framing_at line its_held).held)) done.new_is
               ∙ ap (λ (f : Framing). is_some (line_at line (stepped_if old.limits done.choice now its_call old.broker)) && is_whole (first_of f.held)) (framing_then ∙ sym held_by);
         };
-        held = ap (without_closed told.closed.items) (held_then ∙ ap (λ (f : Framing). changed_at line (λ framing. f) held) (sym held_by));
+        held = ap (λ (f : Framing). without_closed told.closed.items (changed_at line (λ framing. f) held)) (sym held_by);
       }
 
   lines_if : (call : Option Call) (told : Outcome) (hs : List HeldLine) → ((c : Call) → call ≡ Some c → IsOld c) → CalledIf g now call old (Ok told) new → IsOfLines hs old.broker
@@ -214,7 +194,7 @@ module _ {K : Type 0} (g : Ghosts K) (now line : ℕ) (piece : List ℕ) (old ne
         → again ≡ is_whole (first_of (framing_at line (without_closed told.closed.items its_held)).held)
         → PieceCalled g now line piece (serving old held) (Ok (record told { taken = count; again = again })) (serving new (without_closed told.closed.items its_held))
     piece_ok call told count again same is h taken whole =
-        let after = lines_if call told its_held is h (fed_lines line piece old.broker held lines linked without_first) in
+        let after = lines_if call told its_held is h (changed_lines line piece old.broker held lines linked (λ f. without_first (fed piece its_framing))) in
         let done = subst (λ (o : Option Call). IsDone old.limits old.broker now o told new.broker) (sym same) (done_of g now call old told new h) in
         let out : Outcome = record told { taken = count; again = again } in
         record {
@@ -286,12 +266,14 @@ module _ {K : Type 0} (g : Ghosts K) (now line : ℕ) (piece : List ℕ) (old ne
       sound = sound_if call (Err error) h;
     }
 
+    -- a call that is refused leaves the lines that hold bytes
     pub lines_err : (call : Option Call) (error : EngineError) (rest : List HeldLine) → CalledIf g now call old (Err error) new → rest ≡ held → IsOfLines rest new.broker
     lines_err call error rest h kept =
         subst (λ (hs : List HeldLine). IsOfLines hs new.broker) (sym kept) (of_lines_kept held old.broker new.broker (kept_if call error h) lines)
 
+    -- and one that is answered those that it didn't close
     pub lines_ok : (call : Option Call) (told : Outcome) → ((c : Call) → call ≡ Some c → IsOld c) → CalledIf g now call old (Ok told) new → IsOfLines (without_closed told.closed.items its_held) new.broker
-    lines_ok call told is h = lines_if call told its_held is h (fed_lines line piece old.broker held lines linked without_first)
+    lines_ok call told is h = lines_if call told its_held is h (changed_lines line piece old.broker held lines linked (λ f. without_first (fed piece its_framing)))
 
 -- ---- want of memory before anything was asked, and a line that isn't linked
 
@@ -315,53 +297,59 @@ module _ {K : Type 0} (g : Ghosts K) (now : ℕ) (old : Running K) (running : ol
     sound = λ s. s;
   }
 
--- ---- a piece on a line that is linked, from what its calls ensure
+-- ---- a piece on a line that is linked, from what its calls ensure: what the line holds is lent, changed and put back
 
-module _ {K : Type 0} (g : Ghosts K) (now line : ℕ) (piece : List ℕ) (old new : Running K) (held fed_all rest : List HeldLine)
+-- as many bytes as were taken can be given back
+pub back_fits : (piece : List ℕ) (f : Framing) (count : ℕ) → count ≡ bytes_taken f.held piece → count ≤ length (fed piece f).held
+back_fits piece f count taken = subst (λ (n : ℕ). n ≤ length (fed piece f).held) (sym taken) (fed_long piece f)
+
+-- no more bytes are taken than came
+pub taken_fits : (piece : List ℕ) (f : Framing) (count : ℕ) → count ≡ bytes_taken f.held piece → count ≤ length piece
+taken_fits piece f count taken = subst (λ (n : ℕ). n ≤ length piece) (sym taken) (taken_within f.held piece)
+
+module _ {K : Type 0} (g : Ghosts K) (now line : ℕ) (piece : List ℕ) (old new : Running K) (held lent put : List HeldLine) (f last : Framing)
     (lines : IsOfLines held old.broker) (linked : has_row line_of line held ≡ true) (running : old.stopped ≡ false) (holds : g.holds old.keep old.broker.records)
     (found : (left : Records) → g.leaves old.keep left → left ≡ old.broker.records)
-    (fed_as : fed_all ≡ changed_at line (fed piece) held) where
+    (was : framing_at line held ≡ f) (lent_as : lent ≡ changed_at line (λ x. empty) held) (put_as : put ≡ changed_at line (λ x. last) lent) where
   abbrev asked : Option Call
-  asked = first_call line (framing_at line fed_all).held
+  asked = first_call line (fed piece f).held
 
   asked_as : call_on (line_at line old.broker) piece (framing_at line held) ≡ asked
-  asked_as = asked_is line piece old.broker held lines linked ∙ ap (λ (hs : List HeldLine). first_call line (framing_at line hs).held) (sym fed_as)
+  asked_as = asked_is line piece old.broker held lines linked ∙ ap (λ (x : Framing). first_call line (fed piece x).held) was
 
   asked_so : (c : Call) → asked ≡ Some c → IsOld c
-  asked_so c e = asked_old line (framing_at line fed_all).held (first_of (framing_at line fed_all).held) c e
+  asked_so c e = asked_old line (fed piece f).held (first_of (fed piece f).held) c e
 
-  pub piece_done : (told out : Outcome) (count : ℕ) → CalledIf g now asked old (Ok told) new
-      → count ≡ taken_of piece (row_at line_of line held)
-      → rest ≡ without_closed told.closed.items (changed_at line without_first fed_all)
+  -- an answered piece is a step on what the line's bytes ask, and the lines that hold bytes are those that are linked
+  pub piece_done : (told out : Outcome) (rest : List HeldLine) (count : ℕ) → CalledIf g now asked old (Ok told) new
+      → count ≡ bytes_taken f.held piece
+      → last ≡ without_first (fed piece f)
+      → rest ≡ without_closed told.closed.items put
       → out ≡ record told { taken = count; again = is_whole (first_of (framing_at line rest).held) }
       → PieceCalled g now line piece (serving old held) (Ok out) (serving new rest) × IsOfLines rest new.broker
-  piece_done told out count called taken left_as out_as =
-      let its = without_closed told.closed.items (changed_at line without_first (changed_at line (fed piece) held)) in
-      let rest_as : rest ≡ its = left_as ∙ ap (λ (hs : List HeldLine). without_closed told.closed.items (changed_at line without_first hs)) fed_as in
+  piece_done told out rest count called taken last_as left_as out_as =
+      let its_last = changed_at line (λ x. without_first (fed piece (framing_at line held))) held in
+      let all = without_closed told.closed.items its_last in
+      let put_is : put ≡ its_last =
+      returned line last held lent put lent_as put_as
+      ∙ ap (λ (x : Framing). changed_at line (λ y. x) held) (last_as ∙ ap (λ (x : Framing). without_first (fed piece x)) (sym was)) in
+      let rest_as : rest ≡ all = left_as ∙ ap (without_closed told.closed.items) put_is in
       let again = is_whole (first_of (framing_at line rest).held) in
       let main = piece_ok g now line piece old new held lines linked running holds found asked told count again asked_as asked_so called
-      (taken ∙ taken_linked line piece held linked) (ap (λ (hs : List HeldLine). is_whole (first_of (framing_at line hs).held)) rest_as) in (
+      (taken ∙ ap (λ (x : Framing). bytes_taken x.held piece) (sym was)) (ap (λ (hs : List HeldLine). is_whole (first_of (framing_at line hs).held)) rest_as) in (
         subst (λ (hs : List HeldLine). PieceCalled g now line piece (serving old held) (Ok out) (serving new hs)) (sym rest_as)
-            (subst (λ (o : Outcome). PieceCalled g now line piece (serving old held) (Ok o) (serving new its)) (sym out_as) main),
+            (subst (λ (o : Outcome). PieceCalled g now line piece (serving old held) (Ok o) (serving new all)) (sym out_as) main),
         subst (λ (hs : List HeldLine). IsOfLines hs new.broker) (sym rest_as) (lines_ok g now line piece old new held lines linked running holds found asked told asked_so called),
       )
 
-  pub piece_refused : (error : EngineError) (count : ℕ) → CalledIf g now asked old (Err error) new
-      → count ≡ taken_of piece (row_at line_of line held)
-      → rest ≡ changed_at line (given_back count) fed_all
-      → PieceCalled g now line piece (serving old held) (Err error) (serving new rest) × IsOfLines rest new.broker
-  piece_refused error count called taken left_as =
-      let kept : rest ≡ held = left_as ∙ ap (changed_at line (given_back count)) fed_as ∙ back_is line piece old.broker held lines linked count taken in (
-        piece_err g now line piece old new held lines linked running holds found asked error rest asked_as called kept,
-        lines_err g now line piece old new held lines linked running holds found asked error rest called kept,
+  -- a refused piece leaves what each line held, and the same lines
+  pub piece_refused : (error : EngineError) → CalledIf g now asked old (Err error) new → last ≡ f
+      → PieceCalled g now line piece (serving old held) (Err error) (serving new put) × IsOfLines put new.broker
+  piece_refused error called last_as =
+      let kept : put ≡ held = returned_same line last held lent put lent_as put_as (last_as ∙ sym was) in (
+        piece_err g now line piece old new held lines linked running holds found asked error put asked_as called kept,
+        lines_err g now line piece old new held lines linked running holds found asked error put called kept,
       )
-
-  pub piece_fits : (count : ℕ) → count ≡ taken_of piece (row_at line_of line held) → count ≤ length (framing_at line fed_all).held
-  piece_fits count taken =
-      subst (λ (hs : List HeldLine). count ≤ length (framing_at line hs).held) (sym fed_as) (back_fits line piece old.broker held lines linked count taken)
-
-  pub taken_fits : (count : ℕ) → count ≡ taken_of piece (row_at line_of line held) → count ≤ length piece
-  taken_fits count taken = subst (λ (n : ℕ). n ≤ length piece) (sym (taken ∙ taken_linked line piece held linked)) (taken_within (framing_at line held).held piece)
 
 -- ---- a piece on a line that isn't
 
@@ -411,6 +399,7 @@ module _ {K : Type 0} (g : Ghosts K) (now line : ℕ) (piece : List ℕ) (old : 
             ∙ unchanged line (λ f. framing) held same);
       }
 
+  -- a piece on a line that isn't linked does nothing but that time goes on
   pub passed_piece : (out : Outcome) (new : Running K) → Tells nothing_told out → new ≡ its_rest → PieceCalled g now line piece (serving old held) (Ok out) (serving new held)
   passed_piece out new told is = subst (λ (r : Running K). PieceCalled g now line piece (serving old held) (Ok out) (serving r held)) (sym is) (record {
     step = passed_answer out told;

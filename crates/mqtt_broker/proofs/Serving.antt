@@ -1,5 +1,5 @@
 -- What calls of the engine make of the lines and of what they hold.
-use Rattle.std.proofs.Common.{◌≡◌, ℕ, suc, Bool, true, false, List, Option, Some, None, map, refl, sym, ap, subst, ◌∙◌, inl}
+use Rattle.std.proofs.Common.{◌≡◌, ℕ, suc, true, false, List, Option, Some, None, map, refl, sym, ap, subst, ◌∙◌, inl}
 use Rattle.std.specs.Prelude.{Result, Ok, Err, IfOk, OnErr, IsErrOf, is_some}
 use Rattle.mqtt_records.specs.declared.keep.Keep.{Ghosts}
 use Rattle.mqtt_records.specs.declared.records.Records.{Records}
@@ -14,13 +14,14 @@ use Rattle.mqtt_broker_engine.specs.declared.outcome.Outcome.{Outcome}
 use Rattle.mqtt_broker_engine.specs.Calling.{Called, IsOn, KeepsLines, Tells}
 use Rattle.mqtt_broker_engine.specs.Running.{Running}
 use Rattle.mqtt_broker_engine.proofs.Linked.{passed_over}
-use Rattle.mqtt_broker.specs.Serving.{IsOfLines, Served, Serving, serving, without_closed}
+use Rattle.mqtt_broker.specs.Serving.{IsOfLines, Served, serving, without_closed}
 use Rattle.mqtt_broker.proofs.Framings.{none_ended}
 use Rattle.mqtt_broker.proofs.Left.{is_linked, of_lines_moment, of_lines_step}
 use Rattle.mqtt_broker.proofs.Unlinked.{IsOld}
 
 -- ---- which lines are linked
 
+-- a line without a row of bytes isn't linked
 pub unlinked_line : (line : ℕ) (held : List HeldLine) (b : Broker) → IsOfLines held b → has_row line_of line held ≡ false → line_at line b ≡ None
 unlinked_line line held b h e = by (line_at line b) (sym (is_linked line held b h) ∙ e)
   where
@@ -28,11 +29,13 @@ unlinked_line line held b h e = by (line_at line b) (sym (is_linked line held b 
     by None e = refl
     by (Some l) e = absurd cc
 
+-- and one with a row is
 pub linked_line : (line : ℕ) (held : List HeldLine) (b : Broker) → IsOfLines held b → has_row line_of line held ≡ true → line_at line b ≡ None → ⊥
 linked_line line held b h e none = let clash : true ≡ false = sym e ∙ is_linked line held b h ∙ ap is_some none in absurd cc
 
 -- ---- a call on a line that isn't linked
 
+-- an answer is no refusal
 pub not_refused : (out : Outcome) (error : EngineError) → IsErrOf {T = Outcome} (Ok out) error → ⊥
 not_refused out error e = absurd cc
 
@@ -57,6 +60,7 @@ module _ {K : Type 0} (g : Ghosts K) (now : ℕ) (old : Running K) (running : ol
     sound = λ s. s;
   }
 
+  -- a call on a line that isn't linked does nothing but that time goes on
   pub passed_served : (line : ℕ) (call : Call) (held : List HeldLine) (new : Running K) (out : Outcome) → line_at line old.broker ≡ None → IsOn line call → Tells nothing_told out → new ≡ rested
       → Served g now call (serving old held) (Ok out) (serving new held)
   passed_served line call held new out none on told is = record {
@@ -65,6 +69,7 @@ module _ {K : Type 0} (g : Ghosts K) (now : ℕ) (old : Running K) (running : ol
     kept = tt;
   }
 
+-- as time goes on the lines that hold bytes are those that are linked
 pub rested_lines : {K : Type 0} (now : ℕ) (old new : Running K) (held : List HeldLine) → new ≡ record old { broker = at_moment now old.broker } → IsOfLines held old.broker → IsOfLines held new.broker
 rested_lines now old new held is h = subst (λ (b : Broker). IsOfLines held b) (sym (ap (λ (r : Running _). r.broker) is)) (of_lines_moment now held old.broker h)
 
@@ -77,6 +82,7 @@ of_lines_kept held old new same h = record {
   given = subst (λ (n : ℕ). IsBelow line_of (suc n) held) (sym same.1) h.given;
 }
 
+-- and so after each call
 pub of_lines_called : {K : Type 0} (g : Ghosts K) (now : ℕ) (call : Call) (old new : Running K) (held rest : List HeldLine) (r : Result Outcome EngineError) → IsOld call → Called g now call old r new
     → IfOk r (λ out. rest ≡ without_closed out.closed.items held) → OnErr r (rest ≡ held) → IsOfLines held old.broker → IsOfLines rest new.broker
 of_lines_called g now call old new held rest (Ok out) is h ok err lines =

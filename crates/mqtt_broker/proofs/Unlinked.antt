@@ -1,8 +1,7 @@
 -- No call but that for a new line links one, and neither does an opening.
-use Rattle.std.proofs.Common.{◌≡◌, ℕ, Bool, true, false, cond, not, List, [], ◌∷◌, ◌++◌, filter, map, Option, Some, None, nat_eq}
-use Rattle.std.specs.Prelude.{⊤, Ok, Err, find, flat_map, nat_lt, nat_le, option_map}
+use Rattle.std.proofs.Common.{ℕ, Bool, true, false, cond, not, List, [], ◌∷◌, ◌++◌, filter, map, Option, Some, None}
+use Rattle.std.specs.Prelude.{⊤, Ok, Err, find, flat_map, nat_lt, option_map}
 use Rattle.mqtt_props.specs.declared.table.PropName.TheVariants.{SessionExpiryInterval, SubscriptionIdentifier, TopicAlias}
-use Rattle.mqtt_base.specs.Codes.{identifier_in_use}
 use Rattle.mqtt_base.specs.declared.session.Ending.TheVariants.{SessionEnded}
 use Rattle.mqtt_codec_connect.specs.declared.connect.Connect.{Connect as Greeting}
 use Rattle.mqtt_codec.specs.declared.packet.Packet.{Packet}
@@ -26,27 +25,27 @@ use Rattle.mqtt_flow_inbound.specs.Inbound.{answer_to_release}
 use Rattle.mqtt_records_message.specs.declared.message.MessageCopy.{MessageCopy}
 use Rattle.mqtt_records_message.specs.declared.message.RetainedMessage.{RetainedMessage}
 use Rattle.mqtt_records_message.specs.declared.message.Will.{Will}
-use Rattle.mqtt_records_message.specs.Queue.{CopyRow}
 use Rattle.mqtt_records.specs.declared.session.Session.{Session}
 use Rattle.mqtt_records.specs.declared.records.Records.{Records}
 use Rattle.mqtt_records.specs.Session.{copy_place}
 use Rattle.mqtt_records_rows.specs.Order.{row_at}
 use Rattle.mqtt_topic.specs.Names.{is_empty}
 use Rattle.mqtt_records_message.specs.PassedOn.{number_at}
-use Rattle.mqtt_rules.specs.Packets.{publish_of, suback, unsuback, connack, disconnect}
+use Rattle.mqtt_rules.specs.Packets.{suback, unsuback, connack, disconnect}
 use Rattle.mqtt_rules.specs.State.{Line, Broker, Env, session_at, session_named, line_at, line_of, is_connected, queue_on}
 use Rattle.mqtt_rules.specs.Deeds.{Whose, whose, Message, Origin, FromClient, FromWill, Resume, Close, DropWill, Enter, Leave, Hear, Deed, Accept, Begin, Name, Count, At, Finish, Forget, RefuseWill, Link, On, Send, Gone, Act, after_all, always, series, only_if, of_session, with_line, offer}
 use Rattle.mqtt_rules.specs.Deeds as deeds
 use Rattle.mqtt_rules.specs.Outbound.{leave_deeds, turn_deeds, all_turn_deeds, enter_deeds, queue_limits, since}
 use Rattle.mqtt_rules.specs.Routing.{CopyTo, accepted_copies, is_queued, deliver_by, deliver, retained_of, forgets, retain_by, next_publication, publish, is_wanted}
 use Rattle.mqtt_rules.specs.Closing.{has_due_will, has_due_end, will_message, publish_or_refuse, will_deeds, publish_will, end_session, settle, close_session, close_connected, close, drop_line}
-use Rattle.mqtt_rules.specs.Connect.{largest_of, refusal, refusal_size, refused, of_client, take_over, clear, prepare, resume, begin_named, joins, joins_after, connect_by, on_connect, expiry_of, will_of, greet, connack_properties}
+use Rattle.mqtt_rules.specs.Connect.{largest_of, refusal, refusal_size, refused, of_client, take_over, clear, prepare, resume, begin_named, joins, connect_by}
 use Rattle.mqtt_rules.specs.Inbound.{Meaning, Means, Wrong, meaning, sets_alias, standing, answer, opens, code_again, code_accepted, publish_new, publish_by, message_of, publish_meant, release_by, on_answer, pump_turns, new_expiry, is_late_expiry, leave_by}
 use Rattle.mqtt_rules.specs.Subscribe as sub
 use Rattle.mqtt_rules.specs.Tick.{is_silent, silence, lapses, has_lapsed, lapse_deeds, is_stale, first_due, due, on_tick}
 use Rattle.mqtt_rules.specs.Step.{Call, NewLine, Input, BadInput, Lost, Pump, Tick, first_packet, next_packet, on_packet, on_fault, late_code, on_pump, deeds_of, close_if, opening}
-use Rattle.mqtt_rules.proofs.acts.Goods.{AreGood, GoodAct, GoodActs, good_append, good_series, good_two, good_map, good_flat, good_acts, good_cond, good_if, good_with_session, good_of_session, good_of_client, good_with_line, good_of_entry}
+use Rattle.mqtt_rules.proofs.acts.Goods.{AreGood, GoodAct, good_append, good_series, good_map, good_flat, good_acts, good_cond, good_if, good_of_session, good_of_client, good_with_line, good_of_entry}
 
+-- a deed links no line
 abbrev pub IsUnlinked : Deed → Broker → Type 0
 IsUnlinked (Link n) b = ⊥
 IsUnlinked d b = ⊤
@@ -408,6 +407,7 @@ abbrev pub IsOld : Call → Type 0
 IsOld NewLine = ⊥
 IsOld call = ⊤
 
+-- each call but that for a new line has such deeds alone
 pub un_call : (env : Env) (call : Call) (b : Broker) → IsOld call → AreGood IsUnlinked (deeds_of env call b) b
 un_call env NewLine b old = absurd old
 un_call env (Input n packet) b old =
@@ -424,6 +424,7 @@ un_close_if env false s b = tt
 un_close_if env true s b =
     good_series IsUnlinked (always (At (whose s) (Close b.now) ∷ []) ∷ settle env s.birth ∷ []) ((λ c. (tt, tt)), (un_settle env s.birth, tt)) b
 
+-- and so has an opening
 pub un_opening : (env : Env) (b : Broker) → AreGood IsUnlinked (opening env b) b
 un_opening env b =
     good_series IsUnlinked (map (λ s. close_if (is_connected s) env s) b.records.sessions)

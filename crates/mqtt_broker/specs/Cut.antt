@@ -1,5 +1,5 @@
 -- A stream of bytes comes on a line in pieces, with other calls between them: what of it is answered (MQTT 5.0, 2.1, 4.13).
-use Rattle.std.specs.Prelude.{◌≡◌, ⊤, ℕ, Bool, true, false, List, [], ◌∷◌, ◌++◌, drop, map, Option, Some, None, is_some, Result, Ok, Err}
+use Rattle.std.specs.Prelude.{◌≡◌, ⊤, ℕ, Bool, true, false, List, [], ◌∷◌, ◌++◌, drop, Some, None, is_some, Result, Ok, Err}
 use Rattle.mqtt_codec_parts.specs.declared.fault.Fault.{Fault}
 use Rattle.mqtt_codec.specs.declared.packet.Packet.{Packet}
 use Rattle.mqtt_packet.specs.Front.{first_of}

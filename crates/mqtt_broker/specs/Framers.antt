@@ -1,9 +1,10 @@
 -- What each line holds, and what its first bytes ask of the broker (MQTT 5.0, 2.1, 4.13).
-use Rattle.std.specs.Prelude.{◌≡◌, ℕ, ◌<◌, ◌≤◌, List, length, Option, Some, None, slice_index}
+use Rattle.std.specs.Prelude.{◌≡◌, ℕ, ◌<◌, List, Option, Some, None, Ok, slice_index}
+use Rattle.mqtt_codec.specs.declared.packet.Packet.{Packet}
+use Rattle.mqtt_packet.specs.Front.{first_of}
 use Rattle.mqtt_packet.specs.Stream.{Framing, empty, without_last}
 use Rattle.mqtt_records_rows.specs.Order.{row_at, change_row}
 use Rattle.mqtt_rules.specs.Contents.{IsTaken}
-use Rattle.mqtt_rules.specs.Piece.{bytes_taken}
 use Rattle.mqtt_rules.specs.Step.{Call, Input, BadInput}
 use Rattle.mqtt_broker.specs.declared.asked.Asked.{Asked}
 use Rattle.mqtt_broker.specs.declared.asked.Asked.TheVariants as asked
@@ -38,20 +39,32 @@ changed_at line f hs = change_row line_of line (in_framing f) hs
 abbrev pub given_back : ℕ → Framing → Framing
 given_back count f = record f { held = without_last count f.held }
 
--- of a line that isn't among them nothing is taken
-abbrev pub taken_of : List ℕ → Option HeldLine → ℕ
-taken_of piece None = 0
-taken_of piece (Some h) = bytes_taken h.framing.held piece
+-- what it holds is lent, and it holds nothing meanwhile
+abbrev pub lent : HeldLine → HeldLine
+lent = in_framing (λ framing. empty)
+
+-- and is held again
+abbrev pub back_in : HeldLine → HeldLine → HeldLine
+back_in held = in_framing (λ framing. held.framing)
 
 -- what is asked, as a call on its line
 abbrev pub call_asked : ℕ → Asked → Call
-call_asked line (asked.Whole packet) = Input line packet
+call_asked line (asked.Whole packet size) = Input line packet
 call_asked line (asked.Bad is_connect code) = BadInput line is_connect code.0
 
 -- and a packet that is asked for is lawful, and no longer than a packet may be
 abbrev pub IsLawfulAsked : Asked → Type 0
-IsLawfulAsked (asked.Whole packet) = IsTaken packet
+IsLawfulAsked (asked.Whole packet size) = IsTaken packet
 IsLawfulAsked (asked.Bad is_connect code) = Unit {0}
+
+-- bytes begin with a whole packet of this size
+abbrev pub BeginsWith : ℕ → List ℕ → Type 0
+BeginsWith size bytes = (packet : Packet) × (first_of bytes ≡ Ok (Some (packet, size)))
+
+-- the size of a packet that is asked for is the one that the bytes tell
+abbrev pub IsSizedAsked : List ℕ → Asked → Type 0
+IsSizedAsked bytes (asked.Whole packet size) = BeginsWith size bytes
+IsSizedAsked bytes (asked.Bad is_connect code) = Unit {0}
 
 abbrev pub AreBytes : List ℕ → Type 0
 AreBytes bytes = (i : ℕ) → slice_index bytes i < 256

@@ -9,7 +9,7 @@ use Rattle.mqtt_rules.specs.Step.{Call, nothing_told}
 use Rattle.mqtt_broker.specs.Framers.{HeldLine, begun, line_of}
 use Rattle.mqtt_broker_step.specs.declared.call.EngineError.{EngineError}
 use Rattle.mqtt_broker_engine.specs.declared.outcome.Outcome.{Outcome}
-use Rattle.mqtt_broker_engine.specs.Calling.{Called, IsOn, Tells}
+use Rattle.mqtt_broker_engine.specs.Calling.{Called, Tells}
 use Rattle.mqtt_broker_engine.specs.Running.{Running}
 
 -- an engine over a store, and what each line that is linked holds: the bytes that came on it and were not answered yet

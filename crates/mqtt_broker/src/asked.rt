@@ -7,7 +7,11 @@ use mqtt_codec::Packet;
 #[derive(Drop)]
 pub enum Asked {
     /// A packet is whole.
-    Whole(Packet),
+    Whole {
+        packet: Packet,
+        /// Bytes, fixed header included.
+        size: usize,
+    },
     /// A fault stands.
     Bad {
         /// Whether the bytes begin with the type of CONNECT (3.1).

@@ -1,11 +1,11 @@
 //! What comes on a line is asked of the engine: what its first bytes ask, or nothing where the line isn't linked (MQTT
 //! 5.0, 2.1, 4.13).
-ghost use Rattle.std.specs.Prelude.{◌≡◌, ◌≤◌, ℕ, List, None, false, true, length, IfOk, IsOkAnd};
+ghost use Rattle.std.specs.Prelude.{◌≡◌, ◌≤◌, ℕ, List, None, false, true, length, IfOk, IsOkAnd, OnErr, OnOk};
 ghost use Rattle.mqtt_records_rows.specs.Order.{has_row};
-ghost use Rattle.mqtt_rules.specs.Piece.{first_call};
+ghost use Rattle.mqtt_rules.specs.Piece.{first_call, without_first};
 ghost use Rattle.mqtt_rules.specs.State.{line_at};
 ghost use Rattle.mqtt_rules.specs.Step.{Call, nothing_told};
-ghost use Rattle.mqtt_broker.specs.Framers.{HeldLine, framing_at, line_of};
+ghost use Rattle.mqtt_broker.specs.Framers.{BeginsWith, HeldLine, in_framing, line_of};
 ghost use Rattle.mqtt_broker_engine.specs.Calling.{IsOn, Tells};
 ghost use Rattle.mqtt_broker.specs.Asking.{CalledIf};
 ghost use Rattle.mqtt_broker.specs.Piece.{PieceCalled};
@@ -14,6 +14,7 @@ ghost use Rattle.mqtt_broker.specs.Serving.{IsOfLines, Served, serving};
 use crate::asked::Asked;
 use crate::framers::Framers;
 use crate::held::end_all;
+use crate::holding::Held;
 use mqtt_broker_engine::{Engine, Outcome};
 use mqtt_broker_step::EngineError;
 use mqtt_records::Keep;
@@ -37,22 +38,39 @@ pub(crate) fn pass_over<K: Keep>(
     Ok(engine.rest_at(moment))
 }
 
-/// What the first bytes of a line ask is done; where nothing is whole, nothing but that the moment is the greatest handed
-/// in.
+/// The packet that is answered, of this size, is held no longer; one that is refused is. Takes no memory.
+fn drop_answered(held: &mut Held, size: usize, answer: &Result<Outcome, EngineError>)
+    requires { BeginsWith size held.old.framing.held }
+    ensures ok { OnOk answer.now (held.new ≡ in_framing without_first held.old) }
+    ensures err { OnErr answer.now (held.new ≡ held.old) }
+{
+    match answer {
+        Ok(_) => held.drop_first(size),
+        Err(_) => {}
+    }
+}
+
+/// What the first bytes of a line ask is done, and a packet that was answered is held no longer; where nothing is whole,
+/// nothing but that the moment is the greatest handed in. A refusal leaves what is held.
 fn ask<K: Keep>(
     engine: &mut Engine<K>,
-    framers: &mut Framers,
+    held: &mut Held,
     line: u64,
     moment: u64,
 ) -> Result<Outcome, EngineError>
     requires running { engine.old.stopped ≡ false }
     requires stored { K.holds engine.old.keep engine.old.broker.records }
-    ensures called { CalledIf K.Keep moment (first_call line (framing_at line framers.old).held)
-        engine.old result engine.new }
-    ensures same { framers.new ≡ framers.old }
+    ensures called { CalledIf K.Keep moment (first_call line held.old.framing.held) engine.old result
+        engine.new }
+    ensures ok { OnOk result (held.new ≡ in_framing without_first held.old) }
+    ensures err { OnErr result (held.new ≡ held.old) }
 {
-    match framers.first(line) {
-        Ok(Some(Asked::Whole(packet))) => engine.input(line, &packet, moment),
+    match held.first() {
+        Ok(Some(Asked::Whole { packet, size })) => {
+            let answer = engine.input(line, &packet, moment);
+            drop_answered(held, size, &answer);
+            answer
+        }
         Ok(Some(Asked::Bad { is_connect, code })) => {
             engine.bad_input(line, is_connect, code, moment)
         }
@@ -78,19 +96,24 @@ pub(crate) fn take_piece<K: Keep>(
     ensures within { IfOk result (λ out. out.taken ≤ length piece.now) }
     ensures lines { IsOfLines framers.new engine.new.broker }
 {
-    let Ok(taken) = framers.feed(line, piece) else {
+    let Some(mut held) = framers.lend(line) else {
+        unreachable!()
+    };
+    let Ok(taken) = held.feed(piece) else {
+        framers.put_back(line, held);
         return Err(EngineError::Memory);
     };
-    match ask(engine, framers, line, moment) {
+    match ask(engine, &mut held, line, moment) {
         Ok(mut outcome) => {
-            framers.drop_first(line);
+            framers.put_back(line, held);
             end_all(framers, &outcome.closed);
             outcome.taken = taken;
             outcome.again = framers.is_whole(line);
             Ok(outcome)
         }
         Err(error) => {
-            framers.give_back(line, taken);
+            held.give_back(taken);
+            framers.put_back(line, held);
             Err(error)
         }
     }

@@ -1,20 +1,27 @@
-//! What a line holds: the bytes that came on it and were not answered yet (MQTT 5.0, 2.1, 4.13).
-ghost use Rattle.std.specs.Prelude.{◌≡◌, ◌≤◌, length, IfOk, IfSome, IfNone, OnOk, OnErr};
+//! The bytes that came and were not answered yet, by what they begin with (MQTT 5.0, 2.1, 2.4, 4.13).
+ghost use Rattle.std.specs.Prelude.{◌≡◌, ℕ, IfOk, IfSome, OnOk, OnErr, option_map};
+ghost use Rattle.mqtt_codec_parts.specs.Faults.{answer_to};
 ghost use Rattle.mqtt_packet.specs.Front.{first_of};
-ghost use Rattle.mqtt_packet.specs.Stream.{after};
-ghost use Rattle.mqtt_rules.specs.Piece.{bytes_taken, fed, is_whole, without_first};
+ghost use Rattle.mqtt_rules.specs.Piece.{begins_connect, bytes_taken, code_of, fed, first_call, is_whole, without_first};
+ghost use Rattle.mqtt_broker.specs.Framers.{AreBytes, BeginsWith, IsLawfulAsked, IsSizedAsked, call_asked};
 
+use crate::asked::Asked;
+use mqtt_base::Reason;
 use mqtt_codec_parts::Fault;
 use mqtt_packet::Framer;
 use std::alloc::AllocError;
 
-/// Takes as many bytes of a piece as fit, and none behind a fault. Want of memory alone refuses, and takes none.
+/// Takes as many bytes of a piece as fit, and none behind a fault. Want of memory alone refuses, and takes none. Of a piece
+/// without bytes none is taken, whatever is held, and so nothing is read.
 #[tactic(auto, using(crate::proofs::FirstPackets::none_taken, crate::proofs::FirstPackets::nothing_fed))]
 pub(crate) fn take(framer: &mut Framer, piece: &[u8]) -> Result<usize, AllocError>
     ensures taken { IfOk result (λ count. count ≡ bytes_taken framer.old.held piece.now) }
     ensures ok { OnOk result (framer.new ≡ fed piece.now framer.old) }
     ensures err { OnErr result (framer.new ≡ framer.old) }
 {
+    if piece.is_empty() {
+        return Ok(0);
+    }
     match framer.feed(piece) {
         Ok(count) => Ok(count),
         Err((Fault::Memory, _)) => Err(AllocError),
@@ -22,36 +29,58 @@ pub(crate) fn take(framer: &mut Framer, piece: &[u8]) -> Result<usize, AllocErro
     }
 }
 
-/// The size of the first whole packet, if it has come. Takes no memory.
-#[tactic(auto, using(crate::proofs::FirstPackets::without_is))]
-fn first_size(framer: &Framer) -> Option<usize>
-    ensures found { IfSome result (λ size. without_first framer.now ≡ after size framer.now) }
-    ensures within { IfSome result (λ size. size ≤ length framer.now.held) }
-    ensures none { IfNone result (without_first framer.now ≡ framer.now) }
+/// Whether the first byte has the type of CONNECT in its high half (2.1.2).
+fn begins_connect(framer: &Framer) -> bool
+    ensures { result ≡ begins_connect framer.now.held }
 {
-    match framer.look_sized() {
-        Ok(Some((_, _, size))) => Some(size),
-        Ok(None) | Err(_) => None,
+    match framer.first_byte() {
+        Some(byte) => byte / 16 == 1,
+        None => false,
     }
 }
 
-/// The packet that is answered is held no longer. Takes no memory.
-pub(crate) fn drop_first(framer: &mut Framer)
+/// The code with which a fault is answered; want of memory, which no bytes have, would be an unspecified error (2.4).
+fn code_of(fault: Fault) -> Reason
+    ensures { result.0 ≡ code_of (answer_to fault) }
+{
+    match fault.reason() {
+        Some(reason) => reason,
+        None => Reason::UNSPECIFIED_ERROR,
+    }
+}
+
+/// What the first bytes that are held ask, if anything is whole.
+pub(crate) fn first(framer: &mut Framer) -> Result<Option<Asked>, AllocError>
+    requires { AreBytes framer.old.held }
+    ensures asked { (line : ℕ) → IfOk result (λ asked. option_map (call_asked line) asked
+        ≡ first_call line framer.old.held) }
+    ensures lawful { IfOk result (λ asked. IfSome asked IsLawfulAsked) }
+    ensures sized { IfOk result (λ asked. IfSome asked (IsSizedAsked framer.old.held)) }
+    ensures same { framer.new ≡ framer.old }
+{
+    match framer.first() {
+        Ok(Some((packet, _, size))) => Ok(Some(Asked::Whole { packet, size })),
+        Ok(None) => Ok(None),
+        Err((Fault::Memory, _)) => Err(AllocError),
+        Err((fault, _)) => Ok(Some(Asked::Bad {
+            is_connect: begins_connect(framer),
+            code: code_of(fault),
+        })),
+    }
+}
+
+/// The first packet, of this size, is held no longer. Takes no memory.
+#[tactic(auto, using(crate::proofs::FirstPackets::skipped))]
+pub(crate) fn drop_first(framer: &mut Framer, size: usize)
+    requires { BeginsWith size framer.old.held }
     ensures { framer.new ≡ without_first framer.old }
 {
-    match first_size(framer) {
-        Some(size) => framer.skip(size),
-        None => {}
-    }
+    framer.skip(size);
 }
 
 /// Whether a packet, or a fault, is whole. Takes no memory.
-#[tactic(auto, using(crate::proofs::FirstPackets::whole_is))]
 pub(crate) fn is_whole(framer: &Framer) -> bool
     ensures { result ≡ is_whole (first_of framer.now.held) }
 {
-    match framer.look_sized() {
-        Ok(None) => false,
-        Ok(Some(_)) | Err(_) => true,
-    }
+    framer.is_whole()
 }

@@ -8,6 +8,7 @@ mod engine;
 mod framers;
 mod framing;
 mod held;
+mod holding;
 mod laws;
 mod looks;
 mod opening;

@@ -1,6 +1,7 @@
 //! What may be looked at between the calls of a broker: its numbers, its sessions' queues and its lines (MQTT 5.0, 4.1, 4.6).
 ghost use Rattle.std.specs.Prelude.{◌≡◌, is_some, length, option_map};
 ghost use Rattle.mqtt_rules.specs.State.{line_at, session_named};
+ghost use Rattle.mqtt_rules.specs.Step.{can_link};
 
 use crate::engine::Engine;
 use mqtt_records::Keep;
@@ -11,6 +12,13 @@ impl<K: Keep> Engine<K> {
         ensures { result ≡ is_some (line_at line self.now.running.broker) }
     {
         self.inner.is_linked(line)
+    }
+
+    /// Whether a further line may be linked: fewer than 64 stand, and fewer than 2^62 were linked (ours). Takes no memory.
+    pub fn may_link(&self) -> bool
+        ensures { result ≡ can_link self.now.running.broker }
+    {
+        self.inner.may_link()
     }
 
     /// How many copies wait for the session of a client identifier, or are in flight to it; None where no session has

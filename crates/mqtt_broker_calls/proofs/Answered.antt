@@ -33,22 +33,28 @@ use Rattle.mqtt_broker_calls.proofs.OnLine.{OnLine, left_next, left_takes, some_
 module _ (line birth : ℕ) (s : Stepping) (h : OnLine line birth s.broker) where
   -- ---- PUBLISH
 
+  -- a PUBLISH that was done on the session's line is what its packet does there
   pub published : (p : Publication) (new : Stepping) → DoesSome (λ env. on_publish env h.l h.x p) s new → DoesSome (takes line (Publish p)) s new
   published p new done = some_next line birth (Publish p) s new h done
 
+  -- a PUBLISH that was refused on the session's line is its packet refused there
   pub publish_left : (p : Publication) (fault : StepFault) (new : Stepping) → LeavesSome (λ env. on_publish env h.l h.x p) fault s new → LeavesSome (takes line (Publish p)) fault s new
   publish_left p fault new left = left_next line birth (Publish p) fault s new h left
 
+  -- a PUBLISH that means no topic is done once its line is dropped with the code for that
   pub wrong_publish : (p : Publication) (code : ℕ) (s1 new : Stepping) → IsWrong code h.l p s s1 → DoesSome (λ env. drop_line env code h.l) s1 new → DoesSome (takes line (Publish p)) s new
   wrong_publish p code s1 new wrong done = published p new (wrong_dropped h.l h.x p code s s1 new wrong done)
 
+  -- a PUBLISH that means no topic is refused if dropping its line is
   pub wrong_publish_left : (p : Publication) (code : ℕ) (fault : StepFault) (s1 new : Stepping) → IsWrong code h.l p s s1 → LeavesSome (λ env. drop_line env code h.l) fault s1 new
       → LeavesSome (takes line (Publish p)) fault s new
   wrong_publish_left p code fault s1 new wrong left = publish_left p fault new (wrong_left h.l h.x p code fault s s1 new wrong left)
 
+  -- a PUBLISH above the Receive Maximum is done once its line is dropped with the code for that
   pub over_publish : (p : Publication) (s1 new : Stepping) → IsOver h.l h.x p s s1 → DoesSome (λ env. drop_line env receive_maximum_exceeded h.l) s1 new → DoesSome (takes line (Publish p)) s new
   over_publish p s1 new over done = published p new (over_dropped h.l h.x p s s1 new over done)
 
+  -- a PUBLISH above the Receive Maximum is refused if dropping its line is
   pub over_publish_left : (p : Publication) (fault : StepFault) (s1 new : Stepping) → IsOver h.l h.x p s s1 → LeavesSome (λ env. drop_line env receive_maximum_exceeded h.l) fault s1 new
       → LeavesSome (takes line (Publish p)) fault s new
   over_publish_left p fault s1 new over left = publish_left p fault new (over_left h.l h.x p fault s s1 new over left)
@@ -57,11 +63,13 @@ module _ (line birth : ℕ) (s : Stepping) (h : OnLine line birth s.broker) wher
   pub wrong_stays : (p : Publication) (code : ℕ) (s1 : Stepping) → IsWrong code h.l p s s1 → s1.broker.records ≡ s.broker.records
   wrong_stays p code s1 wrong = ap (λ (t : Stepping). t.broker.records) wrong.same
 
+  -- what is stored stays until the line of a PUBLISH above the Receive Maximum is dropped
   pub over_stays : (p : Publication) (s1 : Stepping) → IsOver h.l h.x p s s1 → s1.broker.records ≡ s.broker.records
   over_stays p s1 over = stored_stays h.l.number p over.topic s s1 over.did
 
   -- ---- an act by the line, in which nothing is chosen
 
+  -- an act that does what a packet asks for is that packet's, if it is done
   pub did_packet : (packet : Packet) (act : Env → Line → Act) (new : Stepping) → ((env : Env) → act env h.l s.broker ≡ on_packet env h.l packet (Some birth) s.broker)
       → ((env : Env) → Did (act env h.l) s new) → DoesSome (takes line packet) s new
   did_packet packet act new same did =
@@ -69,6 +77,7 @@ module _ (line birth : ℕ) (s : Stepping) (h : OnLine line birth s.broker) wher
       (same_some (λ env. act env h.l) (λ env. on_packet env h.l packet (Some birth)) s new (λ choice. same (env_in choice s))
       (does_some (λ env. act env h.l) s new (λ choice. did (env_in choice s))))
 
+  -- an act that does what a packet asks for is that packet's, if it is refused
   pub left_packet : (packet : Packet) (act : Env → Line → Act) (fault : StepFault) (new : Stepping) → ((env : Env) → act env h.l s.broker ≡ on_packet env h.l packet (Some birth) s.broker)
       → ((env : Env) → IsLeft (act env h.l) fault s new) → LeavesSome (takes line packet) fault s new
   left_packet packet act fault new same left =
@@ -78,6 +87,7 @@ module _ (line birth : ℕ) (s : Stepping) (h : OnLine line birth s.broker) wher
 
   -- ---- a receiver's answers
 
+  -- a receiver's answer that was taken is its packet done
   pub came_taken : (packet : Packet) (act : Env → Line → Act) (new : Stepping) → ((env : Env) → act env h.l s.broker ≡ on_packet env h.l packet (Some birth) s.broker)
       → Came act line Taken s new → DoesSome (takes line packet) s new
   came_taken packet act new same came = did_packet packet act new same (λ env. came env h.l h.number)
@@ -86,6 +96,7 @@ module _ (line birth : ℕ) (s : Stepping) (h : OnLine line birth s.broker) wher
       → Came act line Wrong s s1 → (env : Env) → drop_line env protocol_error h.l s.broker ≡ on_packet env h.l packet (Some birth) s.broker
   came_is packet act s1 same came env = sym (came.1 env h.l h.number) ∙ same env
 
+  -- a receiver's answer in a wrong phase is done once its line is dropped
   pub came_wrong : (packet : Packet) (act : Env → Line → Act) (s1 new : Stepping) → ((env : Env) → act env h.l s.broker ≡ on_packet env h.l packet (Some birth) s.broker)
       → Came act line Wrong s s1 → DoesSome (λ env. drop_line env protocol_error h.l) s1 new → DoesSome (takes line packet) s new
   came_wrong packet act s1 new same came done =
@@ -94,6 +105,7 @@ module _ (line birth : ℕ) (s : Stepping) (h : OnLine line birth s.broker) wher
       (λ choice. came_is packet act s1 same came (env_in choice s))
       (subst (λ (t : Stepping). DoesSome (λ env. drop_line env protocol_error h.l) t new) came.0 done))
 
+  -- a receiver's answer in a wrong phase is refused if dropping its line is
   pub came_wrong_left : (packet : Packet) (act : Env → Line → Act) (fault : StepFault) (s1 new : Stepping) → ((env : Env) → act env h.l s.broker ≡ on_packet env h.l packet (Some birth) s.broker)
       → Came act line Wrong s s1 → LeavesSome (λ env. drop_line env protocol_error h.l) fault s1 new → LeavesSome (takes line packet) fault s new
   came_wrong_left packet act fault s1 new same came left =
@@ -104,11 +116,13 @@ module _ (line birth : ℕ) (s : Stepping) (h : OnLine line birth s.broker) wher
 
   -- ---- DISCONNECT
 
+  -- a DISCONNECT that was done on the session's line is its packet done
   pub disconnected : (n : Notice) (expiry : Option ℕ) (new : Stepping) → expiry ≡ number_at SessionExpiryInterval n.properties → DoesSome (disconnects birth h.l n.reason.0 expiry) s new
       → DoesSome (takes line (Disconnect n)) s new
   disconnected n expiry new is done =
       some_takes line birth (Disconnect n) s new h (subst (λ (o : Option ℕ). DoesSome (disconnects birth h.l n.reason.0 o) s new) is done)
 
+  -- a DISCONNECT that was refused is its packet refused
   pub disconnect_left : (n : Notice) (expiry : Option ℕ) (fault : StepFault) (new : Stepping) → expiry ≡ number_at SessionExpiryInterval n.properties
       → LeavesSome (disconnects birth h.l n.reason.0 expiry) fault s new → LeavesSome (takes line (Disconnect n)) fault s new
   disconnect_left n expiry fault new is left =
@@ -133,12 +147,14 @@ module _ (line birth : ℕ) (s : Stepping) (h : OnLine line birth s.broker) wher
   stray_is (Disconnect n) env l x b e = absurd cc
   stray_is (Auth c) env l x b e = refl
 
+  -- a packet that a connected client may not send is done once its line is dropped
   pub strayed : (packet : Packet) (new : Stepping) → is_stray packet ≡ true → DoesSome (λ env. drop_line env protocol_error h.l) s new → DoesSome (takes line packet) s new
   strayed packet new stray done =
       some_next line birth packet s new h
       (same_some (λ env. drop_line env protocol_error h.l) (λ env. next_packet env h.l packet h.x) s new
       (λ choice. stray_is packet (env_in choice s) h.l h.x s.broker stray) done)
 
+  -- a packet that a connected client may not send is refused if dropping its line is
   pub stray_left : (packet : Packet) (fault : StepFault) (new : Stepping) → is_stray packet ≡ true → LeavesSome (λ env. drop_line env protocol_error h.l) fault s new → LeavesSome (takes line packet) fault s new
   stray_left packet fault new stray left =
       left_next line birth packet fault s new h

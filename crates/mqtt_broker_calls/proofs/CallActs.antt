@@ -65,7 +65,7 @@ left_call limits now call b fault s leaves e =
       spent = ap (λ (l : Limits). is_step_spent l choice now call s.start) left.limits ∙ (ap (λ (c : Broker). is_step_spent limits choice now call c) left.start ∙ spent);
     }
 
--- where nothing is chosen
+-- if nothing is chosen
 some_of : (act : Env → Act) (s new : Stepping) → Does act s new → DoesSome act s new
 some_of act s new does = record { number = 0; sender = []; members = []; is = λ choice taken. does choice }
 
@@ -134,6 +134,7 @@ same_input env line birth packet l b found session =
     ∙ (ap (λ o. series (hears line ∷ on_packet env l packet o ∷ []) b) (sym session)
     ∙ sym (ap (λ o. with_line o (λ x. heard_packet env line packet x x.session) b) found))
 
+-- the line is there, and the session with this birth is on it
 pub record Stands (line birth : ℕ) (b : Broker) : Type 0 where
   pub l : Line
   pub found : line_at line b ≡ Some l

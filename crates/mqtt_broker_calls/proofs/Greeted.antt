@@ -31,6 +31,7 @@ use Rattle.mqtt_broker_calls.proofs.Begun.{memory_left}
 
 -- ---- the line is heard
 
+-- that a line was heard leaves the records alone
 pub records_heard : (line : ℕ) (s s1 : Stepping) → Did (hears line) s s1 → s1.broker.records ≡ s.broker.records
 records_heard line s s1 heard = ap (λ (t : Stepping). t.broker.records) heard.is
 

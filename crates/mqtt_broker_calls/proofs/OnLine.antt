@@ -20,6 +20,7 @@ use Rattle.mqtt_broker_calls.specs.Inputs.{HasClient, takes}
 
 -- ---- the line and its session
 
+-- the line is there, the session with this birth is on it, and stands
 pub record OnLine (line birth : ℕ) (b : Broker) : Type 0 where
   pub l : Line
   pub x : Session

@@ -28,6 +28,7 @@ told_records : (line : ℕ) (is_connect : Bool) (code : ℕ) (b : Broker) → (a
 told_records line true code b = refl
 told_records line false code b = refl
 
+-- what is told of a bad first packet leaves the records alone
 pub records_told : (line : ℕ) (is_connect : Bool) (code : ℕ) (s s1 : Stepping) → Did (always (first_told line is_connect code)) s s1 → s1.broker.records ≡ s.broker.records
 records_told line is_connect code s s1 told = ap (λ (t : Stepping). t.broker.records) told.is ∙ told_records line is_connect code s.broker
 
@@ -66,7 +67,7 @@ untold_left line code is_connect l fault s new number left =
     (leaves_some (both (tells line is_connect code) (closes l)) fault s new
     (leaves_first (tells line is_connect code) (closes l) fault s new (λ choice. left)))
 
--- ---- on the line, where it stands
+-- ---- on the line, if it stands
 
 fault_is : (line code : ℕ) (is_connect : Bool) (session : Option ℕ) (env : Env) (b : Broker) (h : OnLine line session b)
     → on_fault env h.l is_connect code session b ≡ deeds_of env (BadInput line is_connect code) b
@@ -111,7 +112,7 @@ late_left line code late birth is_connect session fault s new h is same left =
     (same_some_left (λ env. drop_line env late h.l) (faults h.l is_connect code session) fault s new
     (λ choice. late_is is_connect code late birth h.l (env_in choice s) s.broker same ∙ ap (λ o. on_fault (env_in choice s) h.l is_connect code o s.broker) (sym is)) left)
 
--- where the line has no session
+-- if the line has no session
 pub early_refused : (line code : ℕ) (is_connect : Bool) (session : Option ℕ) (s new : Stepping) (h : OnLine line session s.broker) → session ≡ None
     → DoesSome (λ env. on_fault env h.l is_connect code None) s new → DoesSome (λ env. deeds_of env (BadInput line is_connect code)) s new
 early_refused line code is_connect session s new h is does =

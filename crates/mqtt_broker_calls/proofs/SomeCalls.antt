@@ -66,6 +66,7 @@ limits_some limits now act b s new (Err fault) same ok left =
 
 -- ---- a packet on a line that stands, with a session or without: the line is heard, and the packet is answered
 
+-- the line is there, with this session on it or none
 pub record OnLine (line : ℕ) (session : Option ℕ) (b : Broker) : Type 0 where
   pub l : Line
   pub found : line_at line b ≡ Some l
@@ -114,7 +115,7 @@ input_some_left line session packet fault s s1 s2 h heard left =
     (λ choice. input_is (env_in choice s) line session packet h.l s.broker h.found h.its)
     (then_some_left (hears_first line) (answers h.l packet session) fault s s1 s2 (λ choice. heard) left)
 
--- where it isn't heard
+-- if it isn't heard
 pub unheard_left : (line : ℕ) (session : Option ℕ) (packet : Packet) (fault : StepFault) (s new : Stepping) → OnLine line session s.broker → IsLeft (hears line) fault s new
     → LeavesSome (λ env. deeds_of env (Input line packet)) fault s new
 unheard_left line session packet fault s new h left =

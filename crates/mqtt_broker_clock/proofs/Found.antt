@@ -7,6 +7,7 @@ use Rattle.mqtt_records_rows.proofs.LookUps.{row_at-here}
 use Rattle.mqtt_records_rows.proofs.OrderLemmas.{above_none}
 
 module _ {X : Type 0} (key : X → ℕ) where
+  -- what a search finds is what its key finds
   pub found_at : (test : X → Bool) (x : X) (xs : List X) → IsAscending key xs → find test xs ≡ Some x → row_at key (key x) xs ≡ Some x
   found_at test x [] up e = absurd cc
   found_at test x (y ∷ ys) up e = elim (cases_Bool (test y)) [

@@ -28,7 +28,7 @@ use Rattle.mqtt_broker_decisions.proofs.Looks.{lapsed_some}
 use Rattle.mqtt_broker_clock.specs.Ticking.{first_of, stored_in}
 use Rattle.mqtt_broker_clock.specs.Quiet.{AreQuiet, BringsNothing, IsFresh, IsQuiet, IsSettled, IsSettledIn}
 
--- ---- a change, where this is what is stored in the end
+-- ---- a change, if this is what is stored in the end
 
 -- a session is settled, or is to be so as it stands in the end, and no copy that waits has expired
 record IsCovered (now : ℕ) (last : Records) (s : Session) : Type 0 where

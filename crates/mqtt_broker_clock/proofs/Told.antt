@@ -115,8 +115,10 @@ module _ (env : Env) (b : Broker) where
   again_told (Some act) None tells = absurd tells
   again_told (Some act) (Some d) tells = rw tells.1 refl
 
+  -- a turn of the clock does what is due first
   pub deeds_are : IsAscending line_number b.lines → IsAscending birth_of b.records.sessions → deeds_of env Tick b ≡ does_first (due_in b) env b
   deeds_are lines sessions = deeds_told (due env b) (due_in b) (all_tell lines sessions)
 
+  -- a turn of the clock is to be called again exactly if something was due
   pub again_is : IsAscending line_number b.lines → IsAscending birth_of b.records.sessions → is_again Tick (deeds_of env Tick b) ≡ is_some (due_in b)
   again_is lines sessions = again_told (due env b) (due_in b) (all_tell lines sessions)

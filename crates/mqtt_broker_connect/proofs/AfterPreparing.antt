@@ -1,4 +1,4 @@
--- After the preparation a session is resumed, or a new one begins where there is a place for it.
+-- After the preparation a session is resumed, or a new one begins if there is a place for it.
 use Rattle.std.proofs.Common.{◌≡◌, true, false, ◌||◌, nat_lt, [], length, ap, sym, subst, ◌∙◌}
 use Rattle.std.specs.Prelude.{Some, None, is_some}
 use Rattle.mqtt_base.specs.Codes.{quota_exceeded}
@@ -27,7 +27,7 @@ resumes l c x b = resume l c b.now x
 pub named_placed : (c : Connect) (x : Session) (s : Stepping) → session_named c.client_identifier s.broker.records ≡ Some x → IsPlaced c s
 named_placed c x s named = ap (λ o. is_some o || nat_lt (length s.broker.records.sessions) s.limits.sessions) named
 
--- any other has one where there is room for a session
+-- any other has one if there is room for a session
 pub room_placed : (c : Connect) (s : Stepping) → nat_lt (length s.broker.records.sessions) s.limits.sessions ≡ true → IsPlaced c s
 room_placed c s room =
     let known = is_some (session_named c.client_identifier s.broker.records) in

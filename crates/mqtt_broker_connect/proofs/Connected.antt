@@ -89,7 +89,7 @@ connects_in_parts env l c b room =
     ap (λ n. ds ++ joins_after env l c n [] r) (now_stays ds b)
     ∙ joins_behind env l c b.now ds r (session_named c.client_identifier r) room
 
--- and where there is no place it is as if nothing had come before
+-- and if there is no place it is as if nothing had come before
 pub connects_nowhere : (env : Env) (l : Line) (c : Connect) (b : Broker) → session_named c.client_identifier (after_all (prepare env c b) b).records ≡ None
     → nat_lt (length (after_all (prepare env c b) b).records.sessions) env.limits.sessions ≡ false
     → connect_by None env l c b ≡ refused l c quota_exceeded

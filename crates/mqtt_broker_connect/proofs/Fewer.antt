@@ -204,7 +204,7 @@ pub or_true : (t : Bool) → (t || true) ≡ true
 or_true true = refl
 or_true false = refl
 
--- a client whose session stood finds a place after what comes before its connection, where sessions are within the limit
+-- a client whose session stood finds a place after what comes before its connection, if sessions are within the limit
 pub place_is_left : (env : Env) (c : Connect) (b : Broker) → is_some (session_named c.client_identifier b.records) ≡ true → length b.records.sessions ≤ env.limits.sessions
     → has_place env.limits.sessions c (after_all (prepare env c b) b).records ≡ true
 place_is_left env c b known within =

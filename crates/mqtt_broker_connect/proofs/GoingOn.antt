@@ -8,6 +8,7 @@ use Rattle.mqtt_broker_step.proofs.Doing.{did_none}
 use Rattle.mqtt_broker_connect.specs.Connecting.{repeat, repeats}
 use Rattle.mqtt_broker_connect.proofs.Parts.{both_done, first_left, second_left}
 
+-- the rest of the deeds, if they are done or refused, makes all of them done or refused
 pub record GoesOn (rest all : List Deed) (first s : Stepping) : Type 0 where
   pub ok : (new : Stepping) → Did (always rest) s new → Did (always all) first new
   pub left : (fault : StepFault) (new : Stepping) → IsLeft (always rest) fault s new → IsLeft (always all) fault first new

@@ -158,7 +158,7 @@ prepare_is birth x env c b only found =
     ∙ (ap (λ ds. over ++ then ds (series (clearing ∷ [])) b1) (settle_is name birth env b1 only1)
     ∙ ap (λ ds. then ds (series (settling_act ∷ clearing ∷ [])) b) (over_is name birth x env b only found))
 
--- ---- where there is a line, or none
+-- ---- if there is a line, or none
 
 -- a session on no line is not taken over
 pub over_none : (birth : ℕ) (s : Stepping) → line_of birth s.broker ≡ None → Does (takes_over birth) s s
@@ -183,7 +183,7 @@ over_once birth l s new found once = elim once [
   | inr does ↦ inr (same_does (λ env. drop_line env session_taken_over l) (takes_over birth) s new (λ choice. over_line birth l (env_in choice s) s.broker found) does)
 ]
 
--- where the session doesn't stand
+-- if the session doesn't stand
 pub settles_nothing : (birth : ℕ) (s : Stepping) → session_at birth s.broker.records ≡ None → Does (settles birth) s s
 settles_nothing birth s none = does_nothing (settles birth) s (λ env. settle_absent birth env s.broker none)
 
@@ -191,7 +191,7 @@ settles_nothing birth s none = does_nothing (settles birth) s (λ env. settle_ab
 pub clears_nothing : (birth : ℕ) (s : Stepping) → session_at birth s.broker.records ≡ None → Does (clears birth) s s
 clears_nothing birth s none = does_nothing (clears birth) s (λ env. clear_gone birth env s.broker none)
 
--- where the client doesn't start clean, and where it does
+-- if the client doesn't start clean, and if it does
 clean_is : (clean : Bool) (birth : ℕ) (env : Env) (b : Broker) → clean ≡ true → clears birth env b ≡ clears_if clean birth env b
 clean_is clean birth env b is = ap (λ t. only_if t (clears birth env) b) (sym is)
 

@@ -28,7 +28,8 @@ use Rattle.mqtt_rules.specs.Outbound.{leave_deeds, since, queue_limits, enter_de
 use Rattle.mqtt_rules.specs.Packets.{disconnect, publish_of}
 use Rattle.mqtt_rules.specs.Routing.{CopyTo, is_queued, deliver_by, deliver, retained_of, forgets, retain_by, next_publication, publish, accepted_copies, subscriber_of}
 use Rattle.mqtt_rules.specs.State.{Line, Broker, Env, is_of, line_of, queue_on, session_at}
-use Rattle.mqtt_rules.proofs.acts.Goods.{AreGood, GoodAct, good_append, good_then, good_series, good_two, good_map, good_flat, good_acts, good_cond, good_if, good_with_session, good_with_line, good_of_entry}
+use Rattle.mqtt_rules.proofs.acts.Offers.{of_offer}
+use Rattle.mqtt_rules.proofs.acts.Goods.{AreGood, GoodAct, good_append, good_then, good_series, good_two, good_map, good_flat, good_acts, good_if, good_with_session, good_with_line, good_of_entry}
 use Rattle.mqtt_rules.proofs.acts.Leads.{found_passes}
 use Rattle.mqtt_rules.proofs.acts.LookedUp.{row_at-change_row}
 use Rattle.mqtt_broker_step.proofs.Doing.{found_birth, stands}
@@ -110,6 +111,7 @@ module _ (birth : ℕ) (P : List Session → Type 0) (kept : IsKept birth P) whe
   deed_keeps (deeds.Send line packet) b q p = p
   deed_keeps (deeds.Gone line) b q p = p
 
+  -- what such changes keep is kept by steady deeds
   pub steady_keeps : (ds : List Deed) (b : Broker) → AreGood (IsSteady birth) ds b → P b.records.sessions → P (after_all ds b).records.sessions
   steady_keeps [] b q p = p
   steady_keeps (d ∷ ds) b q p = steady_keeps ds (after d b) q.1 (deed_keeps d b q.0 p)
@@ -231,9 +233,8 @@ module _ (birth : ℕ) where
       let ts = way_made (queue_limits env) (since env s) (queue_on [] s) in
       good_append Good (flat_map (leave_deeds s) ts) (At (whose s) (Enter copy) ∷ []) b (good_flat Good (leave_deeds s) (steady_leave s) ts b) (tt, tt)
 
-  steady_offer : (l : Option Line) (packet : Packet) (b : Broker) → AreGood Good (offer l packet) b
-  steady_offer None packet b = tt
-  steady_offer (Some l) packet b = good_cond Good _ (deeds.Send l.number packet ∷ []) [] b (tt, tt) tt
+  steady_offer : (o : Option Line) (packet : Packet) (b : Broker) → AreGood Good (offer o packet) b
+  steady_offer o packet b = of_offer (λ (ds : List Deed). AreGood Good ds b) o packet tt (λ l there. (tt, tt))
 
   steady_deliver_by : (t : Bool) (env : Env) (d : CopyTo) (b : Broker) → AreGood Good (deliver_by t env d b) b
   steady_deliver_by true env d b = good_with_session Good (session_at d.birth b.records) (λ s. always (enter_deeds env d.copy s)) b (λ s e. steady_enter env d.copy s b)
@@ -268,6 +269,7 @@ module _ (birth : ℕ) where
       good_two Good (publish_or_refuse env who m (accepted_copies env m b)) (always (At who DropWill ∷ [])) b
       (steady_publish_or_refuse env who m (accepted_copies env m b) b) (tt, tt)
 
+  -- to publish a Will is steady
   pub steady_publish_will : (env : Env) (s : Session) (b : Broker) → AreGood Good (publish_will env s b) b
   steady_publish_will env s b = steady_will env (whose s) s.will b
 
@@ -320,9 +322,11 @@ module _ (birth : ℕ) where
       (good_with_session Good (session_at birth b.records) (publish_will env) b (λ s e. steady_publish_will env s b))
       (good_with_session Good (session_at birth c.records) (λ s. always (end_session s)) c (λ s e. steady_end s c (found_birth birth c.records.sessions s e)))
 
+  -- to clear a session for a Clean Start is steady
   pub steady_clear_if : (clean : Bool) (env : Env) → GoodAct Good (clears_if clean birth env)
   steady_clear_if clean env = good_if Good clean (clears birth env) (steady_clear env)
 
+  -- to close the old line of a session is steady
   pub steady_take_over : (env : Env) → GoodAct Good (takes_over birth env)
   steady_take_over env b =
       good_with_line Good (line_of birth b) (drop_line env session_taken_over) b (λ l e. steady_drop env session_taken_over l (line_is_of birth l b e) b)

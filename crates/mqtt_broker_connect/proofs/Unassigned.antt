@@ -1,4 +1,4 @@
--- Whether a CONNECT is refused hangs on its session only where its client identifier is such as the broker assigns.
+-- Whether a CONNECT is refused hangs on its session only if its client identifier is such as the broker assigns.
 use Rattle.std.proofs.Common.{◌≡◌, ℕ, nat_lt, nat_eq, Bool, true, false, not, ◌&&◌, ◌||◌, List, [], ◌∷◌, length, refl, sym, ap, ◌∙◌, inl, inr}
 use Rattle.std.specs.Prelude.{Option, None, is_some, is_none}
 use Rattle.std.specs.List.{starts_with}

@@ -19,23 +19,28 @@ use Rattle.mqtt_broker_engine.specs.Opening.{IsBegun, IsDue, IsRefused, Opened}
 
 -- ---- results
 
+-- two facts of an answer give a third
 pub both_ok : {A E : Type 0} (r : Result A E) {P Q R : Type 0} → (P → Q → R) → OnOk r P → OnOk r Q → OnOk r R
 both_ok (Ok a) f p q = f p q
 both_ok (Err e) f p q = tt
 
+-- a fact of a refusal gives another
 pub err_of : {A E : Type 0} (r : Result A E) {P Q : Type 0} → (P → Q) → OnErr r P → OnErr r Q
 err_of (Ok a) f p = tt
 err_of (Err e) f p = f p
 
 -- ---- the step that is at rest again
 
+-- a step at rest under these limits
 pub rest_of : (limits : Limits) (s new : Stepping) → s.limits ≡ limits → new ≡ at_rest s.limits s.broker → new ≡ at_rest limits new.broker
 rest_of limits s new same is =
     is ∙ (ap (λ (l : Limits). at_rest l s.broker) same ∙ ap (λ (t : Stepping). at_rest limits t.broker) (sym is))
 
+-- is at rest under its own
 pub rest_again : (limits : Limits) (new : Stepping) → new ≡ at_rest limits new.broker → new ≡ at_rest new.limits new.broker
 rest_again limits new is = is ∙ ap (λ (l : Limits). at_rest l new.broker) (sym (ap (λ (t : Stepping). t.limits) is))
 
+-- a broker that was opened on lawful records is sound
 pub opened_sound : (limits : Limits) (now : ℕ) (r : Records) (new : Stepping) → AreWithin limits → IsLawful r → BrokerOpening limits r now new.broker → new ≡ at_rest limits new.broker → IsSound new.limits new.broker
 opened_sound limits now r new within lawful h is =
     subst (λ (l : Limits). IsSound l new.broker) (sym (ap (λ (t : Stepping). t.limits) is))
@@ -72,6 +77,7 @@ module _ {K : Type 0} (g : Ghosts K) (limits : Limits) (now : ℕ) (first : K) w
   load_due Corrupt left refused cause = inl refused
   load_due Schema left refused cause = refused
 
+  -- the load is refused, and its refusal is due
   pub refused_load : (error : KeepError) (left : K) → (g.is_sound left → g.refuses first error) → ((error ≡ Disk) ⊎ (error ≡ Size) → g.counted left ≢ g.counted first)
       → ((h : Records) → g.holds first h → g.holds left h) → ((after : Records) → g.leaves left after → g.leaves first after)
       → Opened g limits now first (Err (left, error))
@@ -92,6 +98,7 @@ module _ {K : Type 0} (g : Ghosts K) (limits : Limits) (now : ℕ) (first : K) w
   unfit_due r left Schema begun (inl e) unlawful = absurd cc
   unfit_due r left Schema begun (inr e) unlawful = absurd cc
 
+  -- what was loaded is refused before the store is told
   pub refused_first : (r : Records) (left : K) (error : KeepError) → IsBegun g first r left → (error ≡ Memory) ⊎ (error ≡ Corrupt) → (error ≡ Corrupt → IsLawful r → ⊥) → Opened g limits now first (Err (left, error))
   refused_first r left error begun which unlawful = opened_err error left (record {
     due = unfit_due r left error begun which unlawful;
@@ -108,6 +115,7 @@ module _ {K : Type 0} (g : Ghosts K) (limits : Limits) (now : ℕ) (first : K) w
   store_due r loaded left Corrupt begun spent schema cause = inr (record { loaded = loaded; records = r; load = begun.load; why = inr (spent refl) })
   store_due r loaded left Schema begun spent schema cause = absurd (schema refl)
 
+  -- or the store refuses the opening
   pub refused_store : (r : Records) (loaded left : K) (error : KeepError) → IsBegun g first r loaded → (error ≡ Corrupt → SpentOpening limits r now) → (error ≡ Schema → ⊥)
       → ((error ≡ Disk) ⊎ (error ≡ Size) → g.counted left ≢ g.counted loaded) → ((error ≡ Disk → ⊥) → g.holds left r)
       → ((after : Records) → g.leaves left after → (after ≡ r) ⊎ IsStoredAfter limits now r after) → (g.is_sound left → g.is_sound loaded)
@@ -123,12 +131,15 @@ module _ {K : Type 0} (g : Ghosts K) (limits : Limits) (now : ℕ) (first : K) w
 
 -- ---- what was loaded
 
+-- an opening that begins is at rest on its records
 pub begun_of : (limits : Limits) (now : ℕ) (r : Records) (s : Stepping) → s ≡ resting limits now r → s ≡ resting s.limits now s.broker.records
 begun_of limits now r s is =
     is
     ∙ (ap (λ (l : Limits). resting l now r) (sym (ap (λ (t : Stepping). t.limits) is))
     ∙ ap (λ (x : Records). resting s.limits now x) (sym (ap (λ (t : Stepping). t.broker.records) is)))
 
+-- a load that answers records has begun an opening
 pub load_begun : {K : Type 0} (g : Ghosts K) (first loaded : K) (r : Records) → ((h : Records) → g.holds first h → g.is_sound loaded → r ≡ h) → (g.is_sound loaded → g.leaves first r)
-    → ((h : Records) → g.holds first h → g.holds loaded h) → ((after : Records) → g.leaves loaded after → g.leaves first after) → IsBegun g first r loaded
-load_begun g first loaded r exact found same crash = record { load = record { exact = exact; found = found }; same = same; crash = crash }
+    → (g.is_sound loaded → g.is_sound first) → ((h : Records) → g.holds first h → g.holds loaded h)
+    → ((after : Records) → g.leaves loaded after → g.leaves first after) → IsBegun g first r loaded
+load_begun g first loaded r exact found sound same crash = record { load = record { exact = exact; found = found; sound = sound }; same = same; crash = crash }

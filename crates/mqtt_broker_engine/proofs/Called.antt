@@ -30,6 +30,7 @@ use Rattle.mqtt_broker_calls.proofs.SoundLaw.{step_sound}
 
 -- ---- what a sound broker gives
 
+-- what a sound broker has stored can be indexed
 pub sound_indexed : (limits : Limits) (b : Broker) → IsSound limits b → CanBeIndexed b.records
 sound_indexed limits b sound = indexed_of b.records sound.coherent.ordered sound.filters sound.contents.stored
 
@@ -39,35 +40,43 @@ module _ (now : ℕ) (call : Call) (again : Bool) (s : Stepping) (h : DidCall no
   abbrev its : List Deed
   its = deeds s.limits h.choice now call s.start
 
+  -- with its moment it has the rows of the call's deeds
   pub rows_are : (with_stamp s).rows ≡ rows_written its (at_moment now s.start)
   rows_are =
       ap (λ (t : Stepping). stamped (moment_of t.broker) t.rows) h.is
       ∙ ap (λ n. stamped n (rows_of_all its s.start.records)) (now_stays its (at_moment now s.start))
 
+  -- and its broker is the one after the call's step
   pub broker_is : (with_stamp s).broker ≡ stepped s.limits h.choice now call s.start
   broker_is = ap (λ (t : Stepping). with_moment t.rows t.broker) h.is
 
+  -- if its rows spend no number the call's step doesn't
   pub call_unspent : is_spent (with_stamp s).rows ≡ false → is_step_spent s.limits h.choice now call s.start ≡ false
   call_unspent e = ap is_spent (sym rows_are) ∙ e
 
+  -- its rows fit what was stored when it began
   pub call_fits : IsSound s.limits s.start → is_spent (with_stamp s).rows ≡ false → FitAll (with_stamp s).rows s.start.records
   call_fits sound e =
       subst (λ (rows : List Change). FitAll rows s.start.records) (sym rows_are)
       (step_fits s.limits h.choice now call s.start sound.limited sound.coherent sound.timed sound.last (call_unspent e))
 
+  -- and can be said by rows
   pub call_sayable : IsSound s.limits s.start → TakesLawful call → AllSayable (with_stamp s).rows
   call_sayable sound taken =
       subst AllSayable (sym rows_are) (step_said of_rows row_sizes s.limits h.choice now call s.start taken sound.contents)
 
+  -- an index can follow them
   pub call_followed : IsSound s.limits s.start → TakesLawful call → CanAllBeFollowed (with_stamp s).rows s.start.records
   call_followed sound taken =
       subst (λ (rows : List Change). CanAllBeFollowed rows s.start.records) (sym rows_are)
       (step_followed s.limits h.choice now call s.start sound.limited sound.coherent sound.last taken)
 
+  -- what a crash leaves of it is what the call may leave
   pub call_stored : is_spent (with_stamp s).rows ≡ false → (left : Records) → (left ≡ s.start.records) ⊎ (left ≡ (with_stamp s).broker.records) → IsLeftBy s.limits s.start now call left
   call_stored e left (inl same) = inl same
   call_stored e left (inr after) = inr (record { choice = h.choice; unspent = call_unspent e; is = after ∙ ap (λ (b : Broker). b.records) broker_is })
 
+  -- the broker after it is sound
   pub call_sound : IsSound s.limits s.start → TakesLawful call → is_spent (with_stamp s).rows ≡ false → IsSound s.limits (with_stamp s).broker
   call_sound sound taken e =
       subst (λ (b : Broker). IsSound s.limits b) (sym broker_is) (step_sound s.limits h.choice now call s.start (call_unspent e) taken sound)
@@ -99,6 +108,7 @@ answered_sound : (limits : Limits) (now : ℕ) (call : Call) (old new : Broker) 
 answered_sound limits now call old new out sound taken h =
     subst (λ (b : Broker). IsSound limits b) (sym h.step.new_is) (step_sound limits h.step.choice now call old h.step.unspent taken sound)
 
+-- after an answer or a refusal the broker is sound
 pub sound_after : (limits : Limits) (now : ℕ) (call : Call) (old : Broker) (s : Stepping) (r : Result Outcome EngineError) → IsSound limits old → TakesLawful call
     → IfOk r (λ out. IsAnswered limits old now call out s.broker) → OnErr r (s ≡ at_rest limits old) → IsSound limits s.broker
 sound_after limits now call old s (Ok out) sound taken ok err = answered_sound limits now call old s.broker out sound taken ok

@@ -28,13 +28,16 @@ Agree f g client = (n : ℕ) → f n client ≡ g n client
 
 -- ---- sessions that stand as they did, and differ
 
+-- two sessions differ in birth and in client identifier
 abbrev pub AreApart : Session → Session → Type 0
 AreApart s x = (nat_eq s.birth x.birth ≡ false) × (bytes_eq s.client x.client ≡ false)
 
+-- so do all of these
 abbrev pub AllApart : List Session → Type 0
 AllApart [] = ⊤
 AllApart (s ∷ ss) = AllByRecursion (AreApart s) ss × AllApart ss
 
+-- a session that stands as it did has its client identifier
 pub there_client : (s : Session) (r : Records) → IsThere r s → client_at s.birth r ≡ Some s.client
 there_client s r there = by (session_at s.birth r) there
   where
@@ -42,6 +45,7 @@ there_client s r there = by (session_at s.birth r) there
     by None h = absurd cc
     by (Some x) h = let same : face x ≡ face s = cc in ap (λ (f : Face). Some f.0.client) same
 
+-- the others stand as they did when one is closed
 pub still_there : (s : Session) (xs : List Session) (env : Env) (b : Broker) → AllByRecursion (AreApart s) xs → AllByRecursion (IsThere b.records) xs
     → AllByRecursion (IsThere (after_all (closes s env b) b).records) xs
 still_there s [] env b apart there = tt
@@ -108,6 +112,7 @@ module _ (limits : Limits) (start : Records) (f g : MemberChoice) where
       ap (λ ds. then ds (series (of_session birth (λ s. only_if (has_due_end b.now s) (always (end_session s))) ∷ [])) b)
       (same_settled b.now client (session_at birth b.records) b its agree)
 
+  -- two choices that agree on a session's client close it alike
   pub same_close : (s : Session) (b : Broker) → IsThere b.records s → Agree f g s.client → closes s (env_by limits start f) b ≡ closes s (env_by limits start g) b
   same_close s b there agree =
       let first : List Deed = At (whose s) (Close b.now) ∷ [] in
@@ -115,6 +120,7 @@ module _ (limits : Limits) (start : Records) (f g : MemberChoice) where
       ap (λ ds. first ++ (ds ++ []))
       (same_settle s.birth s.client c (client_at_part (whose s) (Close b.now) s.birth b.records ∙ there_client s b.records there) agree)
 
+  -- and so many sessions
   pub same_all : (ss : List Session) (b : Broker) → AllByRecursion (IsThere b.records) ss → AllApart ss → AllByRecursion (λ (s : Session). Agree f g s.client) ss
       → closes_all ss (env_by limits start f) b ≡ closes_all ss (env_by limits start g) b
   same_all [] b there apart agree = refl

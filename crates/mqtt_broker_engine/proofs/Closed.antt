@@ -65,17 +65,20 @@ module _ (birth moment : ℕ) (x : Session) (s : Stepping) (its : x.birth ≡ bi
       ∙ (ap (λ (n : ℕ). then first (settle env n) b) (sym its)
       ∙ ap (λ ds. first ++ ds) (alone (settle env x.birth) (after_all first b))))
 
+  -- what is closed and then settled is the closing of a session
   pub closes_is : (s1 s2 : Stepping) → Did (to_session birth (Close moment)) s s1 → DoesSome (λ env. settle env birth) s1 s2 → DoesSome (closes x) s s2
   closes_is s1 s2 close settled =
       same_some (both (close_part moment birth) (settle_part birth)) (closes x) s s2 (λ choice. parts_are (env_in choice s))
       (then_some (close_part moment birth) (settle_part birth) s s1 s2 (λ choice. close) settled)
 
+  -- a refusal of the first part is one of the whole
   pub close_refused : (fault : StepFault) (new : Stepping) → IsLeft (to_session birth (Close moment)) fault s new → LeavesSome (closes x) fault s new
   close_refused fault new left =
       leaves_some (closes x) fault s new
       (same_leaves (both (close_part moment birth) (settle_part birth)) (closes x) fault s new (λ choice. parts_are (env_in choice s))
       (leaves_first (close_part moment birth) (settle_part birth) fault s new (λ choice. left)))
 
+  -- so is one of the second
   pub settle_refused : (fault : StepFault) (s1 new : Stepping) → Did (to_session birth (Close moment)) s s1 → LeavesSome (λ env. settle env birth) fault s1 new → LeavesSome (closes x) fault s new
   settle_refused fault s1 new close left =
       same_some_left (both (close_part moment birth) (settle_part birth)) (closes x) fault s new (λ choice. parts_are (env_in choice s))
@@ -97,6 +100,7 @@ module _ (x : Session) (s s1 : Stepping) (does : DoesSome (closes x) s s1) where
   rows_more : s1.rows ≡ s.rows ++ rows_of_all (added x s s1 does).deeds s.broker.records
   rows_more = ap (λ (t : Stepping). t.rows) (added x s s1 does).is
 
+  -- rows only come behind those that were there
   pub rows_grow : length s.rows ≤ length s1.rows
   rows_grow =
       let more = rows_of_all (added x s s1 does).deeds s.broker.records in
@@ -107,19 +111,23 @@ module _ (x : Session) (s s1 : Stepping) (does : DoesSome (closes x) s s1) where
   new_rows : drop (length s.rows) s1.rows ≡ rows_of_all (added x s s1 does).deeds s.broker.records
   new_rows = ap (drop (length s.rows)) rows_more ∙ drop-append_seam s.rows (rows_of_all (added x s s1 does).deeds s.broker.records)
 
+  -- an index can follow the new ones
   pub rows_followed : CanAllBeFollowed (drop (length s.rows) s1.rows) s.broker.records
   rows_followed =
       subst (λ (rows : List Change). CanAllBeFollowed rows s.broker.records) (sym new_rows)
       (follow_own x.birth (added x s s1 does).deeds s.broker (added x s s1 does).own)
 
+  -- they make what stands of what stood
   pub rows_made : changed_all (drop (length s.rows) s1.rows) s.broker.records ≡ s1.broker.records
   rows_made =
       ap (λ (rows : List Change). changed_all rows s.broker.records) new_rows
       ∙ (stored_after_all (added x s s1 does).deeds s.broker ∙ sym (ap (λ (t : Stepping). t.broker.records) (added x s s1 does).is))
 
+  -- what could be indexed can be so after them
   pub still_indexed : CanBeIndexed s.broker.records → CanBeIndexed s1.broker.records
   still_indexed h = subst CanBeIndexed rows_made (indexed_all (drop (length s.rows) s1.rows) s.broker.records h rows_followed)
 
+  -- an index that serves what they make serves what stands
   pub still_serves : (index : List Subscriber) → Serves index (subscribers (changed_all (drop (length s.rows) s1.rows) s.broker.records)) → Serves index (subscribers s1.broker.records)
   still_serves index h = subst (λ (r : Records). Serves index (subscribers r)) rows_made h
 
@@ -133,6 +141,7 @@ module _ (x : Session) (s s1 : Stepping) (does : DoesSome (closes x) s s1) where
         spent = λ spent. let no : Memory ≡ Spent = sym memory ∙ spent in absurd cc;
       })
 
+-- what holds anyhow holds of an answer
 pub ok_of : {A E : Type 0} {P : Type 0} (r : Result A E) → P → OnOk r P
 ok_of (Ok a) p = p
 ok_of (Err e) p = tt

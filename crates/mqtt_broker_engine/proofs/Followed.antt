@@ -46,6 +46,7 @@ module _ (k : ℕ) where
   follow_deed (Send n packet) b h = tt
   follow_deed (Gone n) b h = elim h [ ]
 
+  -- an index can follow the rows of the deeds of closing a session
   pub follow_own : (ds : List Deed) (b : Broker) → AreGood (IsOwn k) ds b → CanAllBeFollowed (rows_of_all ds b.records) b.records
   follow_own [] b h = tt
   follow_own (d ∷ ds) b h =

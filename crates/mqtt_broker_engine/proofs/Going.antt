@@ -36,6 +36,7 @@ record Waits (entry s : Stepping) (births : List ℕ) (rest : List Session) : Ty
   willed : AllByRecursion (λ (x : Session). IsWilled x.will) rest
   leads : Leads entry s rest
 
+-- sessions with these births are still to be closed, and an index serves what stands
 pub record IsGoing (entry s : Stepping) (index : List Subscriber) (births : List ℕ) : Type 0 where
   rest : List Session
   waits : Waits entry s births rest
@@ -44,6 +45,7 @@ pub record IsGoing (entry s : Stepping) (index : List Subscriber) (births : List
 
 -- ---- at the beginning
 
+-- at the beginning all that stand connected are
 pub going_first : (s : Stepping) (index : List Subscriber) (births : List ℕ) → births ≡ map birth_of (connected_in s.broker.records) → IsCoherent s.broker.records → HasLawfulContents s.broker.records
     → CanBeIndexed s.broker.records → Serves index (subscribers s.broker.records) → IsGoing s s index births
 going_first s index births its coherent contents indexed serves = record {
@@ -99,6 +101,7 @@ module _ (entry s : Stepping) (index : List Subscriber) (births : List ℕ) (n :
   pub next_there : (y : Session) × (y.birth ≡ n) × IsThere s.broker.records y
   next_there = (x.next, x.its, x.there.0)
 
+  -- its Will may be published
   pub next_willed : IsWilled (will_at n s.broker.records)
   next_willed =
       subst (λ (k : ℕ). IsWilled (will_at k s.broker.records)) x.its
@@ -139,11 +142,13 @@ none_left : (births : List ℕ) → length births ≡ 0 → births ≡ []
 none_left [] e = refl
 none_left (n ∷ more) e = let no : ⊥ = omega (arith, e) in absurd no
 
+-- when none is left the opening is done
 pub going_end : (entry s : Stepping) (index : List Subscriber) (births : List ℕ) → length births ≡ 0 → IsGoing entry s index births → DidSome opening entry s
 going_end entry s index births e h = end_by entry s h.rest (subst (λ (ns : List ℕ). Waits entry s ns h.rest) (none_left births e) h.waits)
 
 -- ---- nothing was done yet, for want of memory
 
+-- for want of memory nothing is done of it
 pub first_refused : (fault : StepFault) (s : Stepping) → fault ≡ Memory → LeftSome opening fault s s
 first_refused fault s memory = record {
   choice = λ number sender. [];

@@ -8,6 +8,7 @@ use Rattle.mqtt_records_rows.specs.Order.{row_at}
 use Rattle.mqtt_rules.specs.State.{Line, entry_on}
 use Rattle.mqtt_broker_step.specs.Lines.{line_number}
 
+-- the first row of an identifier is the first entry of it
 pub held_on : (id : ℕ) (went : List ℕ) (xs : List CopyRow)
     → option_map (λ e. e.copy.id) (find (λ e. is_holder id e.phase) xs) ≡ option_map (λ e. e.copy.id) (holder id (map (entry_on went) xs))
 held_on id went [] = refl
@@ -16,6 +17,7 @@ held_on id went (x ∷ xs) = elim (cases_Bool (is_holder id x.phase)) [
   | inr other ↦ rw other (held_on id went xs)
 ]
 
+-- a line is found by its number, in either words
 pub row_of : (n : ℕ) (ls : List Line) → row_at line_number n ls ≡ find (λ l. nat_eq l.number n) ls
 row_of n [] = refl
 row_of n (l ∷ ls) = elim (cases_Bool (nat_eq l.number n)) [

@@ -69,6 +69,7 @@ module _ (s : Session) (xs : List Session) (old mid : Stepping) (apart : AllApar
         same_all mid.limits mid.start.records others both xs mid.broker others_there apart.1 both_others
         ∙ ap (λ (e : Env). closes_all xs e mid.broker) same_env
 
+  -- what closes the others then closes all, by a joined choice
   pub did_more : (new : Stepping) → DidSome (closes_all xs) mid new → DidSome (closes_all (s ∷ xs)) old new
   did_more new rest = record {
     choice = both rest.choice;
@@ -78,6 +79,7 @@ module _ (s : Session) (xs : List Session) (old mid : Stepping) (apart : AllApar
         (same_act (closes_all xs (env_in rest.choice mid)) (closes_all xs env) mid new (same_rest rest.choice) rest.is);
   }
 
+  -- a refusal at the others is one of all
   pub left_more : (fault : StepFault) (new : Stepping) → LeftSome (closes_all xs) fault mid new → LeftSome (closes_all (s ∷ xs)) fault old new
   left_more fault new rest = record {
     choice = both rest.choice;
@@ -89,11 +91,13 @@ module _ (s : Session) (xs : List Session) (old mid : Stepping) (apart : AllApar
 
 -- ---- a refusal at the first, and the end
 
+-- so is one at the first
 pub left_at : (s : Session) (xs : List Session) (fault : StepFault) (old new : Stepping) → LeavesSome (closes s) fault old new → LeftSome (closes_all (s ∷ xs)) fault old new
 left_at s xs fault old new left =
     let choice = alone left.members in
     let env = env_in choice old in
     record { choice = choice; is = left_first (closes s env) (closes_all xs env) fault old new (left.is choice refl) }
 
+-- if there is none nothing is to be done
 pub did_end : (s : Stepping) → DidSome (closes_all []) s s
 did_end s = record { choice = alone []; is = record { is = sym (did_none s) } }

@@ -10,6 +10,7 @@ use Rattle.mqtt_broker_step.specs.Doing.{after_act, links}
 use Rattle.mqtt_broker_engine.specs.declared.outcome.Outcome.{Outcome}
 use Rattle.mqtt_broker_engine.specs.Calling.{IsAnswered, IsOn, Tells}
 
+-- a choice of members, which no line asks for
 abbrev pub first_members : MemberChoice
 first_members = λ number sender. []
 
@@ -34,15 +35,19 @@ linked_records : (may : Bool) (n : ℕ) (b : Broker) → (after_all (link_if may
 linked_records true n b = refl
 linked_records false n b = refl
 
+-- the line that is linked is the step of the rules
 pub linked_step : (limits : Limits) (now : ℕ) (b : Broker) → after_act links (at_moment now b) ≡ stepped limits first_members now NewLine b
 linked_step limits now b = linked_done (can_link (at_moment now b)) (suc b.given) (at_moment now b)
 
+-- it spends no number
 pub link_unspent : (limits : Limits) (now : ℕ) (b : Broker) → is_step_spent limits first_members now NewLine b ≡ false
 link_unspent limits now b = linked_unspent (can_link (at_moment now b)) (suc b.given) (at_moment now b).now b.records
 
+-- and stores nothing
 pub link_records : (now : ℕ) (b : Broker) → (after_act links (at_moment now b)).records ≡ b.records
 link_records now b = linked_records (can_link (at_moment now b)) (suc b.given) (at_moment now b)
 
+-- so it is a step of the broker, which tells nothing
 pub linked : (limits : Limits) (now : ℕ) (b new : Broker) → new ≡ after_act links (at_moment now b) → BrokerStep limits b now NewLine nothing_told new
 linked limits now b new is = record {
   choice = first_members;
@@ -72,6 +77,7 @@ answered_none limits now call b new out none last is tells = record {
 no_line : (line n : ℕ) (b : Broker) → line_at line b ≡ None → n ≡ line → line_at n b ≡ None
 no_line line n b none same = ap (λ k. line_at k b) same ∙ none
 
+-- a call on a line that isn't linked is a step that does nothing but that time goes on
 pub passed_over : (limits : Limits) (now line : ℕ) (b new : Broker) (out : Outcome) → line_at line b ≡ None → new ≡ at_moment now b → Tells nothing_told out
     → (call : Call) → IsOn line call → IsAnswered limits b now call out new
 passed_over limits now line b new out none is tells NewLine on = absurd on

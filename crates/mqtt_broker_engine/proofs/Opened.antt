@@ -27,6 +27,7 @@ shuts_all env (s ∷ ss) b = elim (cases_Bool (is_connected s)) [
   | inr away ↦ rw away (shuts_all env ss b)
 ]
 
+-- to close all that stand connected is the opening
 pub closes_opening : (env : Env) (b : Broker) → closes_all (connected_in b.records) env b ≡ opening env b
 closes_opening env b = shuts_all env b.records.sessions b
 
@@ -80,17 +81,20 @@ module _ (r : Records) (clients : IsUnique (λ birth. client_at birth r)) where
   apart_all [] found order = tt
   apart_all (s ∷ ss) found order = (apart_above s ss found.0 found.1 order.0, apart_all ss found.1 order.1)
 
+-- those that stand connected differ
 pub connected_apart : (r : Records) → IsCoherent r → AllApart (connected_in r)
 connected_apart r h =
     apart_filtered is_connected r.sessions
     (apart_all r h.clients r.sessions (all_found birth_of r.sessions h.ordered.sessions.ascending) h.ordered.sessions.ascending)
 
+-- and stand as they do
 pub connected_there : (r : Records) → IsCoherent r → AllByRecursion (IsThere r) (connected_in r)
 connected_there r h =
     each_filtered (IsThere r) is_connected r.sessions
     (each_more (λ s. row_at birth_of s.birth r.sessions ≡ Some s) (IsThere r) (λ s found. ap (option_map face) found) r.sessions
     (all_found birth_of r.sessions h.ordered.sessions.ascending))
 
+-- and their Wills may be published
 pub connected_willed : (r : Records) → HasLawfulContents r → AllByRecursion (λ (s : Session). IsWilled s.will) (connected_in r)
 connected_willed r h =
     each_filtered (λ (s : Session). IsWilled s.will) is_connected r.sessions (each_more HasContents (λ (s : Session). IsWilled s.will) (λ s its. its.will) r.sessions h.sessions)

@@ -53,6 +53,7 @@ IsOwn k (Send n packet) b = ⊤
 IsOwn k (Gone n) b = ⊥
 
 module _ (k : ℕ) where
+  -- so is each of these deeds
   abbrev pub AreOwn : List Deed → Broker → Type 0
   AreOwn = AreGood (IsOwn k)
 
@@ -134,6 +135,7 @@ module _ (k : ℕ) where
 
 -- ---- a session is closed
 
+-- the closing of a session has such deeds alone
 pub close_own : (env : Env) (s : Session) (b : Broker) → AreOwn s.birth (closes s env b) b
 close_own env s b =
     good_two (IsOwn s.birth) (always (At (whose s) (Close b.now) ∷ [])) (settle env s.birth) b (inr (refl, tt), tt)

@@ -39,6 +39,7 @@ stamped_by : (rows : List Change) (b : Broker) → subscribers (with_moment rows
 stamped_by [] b = refl
 stamped_by (row ∷ rows) b = refl
 
+-- an index serves what stands with the moment too
 pub stamped_serves : (index : List Subscriber) (s new : Stepping) → new ≡ with_stamp s → Serves index (subscribers s.broker.records) → Serves index (subscribers new.broker.records)
 stamped_serves index s new is serves =
     subst (λ (ss : List Subscriber). Serves index ss) (sym (ap (λ (t : Stepping). subscribers t.broker.records) is ∙ stamped_by s.rows s.broker)) serves
@@ -46,12 +47,14 @@ stamped_serves index s new is serves =
 -- ---- from its beginning
 
 module _ (limits : Limits) (now : ℕ) (r : Records) (old : Stepping) (begun : old ≡ resting limits now r) where
+  -- an opening that was done and has its moment is the one of the rules
   pub opened_of : (s new : Stepping) → DidSome opening old s → new ≡ with_stamp s → DidOpen limits now r new
   opened_of s new d is = record {
     choice = d.choice;
     is = is ∙ ap with_stamp (d.is.is ∙ ap (λ (t : Stepping). did (opening (env_in d.choice t) t.broker) t) begun);
   }
 
+  -- one that was refused is left as the rules have it
   pub left_of : (fault : StepFault) (new : Stepping) → LeftSome opening fault old new → IsLeftOpen limits now r fault new
   left_of fault new d = record {
     start = d.is.start ∙ ap (λ (t : Stepping). t.start) begun;
@@ -63,6 +66,7 @@ module _ (limits : Limits) (now : ℕ) (r : Records) (old : Stepping) (begun : o
     };
   }
 
+  -- so is one whose moment was refused, for want of memory
   pub left_stamp : (fault : StepFault) (s new : Stepping) → DidSome opening old s → new ≡ s → fault ≡ Memory → IsLeftOpen limits now r fault new
   left_stamp fault s new d is memory = record {
     start = ap (λ (t : Stepping). t.start) is ∙ (ap (λ (t : Stepping). t.start) d.is.is ∙ ap (λ (t : Stepping). t.start) begun);
@@ -88,14 +92,17 @@ module _ (limits : Limits) (now : ℕ) (r : Records) (s : Stepping) (h : DidOpen
   unspent_is : is_spent s.rows ≡ false → is_opening_spent limits h.choice now r ≡ false
   unspent_is e = ap is_spent (sym rows_are) ∙ e
 
+  -- its rows fit what was stored
   pub open_fits : AreWithin limits → IsLawful r → is_spent s.rows ≡ false → FitAll s.rows s.start.records
   open_fits within lawful e =
       subst (λ (b : Broker). FitAll s.rows b.records) (sym start_is)
       (subst (λ (rows : List Change). FitAll rows r) (sym rows_are) (opening_fits limits h.choice now r within (lawful_coherent r lawful) (unspent_is e)))
 
+  -- and can be said in a table
   pub open_sayable : IsLawful r → AllSayable s.rows
   open_sayable lawful = subst AllSayable (sym rows_are) (opening_said of_rows row_sizes limits h.choice now r (lawful_contents r lawful))
 
+  -- once it is stored it is an opening of the broker
   pub open_is : (new : Stepping) → is_spent s.rows ≡ false → new ≡ at_rest s.limits s.broker → BrokerOpening limits r now new.broker
   open_is new e is = record {
     choice = h.choice;
@@ -103,12 +110,15 @@ module _ (limits : Limits) (now : ℕ) (r : Records) (s : Stepping) (h : DidOpen
     new_is = ap (λ (t : Stepping). t.broker) is ∙ broker_is;
   }
 
+  -- a crash leaves what was there before, or what is stored after it
   pub open_left : (after : Records) → is_spent s.rows ≡ false → (after ≡ s.start.records) ⊎ (after ≡ s.broker.records) → (after ≡ r) ⊎ IsStoredAfter limits now r after
   open_left after e (inl same) = inl (same ∙ ap (λ (b : Broker). b.records) start_is)
   open_left after e (inr more) = inr (record { choice = h.choice; unspent = unspent_is e; is = more ∙ ap (λ (b : Broker). b.records) broker_is })
 
+  -- it began with these records
   pub open_start : s.start.records ≡ r
   open_start = ap (λ (b : Broker). b.records) start_is
 
+  -- under these limits
   pub open_limits : s.limits ≡ limits
   open_limits = ap (λ (t : Stepping). t.limits) h.is

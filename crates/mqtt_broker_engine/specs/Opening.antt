@@ -10,10 +10,12 @@ use Rattle.mqtt_rules.specs.Step.{BrokerOpening, SpentOpening}
 use Rattle.mqtt_broker_engine.specs.Running.{Running}
 use Rattle.mqtt_broker_engine.specs.Closing.{IsStoredAfter}
 
--- what a load answered, and how it left the store: while the device is sound it answers what the store has
+-- what a load answered, and how it left the store: while the device is sound it answers what the store has; and a device that is
+-- sound after it was sound before
 pub record IsLoad {K : Type 0} (g : Ghosts K) (keep : K) (r : Records) (loaded : K) : Type 0 where
   pub exact : (h : Records) → g.holds keep h → g.is_sound loaded → r ≡ h
   pub found : g.is_sound loaded → g.leaves keep r
+  pub sound : g.is_sound loaded → g.is_sound keep
 
 -- and what it left alone
 pub record IsBegun {K : Type 0} (g : Ghosts K) (keep : K) (r : Records) (loaded : K) : Type 0 where

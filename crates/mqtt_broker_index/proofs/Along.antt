@@ -80,6 +80,7 @@ asked_changed (RemoveCopy birth place) r may h = asked_in birth (without_copy pl
 asked_changed (PutRetained kept) r may h = h
 asked_changed (RemoveRetained place) r may h = h
 
+-- what can be indexed can be so after a row that can be followed
 pub indexed_changed : (change : Change) (r : Records) → CanBeIndexed r → CanBeFollowed change r → CanBeIndexed (changed change r)
 indexed_changed change r h may = record {
   ordered = changed-ordered change r h.ordered;
@@ -87,6 +88,7 @@ indexed_changed change r h may = record {
   asked = asked_changed change r may h.asked;
 }
 
+-- and after many
 pub indexed_all : (changes : List Change) (r : Records) → CanBeIndexed r → CanAllBeFollowed changes r → CanBeIndexed (changed_all changes r)
 indexed_all [] r h may = h
 indexed_all (change ∷ changes) r h may = indexed_all changes (changed change r) (indexed_changed change r h may.0) may.1
@@ -108,6 +110,7 @@ some_lawful_by : (subs : List RoutedSubscription) (x : Subscriber) (xs : List Su
 some_lawful_by [] x xs p h = h
 some_lawful_by (s ∷ ss) x xs p h = (p, h)
 
+-- what is lawful of all sessions is so of those with subscriptions
 pub some_lawful : (xs : List Subscriber) → AllByRecursion IsLawful xs → AllByRecursion IsLawful (with_some xs)
 some_lawful [] h = tt
 some_lawful (x ∷ xs) h = some_lawful_by x.subs x (with_some xs) h.0 (some_lawful xs h.1)
@@ -127,6 +130,7 @@ all_lawful : (xs : List Subscriber) → AllByRecursion IsLawful (with_some xs) �
 all_lawful [] h = tt
 all_lawful (x ∷ xs) h = all_lawful_by x.subs x xs refl (all_lawful xs) h
 
+-- a table in order serves the sessions whose subscriptions it has
 pub serves_of : (table : List Subscriber) (r : Records) → CanBeIndexed r → AreInOrder table → with_some table ≡ with_some (subscribers r) → Serves table (subscribers r)
 serves_of table r h order same = record {
   same = same;
@@ -141,6 +145,7 @@ serves_of table r h order same = record {
 abbrev IsFollowed : Change → Records → List Subscriber → Type 0
 IsFollowed change r table = with_some (followed change table) ≡ with_some (subscribers (changed change r))
 
+-- sessions that can be indexed stand in the order of their births
 pub in_order : (r : Records) → CanBeIndexed r → AreInOrder (subscribers r)
 in_order r h = births_in_order r.sessions h.ordered.sessions.ascending
 
@@ -220,6 +225,7 @@ followed_order (RemoveCopy birth place) table order = order
 followed_order (PutRetained kept) table order = order
 followed_order (RemoveRetained place) table order = order
 
+-- a table that serves what stands, and follows a row, serves what the row leaves
 pub serves_followed : (change : Change) (r : Records) (table : List Subscriber) → CanBeIndexed r → CanBeFollowed change r → Serves table (subscribers r) → Serves (followed change table) (subscribers (changed change r))
 serves_followed change r table h may serves =
     serves_of (followed change table) (changed change r) (indexed_changed change r h may) (followed_order change table serves.order)
@@ -227,6 +233,7 @@ serves_followed change r table h may serves =
 
 -- ---- all rows
 
+-- and so with many rows, one after the other
 pub serves_followed_all : (changes : List Change) (r : Records) (table : List Subscriber) → CanBeIndexed r → CanAllBeFollowed changes r → Serves table (subscribers r)
     → Serves (followed_all changes table) (subscribers (changed_all changes r))
 serves_followed_all [] r table h may serves = serves

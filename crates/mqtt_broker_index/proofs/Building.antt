@@ -50,6 +50,7 @@ last_subs birth (s ∷ ss) =
     let same : nat_eq birth birth ≡ true = nat_eq_equiv.refl birth in
     rw (level, same) refl
 
+-- the session that comes last has its subscriptions
 pub has_last : (birth : ℕ) (subs : List RoutedSubscription) (xs : List Subscriber) → AreBefore birth xs → subs_of birth (xs ++ last_of birth subs) ≡ subs
 has_last birth subs [] before = last_subs birth subs
 has_last birth subs (x ∷ xs) before = rw (lt-ltb x.birth birth before.0) (has_last birth subs xs before.1)
@@ -78,6 +79,7 @@ some_last : (birth : ℕ) (x : RoutedSubscription) (subs : List RoutedSubscripti
 some_last birth x [] = refl
 some_last birth x (s ∷ ss) = refl
 
+-- it gets one more, behind those that it has
 pub one_given : (birth : ℕ) (x : RoutedSubscription) (subs : List RoutedSubscription) (xs : List Subscriber) → AreBefore birth xs → has_filter x.filter subs ≡ false
     → subscribed birth x (xs ++ last_of birth subs) ≡ xs ++ last_of birth (subs ++ x ∷ [])
 one_given birth x subs xs before new =
@@ -103,6 +105,7 @@ text_differs a b differ = elim (cases_Bool (bytes_eq a b)) [
   | inr other ↦ other
 ]
 
+-- filters that differ from one that comes are new still
 pub new_later : (x : Subscription) (subs : List RoutedSubscription) (xs : List Subscription) → AllByRecursion (λ g. x.filter ≢ g) (map filter_of xs) → AreNew subs xs → AreNew (subs ++ routed_subscription x ∷ []) xs
 new_later x subs [] differ new = tt
 new_later x subs (y ∷ ys) differ new =
@@ -116,10 +119,12 @@ given_last birth (x ∷ xs) subs table before differ new =
     ∙ (given_last birth xs (subs ++ routed_subscription x ∷ []) table before differ.1 (new_later x subs xs differ.0 new.1)
     ∙ ap (λ ss. table ++ last_of birth ss) (append_both subs (routed_subscription x ∷ []) (routed_all xs)))
 
+-- to a session without subscriptions each filter is new
 pub none_yet : (xs : List Subscription) → AreNew [] xs
 none_yet [] = tt
 none_yet (x ∷ xs) = (refl, none_yet xs)
 
+-- a session that is given its subscriptions one by one comes last, with all of them
 pub session_given : (birth : ℕ) (xs : List Subscription) (table : List Subscriber) → AreBefore birth table → AllDiffer (map filter_of xs) → given birth xs table ≡ table ++ last_of birth (routed_all xs)
 session_given birth xs table before differ =
     ap (given birth xs) (sym (append_nil table)) ∙ given_last birth xs [] table before differ (none_yet xs)
@@ -137,6 +142,7 @@ last_before m n (s ∷ ss) less = (less, tt)
 abbrev pub AreBeforeAll : List Session → List Subscriber → Type 0
 AreBeforeAll ss table = AllByRecursion (λ (s : Session). AreBefore s.birth table) ss
 
+-- the others are born after it too
 pub before_all : (m : ℕ) (subs : List RoutedSubscription) (ss : List Session) (table : List Subscriber) → IsAbove birth_of m ss → AreBeforeAll ss table → AreBeforeAll ss (table ++ last_of m subs)
 before_all m subs [] table up before = tt
 before_all m subs (s ∷ ss) table up before = (
@@ -157,10 +163,12 @@ all_given (s ∷ ss) table up once before =
     ∙ (append_both table last (with_some (subscribers_of ss))
     ∙ ap (λ (ys : List Subscriber). table ++ ys) (last_first_by (routed_all s.subscriptions) (subscriber_of s) (with_some (subscribers_of ss)))))
 
+-- all are born after nobody
 pub before_none : (ss : List Session) → AreBeforeAll ss []
 before_none [] = tt
 before_none (s ∷ ss) = (tt, before_none ss)
 
+-- a table that is given the subscriptions of all sessions serves them
 pub serves_given : (r : Records) (table : List Subscriber) → CanBeIndexed r → table ≡ given_all r.sessions [] → Serves table (subscribers r)
 serves_given r table h is =
     let up = h.ordered.sessions.ascending in

@@ -87,12 +87,14 @@ follow_stamped now (x ∷ rows) r h = follow_append (x ∷ rows) (SetCounter Mom
 
 -- ---- steps and openings
 
+-- an index can follow the rows of a call's deeds
 pub deeds_followed : (limits : Limits) (choice : MemberChoice) (now : ℕ) (call : Call) (b : Broker) → AreWithin limits → IsCoherent (stored b) → IsNumber b.now → TakesLawful call
     → CanAllBeFollowed (rows_of_all (deeds limits choice now call b) (stored b)) (stored b)
 deeds_followed limits choice now call b within h last taken =
     let c = at_moment now b in
     follow_deeds (deeds limits choice now call b) c (well_call (env_of limits choice b) within call c (made_of b.records h, moment_last b now last) taken)
 
+-- and those of the whole step, with its moment
 pub step_followed : (limits : Limits) (choice : MemberChoice) (now : ℕ) (call : Call) (b : Broker) → AreWithin limits → IsCoherent (stored b) → IsNumber b.now → TakesLawful call
     → CanAllBeFollowed (rows_written (deeds limits choice now call b) (at_moment now b)) (stored b)
 step_followed limits choice now call b within h last taken =
@@ -101,6 +103,7 @@ step_followed limits choice now call b within h last taken =
 opening_last : (r : Records) (now : ℕ) → IsNumber (unopened now r).now
 opening_last r now = max-le (min-le_right r.moment LAST_NUMBER) (min-le_right now LAST_NUMBER)
 
+-- and those of an opening
 pub opening_followed : (limits : Limits) (choice : MemberChoice) (now : ℕ) (r : Records) → AreWithin limits → IsCoherent r
     → CanAllBeFollowed (rows_written (opening_deeds limits choice now r) (unopened now r)) r
 opening_followed limits choice now r within h =
@@ -111,6 +114,7 @@ opening_followed limits choice now r within h =
 
 -- ---- what records have
 
+-- records in order, with each filter once and lawful contents, can be indexed
 pub indexed_of : (r : Records) → IsOrdered r → HaveFiltersOnce r → HasLawfulContents r → CanBeIndexed r
 indexed_of r ordered once contents = record {
   ordered = ordered;
@@ -118,6 +122,7 @@ indexed_of r ordered once contents = record {
   asked = each_more HasContents HasAsked (λ s h. h.subscriptions) r.sessions contents.sessions;
 }
 
+-- so can lawful records
 pub indexed_lawful : (r : Records) → IsLawful r → CanBeIndexed r
 indexed_lawful r lawful =
     indexed_of r (lawful_coherent r lawful).ordered

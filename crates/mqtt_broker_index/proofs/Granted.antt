@@ -51,6 +51,7 @@ abbrev pub IsWell : Deed → Broker → Type 0
 IsWell (At who (told.Subscribe x)) b = ((s : Session) → session_at who.birth b.records ≡ Some s → IsGranted x s) × IsAskedFor x
 IsWell d b = ⊤
 
+-- so is each of these deeds
 abbrev pub AreWell : List Deed → Broker → Type 0
 AreWell = AreGood IsWell
 
@@ -242,9 +243,11 @@ module _ (env : Env) (within : AreWithin env.limits) where
   going_call (Pump n) b taken = λ l e. tt
   going_call Tick b taken = record { silent = λ l e. tt; wills = λ s e. tt; ends = λ s e. tt }
 
+  -- the deeds of a call that takes what is lawful are such
   pub well_call : (call : Call) (b : Broker) → Keeps b → TakesLawful call → AreWell (deeds_of env call b) b
   well_call call b k taken = well (deeds_of env call b) b (leads_call env going Keeps AreBoth granting_law call b k (going_call call b taken)).0
 
+  -- and those of an opening
   pub well_opening : (b : Broker) → Keeps b → AreWell (opening env b) b
   well_opening b k =
       well (opening env b) b

@@ -20,6 +20,7 @@ use Rattle.mqtt_broker_step.specs.Subscribing.{filter_of}
 use Rattle.mqtt_broker_step.proofs.Filters.{text_is, found_row}
 use Rattle.mqtt_broker_index.specs.Following.{IsGranted}
 
+-- subscriptions as routing has them
 abbrev pub routed_all : List Subscription → List RoutedSubscription
 routed_all xs = map routed_subscription xs
 
@@ -37,6 +38,7 @@ others_stay f (x ∷ xs) differ = elim (cases_Bool (bytes_eq x.filter f)) [
 those_stay : (f g : List ℕ) (xs : List Subscription) → g ≡ f → AllByRecursion (λ h. g ≢ h) (map filter_of xs) → without_filter f xs ≡ xs
 those_stay f g xs same differ = subst (λ (t : List ℕ). without_filter t xs ≡ xs) same (others_stay g xs differ)
 
+-- a filter that goes in the records goes in routing too
 pub same_without : (text : List ℕ) (xs : List Subscription) → AllDiffer (map filter_of xs) → routed_all (without_filter text xs) ≡ without text (routed_all xs)
 same_without text [] differ = refl
 same_without text (x ∷ xs) differ = elim (cases_Bool (bytes_eq x.filter text)) [
@@ -90,6 +92,7 @@ or_right : (a b : Bool) → b ≡ true → (a || b) ≡ true
 or_right true b is = refl
 or_right false b is = is
 
+-- one that is granted is put at the same place in both
 pub same_put : (x : Subscription) (s : Session) → IsAscending place_of s.subscriptions → AllDiffer (map filter_of s.subscriptions) → IsGranted x s
     → routed_all (put_subscription x s.subscriptions) ≡ put (routed_subscription x) (routed_all s.subscriptions)
 same_put x s up differ granted =

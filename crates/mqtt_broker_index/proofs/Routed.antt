@@ -83,6 +83,7 @@ refused_room m s table serves place found = record {
   refused = λ choice chosen. accepted_same m s true None choice (sym (place choice)) (routed_same m s table found.0 None choice serves found.1 chosen);
 }
 
+-- a message that the index routes is accepted by the rules, with just these copies
 pub accepted_is : (m : Message) (s : Stepping) (table : List Subscriber) (r : Routed) (number moment : ℕ) (copies : List MessageCopy) (wanted : Bool) → Serves table (subscribers s.broker.records)
     → IsLawfulMessage m → IsAscending birth_of s.broker.records.sessions → ((choice : MemberChoice) → true ≡ finds_place (env_in choice s) m s.broker.records) → IsFound m s table (Some r)
     → number ≡ next_publication s.broker.records → moment ≡ s.broker.now → copies ≡ all_copied number moment m r → wanted ≡ has_takers r → IsAccepted m s copies wanted
@@ -116,6 +117,7 @@ pub asked_of : (s : Stepping) (m : Message) (table : List Subscriber) (sender to
 asked_of s m table sender topic qos retain members o a b c d is =
     (members, ap (λ p. acceptance.routed (answers_in s) p members table) (sym (four published a b c d)) ∙ is)
 
+-- what is made of a routed message is what the rules route
 pub taken_is : (routing : Routing) (m : Message) (s : Stepping) (table : List Subscriber) (r : Routed) → Serves table (subscribers s.broker.records) → IsLawfulMessage m
     → IsAscending birth_of s.broker.records.sessions → ((choice : MemberChoice) → true ≡ finds_place (env_in choice s) m s.broker.records) → IsFound m s table (Some r)
     → IsTakenAs m s r routing → IsRouted m s routing

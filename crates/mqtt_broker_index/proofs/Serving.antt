@@ -19,6 +19,7 @@ dropped_lawful : (b : ℕ) (xs : List Subscriber) → AllByRecursion IsLawful xs
 dropped_lawful b [] h = tt
 dropped_lawful b (x ∷ xs) h = dropped_lawful_by (nat_lt x.birth b) (nat_eq x.birth b) b x xs h.0 h.1 (dropped_lawful b xs h.1)
 
+-- it serves the others when a session ends
 pub serves_dropped : (b : ℕ) (table sessions : List Subscriber) → AreInOrder sessions → Serves table sessions → Serves (without_session b table) (without_session b sessions)
 serves_dropped b table sessions order serves = record {
   same = some_dropped b table serves.order ∙ (ap (without_session b) serves.same ∙ sym (some_dropped b sessions order));
@@ -57,6 +58,7 @@ standing_order : (b : ℕ) (filters : List (List ℕ)) (xs : List Subscriber) �
 standing_order b [] xs h = h
 standing_order b (f ∷ fs) xs h = order-with_subs b (subs_of b xs) xs h
 
+-- and the same sessions when one stands in it without subscriptions
 pub serves_standing : (b : ℕ) (filters : List (List ℕ)) (table sessions : List Subscriber) → Serves table sessions → Serves (standing b filters table) sessions
 serves_standing b filters table sessions serves = record {
   same = some_standing b filters table ∙ serves.same;

@@ -47,6 +47,7 @@ module _ (number moment : ℕ) (m : Message) (lawful : IsLawfulMessage m) where
       each_append IsSpelled (served_copied number moment m s) (flat_map (served_copied number moment m) ss)
       (some_spelled (Share s.group) (copies_in s.copy) h.0) (served_spelled ss h.1)
 
+  -- all copies of a lawful message that a lawful table routes have a spelling
   pub all_spelled : (at : Answers) (p : Publication) (choices : List ℕ) (table : List Subscriber) (r : Routed) → AllByRecursion IsLawful table → routed at p choices table ≡ Some r
       → AllByRecursion IsSpelled (all_copied number moment m r)
   all_spelled at p choices table r h is =

@@ -7,9 +7,11 @@ use Rattle.mqtt_routes.specs.Subscriptions.{Subscriber, subscriber, AreAfter, Ar
 
 -- ---- numbers
 
+-- a number above another is not below it
 pub lt_above : (k b : ℕ) → b < k → nat_lt k b ≡ false
 lt_above k b l = grind (arith, nat_tests)
 
+-- nor is it the same
 pub eq_above : (k b : ℕ) → b < k → nat_eq k b ≡ false
 eq_above k b l = grind (arith, nat_tests)
 
@@ -33,6 +35,7 @@ order_some_by : (subs : List Subscription) (x : Subscriber) (xs : List Subscribe
 order_some_by [] x xs l h = h
 order_some_by (s ∷ ss) x xs l h = (l, h)
 
+-- sessions in order are so without those that have no subscription
 pub order_some : (xs : List Subscriber) → AreInOrder xs → AreInOrder (with_some xs)
 order_some [] h = tt
 order_some (x ∷ xs) h = order_some_by x.subs x (with_some xs) (after_some x.birth xs h.0) (order_some xs h.1)
@@ -41,6 +44,7 @@ some_twice_by : (subs : List Subscription) (x : Subscriber) (xs : List Subscribe
 some_twice_by [] x xs is more = more
 some_twice_by (s ∷ ss) x xs is more = ap (λ subs. beside subs x (with_some xs)) is ∙ ap (λ (ys : List Subscriber). x ∷ ys) more
 
+-- taking those out twice is taking them out once
 pub some_twice : (xs : List Subscriber) → with_some (with_some xs) ≡ with_some xs
 some_twice [] = refl
 some_twice (x ∷ xs) = some_twice_by x.subs x (with_some xs) refl (some_twice xs)
@@ -70,6 +74,7 @@ subs_some_by false true b (s ∷ ss) x xs l e is h more = rw (l, e) refl
 subs_some_by false false b [] x xs l e is h more = sym (subs_of_after b (with_some xs) (after_some b xs (after_later b x.birth xs (above_of x.birth b l e) h)))
 subs_some_by false false b (s ∷ ss) x xs l e is h more = rw (l, e) refl
 
+-- a session has the same subscriptions when those are taken out
 pub subs_some : (b : ℕ) (xs : List Subscriber) → AreInOrder xs → subs_of b xs ≡ subs_of b (with_some xs)
 subs_some b [] h = refl
 subs_some b (x ∷ xs) h = subs_some_by (nat_lt x.birth b) (nat_eq x.birth b) b x.subs x xs refl refl refl h.0 (subs_some b xs h.1)
@@ -133,10 +138,12 @@ subscribed_some : (b : ℕ) (new : Subscription) (xs : List Subscriber) → AreI
 subscribed_some b new xs h =
     ap (λ subs. with_some (with_subs b (put new subs) xs)) (subs_some b xs h) ∙ put_some b (put new (subs_of b (with_some xs))) xs h
 
+-- tables with the same subscriptions have the same when one comes
 pub same_subscribed : (b : ℕ) (new : Subscription) (xs ys : List Subscriber) → AreInOrder xs → AreInOrder ys → with_some xs ≡ with_some ys → with_some (subscribed b new xs) ≡ with_some (subscribed b new ys)
 same_subscribed b new xs ys up order same =
     subscribed_some b new xs up ∙ (ap (some_after_put b new) same ∙ sym (subscribed_some b new ys order))
 
+-- and when one goes
 pub same_unsubscribed : (b : ℕ) (text : List ℕ) (xs ys : List Subscriber) → AreInOrder xs → AreInOrder ys → with_some xs ≡ with_some ys → with_some (unsubscribed b text xs) ≡ with_some (unsubscribed b text ys)
 same_unsubscribed b text xs ys up order same =
     gone_some b text xs up ∙ (ap (λ zs. with_some (unsubscribed b text zs)) same ∙ sym (gone_some b text ys order))

@@ -14,15 +14,18 @@ use Rattle.mqtt_rules.proofs.flight.FlightRows.{above_found}
 use Rattle.mqtt_broker_step.specs.Subscribing.{HasEachFilterOnce}
 use Rattle.mqtt_broker_index.proofs.Granting.{routed_all, same_without}
 
+-- sessions as routing has them
 abbrev pub subscribers_of : List Session → List Subscriber
 subscribers_of ss = map subscriber_of ss
 
 -- ---- order
 
+-- later births are later in routing too
 pub births_after : (n : ℕ) (ss : List Session) → IsAbove birth_of n ss → AreAfter n (subscribers_of ss)
 births_after n [] up = tt
 births_after n (s ∷ ss) up = (up.0, births_after n ss up.1)
 
+-- and births in order are in order
 pub births_in_order : (ss : List Session) → IsAscending birth_of ss → AreInOrder (subscribers_of ss)
 births_in_order [] up = tt
 births_in_order (s ∷ ss) up = (births_after s.birth ss up.0, births_in_order ss up.1)
@@ -47,6 +50,7 @@ below_of k n not_less differs =
 
 -- ---- a session changes, and its subscriptions don't
 
+-- routing doesn't see a change that leaves a session's subscriptions
 pub same_in : (birth : ℕ) (f : Session → Session) (ss : List Session) → ((s : Session) → subscriber_of (f s) ≡ subscriber_of s) → subscribers_of (change_row birth_of birth f ss) ≡ subscribers_of ss
 same_in birth f [] same = refl
 same_in birth f (s ∷ ss) same = elim (cases_Bool (nat_eq s.birth birth)) [
@@ -76,11 +80,13 @@ begun_if : (t : Bool) (row : Columns) (ss : List Session) → row_at birth_of ro
 begun_if true row ss new = begun_insert row ss new
 begun_if false row ss new = refl
 
+-- nor a session that begins, since it has none
 pub same_begun : (row : Columns) (ss : List Session) → row_at birth_of row.birth ss ≡ None → with_some (subscribers_of (put_row birth_of SESSION_LIMIT (fresh row) ss)) ≡ with_some (subscribers_of ss)
 same_begun row ss new = begun_if (has_row birth_of row.birth ss || nat_lt (length ss) SESSION_LIMIT) row ss new
 
 -- ---- a session ends
 
+-- a session that ends in the records ends in routing
 pub same_ended : (birth : ℕ) (ss : List Session) → IsAscending birth_of ss → subscribers_of (remove_row birth_of birth ss) ≡ without_session birth (subscribers_of ss)
 same_ended birth [] up = refl
 same_ended birth (s ∷ ss) up = elim (cases_Bool (nat_eq s.birth birth)) [
@@ -100,6 +106,7 @@ same_ended birth (s ∷ ss) up = elim (cases_Bool (nat_eq s.birth birth)) [
 found_here : (birth : ℕ) (s t : Session) (ss : List Session) → nat_eq t.birth birth ≡ true → row_at birth_of birth (t ∷ ss) ≡ Some s → t ≡ s
 found_here birth s t ss here found = let it : Some t ≡ Some s = rw here at found in cc
 
+-- a session that stands has the same subscriptions in both
 pub found_subs : (birth : ℕ) (s : Session) (ss : List Session) → IsAscending birth_of ss → row_at birth_of birth ss ≡ Some s → subs_of birth (subscribers_of ss) ≡ routed_all s.subscriptions
 found_subs birth s [] up found = absurd cc
 found_subs birth s (t ∷ ss) up found = elim (cases_Bool (nat_eq t.birth birth)) [
@@ -113,6 +120,7 @@ found_subs birth s (t ∷ ss) up found = elim (cases_Bool (nat_eq t.birth birth)
       rw before (found_subs birth s ss up.1 later)
 ]
 
+-- and when they change has the new ones in both
 pub found_changed : (birth : ℕ) (f : Session → Session) (s : Session) (ss : List Session) → ((t : Session) → birth_of (f t) ≡ birth_of t) → IsAscending birth_of ss → row_at birth_of birth ss ≡ Some s
     → subscribers_of (change_row birth_of birth f ss) ≡ with_subs birth (routed_all (f s).subscriptions) (subscribers_of ss)
 found_changed birth f s [] keeps up found = absurd cc
@@ -132,6 +140,7 @@ found_changed birth f s (t ∷ ss) keeps up found = elim (cases_Bool (nat_eq t.b
 
 -- ---- a session loses a subscription, if it stands
 
+-- a filter that goes of a session in the records goes in routing
 pub same_lost : (birth : ℕ) (text : List ℕ) (ss : List Session) → IsAscending birth_of ss → AllByRecursion HasEachFilterOnce ss
     → subscribers_of (change_row birth_of birth (without_subscription text) ss) ≡ unsubscribed birth text (subscribers_of ss)
 same_lost birth text [] up once = refl

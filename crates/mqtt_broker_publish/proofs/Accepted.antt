@@ -30,6 +30,7 @@ retain_sessions false e number m s = refl
 retain_sessions true true number m s = forget_sessions (retained_of m.topic s.broker.records) s
 retain_sessions true false number m s = refl
 
+-- to accept a publication and to retain it leaves the sessions as they are
 pub sessions_stay : (origin : Origin) (number : ℕ) (m : Message) (s s1 s2 : Stepping) → Did (accepts origin m) s s1 → Did (retain_by m.retain (is_empty m.payload) number m) s1 s2
     → s2.broker.records.sessions ≡ s.broker.records.sessions
 sessions_stay origin number m s s1 s2 accepted kept =
@@ -40,9 +41,11 @@ sessions_stay origin number m s s1 s2 accepted kept =
 start_stays : (origin : Origin) (number : ℕ) (m : Message) (s s1 s2 : Stepping) → Did (accepts origin m) s s1 → Did (retain_by m.retain (is_empty m.payload) number m) s1 s2 → s2.start ≡ s.start
 start_stays origin number m s s1 s2 accepted kept = ap (λ (t : Stepping). t.start) kept.is ∙ ap (λ (t : Stepping). t.start) accepted.is
 
+-- to accept a publication and to retain it leaves the limits as they are
 pub limits_stay : (origin : Origin) (number : ℕ) (m : Message) (s s1 s2 : Stepping) → Did (accepts origin m) s s1 → Did (retain_by m.retain (is_empty m.payload) number m) s1 s2 → s2.limits ≡ s.limits
 limits_stay origin number m s s1 s2 accepted kept = ap (λ (t : Stepping). t.limits) kept.is ∙ ap (λ (t : Stepping). t.limits) accepted.is
 
+-- queues that have room for copies have it still when the publication is accepted and retained
 pub room_stays : (origin : Origin) (number : ℕ) (m : Message) (ds : List CopyTo) (s s1 s2 : Stepping) → Did (accepts origin m) s s1 → Did (retain_by m.retain (is_empty m.payload) number m) s1 s2
     → HasRoomIn s ds → HasRoomIn s2 ds
 room_stays origin number m ds s s1 s2 accepted kept room = λ choice birth.
@@ -52,6 +55,7 @@ room_stays origin number m ds s s1 s2 accepted kept room = λ choice birth.
     (subst (λ (xs : List Session). length (filter (is_entering birth) ds) ≤ room_at (env_in choice s) (row_at birth_of birth xs))
     (sym (sessions_stay origin number m s s1 s2 accepted kept)) (room choice birth))
 
+-- if its copies leave the sessions those of the same clients, so does the whole publication
 pub whose_stay : (origin : Origin) (number : ℕ) (m : Message) (s s1 s2 s3 : Stepping) → Did (accepts origin m) s s1 → Did (retain_by m.retain (is_empty m.payload) number m) s1 s2
     → SameSessions s2.broker.records s3.broker.records → SameSessions s.broker.records s3.broker.records
 whose_stay origin number m s s1 s2 s3 accepted kept same = λ birth.
@@ -69,6 +73,7 @@ whole_is : (env : Env) (origin : Origin) (number : ℕ) (m : Message) (ds : List
     → whole env origin number m ds b ≡ publish env origin m ds b
 whole_is env origin number m ds b is = ap (λ n. whole env origin n m ds b) is
 
+-- a publication is published once it was accepted, retained, and handed over in its copies
 pub published_is : (origin : Origin) (number : ℕ) (m : Message) (ds : List CopyTo) (s s1 s2 s3 : Stepping) → number ≡ next_publication s.broker.records
     → Did (accepts origin m) s s1 → Did (retain_by m.retain (is_empty m.payload) number m) s1 s2 → Does (delivers_all ds) s2 s3 → Does (λ env. publish env origin m ds) s s3
 published_is origin number m ds s s1 s2 s3 is accepted kept delivered = λ choice.
@@ -79,6 +84,7 @@ published_is origin number m ds s s1 s2 s3 is accepted kept delivered = λ choic
     (did_then (retain_by m.retain (is_empty m.payload) number m) (delivers_all ds env) s1 s2 s3 kept
     (subst (λ (e : Env). Did (delivers_all ds e) s2 s3) same (delivered choice))))
 
+-- a publication is refused if accepting it is
 pub accept_left : (origin : Origin) (m : Message) (ds : List CopyTo) (fault : StepFault) (s new : Stepping) → IsLeft (accepts origin m) fault s new → Leaves (λ env. publish env origin m ds) fault s new
 accept_left origin m ds fault s new left = λ choice.
     let env = env_in choice s in
@@ -86,6 +92,7 @@ accept_left origin m ds fault s new left = λ choice.
     same_left (whole env origin number m ds) (publish env origin m ds) fault s new (whole_is env origin number m ds s.broker refl)
     (left_first (accepts origin m) (rest_of env number m ds) fault s new left)
 
+-- a publication is refused if retaining it is, once it was accepted
 pub retain_left : (origin : Origin) (number : ℕ) (m : Message) (ds : List CopyTo) (fault : StepFault) (s s1 new : Stepping) → number ≡ next_publication s.broker.records
     → Did (accepts origin m) s s1 → IsLeft (retain_by m.retain (is_empty m.payload) number m) fault s1 new → Leaves (λ env. publish env origin m ds) fault s new
 retain_left origin number m ds fault s s1 new is accepted left = λ choice.
@@ -94,6 +101,7 @@ retain_left origin number m ds fault s s1 new is accepted left = λ choice.
     (left_then (accepts origin m) (rest_of env number m ds) fault s s1 new accepted
     (left_first (retain_by m.retain (is_empty m.payload) number m) (delivers_all ds env) fault s1 new left))
 
+-- a publication is refused if handing its copies over is, once it was accepted and retained
 pub deliver_left : (origin : Origin) (number : ℕ) (m : Message) (ds : List CopyTo) (fault : StepFault) (s s1 s2 new : Stepping) → number ≡ next_publication s.broker.records
     → Did (accepts origin m) s s1 → Did (retain_by m.retain (is_empty m.payload) number m) s1 s2 → Leaves (delivers_all ds) fault s2 new → Leaves (λ env. publish env origin m ds) fault s new
 deliver_left origin number m ds fault s s1 s2 new is accepted kept left = λ choice.

@@ -41,6 +41,7 @@ records_stay (Some n) line [] topic s = refl
 records_stay None line (c ∷ cs) topic s = refl
 records_stay (Some n) line (c ∷ cs) topic s = refl
 
+-- to set an alias changes nothing that is stored
 pub stored_stays : (line : ℕ) (p : Publish) (topic : List ℕ) (s s1 : Stepping) → Did (alias_set line p topic) s s1 → s1.broker.records ≡ s.broker.records
 stored_stays line p topic s s1 set = ap (λ (t : Stepping). t.broker.records) set.is ∙ records_stay (number_at TopicAlias p.properties) line p.topic topic s
 
@@ -60,6 +61,7 @@ module _ (l : Line) (x : Session) (p : Publish) (topic : List ℕ) (means : mean
   env_stays : (choice : MemberChoice) (s s1 : Stepping) → Did (alias_set l.number p topic) s s1 → env_in choice s1 ≡ env_in choice s
   env_stays choice s s1 set = same_env choice s s1 (ap (λ (t : Stepping). t.start) set.is) (ap (λ (t : Stepping). t.limits) set.is)
 
+  -- a PUBLISH is done once its alias is set and what it is by its identifier is done
   pub alias_does : (s s1 s2 : Stepping) → Did (alias_set l.number p topic) s s1 → DoesSome rest s1 s2 → DoesSome (λ env. on_publish env l x p) s s2
   alias_does s s1 s2 set done = record {
     number = done.number;
@@ -72,6 +74,7 @@ module _ (l : Line) (x : Session) (p : Publish) (topic : List ℕ) (means : mean
         (one (rest e) s1 s2 (subst (λ (y : Env). Did (rest y) s1 s2) (env_stays choice s s1 set) (done.is choice chosen))));
   }
 
+  -- a PUBLISH is refused if what it is by its identifier is, once its alias is set
   pub alias_leaves : (fault : StepFault) (s s1 s2 : Stepping) → Did (alias_set l.number p topic) s s1 → LeavesSome rest fault s1 s2 → LeavesSome (λ env. on_publish env l x p) fault s s2
   alias_leaves fault s s1 s2 set left = record {
     number = left.number;
@@ -84,6 +87,7 @@ module _ (l : Line) (x : Session) (p : Publish) (topic : List ℕ) (means : mean
         (one_left (rest e) fault s1 s2 (subst (λ (y : Env). IsLeft (rest y) fault s1 s2) (env_stays choice s s1 set) (left.is choice chosen))));
   }
 
+  -- a PUBLISH is refused if setting its alias is
   pub alias_refused : (fault : StepFault) (s new : Stepping) → IsLeft (alias_set l.number p topic) fault s new → LeavesSome (λ env. on_publish env l x p) fault s new
   alias_refused fault s new left = record {
     number = 0;
@@ -95,6 +99,7 @@ module _ (l : Line) (x : Session) (p : Publish) (topic : List ℕ) (means : mean
         (left_first (alias_set l.number p topic) (series (rest e ∷ [])) fault s new left);
   }
 
+  -- what became of a PUBLISH by its identifier, once its alias is set, became of it
   pub answered : (r : Handled) (s s1 s2 : Stepping) → Did (alias_set l.number p topic) s s1 → HasAnswered l x p topic s1 s2 r → HasPublished l x p s s2 r
   answered handled.Done s s1 s2 set h = alias_does s s1 s2 set h
   answered (handled.Wrong code) s s1 s2 set h = absurd h

@@ -1,5 +1,5 @@
 -- Copies are handed over, one after the other: the room for those that are left.
-use Rattle.std.proofs.Common.{◌≡◌, ℕ, suc, ◌<◌, ◌≤◌, Bool, true, false, ◌&&◌, List, [], ◌∷◌, length, map, filter, nat_eq, nat_le, refl, ap, sym, subst, ◌∙◌, arith, inl, inr}
+use Rattle.std.proofs.Common.{◌≡◌, ℕ, suc, ◌<◌, ◌≤◌, Bool, true, false, ◌&&◌, List, [], ◌∷◌, length, map, filter, nat_eq, refl, ap, sym, subst, ◌∙◌, arith, inl, inr}
 use Rattle.std.specs.Prelude.{Option, Some, None, option_map}
 use Rattle.std.specs.List.{AllByRecursion}
 use Rattle.std.proofs.lemmas.Bool.{eqb-true, cases_Bool}
@@ -10,11 +10,11 @@ use Rattle.mqtt_records_message.specs.Queue.{IsSpelled}
 use Rattle.mqtt_records.specs.declared.session.Session.{Session}
 use Rattle.mqtt_records.specs.declared.records.Records.{Records}
 use Rattle.mqtt_rules.specs.State.{Line, Broker, Env, MemberChoice, session_at, line_of}
-use Rattle.mqtt_rules.specs.Deeds.{whose, offer, of_session, with_session, always}
+use Rattle.mqtt_rules.specs.Deeds.{whose, Deed, offer, of_session, with_session, always}
 use Rattle.mqtt_rules.specs.Laws.{HasEntered, client_at, is_entering}
 use Rattle.mqtt_rules.specs.Outbound.{room, room_at, enter_deeds}
 use Rattle.mqtt_rules.specs.Routing.{CopyTo, is_queued, deliver, deliver_by}
-use Rattle.mqtt_rules.specs.Packets.{size_of, publish_of}
+use Rattle.mqtt_rules.specs.Packets.{publish_of}
 use Rattle.mqtt_broker_step.specs.declared.fault.StepFault.{StepFault}
 use Rattle.mqtt_broker_step.specs.Stepping.{Stepping, did, Did, Does, IsLeft, Leaves, env_in}
 use Rattle.mqtt_broker_step.proofs.Doing.{found_birth}
@@ -24,6 +24,7 @@ use Rattle.mqtt_broker_queue.proofs.Entered.{client_enter}
 use Rattle.mqtt_broker_queue.proofs.Taking.{same_whose}
 use Rattle.mqtt_broker_publish.specs.Delivering.{addressed, addressed_all, offers, delivers_all, HasRoom, HasRoomIn, whose_at, SameSessions}
 use Rattle.mqtt_broker_publish.proofs.Leading.{LeadsOn, leads_first, leads_next, leads_left, leads_last, same_env}
+use Rattle.mqtt_rules.proofs.acts.Offers.{of_offer}
 
 some_is : {X : Type 0} (x y : X) → Some x ≡ Some y → x ≡ y
 some_is x y e = cc
@@ -36,22 +37,26 @@ as_queued d env b queued = ap (λ t. deliver_by t env d b) (sym queued)
 as_offered : (d : CopyTo) (env : Env) (b : Broker) → is_queued d ≡ false → offers d.birth d.copy b ≡ deliver env d b
 as_offered d env b queued = ap (λ t. deliver_by t env d b) (sym queued)
 
+-- a copy that is queued is handed over once it entered the queue of its session
 pub queued_is : (copy : MessageCopy) (old new : Stepping) → is_queued (addressed copy) ≡ true → Does (λ env. of_session copy.id.birth (λ s. always (enter_deeds env copy s))) old new
     → Does (λ env. deliver env (addressed copy)) old new
 queued_is copy old new queued is = λ choice.
     same_act (of_session copy.id.birth (λ s. always (enter_deeds (env_in choice old) copy s))) (deliver (env_in choice old) (addressed copy)) old new
     (as_queued (addressed copy) (env_in choice old) old.broker queued) (is choice)
 
+-- to hand over a copy that is queued is refused if its entering is
 pub queued_left : (copy : MessageCopy) (fault : StepFault) (old new : Stepping) → is_queued (addressed copy) ≡ true → Leaves (λ env. of_session copy.id.birth (λ s. always (enter_deeds env copy s))) fault old new
     → Leaves (λ env. deliver env (addressed copy)) fault old new
 queued_left copy fault old new queued is = λ choice.
     same_left (of_session copy.id.birth (λ s. always (enter_deeds (env_in choice old) copy s))) (deliver (env_in choice old) (addressed copy)) fault old new
     (as_queued (addressed copy) (env_in choice old) old.broker queued) (is choice)
 
+-- a copy that isn't queued is handed over once it went out at once
 pub offered_is : (copy : MessageCopy) (old new : Stepping) → is_queued (addressed copy) ≡ false → Did (offers copy.id.birth copy) old new → Does (λ env. deliver env (addressed copy)) old new
 offered_is copy old new queued is = λ choice.
     same_act (offers copy.id.birth copy) (deliver (env_in choice old) (addressed copy)) old new (as_offered (addressed copy) (env_in choice old) old.broker queued) is
 
+-- to hand over a copy that isn't queued is refused if its going out is
 pub offered_left : (copy : MessageCopy) (fault : StepFault) (old new : Stepping) → is_queued (addressed copy) ≡ false → IsLeft (offers copy.id.birth copy) fault old new → Leaves (λ env. deliver env (addressed copy)) fault old new
 offered_left copy fault old new queued is = λ choice.
     same_left (offers copy.id.birth copy) (deliver (env_in choice old) (addressed copy)) fault old new (as_offered (addressed copy) (env_in choice old) old.broker queued) is
@@ -71,8 +76,7 @@ count_less birth d ds = elim (cases_Bool (is_entering birth d)) [ inl so ↦ rw 
 
 -- a packet that goes out changes nothing that is stored
 offer_stays : (o : Option Line) (packet : Packet) (s : Stepping) → (did (offer o packet) s).broker.records ≡ s.broker.records
-offer_stays None packet s = refl
-offer_stays (Some l) packet s = elim (cases_Bool (nat_le (size_of packet) l.largest)) [ inl fits ↦ rw fits refl | inr large ↦ rw large refl ]
+offer_stays o packet s = of_offer (λ (ds : List Deed). (did ds s).broker.records ≡ s.broker.records) o packet refl (λ l there. refl)
 
 -- a copy that is to enter finds a session
 room_needs : (env : Env) (d : CopyTo) (ds : List CopyTo) (r : Records) → is_queued d ≡ true → HasRoom env (d ∷ ds) r → 0 < room_at env (session_at d.birth r)
@@ -172,6 +176,7 @@ pub record Handing (rest all : List MessageCopy) (first s : Stepping) : Type 0 w
   pub sessions : SameSessions first.broker.records s.broker.records
   pub spelled : AllByRecursion IsSpelled rest
 
+-- before the first copy all are left to hand over
 pub hands_first : (all : List MessageCopy) (first : Stepping) → HasRoomIn first (addressed_all all) → AllByRecursion IsSpelled all → Handing all all first first
 hands_first all first room spelled = record {
   leads = leads_first (delivers_all (addressed_all all)) first;
@@ -180,6 +185,7 @@ hands_first all first room spelled = record {
   spelled = spelled;
 }
 
+-- once the first of those that are left was handed over, the others are left
 pub hands_next : (copy : MessageCopy) (rest all : List MessageCopy) (first s s2 : Stepping) → Handing (copy ∷ rest) all first s
     → Does (λ env. deliver env (addressed copy)) s s2 → (is_queued (addressed copy) ≡ true → HasEnteredAt copy.id.birth s s2) → Handing rest all first s2
 hands_next copy rest all first s s2 w is entered =
@@ -196,16 +202,19 @@ hands_next copy rest all first s s2 w is entered =
       spelled = w.spelled.1;
     }
 
+-- the same of a list that begins with that copy
 pub hands_step : (copy : MessageCopy) (rest xs all : List MessageCopy) (first s s2 : Stepping) → xs ≡ copy ∷ rest → Handing xs all first s
     → Does (λ env. deliver env (addressed copy)) s s2 → (is_queued (addressed copy) ≡ true → HasEnteredAt copy.id.birth s s2) → Handing rest all first s2
 hands_step copy rest xs all first s s2 is w done entered = hands_next copy rest all first s s2 (subst (λ (cs : List MessageCopy). Handing cs all first s) is w) done entered
 
+-- handing over all copies is refused if the next one's is
 pub hands_left : (copy : MessageCopy) (rest xs all : List MessageCopy) (fault : StepFault) (first s new : Stepping) → xs ≡ copy ∷ rest → Handing xs all first s
     → Leaves (λ env. deliver env (addressed copy)) fault s new → Leaves (delivers_all (addressed_all all)) fault first new
 hands_left copy rest xs all fault first s new is w left =
     let here : Handing (copy ∷ rest) all first s = subst (λ (cs : List MessageCopy). Handing cs all first s) is w in
     leads_left (λ env. deliver env (addressed copy)) (λ env. map (deliver env) (addressed_all rest)) (delivers_all (addressed_all all)) fault first s new here.leads left
 
+-- once no copy is left all were handed over
 pub hands_last : (rest all : List MessageCopy) (first s : Stepping) → length rest ≡ 0 → Handing rest all first s → Does (delivers_all (addressed_all all)) first s
 hands_last [] all first s none w = leads_last (delivers_all (addressed_all all)) first s w.leads
 hands_last (copy ∷ rest) all first s none w = absurd cc
@@ -220,5 +229,6 @@ hands_room copy rest xs all first s is w queued = λ choice x found.
     let some : 0 < room (env_in choice first) x = omega (arith, free, own) in
     subst (λ (e : Env). 0 < room e x) (sym (same_env choice first s here.leads.start here.leads.limits)) some
 
+-- the PUBLISH of the next copy has a spelling
 pub hands_spelled : (copy : MessageCopy) (rest xs all : List MessageCopy) (first s : Stepping) → xs ≡ copy ∷ rest → Handing xs all first s → IsSpelled copy
 hands_spelled copy rest xs all first s is w = (subst (λ (cs : List MessageCopy). AllByRecursion IsSpelled cs) is w.spelled).0

@@ -30,10 +30,12 @@ abbrev drops : Env → (code number : ℕ) → Option ℕ → Act
 drops env code number session b =
     series (always (Send number (disconnect code) ∷ []) ∷ series (always (Gone number ∷ []) ∷ close_connected env true session ∷ []) ∷ []) b
 
+-- a line is dropped by its number and session alone
 pub drops_same : (env : Env) (code : ℕ) (l k : Line) (b : Broker) → k.number ≡ l.number → k.session ≡ l.session → drop_line env code k b ≡ drop_line env code l b
 drops_same env code l k b number session =
     ap (λ n. drops env code n k.session b) number ∙ ap (λ (o : Option ℕ). drops env code l.number o b) session
 
+-- a line was dropped, for some choice, if one of the same number and session was
 pub drops_some : (code : ℕ) (l k : Line) (s new : Stepping) → k.number ≡ l.number → k.session ≡ l.session → DoesSome (λ env. drop_line env code k) s new → DoesSome (λ env. drop_line env code l) s new
 drops_some code l k s new number session done = record {
   number = done.number;
@@ -44,6 +46,7 @@ drops_some code l k s new number session done = record {
       (drops_same (env_in choice s) code l k s.broker number session) (done.is choice chosen);
 }
 
+-- dropping a line was refused, for some choice, if it was of one of the same number and session
 pub drops_left : (code : ℕ) (l k : Line) (fault : StepFault) (s new : Stepping) → k.number ≡ l.number → k.session ≡ l.session → LeavesSome (λ env. drop_line env code k) fault s new
     → LeavesSome (λ env. drop_line env code l) fault s new
 drops_left code l k fault s new number session left = record {
@@ -103,35 +106,40 @@ alias_keeps n p topic s s1 l k set found new =
 -- ---- who drops it
 
 module _ (l : Line) (x : Session) (p : Publish) where
+  -- a PUBLISH that means no topic is done once its line is dropped with the code for that
   pub wrong_dropped : (code : ℕ) (s s1 new : Stepping) → IsWrong code l p s s1 → DoesSome (λ env. drop_line env code l) s1 new → DoesSome (λ env. on_publish env l x p) s new
   wrong_dropped code s s1 new wrong done =
       subst (λ (t : Stepping). DoesSome (λ env. on_publish env l x p) t new) wrong.same
       (subst (λ (m : Meaning). DoesSome (λ env. publish_meant m env l x p) s1 new) (sym wrong.wrong) done)
 
+  -- a PUBLISH that means no topic is refused if dropping its line is
   pub wrong_left : (code : ℕ) (fault : StepFault) (s s1 new : Stepping) → IsWrong code l p s s1 → LeavesSome (λ env. drop_line env code l) fault s1 new
       → LeavesSome (λ env. on_publish env l x p) fault s new
   wrong_left code fault s s1 new wrong left =
       subst (λ (t : Stepping). LeavesSome (λ env. on_publish env l x p) fault t new) wrong.same
       (subst (λ (m : Meaning). LeavesSome (λ env. publish_meant m env l x p) fault s1 new) (sym wrong.wrong) left)
 
+  -- a PUBLISH above the Receive Maximum is done once its line is dropped with the code for that
   pub over_dropped : (s s1 new : Stepping) → IsOver l x p s s1 → DoesSome (λ env. drop_line env receive_maximum_exceeded l) s1 new → DoesSome (λ env. on_publish env l x p) s new
   over_dropped s s1 new over done =
       alias_does l x p over.topic over.means s s1 new over.did
       (by_some l x p (message_of x.client over.topic p) Over s1 new (sym over.over) done)
 
+  -- a PUBLISH above the Receive Maximum is refused if dropping its line is
   pub over_left : (fault : StepFault) (s s1 new : Stepping) → IsOver l x p s s1 → LeavesSome (λ env. drop_line env receive_maximum_exceeded l) fault s1 new
       → LeavesSome (λ env. on_publish env l x p) fault s new
   over_left fault s s1 new over left =
       alias_leaves l x p over.topic over.means fault s s1 new over.did
       (by_left l x p (message_of x.client over.topic p) Over fault s1 new (sym over.over) left)
 
-  -- the same, where the line is dropped as it stands when its alias was set
+  -- the same, if the line is dropped as it stands when its alias was set
   pub over_dropped_there : (s s1 new : Stepping) (k : Line) → row_at line_number l.number s.broker.lines ≡ Some l → row_at line_number l.number s1.broker.lines ≡ Some k → IsOver l x p s s1
       → DoesSome (λ env. drop_line env receive_maximum_exceeded k) s1 new → DoesSome (λ env. on_publish env l x p) s new
   over_dropped_there s s1 new k found there over done =
       let kept = alias_keeps l.number p over.topic s s1 l k over.did found there in
       over_dropped s s1 new over (drops_some receive_maximum_exceeded l k s1 new kept.0 kept.1 done)
 
+  -- the same, if the line is to be dropped as it stands when its alias was set
   pub over_left_there : (fault : StepFault) (s s1 new : Stepping) (k : Line) → row_at line_number l.number s.broker.lines ≡ Some l → row_at line_number l.number s1.broker.lines ≡ Some k → IsOver l x p s s1
       → LeavesSome (λ env. drop_line env receive_maximum_exceeded k) fault s1 new → LeavesSome (λ env. on_publish env l x p) fault s new
   over_left_there fault s s1 new k found there over left =

@@ -7,15 +7,18 @@ use Rattle.mqtt_broker_step.specs.Stepping.{Stepping, Did, Does, IsLeft, Leaves,
 use Rattle.mqtt_broker_step.proofs.Doing.{did_none}
 use Rattle.mqtt_broker_step.proofs.Then.{did_then, left_first, left_then}
 
+-- what is left of an act, if it is done or refused, makes the whole act done or refused
 pub record LeadsOn (rest all : Env → Act) (first s : Stepping) : Type 0 where
   pub start : s.start ≡ first.start
   pub limits : s.limits ≡ first.limits
   pub ok : (choice : MemberChoice) (new : Stepping) → Did (rest (env_in choice first)) s new → Did (all (env_in choice first)) first new
   pub left : (choice : MemberChoice) (fault : StepFault) (new : Stepping) → IsLeft (rest (env_in choice first)) fault s new → IsLeft (all (env_in choice first)) fault first new
 
+-- at the beginning the whole act is left
 pub leads_first : (all : Env → Act) (first : Stepping) → LeadsOn all all first first
 leads_first all first = record { start = refl; limits = refl; ok = λ choice new is. is; left = λ choice fault new is. is }
 
+-- steps of one start, under the same limits, are surrounded by the same
 pub same_env : (choice : MemberChoice) (first s : Stepping) → s.start ≡ first.start → s.limits ≡ first.limits → env_in choice s ≡ env_in choice first
 same_env choice first s start limits =
     ap (λ l. let e : Env = record { limits = l; choice = choice; start = s.start.records } in e) limits

@@ -20,11 +20,13 @@ offers_is birth line copy l s found number fits =
     ∙ (ap (λ t. cond t (Send l.number packet ∷ []) []) (sym (le-leb (size_of packet) l.largest fits))
     ∙ ap (λ o. offer o packet) (sym found))
 
+-- a copy goes out at once if its PUBLISH does, on its session's line and no larger than the client takes
 pub offered : (birth line : ℕ) (copy : MessageCopy) (l : Line) (s new : Stepping) → line_of birth s.broker ≡ Some l → line ≡ l.number
     → size_of (publish_of (moment_of s.broker) false 0 copy) ≤ l.largest → Did (always (Send line (publish_of (moment_of s.broker) false 0 copy) ∷ [])) s new → Did (offers birth copy) s new
 offered birth line copy l s new found number fits is =
     same_act (always (Send line (publish_of (moment_of s.broker) false 0 copy) ∷ [])) (offers birth copy) s new (offers_is birth line copy l s found number fits) is
 
+-- that a copy goes out at once is refused if its PUBLISH is
 pub offer_left : (birth line : ℕ) (copy : MessageCopy) (l : Line) (fault : StepFault) (s new : Stepping) → line_of birth s.broker ≡ Some l → line ≡ l.number
     → size_of (publish_of (moment_of s.broker) false 0 copy) ≤ l.largest → IsLeft (always (Send line (publish_of (moment_of s.broker) false 0 copy) ∷ [])) fault s new → IsLeft (offers birth copy) fault s new
 offer_left birth line copy l fault s new found number fits is =

@@ -5,6 +5,7 @@ use Rattle.mqtt_flow_inbound.specs.Identifiers.{is_among}
 use Rattle.mqtt_records_rows.specs.Order.{has_row}
 use Rattle.mqtt_records.specs.Session.{number_of}
 
+-- an identifier has a row exactly if it is among the open ones
 pub has_is_among : (id : ℕ) (ids : List ℕ) → has_row number_of id ids ≡ is_among id ids
 has_is_among id [] = refl
 has_is_among id (n ∷ ns) = elim (cases_Bool (nat_eq n id)) [

@@ -18,20 +18,25 @@ env_stays choice f s s1 is = same_env choice s s1 (ap (λ (t : Stepping). t.star
 
 -- ---- nothing is chosen
 
+-- an act that is done whatever is chosen is done for some choice
 pub does_some : (f : Env → Act) (s new : Stepping) → Does f s new → DoesSome f s new
 does_some f s new is = record { number = 0; sender = []; members = []; is = λ choice same. is choice }
 
+-- an act that is refused whatever is chosen is refused for some choice
 pub leaves_some : (f : Env → Act) (fault : StepFault) (s new : Stepping) → Leaves f fault s new → LeavesSome f fault s new
 leaves_some f fault s new is = record { number = 0; sender = []; members = []; is = λ choice same. is choice }
 
+-- one act and then the other are done if each is, in this order
 pub does_then : (f g : Env → Act) (s s1 s2 : Stepping) → Does f s s1 → Does g s1 s2 → Does (both f g) s s2
 does_then f g s s1 s2 first second = λ choice.
     let e = env_in choice s in
     did_then (f e) (g e) s s1 s2 (first choice) (subst (λ (x : Env). Did (g x) s1 s2) (env_stays choice (f e) s s1 (first choice)) (second choice))
 
+-- one act and then the other are refused if the first is
 pub leaves_first : (f g : Env → Act) (fault : StepFault) (s new : Stepping) → Leaves f fault s new → Leaves (both f g) fault s new
 leaves_first f g fault s new is = λ choice. let e = env_in choice s in left_first (f e) (g e) fault s new (is choice)
 
+-- one act and then the other are refused if the first is done and the second refused
 pub leaves_then : (f g : Env → Act) (fault : StepFault) (s s1 new : Stepping) → Does f s s1 → Leaves g fault s1 new → Leaves (both f g) fault s new
 leaves_then f g fault s s1 new first is = λ choice.
     let e = env_in choice s in
@@ -39,6 +44,7 @@ leaves_then f g fault s s1 new first is = λ choice.
 
 -- ---- something is chosen in the second
 
+-- an act without a choice, and then one that was done for some choice, are done for that choice
 pub then_some : (f g : Env → Act) (s s1 s2 : Stepping) → Does f s s1 → DoesSome g s1 s2 → DoesSome (both f g) s s2
 then_some f g s s1 s2 first second = record {
   number = second.number;
@@ -49,6 +55,7 @@ then_some f g s s1 s2 first second = record {
       did_then (f e) (g e) s s1 s2 (first choice) (subst (λ (x : Env). Did (g x) s1 s2) (env_stays choice (f e) s s1 (first choice)) (second.is choice same));
 }
 
+-- an act without a choice, and then one that was refused for some choice, are refused for that choice
 pub then_some_left : (f g : Env → Act) (fault : StepFault) (s s1 new : Stepping) → Does f s s1 → LeavesSome g fault s1 new → LeavesSome (both f g) fault s new
 then_some_left f g fault s s1 new first left = record {
   number = left.number;
@@ -61,6 +68,7 @@ then_some_left f g fault s s1 new first left = record {
 
 -- ---- something is chosen in the first
 
+-- an act that was done for some choice, and then one without a choice, are done for that choice
 pub some_then : (f g : Env → Act) (s s1 s2 : Stepping) → DoesSome f s s1 → Does g s1 s2 → DoesSome (both f g) s s2
 some_then f g s s1 s2 first second = record {
   number = first.number;
@@ -72,6 +80,7 @@ some_then f g s s1 s2 first second = record {
       (subst (λ (x : Env). Did (g x) s1 s2) (env_stays choice (f e) s s1 (first.is choice same)) (second choice));
 }
 
+-- an act that was refused for some choice makes the two refused for that choice
 pub some_left_first : (f g : Env → Act) (fault : StepFault) (s new : Stepping) → LeavesSome f fault s new → LeavesSome (both f g) fault s new
 some_left_first f g fault s new left = record {
   number = left.number;
@@ -80,6 +89,7 @@ some_left_first f g fault s new left = record {
   is = λ choice same. let e = env_in choice s in left_first (f e) (g e) fault s new (left.is choice same);
 }
 
+-- an act that was done for some choice, and then a refused one without a choice, are refused for that choice
 pub some_left_then : (f g : Env → Act) (fault : StepFault) (s s1 new : Stepping) → DoesSome f s s1 → Leaves g fault s1 new → LeavesSome (both f g) fault s new
 some_left_then f g fault s s1 new first left = record {
   number = first.number;
@@ -96,12 +106,15 @@ some_left_then f g fault s s1 new first left = record {
 abbrev pub SameDeeds : (f g : Env → Act) → Stepping → Type 0
 SameDeeds f g s = (choice : MemberChoice) → f (env_in choice s) s.broker ≡ g (env_in choice s) s.broker
 
+-- if one act is done, so is one with the same deeds
 pub same_does : (f g : Env → Act) (s new : Stepping) → SameDeeds f g s → Does f s new → Does g s new
 same_does f g s new same is = λ choice. let e = env_in choice s in same_act (f e) (g e) s new (same choice) (is choice)
 
+-- if one act is refused, so is one with the same deeds
 pub same_leaves : (f g : Env → Act) (fault : StepFault) (s new : Stepping) → SameDeeds f g s → Leaves f fault s new → Leaves g fault s new
 same_leaves f g fault s new same is = λ choice. let e = env_in choice s in same_left (f e) (g e) fault s new (same choice) (is choice)
 
+-- if one act is done for some choice, so is one with the same deeds
 pub same_some : (f g : Env → Act) (s new : Stepping) → SameDeeds f g s → DoesSome f s new → DoesSome g s new
 same_some f g s new same some = record {
   number = some.number;
@@ -110,6 +123,7 @@ same_some f g s new same some = record {
   is = λ choice members. let e = env_in choice s in same_act (f e) (g e) s new (same choice) (some.is choice members);
 }
 
+-- if one act is refused for some choice, so is one with the same deeds
 pub same_some_left : (f g : Env → Act) (fault : StepFault) (s new : Stepping) → SameDeeds f g s → LeavesSome f fault s new → LeavesSome g fault s new
 same_some_left f g fault s new same left = record {
   number = left.number;

@@ -51,6 +51,7 @@ whole_is choice line birth d m wanted l x p ds s asked =
     ∙ (ap (λ (e : Delivery). then (publish (env_in choice s) FromClient m ds s.broker) (tail_of x l.number e wanted) s.broker) (sym asked.delivery)
     ∙ ap (λ w. then (publish (env_in choice s) FromClient m ds s.broker) (tail_of x l.number p.delivery w) s.broker) (sym asked.is_there))
 
+-- a PUBLISH was taken once it was published, its identifier opened, and answered
 pub taken_is : (choice : MemberChoice) (line birth code : ℕ) (d : Delivery) (m : Message) (wanted : Bool) (l : Line) (x : Session) (p : Publish) (ds : List CopyTo) (s s1 s2 s3 : Stepping)
     → Asked choice line birth d m wanted l x p s → code ≡ code_accepted wanted → SameSessions s.broker.records s1.broker.records
     → Does (λ env. publish env FromClient m ds) s s1 → Did (of_session birth (λ y. always (opens y d))) s1 s2 → Did (always (answer line d code)) s2 s3
@@ -65,6 +66,7 @@ taken_is choice line birth code d m wanted l x p ds s s1 s2 s3 asked code_is sam
     (did_then a (series []) s2 s3 s3 (same_act (always (answer line d code)) a s2 s3 (ap (λ n. answer line d n) code_is) answered)
     (record { is = sym (did_none s3) }))))
 
+-- taking a PUBLISH is refused if publishing it is
 pub publish_left : (choice : MemberChoice) (line birth : ℕ) (d : Delivery) (m : Message) (wanted : Bool) (l : Line) (x : Session) (p : Publish) (ds : List CopyTo) (fault : StepFault) (s new : Stepping)
     → Asked choice line birth d m wanted l x p s → Leaves (λ env. publish env FromClient m ds) fault s new → IsLeft (publish_new (env_in choice s) l x p m (Some ds)) fault s new
 publish_left choice line birth d m wanted l x p ds fault s new asked left =
@@ -72,6 +74,7 @@ publish_left choice line birth d m wanted l x p ds fault s new asked left =
     same_left (λ b. then (f b) (tail_of x line d wanted) b) (publish_new (env_in choice s) l x p m (Some ds)) fault s new (whole_is choice line birth d m wanted l x p ds s asked)
     (left_first f (tail_of x line d wanted) fault s new (left choice))
 
+-- taking a PUBLISH is refused if opening its identifier is, once it was published
 pub open_left : (choice : MemberChoice) (line birth : ℕ) (d : Delivery) (m : Message) (wanted : Bool) (l : Line) (x : Session) (p : Publish) (ds : List CopyTo) (fault : StepFault) (s s1 new : Stepping)
     → Asked choice line birth d m wanted l x p s → SameSessions s.broker.records s1.broker.records
     → Does (λ env. publish env FromClient m ds) s s1 → IsLeft (of_session birth (λ y. always (opens y d))) fault s1 new → IsLeft (publish_new (env_in choice s) l x p m (Some ds)) fault s new
@@ -83,6 +86,7 @@ open_left choice line birth d m wanted l x p ds fault s s1 new asked same publis
     (left_then f (tail_of x line d wanted) fault s s1 new (published choice)
     (left_first o (series (a ∷ [])) fault s1 new (same_left (of_session birth (λ y. always (opens y d))) o fault s1 new (opens_is birth x d s s1 same asked.found) left)))
 
+-- taking a PUBLISH is refused if its answer is, once it was published and its identifier opened
 pub answer_left : (choice : MemberChoice) (line birth code : ℕ) (d : Delivery) (m : Message) (wanted : Bool) (l : Line) (x : Session) (p : Publish) (ds : List CopyTo) (fault : StepFault) (s s1 s2 new : Stepping)
     → Asked choice line birth d m wanted l x p s → code ≡ code_accepted wanted → SameSessions s.broker.records s1.broker.records
     → Does (λ env. publish env FromClient m ds) s s1 → Did (of_session birth (λ y. always (opens y d))) s1 s2 → IsLeft (always (answer line d code)) fault s2 new

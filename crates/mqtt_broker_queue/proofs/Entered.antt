@@ -40,14 +40,17 @@ some_is x y e = cc
 
 -- ---- the first place given
 
+-- a copy of this step that stands in the queue has the first place that the step gave there
 pub given_first : (o : Option CopyRow) (queue : List CopyRow) (place : ℕ) → Some place ≡ option_map copy_place o → place ≡ first_given o queue
 given_first None queue place is = absurd cc
 given_first (Some e) queue place is = some_is place e.place is
 
+-- if no copy of this step stands in the queue, the place behind all is the first that it gives
 pub given_next : (o : Option CopyRow) (queue : List CopyRow) (place : ℕ) → None ≡ option_map copy_place o → place ≡ suc (greatest (map copy_place queue)) → place ≡ first_given o queue
 given_next None queue place is next = next
 given_next (Some e) queue place is next = absurd cc
 
+-- of a value that is there, what follows from what holds of it holds too
 pub if_some : {A : Type 0} (o : Option A) {P Q : A → Type 0} → ((a : A) → P a → Q a) → IfSome o P → IfSome o Q
 if_some None f p = p
 if_some (Some a) f p = f a p
@@ -59,13 +62,14 @@ none_dropped k since [] is = refl
 none_dropped zero since (e ∷ es) is = refl
 none_dropped (suc k) since (e ∷ es) is = absurd cc
 
--- none where the queue is below its limit
+-- none if the queue is below its limit
 pub none_made : (limits : QueueLimits) (since : ℕ) (x : Session) → length x.queue < limits.queue
     → way_made limits since (queue_on [] x) ≡ []
 none_made limits since x below =
     none_dropped (length (queue_on [] x) + 1 - limits.queue) since (queue_on [] x)
     (let same = length-mapped (entry_on []) x.queue in omega (arith, below, same))
 
+-- the turns that were found to make way for the session as it stands are those that the rules make
 pub way_is : (line birth : ℕ) (env : Env) (ts : List Turn) (x : Session) (b : Broker) → session_at birth b.records ≡ Some x
     → ts ≡ way_made (queue_limits env) (since env x) (queue_on [] x) → takes_turns line birth ts b ≡ makes_way env birth b
 way_is line birth env ts x b found is =
@@ -98,6 +102,7 @@ client_leaves birth x (t ∷ ts) b =
 abbrev ways : Env → Session → List Deed
 ways env s = flat_map (leave_deeds s) (way_made (queue_limits env) (since env s) (queue_on [] s))
 
+-- a copy that enters leaves each session its client
 pub client_enter : (birth : ℕ) (env : Env) (copy : MessageCopy) (x : Session) (b : Broker) → client_at birth (after_all (enter_deeds env copy x) b).records ≡ client_at birth b.records
 client_enter birth env copy x b =
     ap (λ (c : Broker). client_at birth c.records) (after_append (ways env x) (At (whose x) (Enter copy) ∷ []) b)
@@ -131,6 +136,7 @@ enters env birth copy = of_session birth (λ s. always (enter_deeds env copy s))
 whole_is : (env : Env) (birth : ℕ) (copy : MessageCopy) (b : Broker) → then (makes_way env birth b) (to_session birth (Enter copy)) b ≡ enters env birth copy b
 whole_is env birth copy b = enters_by env birth copy b (session_at birth b.records) refl
 
+-- a copy has entered once the oldest have made way and it was put in
 pub entered_done : (birth : ℕ) (copy : MessageCopy) (s s1 s2 : Stepping) → Does (λ env. makes_way env birth) s s1 → Did (to_session birth (Enter copy)) s1 s2
     → Does (λ env. of_session birth (λ x. always (enter_deeds env copy x))) s s2
 entered_done birth copy s s1 s2 made is = λ choice.
@@ -138,6 +144,7 @@ entered_done birth copy s s1 s2 made is = λ choice.
     same_act (λ b. then (makes_way env birth b) (to_session birth (Enter copy)) b) (enters env birth copy) s s2 (whole_is env birth copy s.broker)
     (did_then (makes_way env birth) (to_session birth (Enter copy)) s s1 s2 (made choice) is)
 
+-- a copy's entering is refused if putting it in is, once the oldest have made way
 pub entered_left : (birth : ℕ) (copy : MessageCopy) (fault : StepFault) (s s1 s2 : Stepping) → Does (λ env. makes_way env birth) s s1 → IsLeft (to_session birth (Enter copy)) fault s1 s2
     → Leaves (λ env. of_session birth (λ x. always (enter_deeds env copy x))) fault s s2
 entered_left birth copy fault s s1 s2 made left = λ choice.
@@ -145,6 +152,7 @@ entered_left birth copy fault s s1 s2 made left = λ choice.
     same_left (λ b. then (makes_way env birth b) (to_session birth (Enter copy)) b) (enters env birth copy) fault s s2 (whole_is env birth copy s.broker)
     (left_then (makes_way env birth) (to_session birth (Enter copy)) fault s s1 s2 (made choice) left)
 
+-- a copy's entering is refused if making way is
 pub way_left : (birth : ℕ) (copy : MessageCopy) (fault : StepFault) (s new : Stepping) → Leaves (λ env. makes_way env birth) fault s new
     → Leaves (λ env. of_session birth (λ x. always (enter_deeds env copy x))) fault s new
 way_left birth copy fault s new left = λ choice.
@@ -154,6 +162,7 @@ way_left birth copy fault s new left = λ choice.
 
 -- ---- what it leaves of the queue
 
+-- a copy that entered a queue with room leaves it within the limit, with room for at most one copy less
 pub entered_at : (birth : ℕ) (copy : MessageCopy) (s s2 : Stepping) → ((x : Session) → session_at birth s.broker.records ≡ Some x → IsTable copy_place QUEUE_LIMIT x.queue) → HasRoomAt birth s
     → Does (λ env. of_session birth (λ x. always (enter_deeds env copy x))) s s2 → HasEnteredAt birth s s2
 entered_at birth copy s s2 table free done = λ choice x found.
@@ -178,6 +187,7 @@ table_there birth x b found table y there = subst (λ (z : Session). IsTable cop
 abbrev pub limits_of : Limits → QueueLimits
 limits_of l = record { queue = l.queue; full = l.full }
 
+-- if the rules have room for a copy in a session's queue, the look finds it
 pub room_found : (l : Limits) (env : Env) (s : Session) (place : ℕ) (es : List FlowEntry) → l ≡ env.limits → place ≡ since env s → es ≡ queue_on [] s → 0 < room env s → has_room (limits_of l) place es ≡ true
 room_found l env s place es limits place_is es_is free =
     ap (λ (k : Limits). has_room (limits_of k) place es) limits
@@ -185,7 +195,7 @@ room_found l env s place es limits place_is es_is free =
     ∙ (ap (λ (fs : List FlowEntry). has_room (limits_of env.limits) (since env s) fs) es_is
     ∙ lt-ltb (staying env.limits.full (since env s) (queue_on [] s)) env.limits.queue (omega (arith, free))))
 
--- where there is room, memory alone refuses
+-- if there is room, memory alone refuses
 pub kept_memory : (t : Bool) (fault : FlowFault) → t ≡ true → KeptOut t fault → fault ≡ faults.Memory
 kept_memory true fault is kept = kept
 kept_memory false fault is kept = absurd cc

@@ -38,6 +38,7 @@ repeats_rise q (d ∷ ds) id = repeats_rise q ds id
 
 -- ---- copies that leave send nothing
 
+-- the turns of dropped copies are that they leave, and nothing else
 pub dropped_leave : (moment line k since : ℕ) (s : Session) (es : List FlowEntry) → flat_map (turn_deeds moment line s) (dropped k since es) ≡ flat_map (leave_deeds s) (dropped k since es)
 dropped_leave moment line k since s [] = refl
 dropped_leave moment line zero since s (e ∷ es) = refl
@@ -75,12 +76,15 @@ three mk p q r = cc
 abbrev way_with : ℕ → ℕ → ℕ → Way
 way_with window largest moment = record { window = window; largest = largest; now = moment }
 
+-- a way of sending is told by window, largest packet and moment
 pub same_way : {w1 w2 l1 l2 m1 m2 : ℕ} → w1 ≡ w2 → l1 ≡ l2 → m1 ≡ m2 → way_with w1 l1 m1 ≡ way_with w2 l2 m2
 same_way p q r = three way_with p q r
 
+-- the turns of a session that was found are its deeds as it was found
 pub taken_of : (line birth : ℕ) (ts : List Turn) (x : Session) (b : Broker) → session_at birth b.records ≡ Some x → takes_turns line birth ts b ≡ all_turn_deeds b.now line x ts
 taken_of line birth ts x b found = ap (λ (o : Option Session). with_session o (λ s. always (all_turn_deeds b.now line s ts)) b) found
 
+-- turns that were found to be the pump of a session, as it stands on its line, are the rules' turn of sending
 pub pumps_is : (line birth : ℕ) (ts : List Turn) (l : Line) (x : Session) (b : Broker) → line_at line b ≡ Some l → l.number ≡ line → l.session ≡ Some birth
     → session_at birth b.records ≡ Some x → ts ≡ pump (way_of l b.now) (queue_on l.went x) → takes_turns line birth ts b ≡ pumps line b
 pumps_is line birth ts l x b there number connected found is =
@@ -91,6 +95,7 @@ pumps_is line birth ts l x b there number connected found is =
     ∙ (ap (λ (o : Option ℕ). on_pump l o b) (sym connected)
     ∙ ap (λ (o : Option Line). with_line o (λ k. on_pump k k.session) b) (sym there)))))
 
+-- turns that were found to be those of a session's expired copies are the rules'
 pub lapses_is : (line birth : ℕ) (ts : List Turn) (x : Session) (b : Broker) → session_at birth b.records ≡ Some x → ts ≡ expired b.now (queue_on [] x)
     → takes_turns line birth ts b ≡ lapses_of birth b
 lapses_is line birth ts x b found is =

@@ -145,6 +145,7 @@ below_when_left env s up free =
     let as_long = length-mapped (entry_on []) (leaving (ways env s) s.queue) in
     omega (arith, below, as_flow, as_long)
 
+-- a copy that enters leaves its queue within the limit, with room for at most one less, and no other session changed
 pub has_entered : (env : Env) (copy : MessageCopy) (s : Session) (b : Broker) → IsAscending copy_place s.queue → length s.queue ≤ QUEUE_LIMIT → session_at s.birth b.records ≡ Some s → 0 < room env s
     → HasEntered env s b.records (after_all (enter_deeds env copy s) b).records
 has_entered env copy s b up few found free =

@@ -18,9 +18,10 @@ use Rattle.mqtt_records.specs.Session.{copy_place}
 use Rattle.mqtt_rules.specs.Deeds.{Deed, At, Mark, Leave, On, Went, Send, whose}
 use Rattle.mqtt_rules.specs.Outbound.{of_entry, turn_deeds, all_turn_deeds}
 use Rattle.mqtt_rules.specs.Packets.{publish_of}
-use Rattle.mqtt_rules.specs.State.{entry_on, queue_on}
+use Rattle.mqtt_rules.specs.State.{queue_on}
 use Rattle.mqtt_rules.specs.Step.{publish_out}
 use Rattle.mqtt_rules.proofs.flight.FlightRows.{all_found}
+use Rattle.mqtt_rules.proofs.flight.SizedRows.{own_size, sized}
 use Rattle.mqtt_broker_queue.specs.Turning.{is_sending}
 
 -- a PUBLISH goes out of a copy that stands
@@ -66,27 +67,34 @@ sends_are moment line s (t ∷ ts) there =
     ∙ (ap (λ n. one (is_sending t) + n) (sends_are moment line s ts there.1)
     ∙ sym (counted t ts))))
 
-stands_pump : (way : Way) (q : List CopyRow) (went : List ℕ) (es : List CopyRow) (p : Pacing) → AllByRecursion (λ e. row_at copy_place e.place q ≡ Some e) es
-    → AllByRecursion (StandsFor q) (pump_from way (map (entry_on went) es) p)
-stands_pump way q went [] p h = tt
-stands_pump way q went (e ∷ es) p h = by p.left (verdict way (entry_on went e)) (λ y. stands_pump way q went es y h.1)
+stands_pump : (size : CopyRow → ℕ) (way : Way) (q : List CopyRow) (went : List ℕ) (es : List CopyRow) (p : Pacing) → AllByRecursion (λ e. row_at copy_place e.place q ≡ Some e) es
+    → AllByRecursion (StandsFor q) (pump_from way (map (sized size went) es) p)
+stands_pump size way q went [] p h = tt
+stands_pump size way q went (e ∷ es) p h = by p.left (verdict way (sized size went e)) (λ y. stands_pump size way q went es y h.1)
   where
-    room : (k : ℕ) (t : Turn) → AllByRecursion (StandsFor q) (t ∷ pump_from way (map (entry_on went) es) (paced t e.phase p)) → AllByRecursion (StandsFor q) (then_on (in_room k t) e.phase p (pump_from way (map (entry_on went) es)))
+    room : (k : ℕ) (t : Turn) → AllByRecursion (StandsFor q) (t ∷ pump_from way (map (sized size went) es) (paced t e.phase p)) → AllByRecursion (StandsFor q) (then_on (in_room k t) e.phase p (pump_from way (map (sized size went) es)))
     room zero t r = tt
     room (suc k) t r = r
 
-    on : (v : Verdict) → ((y : Pacing) → AllByRecursion (StandsFor q) (pump_from way (map (entry_on went) es) y)) → AllByRecursion (StandsFor q) (then_on (step_on v e.place p) e.phase p (pump_from way (map (entry_on went) es)))
+    on : (v : Verdict) → ((y : Pacing) → AllByRecursion (StandsFor q) (pump_from way (map (sized size went) es) y)) → AllByRecursion (StandsFor q) (then_on (step_on v e.place p) e.phase p (pump_from way (map (sized size went) es)))
     on pass r = r p
     on (end ending) r = (tt, r (paced (turns.Leave e.place ending) e.phase p))
     on (outgrow i) r = (tt, r (paced (turns.Outgrow e.place i p.order) e.phase p))
     on send r = room p.room (turns.Send e.place (free_identifier p.used)) ((e, h.0), r (paced (turns.Send e.place (free_identifier p.used)) e.phase p))
     on (resend i) r = room p.room (turns.Resend e.place i) ((e, h.0), r (paced (turns.Resend e.place i) e.phase p))
 
-    by : (left : ℕ) (v : Verdict) → ((y : Pacing) → AllByRecursion (StandsFor q) (pump_from way (map (entry_on went) es) y)) → AllByRecursion (StandsFor q) (then_on (step_by left v e.place p) e.phase p (pump_from way (map (entry_on went) es)))
+    by : (left : ℕ) (v : Verdict) → ((y : Pacing) → AllByRecursion (StandsFor q) (pump_from way (map (sized size went) es) y)) → AllByRecursion (StandsFor q) (then_on (step_by left v e.place p) e.phase p (pump_from way (map (sized size went) es)))
     by zero v r = tt
     by (suc k) v r = on v r
 
+-- in a pump as many PUBLISH go out as it has turns that send one, whatever the sizes of copies
+pub sized_pump_sends : (size : CopyRow → ℕ) (way : Way) (went : List ℕ) (moment line : ℕ) (s : Session) → IsAscending copy_place s.queue
+    → length (filter_map publish_out (all_turn_deeds moment line s (pump way (map (sized size went) s.queue)))) ≡ count_by is_sending (pump way (map (sized size went) s.queue))
+sized_pump_sends size way went moment line s up =
+    let rows = map (sized size went) s.queue in
+    sends_are moment line s (pump way rows) (stands_pump size way s.queue went s.queue (pace way rows) (all_found copy_place s.queue up))
+
+-- by those that rows remember
 pub pump_sends : (way : Way) (went : List ℕ) (moment line : ℕ) (s : Session) → IsAscending copy_place s.queue
     → length (filter_map publish_out (all_turn_deeds moment line s (pump way (queue_on went s)))) ≡ count_by is_sending (pump way (queue_on went s))
-pump_sends way went moment line s up =
-    sends_are moment line s (pump way (queue_on went s)) (stands_pump way s.queue went s.queue (pace way (queue_on went s)) (all_found copy_place s.queue up))
+pump_sends = sized_pump_sends own_size

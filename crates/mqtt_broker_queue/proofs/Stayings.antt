@@ -1,4 +1,4 @@
--- For how many copies a queue has room where the oldest that wait give way.
+-- For how many copies a queue has room if the oldest that wait give way.
 use Rattle.std.proofs.Common.{◌≡◌, ℕ, ◌<◌, ◌+◌, Bool, true, false, cond, not, ◌&&◌, nat_lt, List, [], ◌∷◌, map, refl, ap, sym, ◌∙◌, arith}
 use Rattle.std.specs.Prelude.{Option, Some, None, option_map, find}
 use Rattle.std.specs.List.{count_by}
@@ -42,10 +42,12 @@ stay_all n (e ∷ es) low =
     let same : ◌≡◌ {A = ℕ} (cond (not (is_waiting e.phase && nat_lt e.place n)) 1 0) (cond (not (is_waiting e.phase)) 1 0) = ap (λ (b : Bool). cond (not b) 1 0) before in
     omega (arith, rest, left, right, same)
 
+-- the copies that don't give way are those that stay
 pub staying_is : (o : Option CopyRow) (queue : List CopyRow) → count_by (λ e. not (gives_way_to (option_map copy_place o) e)) queue ≡ stays (first_given o queue) queue
 staying_is None queue = stay_all (next_of copy_place queue) queue (omega arith) ∙ stay_mapped (next_of copy_place queue) queue
 staying_is (Some e) queue = stay_mapped e.place queue
 
+-- the copies that don't give way, as they are counted here, are as many as the rules have staying
 pub staying_by : (s : Stepping) (x : Session) (first : Option ℕ) (queue : List CopyRow) (n : ℕ) → s.limits.full ≡ Drop → queue ≡ x.queue
     → first ≡ option_map copy_place (find (λ e. is_new s.start.records e.copy) queue) → n ≡ count_by (λ e. not (gives_way_to first e)) queue → n ≡ staying_of s x
 staying_by s x first queue n full queue_is first_is n_is =

@@ -55,6 +55,7 @@ client_turn moment line birth x (turns.Leave place ending) b =
 abbrev whose_of : ℕ → List ℕ → Whose
 whose_of birth client = record { birth = birth; client = client }
 
+-- sessions with the same birth and client are the same to deeds
 pub same_whose : (x y : Session) → y.birth ≡ x.birth → y.client ≡ x.client → whose y ≡ whose x
 same_whose x y birth client = two whose_of birth client
 
@@ -133,6 +134,7 @@ stays_on line birth t ts first s s2 (Some x) is made =
       rises = one.1.2;
     }
 
+-- the rest of the turns, if it is done or refused, makes all of them done or refused, and the session is as they need it
 pub record Taking (rest all : List Turn) (line birth : ℕ) (first s : Stepping) : Type 0 where
   pub ok : (new : Stepping) → Did (always (takes_turns line birth rest first.broker)) s new → Did (takes_turns line birth all) first new
   pub left : (fault : StepFault) (new : Stepping) → IsLeft (always (takes_turns line birth rest first.broker)) fault s new → IsLeft (takes_turns line birth all) fault first new
@@ -152,6 +154,7 @@ begins birth all s (Some x) found rises =
       rises = rises x refl;
     }
 
+-- before the first turn all of them are left
 pub taking_first : (all : List Turn) (line birth : ℕ) (s : Stepping) → ((x : Session) → session_at birth s.broker.records ≡ Some x → Rises x.queue 0 all)
     → Taking all all line birth s s
 taking_first all line birth s rises = record {
@@ -181,6 +184,7 @@ module _ (t : Turn) (ts rest all : List Turn) (line birth : ℕ) (first s : Step
       turn_is line birth t ts first s (session_at birth first.broker.records) refl
       (subst (λ rs. Stays rs birth first s (session_at birth first.broker.records)) steps w.stays)
 
+  -- once the first of the turns that are left is taken, those behind it are left
   pub taking_next : (s2 : Stepping) → Did (takes_turn line birth t) s s2 → Taking ts all line birth first s2
   taking_next s2 is =
       let one : Did (always now_first) s s2 = same_act (takes_turn line birth t) (always now_first) s s2 as_first is in
@@ -193,6 +197,7 @@ module _ (t : Turn) (ts rest all : List Turn) (line birth : ℕ) (first s : Step
             (subst (λ rs. Stays rs birth first s (session_at birth first.broker.records)) steps w.stays);
       }
 
+  -- if the next turn is refused, so are all
   pub taking_left : (fault : StepFault) (new : Stepping) → IsLeft (takes_turn line birth t) fault s new → IsLeft (takes_turns line birth all) fault first new
   taking_left fault new is =
       w.left fault new
@@ -203,6 +208,7 @@ nothing_left : (o : Option Session) (line : ℕ) (b : Broker) → with_session o
 nothing_left None line b = refl
 nothing_left (Some x) line b = refl
 
+-- once none is left all were taken
 pub taking_last : (rest all : List Turn) (line birth : ℕ) (first s : Stepping) → length rest ≡ 0 → Taking rest all line birth first s → Did (takes_turns line birth all) first s
 taking_last [] all line birth first s none w =
     w.ok s (record { is = sym (did_none s) ∙ ap (λ ds. did ds s) (sym (nothing_left (session_at birth first.broker.records) line first.broker)) })

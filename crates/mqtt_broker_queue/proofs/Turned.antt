@@ -41,6 +41,7 @@ sent_is : (line birth place id : ℕ) (e : CopyRow) (s : Stepping) → copy_at b
 sent_is line birth place id e s found =
     sent_by (session_at birth s.broker.records) line place id e (λ k. publish_of s.broker.now false id k.copy) s.broker found
 
+-- a copy is sent once it is marked, told of as gone out, and its PUBLISH went out
 pub sent_done : (line birth place id : ℕ) (e : CopyRow) (s s1 s2 : Stepping) → copy_at birth place s.broker.records ≡ Some e
     → Did (marks_sent line birth place id) s s1 → Did (always (Send line (publish_of s.broker.now false id e.copy) ∷ [])) s1 s2
     → Did (takes_turn line birth (turns.Send place id)) s s2
@@ -49,6 +50,7 @@ sent_done line birth place id e s s1 s2 found marked sent =
     same_act (sending line birth place id packet) (takes_turn line birth (turns.Send place id)) s s2 (sent_is line birth place id e s found)
     (did_then (marks_sent line birth place id) (always (Send line packet ∷ [])) s s1 s2 marked sent)
 
+-- a copy's sending is refused if its PUBLISH is, once it is marked
 pub sent_left : (line birth place id : ℕ) (e : CopyRow) (fault : StepFault) (s s1 s2 : Stepping) → copy_at birth place s.broker.records ≡ Some e
     → Did (marks_sent line birth place id) s s1 → IsLeft (always (Send line (publish_of s.broker.now false id e.copy) ∷ [])) fault s1 s2
     → IsLeft (takes_turn line birth (turns.Send place id)) fault s s2
@@ -73,6 +75,7 @@ resent_is : (line birth place id : ℕ) (e : CopyRow) (s : Stepping) → copy_at
 resent_is line birth place id e s found =
     resent_by (session_at birth s.broker.records) line place e (λ k. publish_of s.broker.now true id k.copy) s.broker found
 
+-- a copy is sent again once it is told of as gone out and its PUBLISH with DUP went out
 pub resent_done : (line birth place id : ℕ) (e : CopyRow) (s s1 s2 : Stepping) → copy_at birth place s.broker.records ≡ Some e
     → Did (always (On line (Went place) ∷ [])) s s1 → Did (always (Send line (publish_of s.broker.now true id e.copy) ∷ [])) s1 s2
     → Did (takes_turn line birth (turns.Resend place id)) s s2
@@ -81,6 +84,7 @@ resent_done line birth place id e s s1 s2 found went sent =
     same_act (resending line place packet) (takes_turn line birth (turns.Resend place id)) s s2 (resent_is line birth place id e s found)
     (did_then (always (On line (Went place) ∷ [])) (always (Send line packet ∷ [])) s s1 s2 went sent)
 
+-- sending a copy again is refused if its PUBLISH is
 pub resent_left : (line birth place id : ℕ) (e : CopyRow) (fault : StepFault) (s s1 s2 : Stepping) → copy_at birth place s.broker.records ≡ Some e
     → Did (always (On line (Went place) ∷ [])) s s1 → IsLeft (always (Send line (publish_of s.broker.now true id e.copy) ∷ [])) fault s1 s2
     → IsLeft (takes_turn line birth (turns.Resend place id)) fault s s2

@@ -32,10 +32,11 @@ use Rattle.mqtt_rules.specs.Routing.{CopyTo, accepted_copies, accepted_if, answe
 use Rattle.mqtt_rules.specs.State.{Broker, Env, Line, MemberChoice, line_of, queue_on, session_at, stored}
 use Rattle.mqtt_rules.specs.Step.{Call, at_moment, deeds, deeds_of, env_of, opened, opening, stepped, unopened, with_moment}
 use Rattle.mqtt_rules.specs.Subscribe as sub
+use Rattle.mqtt_rules.proofs.acts.Offers.{of_offer}
 use Rattle.mqtt_rules.proofs.acts.Acts.{brought_to}
 use Rattle.mqtt_rules.proofs.numbers.Copies.{IsNumbered, Kinds, kinds_at, each_filter, each_map, each_more, routed_numbered}
 use Rattle.mqtt_rules.proofs.acts.Goods.{AreGood}
-use Rattle.mqtt_rules.proofs.acts.Leads.{leads_append, leads_cond, leads_flat, leads_of_entry, leads_with_session}
+use Rattle.mqtt_rules.proofs.acts.Leads.{leads_append, leads_flat, leads_of_entry, leads_with_session}
 use Rattle.mqtt_rules.proofs.order.OrderedActs.{IsPlain, Keeping, leads_all, leads_open}
 use Rattle.mqtt_broker_reopening_laws.specs.Identities.{HasIdentities, HaveIdentities, IsGivenCause, IsGivenCopy}
 use Rattle.mqtt_broker_reopening_laws.proofs.CopiesKept.{Good, IsAbsent, IsAbsentIn, IsNewCopy, IsOfGroup, Keeps, Led, Stays, filters_in, filters_of, id_in, kept, more, one, quiet_deeds, quiet_deliver, quiet_leaves}
@@ -83,10 +84,9 @@ leads_enter env d s b queued k new =
     (new_copy none d b.records (after_all first b).records queued (λ i no. absurd no) (quiet_deeds none first b (quiet_leaves none s ts b)) new))
 
 leads_offer : (o : Option Line) (d : CopyTo) (b : Broker) → Keeps b → Led (offer o (publish_of b.now false 0 d.copy)) b
-leads_offer None d b k = (tt, k)
-leads_offer (Some l) d b k =
+leads_offer o d b k =
     let packet = publish_of b.now false 0 d.copy in
-    leads_cond Keeps Good _ (Send l.number packet ∷ []) [] b (λ t. one (Send l.number packet) b k tt) (λ t. (tt, k))
+    of_offer (λ (ds : List Deed). Led ds b) o packet (tt, k) (λ l there. one (Send l.number packet) b k tt)
 
 leads_by : (t : Bool) (env : Env) (d : CopyTo) (b : Broker) → is_queued d ≡ t → Keeps b → IsNewTo b.records d → Led (deliver_by t env d b) b
 leads_by true env d b queued k new =

@@ -28,8 +28,9 @@ use Rattle.mqtt_rules.specs.Outbound.{enter_deeds, leave_deeds, queue_limits, si
 use Rattle.mqtt_rules.specs.Packets.{publish_of}
 use Rattle.mqtt_rules.specs.Routing.{CopyTo, deliver, deliver_by, is_queued}
 use Rattle.mqtt_rules.specs.State.{Broker, Env, Line, line_of, queue_on, session_at}
+use Rattle.mqtt_rules.proofs.acts.Offers.{of_offer}
 use Rattle.mqtt_rules.proofs.numbers.Copies.{Kinds, each_filter, each_more, kinds_at}
-use Rattle.mqtt_rules.proofs.acts.Goods.{AreGood, good_append, good_cond, good_flat, good_of_entry, good_with_session}
+use Rattle.mqtt_rules.proofs.acts.Goods.{AreGood, good_append, good_flat, good_of_entry, good_with_session}
 use Rattle.mqtt_rules.proofs.acts.Leads.{Leads, leads_append}
 use Rattle.mqtt_rules.proofs.flight.FlightRows.{all_put, all_changed}
 use Rattle.mqtt_rules.proofs.numbers.NumberFacts.{Counts, counts, counts_after, counts_deed}
@@ -85,6 +86,7 @@ pub record IsNewCopy (copy : MessageCopy) (r : Records) : Type 0 where
   pub group : IsOfGroup (filters_of r) copy.id.cause
   pub absent : IsAbsent copy.id r
 
+-- what a retained message has to be where it is kept: of a publication so far, and of one of which no other is
 pub record IsNewKept (kept : RetainedMessage) (r : Records) : Type 0 where
   pub publication : IsUpTo r.publications kept.publication
   pub new : AllByRecursion (λ k. kept.publication ≢ k.publication) r.retained
@@ -361,9 +363,8 @@ quiet_enter Q env copy s b q =
     let ts = way_made (queue_limits env) (since env s) (queue_on [] s) in
     good_append (IsQuiet Q) (flat_map (leave_deeds s) ts) (At (whose s) (Enter copy) ∷ []) b (quiet_leaves Q s ts b) (q, tt)
 
-quiet_offer : (Q : CopyId → Type 0) (l : Option Line) (packet : Packet) (b : Broker) → AreGood (IsQuiet Q) (offer l packet) b
-quiet_offer Q None packet b = tt
-quiet_offer Q (Some l) packet b = good_cond (IsQuiet Q) _ (Send l.number packet ∷ []) [] b (tt, tt) tt
+quiet_offer : (Q : CopyId → Type 0) (o : Option Line) (packet : Packet) (b : Broker) → AreGood (IsQuiet Q) (offer o packet) b
+quiet_offer Q o packet b = of_offer (λ (ds : List Deed). AreGood (IsQuiet Q) ds b) o packet tt (λ l there. (tt, tt))
 
 quiet_by : (Q : CopyId → Type 0) (t : Bool) (env : Env) (d : CopyTo) (b : Broker) → Q d.copy.id → AreGood (IsQuiet Q) (deliver_by t env d b) b
 quiet_by Q true env d b q = good_with_session (IsQuiet Q) (session_at d.birth b.records) (λ s. always (enter_deeds env d.copy s)) b (λ s e. quiet_enter Q env d.copy s b q)

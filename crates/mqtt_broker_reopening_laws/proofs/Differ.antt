@@ -57,10 +57,12 @@ ascending_differ key (x ∷ xs) h = (above_differ key (key x) xs h.0, ascending_
 -- ---- what rows give, all together
 
 module _ {X Y : Type 0} (key : X → ℕ) (g : X → List Y) where
+  -- what holds of all that each row gives holds of all that they give together
   pub each_given : (P : Y → Type 0) (xs : List X) → AllByRecursion (λ x. AllByRecursion P (g x)) xs → AllByRecursion P (flat_map g xs)
   each_given P [] h = tt
   each_given P (x ∷ xs) h = each_append P (g x) (flat_map g xs) h.0 (each_given P xs h.1)
 
+  -- what holds of all that the rows give together holds of what each gives
   pub given_each : (P : Y → Type 0) (xs : List X) → AllByRecursion P (flat_map g xs) → AllByRecursion (λ x. AllByRecursion P (g x)) xs
   given_each P [] h = tt
   given_each P (x ∷ xs) h = (each_first P (g x) (flat_map g xs) h, given_each P xs (each_last P (g x) (flat_map g xs) h))
@@ -68,6 +70,7 @@ module _ {X Y : Type 0} (key : X → ℕ) (g : X → List Y) where
   given_filtered : (P : Y → Type 0) (keep : X → Bool) (xs : List X) → AllByRecursion P (flat_map g xs) → AllByRecursion P (flat_map g (filter keep xs))
   given_filtered P keep xs h = each_given P (filter keep xs) (each_filter (λ x. AllByRecursion P (g x)) keep xs (given_each P xs h))
 
+  -- what some of the rows give differs if what all give does
   pub filter_differs : (keep : X → Bool) (xs : List X) → AllDiffer (flat_map g xs) → AllDiffer (flat_map g (filter keep xs))
   filter_differs keep [] h = tt
   filter_differs keep (x ∷ xs) h = elim (cases_Bool (keep x)) [
@@ -99,6 +102,7 @@ module _ {X Y : Type 0} (key : X → ℕ) (g : X → List Y) where
     ]
   ]
 
+  -- a row that gives nothing, put among others, leaves what they give different
   pub put_differs : (limit : ℕ) (row : X) (xs : List X) → g row ≡ [] → AllDiffer (flat_map g xs) → AllDiffer (flat_map g (put_row key limit row xs))
   put_differs limit row xs none h = elim (cases_Bool (has_row key (key row) xs || nat_lt (length xs) limit)) [
     | inl room ↦ rw room (insert_differs row xs none h)
@@ -140,6 +144,7 @@ module _ {X Y : Type 0} (key : X → ℕ) (g : X → List Y) where
   own_behind : (x y : X) (ys : List X) (n : Y) → IsOwn x (y ∷ ys) n → IsOwn x ys n
   own_behind x y ys n own = elim own [ inl it ↦ inl it | inr new ↦ inr (each_last (λ m. n ≢ m) (g y) (flat_map g ys) new) ]
 
+  -- a row changed so that it gives its own or something new leaves what all give different
   pub change_differs : (k : ℕ) (f : X → X) (x : X) (xs : List X) → row_at key k xs ≡ Some x → AllDiffer (g (f x)) → AllByRecursion (IsOwn x xs) (g (f x)) → AllDiffer (flat_map g xs) → AllDiffer (flat_map g (change_row key k f xs))
   change_differs k f x [] there differ own h = tt
   change_differs k f x (y ∷ ys) there differ own h = elim (cases_Bool (nat_eq (key y) k)) [

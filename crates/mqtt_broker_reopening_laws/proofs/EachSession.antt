@@ -34,6 +34,7 @@ part_made (Leave e ending) s t = without_copy e.place t
 
 -- P holds of each before, and Q is to hold of each after
 module _ (P Q : Session → Type 0) (more : (t : Session) → P t → Q t) where
+  -- what holds of each session holds after one is changed, if it does of that one
   pub change_each : (k : ℕ) (f : Session → Session) (ss : List Session) → ((t : Session) → birth_of t ≡ k → P t → Q (f t)) → AllByRecursion P ss → AllByRecursion Q (change_row birth_of k f ss)
   change_each k f [] g h = tt
   change_each k f (t ∷ ts) g h = elim (cases_Bool (nat_eq (birth_of t) k)) [
@@ -51,6 +52,7 @@ module _ (P Q : Session → Type 0) (more : (t : Session) → P t → Q t) where
     | inr other ↦ rw (other, other) (more t h.0, change_twice k e f ts keeps g h.1)
   ]
 
+  -- what holds of each session holds after a part of one, if it does of that one
   pub part_each : (part : Part) (s : Session) (r : Records) → ((t : Session) → birth_of t ≡ s.birth → P t → Q (part_made part s t)) → AllByRecursion P r.sessions → AllByRecursion Q (changed_all (part_rows part s) r).sessions
   part_each (Resume expiry None) s r g h =
       change_twice s.birth (with_columns (record (columns_of s) { expiry = expiry; closed = None })) (with_will None) r.sessions (λ t. refl) g h
@@ -89,6 +91,7 @@ module _ (P Q : Session → Type 0) (more : (t : Session) → P t → Q t) where
       by true = change_each row.birth (with_columns row) ss g.again h
       by false = all_put birth_of Q SESSION_LIMIT (fresh row) ss g.new (each_more P Q more ss h)
 
+  -- what holds of each session holds after a deed, if it does of those that the deed makes
   pub deed_each : (d : Deed) (b : Broker) → Makes d b → AllByRecursion P b.records.sessions → AllByRecursion Q (after d b).records.sessions
   deed_each (Begin row None) b g h = put_each row b.records.sessions g h
   deed_each (Begin row (Some w)) b g h =
@@ -112,6 +115,7 @@ module _ (P : RetainedMessage → Type 0) where
   Keeps (Keep kept) = P kept
   Keeps d = ⊤
 
+  -- what holds of each retained message holds after a deed, if it does of the one that is kept
   pub deed_kept : (d : Deed) (b : Broker) → Keeps d → AllByRecursion P b.records.retained → AllByRecursion P (after d b).records.retained
   deed_kept (Begin row will) b g h = subst (AllByRecursion P) (sym (begin_retained row will b.records)) h
   deed_kept (At who part) b g h = subst (AllByRecursion P) (sym (at_retained part b.records (session_at who.birth b.records))) h

@@ -42,6 +42,7 @@ use Rattle.mqtt_broker_reopening_laws.specs.Times.{AreTimely, IsTimely, IsTimely
 use Rattle.mqtt_broker_reopening_laws.specs.Written.{IsWritten}
 use Rattle.mqtt_broker_reopening_laws.proofs.Differ.{each_among}
 
+-- what holds of records that a broker has written, part by part
 pub record Facts (r : Records) : Type 0 where
   pub coherent : IsCoherent r
   pub timely : AreTimely r.moment r
@@ -190,6 +191,7 @@ module _ (r : Records) (w : IsWritten r) where
         queue = each_more (IsLawfulCopy (last_of r) s.birth) (λ e. IsGroupOf e.copy.id.cause) (λ e q. cause_group r.subscribes e.copy.id.cause q.cause) s.queue h.queue.each;
       })
 
+  -- records that a broker has written have all these parts
   pub facts_of : Facts r
   facts_of = record {
     coherent = lawful_coherent r w.lawful;
@@ -394,6 +396,7 @@ module _ (r : Records) (f : Facts r) where
     };
   }
 
+  -- records with all these parts are such as a broker has written
   pub written : IsWritten r
   written = record {
     lawful = lawful;

@@ -43,6 +43,7 @@ use Rattle.mqtt_rules.proofs.acts.Acts.{IsAnswer, Law, anyone, call_of_anyone, f
 use Rattle.mqtt_rules.proofs.acts.ByDeeds.{DeedLaw, TurnLaw, by_ends}
 use Rattle.mqtt_rules.proofs.numbers.Copies.{each_filter, each_more}
 use Rattle.mqtt_rules.proofs.flight.FlightRows.{all_at, all_changed_at, all_found, change_row-here, change_row-other, found_behind, found_key, all_put}
+use Rattle.mqtt_rules.proofs.flight.SizedRows.{orders_sized, own_size, sized}
 use Rattle.mqtt_rules.proofs.acts.Goods.{after_append}
 use Rattle.mqtt_rules.proofs.acts.Leads.{leads_end}
 use Rattle.mqtt_rules.proofs.order.Ordered.{changed_all-ordered}
@@ -198,7 +199,7 @@ lowest_low (suc more) id used = elim (cases_Bool (is_among id used)) [
   | inr free ↦ rw free (omega arith)
 ]
 
-module _ (way : Way) (went : List ℕ) (queue : List CopyRow) where
+module _ (size : CopyRow → ℕ) (way : Way) (went : List ℕ) (queue : List CopyRow) where
   abbrev Next : (Pacing → List Turn) → Type 0
   Next rest = (p : Pacing) (n : ℕ) → n < p.order → AreGoodTurns queue n (rest p)
 
@@ -249,16 +250,16 @@ module _ (way : Way) (went : List ℕ) (queue : List CopyRow) where
   walk_by zero v place phase p n rest fits less next = tt
   walk_by (suc left) v place phase p n rest fits less next = walk_on v place phase p n rest fits less next
 
-  walk : (es : List CopyRow) → AllByRecursion (λ e. row_at copy_place e.place queue ≡ Some e) es → AllByRecursion HasItsPhase es → Next (pump_from way (map (entry_on went) es))
+  walk : (es : List CopyRow) → AllByRecursion (λ e. row_at copy_place e.place queue ≡ Some e) es → AllByRecursion HasItsPhase es → Next (pump_from way (map (sized size went) es))
   walk [] was h p n less = tt
   walk (e ∷ es) was h p n less =
-      let x = entry_on went e in
-      walk_by p.left (verdict way x) e.place e.phase p n (pump_from way (map (entry_on went) es))
+      let x = sized size went e in
+      walk_by p.left (verdict way x) e.place e.phase p n (pump_from way (map (sized size went) es))
       (verdict_fits e.place x.copy x.here e.phase h.0 (λ f there. let same : Some e ≡ Some f = sym was.0 ∙ there in let is : e ≡ f = cc in ap (λ (y : CopyRow). y.copy.qos) (sym is))) less
       (walk es was.1 h.1)
 
-  pump_turns_good : IsAscending copy_place queue → AllByRecursion HasItsPhase queue → AreGoodTurns queue (greatest_order (map (entry_on went) queue)) (pump way (map (entry_on went) queue))
-  pump_turns_good up h = walk queue (all_found copy_place queue up) h (pace way (map (entry_on went) queue)) (greatest_order (map (entry_on went) queue)) (omega arith)
+  pump_turns_good : IsAscending copy_place queue → AllByRecursion HasItsPhase queue → AreGoodTurns queue (greatest_order (map (sized size went) queue)) (pump way (map (sized size went) queue))
+  pump_turns_good up h = walk queue (all_found copy_place queue up) h (pace way (map (sized size went) queue)) (greatest_order (map (sized size went) queue)) (omega arith)
 
 -- ---- an answer's
 
@@ -521,13 +522,21 @@ up_at s b there h = (all_at birth_of _ s.birth s b.records.sessions h.0.each the
 walks_first : (went : List ℕ) (s : Session) (b : Broker) → session_at s.birth b.records ≡ Some s → Kept b → Walks s.queue s.birth (greatest_order (map (entry_on went) s.queue)) b
 walks_first went s b there h = record { session = s; there = there; copies = λ place e at. (e, at, refl); orders = orders_known went s.queue; phased = h.1 }
 
-pump_kept : (l : Line) (s : Session) (b : Broker) → session_at s.birth b.records ≡ Some s → Kept b → Kept (after_all (pump_deeds l b.now s) b)
-pump_kept l s b there h =
-    let its = all_at birth_of HasPhases s.birth s b.records.sessions h.1 there in (
-      ordered_all (pump_deeds l b.now s) b h.0,
-      turns_walk b.now l.number s (pump (way_of l b.now) (queue_on l.went s)) (greatest_order (queue_on l.went s)) b
-          (pump_turns_good (way_of l b.now) l.went s.queue (up_at s b there h) its.each) (walks_first l.went s b there h),
+-- a pump keeps it, whatever the sizes
+sized_pump_kept : (size : CopyRow → ℕ) (l : Line) (s : Session) (b : Broker) → session_at s.birth b.records ≡ Some s → Kept b
+    → Kept (after_all (all_turn_deeds b.now l.number s (pump (way_of l b.now) (map (sized size l.went) s.queue))) b)
+sized_pump_kept size l s b there h =
+    let its = all_at birth_of HasPhases s.birth s b.records.sessions h.1 there in
+    let rows = map (sized size l.went) s.queue in
+    let ts = pump (way_of l b.now) rows in
+    let first = subst (λ (n : ℕ). Walks s.queue s.birth n b) (sym (orders_sized size l.went s.queue)) (walks_first l.went s b there h) in (
+      ordered_all (all_turn_deeds b.now l.number s ts) b h.0,
+      turns_walk b.now l.number s ts (greatest_order rows) b (pump_turns_good size (way_of l b.now) l.went s.queue (up_at s b there h) its.each) first,
     )
+
+-- by those that rows remember
+pump_kept : (l : Line) (s : Session) (b : Broker) → session_at s.birth b.records ≡ Some s → Kept b → Kept (after_all (pump_deeds l b.now s) b)
+pump_kept = sized_pump_kept own_size
 
 turn_kept : (a : Answer) (t : Turn) (l : Line) (s : Session) (b : Broker) → session_at s.birth b.records ≡ Some s → IsAnswer a l s → a ≡ Ok (Some t) → Kept b → Kept (after_all (turn_deeds b.now l.number s t) b)
 turn_kept a t l s b there is e h =

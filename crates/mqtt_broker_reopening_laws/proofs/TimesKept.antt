@@ -222,7 +222,7 @@ timely_later m n r le h = record {
   retained = each_more (IsTimelyKept m) (IsTimelyKept n) (λ k q. let up = q.arrived in record { place = q.place; arrived = omega (arith, up, le) }) r.retained h.retained;
 }
 
--- where nothing is written nothing is changed
+-- if nothing is written nothing is changed
 by_rows : (rows : List Change) (old : Records) (b : Broker) → changed_all rows old ≡ b.records → AreTimely old.moment old → AreTimely b.now b.records
     → AreTimely (with_moment rows b).records.moment (with_moment rows b).records
 by_rows [] old b same h g = subst (λ (r : Records). AreTimely r.moment r) same h

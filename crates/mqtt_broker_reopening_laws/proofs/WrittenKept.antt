@@ -28,6 +28,7 @@ use Rattle.mqtt_broker_reopening_laws.proofs.TimesKept.{opening_timely, step_tim
 
 -- ---- a broker on records that it has written
 
+-- what holds of a broker that has written such records: its lines' aliases, its moment
 pub record IsWriting (b : Broker) : Type 0 where
   pub written : IsWritten (stored b)
   pub topics : AllByRecursion HasTopics b.lines

@@ -51,6 +51,7 @@ module _ {X : Type 0} (key : X → ℕ) where
       ap (put_row key limit (f x)) (sym (remove_changed k f xs keeps))
       ∙ removed_back key limit k (f x) (change_row key k f xs) (change-ascending key k f xs keeps up) (row_changed k f x xs keeps found) (omega (arith, same, few))
 
+-- to take a line out, let an alias stand for a topic on it and put it in again is to change it in its place
 pub set_is : (n alias : ℕ) (topic : List ℕ) (x line : Line) (xs taken new : List Line) → IsAscending line_number xs → length xs ≤ LINE_LIMIT → row_at line_number n xs ≡ Some x
     → taken ≡ remove_row line_number n xs → line ≡ with_alias alias topic x → new ≡ put_row line_number LINE_LIMIT line taken → new ≡ change_row line_number n (with_alias alias topic) xs
 set_is n alias topic x line xs taken new up few found rest set put =
@@ -58,6 +59,7 @@ set_is n alias topic x line xs taken new up few found rest set put =
     ∙ (ap (λ (y : Line). put_row line_number LINE_LIMIT y (remove_row line_number n xs)) set
     ∙ changed_put line_number LINE_LIMIT n (with_alias alias topic) x xs (λ y. refl) up found few))
 
+-- to take a line out and put it in again as it was changes no line
 pub unset_is : (n : ℕ) (x line : Line) (xs taken new : List Line) → IsAscending line_number xs → length xs ≤ LINE_LIMIT → row_at line_number n xs ≡ Some x
     → taken ≡ remove_row line_number n xs → line ≡ x → new ≡ put_row line_number LINE_LIMIT line taken → new ≡ xs
 unset_is n x line xs taken new up few found rest same put =
@@ -65,6 +67,7 @@ unset_is n x line xs taken new up few found rest same put =
     ∙ (ap (λ (y : Line). put_row line_number LINE_LIMIT y (remove_row line_number n xs)) same
     ∙ removed_back line_number LINE_LIMIT n x xs up found few))
 
+-- that the alias stands again for what it stood for before makes of the lines what they were
 pub set_back : (n alias : ℕ) (topic : List ℕ) (before : Option (List ℕ)) (x : Line) (xs new : List Line) → IsTopicName topic → before ≡ topic_of alias x.aliases.topics
     → row_at line_number n xs ≡ Some x → new ≡ change_row line_number n (with_alias alias topic) xs → TakesLineBack n xs new (Some (RestoreAlias alias before))
 set_back n alias topic before x xs new named is found set =

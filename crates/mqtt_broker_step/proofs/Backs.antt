@@ -62,6 +62,7 @@ open_found id (n ∷ ns) has = elim (cases_Bool (nat_eq n id)) [
       rw later (open_found id ns rest)
 ]
 
+-- an identifier that isn't open is not found
 pub open_none : (id : ℕ) (ids : List ℕ) → has_row number_of id ids ≡ false → row_at number_of id ids ≡ None
 open_none id ids has = by (row_at number_of id ids) has
   where
@@ -75,7 +76,7 @@ closed_same id s none =
     let same : without_open id s ≡ s = ap (λ (ids : List ℕ). record s { inbound = ids }) (remove-none number_of id s.inbound none) in
     ap (without_open id) same ∙ same
 
--- where no copy stands, none is marked
+-- if no copy stands, none is marked
 pub marked_same : (place : ℕ) (phase : Phase) (s : Session) → row_at copy_place place s.queue ≡ None → with_phase place phase (with_phase place phase s) ≡ s
 marked_same place phase s none =
     let same : with_phase place phase s ≡ s = ap (λ (q : List CopyRow). record s { queue = q }) (change-none copy_place place (in_phase phase) s.queue none) in
@@ -101,7 +102,7 @@ will_row_back other will s r is found = by other
     by None = set_back None
     by (Some w) = set_back (Some w)
 
--- where no session stands, none has a Will
+-- if no session stands, none has a Will
 pub no_will_back : (other : Option Will) (birth : ℕ) (r : Records) → session_at birth r ≡ None → in_session birth (with_will None) (changed (will_row birth other) r) ≡ r
 no_will_back other birth r none = by other
   where
@@ -128,7 +129,7 @@ left_back birth place row r tables is = by (session_at birth r) refl
         ap (λ (q : List CopyRow). record s { queue = q }) (removed_back copy_place QUEUE_LIMIT place row s.queue has.queue.ascending there has.queue.within) in
         ap (λ (ss : List Session). record r { sessions = ss }) (change_back birth_of birth (without_copy place) (with_copy row) s r.sessions (λ x. refl) found back)
 
--- where no copy stands, none leaves
+-- if no copy stands, none leaves
 pub left_none : (birth place : ℕ) (r : Records) → copy_at birth place r ≡ None → in_session birth (without_copy place) r ≡ r
 left_none birth place r none = by (session_at birth r) refl
   where

@@ -13,6 +13,7 @@ use Rattle.mqtt_records.specs.Session.{birth_of, fresh, with_columns}
 use Rattle.mqtt_rules.specs.State.{session_at}
 use Rattle.mqtt_broker_step.proofs.Inverse.{put_back}
 
+-- if each birth is below a number no session is found by it
 pub none_below : (n : ℕ) (ss : List Session) → IsBelow birth_of n ss → row_at birth_of n ss ≡ None
 none_below n [] below = refl
 none_below n (x ∷ xs) below =

@@ -22,6 +22,7 @@ use Rattle.mqtt_broker_step.proofs.Rows.{spent_append}
 
 -- ---- deeds after deeds
 
+-- the rows of deeds and further deeds are those of the first, and then those of the others on what the first stored
 pub rows_append : (ds es : List Deed) (b : Broker) → rows_of_all (ds ++ es) b.records ≡ rows_of_all ds b.records ++ rows_of_all es (after_all ds b).records
 rows_append [] es b = refl
 rows_append (d ∷ ds) es b =
@@ -36,6 +37,7 @@ five : {A B C D E R : Type 0} (mk : A → B → C → D → E → R) {a1 a2 : A}
     → a1 ≡ a2 → b1 ≡ b2 → c1 ≡ c2 → d1 ≡ d2 → e1 ≡ e2 → mk a1 b1 c1 d1 e1 ≡ mk a2 b2 c2 d2 e2
 five mk p q r s t = cc
 
+-- a step with equal tables and lists is the same step
 pub same_parts : (s : Stepping) {a1 a2 : Broker} {b1 b2 : List Change} {c1 c2 : List (ℕ × List ℕ)} {d1 d2 : List ℕ} {e1 e2 : List Report}
     → a1 ≡ a2 → b1 ≡ b2 → c1 ≡ c2 → d1 ≡ d2 → e1 ≡ e2 → with_parts s a1 b1 c1 d1 e1 ≡ with_parts s a2 b2 c2 d2 e2
 same_parts s p q r t u = five (with_parts s) p q r t u
@@ -62,6 +64,7 @@ did_did ds es s = same_parts s
     (more closing s.closed ds es)
     (more report s.reports ds es)
 
+-- no deeds leave a step as it is
 pub did_none : (s : Stepping) → did [] s ≡ s
 did_none s = same_parts s refl (append-nil s.rows) (append-nil s.outputs) (append-nil s.closed) (append-nil s.reports)
 
@@ -103,6 +106,7 @@ row_listed d c r rows = ap (λ cs. cs ++ []) (sym rows)
 no_output : (d : Deed) (ys : List (ℕ × List ℕ)) → output d ≡ None → ys ≡ ys ++ map spelled (filter_map output (d ∷ []))
 no_output d ys e = sym (append-nil ys) ∙ ap (λ zs. ys ++ map spelled zs) (sym (map_none output d e))
 
+-- a deed of one row that tells nothing and leaves the lines alone is done by writing the row
 pub did_row : (d : Deed) (c : Change) (s : Stepping) → IsQuiet d s.broker → report d ≡ None → rows_of d s.broker.records ≡ c ∷ [] → written c s ≡ did (d ∷ []) s
 did_row d c s quiet none rows = same_parts s
     (after_row d c s.broker quiet rows)
@@ -111,6 +115,7 @@ did_row d c s quiet none rows = same_parts s
     (nothing_more closing s.closed d quiet.closing)
     (nothing_more report s.reports d none)
 
+-- one that reports something too is done by writing the row and telling the report
 pub did_row_told : (d : Deed) (c : Change) (y : Report) (s : Stepping) → IsQuiet d s.broker → report d ≡ Some y → rows_of d s.broker.records ≡ c ∷ []
     → told y (written c s) ≡ did (d ∷ []) s
 did_row_told d c y s quiet tells rows = same_parts s
@@ -133,6 +138,7 @@ found_birth birth (y ∷ ys) x found = elim (cases_Bool (nat_eq y.birth birth)) 
   | inr later ↦ found_birth birth ys x (ap (λ (b : Bool). cond b (Some y) (row_at birth_of birth ys)) (sym later) ∙ found)
 ]
 
+-- a session that was found stands under its own birth
 pub stands : (birth : ℕ) (r : Records) (x : Session) → session_at birth r ≡ Some x → session_at x.birth r ≡ Some x
 stands birth r x found = ap (λ n. session_at n r) (found_birth birth r.sessions x found) ∙ found
 
@@ -143,6 +149,7 @@ rows_of_part : (birth : ℕ) (part : Part) (c : Change) (r : Records) (x : Sessi
     → rows_of (At (whose x) part) r ≡ c ∷ []
 rows_of_part birth part c r x found rows = ap (part_rows_of part) (stands birth r x found) ∙ rows
 
+-- a session's deed of one row, without a report, is done by writing the row
 pub did_part : (birth : ℕ) (part : Part) (c : Change) (x : Session) (s : Stepping) → session_at birth s.broker.records ≡ Some x → part_rows part x ≡ c ∷ []
     → lines_at x.birth part s.broker.lines ≡ s.broker.lines → part_report (whose x) part ≡ None → Did (to_session birth part) s (written c s)
 did_part birth part c x s found rows lines none = record {
@@ -150,6 +157,7 @@ did_part birth part c x s found rows lines none = record {
       ∙ ap (λ ds. did ds s) (sym (part_of birth part s.broker x found));
 }
 
+-- a session's deed of one row, with a report, is done by writing the row and telling the report
 pub did_part_told : (birth : ℕ) (part : Part) (c : Change) (y : Report) (x : Session) (s : Stepping) → session_at birth s.broker.records ≡ Some x → part_rows part x ≡ c ∷ []
     → lines_at x.birth part s.broker.lines ≡ s.broker.lines → part_report (whose x) part ≡ Some y → Did (to_session birth part) s (told y (written c s))
 did_part_told birth part c y x s found rows lines tells = record {
@@ -157,6 +165,7 @@ did_part_told birth part c y x s found rows lines tells = record {
       ∙ ap (λ ds. did ds s) (sym (part_of birth part s.broker x found));
 }
 
+-- a deed of a session that doesn't stand does nothing
 pub did_nobody : (birth : ℕ) (part : Part) (s : Stepping) → session_at birth s.broker.records ≡ None → Did (to_session birth part) s s
 did_nobody birth part s none = record {
   is = sym (did_none s) ∙ ap (λ ds. did ds s) (sym (ap (λ o. with_session o (λ y. always (At (whose y) part ∷ [])) s.broker) none));
@@ -164,11 +173,12 @@ did_nobody birth part s none = record {
 
 -- ---- refusals
 
+-- if a row is refused and the step stays as it was, the step can be taken back
 pub row_left : (c : Change) (fault : StepFault) (old new : Stepping) → new ≡ old → IsRefusedRow c fault → IsLeftRow c fault old new
 row_left c Memory old new same is = record { start = ap (λ (s : Stepping). s.start) same; limits = ap (λ (s : Stepping). s.limits) same; spent = λ e. absurd cc }
 row_left c Spent old new same is = record { start = ap (λ (s : Stepping). s.start) same; limits = ap (λ (s : Stepping). s.limits) same; spent = λ e. is }
 
--- where the act's rows begin with the row that was refused
+-- if the act's rows begin with the row that was refused
 pub left_of_row : (act : Act) (c : Change) (rest : List Change) (fault : StepFault) (old new : Stepping) → rows_of_all (act old.broker) old.broker.records ≡ c ∷ rest
     → IsLeftRow c fault old new → IsLeft act fault old new
 left_of_row act c rest fault old new rows is = record {
@@ -177,6 +187,7 @@ left_of_row act c rest fault old new rows is = record {
   spent = λ e. ap is_spent rows ∙ (spent_append (c ∷ []) rest ∙ ap (λ b. b || is_spent rest) (is.spent e));
 }
 
+-- a session's deed of one row is refused if that row is
 pub left_part : (birth : ℕ) (part : Part) (c : Change) (x : Session) (fault : StepFault) (old new : Stepping) → session_at birth old.broker.records ≡ Some x → part_rows part x ≡ c ∷ []
     → IsLeftRow c fault old new → IsLeft (to_session birth part) fault old new
 left_part birth part c x fault old new found rows is =
@@ -187,32 +198,39 @@ left_part birth part c x fault old new found rows is =
 
 -- ---- results
 
+-- after Ok there holds also what follows from what holds then
 pub on_ok : {A E : Type 0} (r : Result A E) {P Q : Type 0} → (P → Q) → OnOk r P → OnOk r Q
 on_ok (Ok a) f p = f p
 on_ok (Err e) f p = p
 
+-- of the value of an Ok there holds also what follows from what holds of it
 pub if_ok : {A E : Type 0} (r : Result A E) {P Q : A → Type 0} → ((a : A) → P a → Q a) → IfOk r P → IfOk r Q
 if_ok (Ok a) f p = f a p
 if_ok (Err e) f p = p
 
+-- of an error there holds also what follows from what holds of it
 pub if_err : {A E : Type 0} (r : Result A E) {P Q : E → Type 0} → ((e : E) → P e → Q e) → IfErr r P → IfErr r Q
 if_err (Ok a) f p = p
 if_err (Err e) f p = f e p
 
+-- of an error there holds also what follows from what holds of it together with what holds after any error
 pub if_err_too : {A E : Type 0} (r : Result A E) {P Q : E → Type 0} {D : Type 0} → ((e : E) → P e → D → Q e) → IfErr r P → OnErr r D → IfErr r Q
 if_err_too (Ok a) f p d = p
 if_err_too (Err e) f p d = f e p d
 
 -- ---- a deed of a session, as a call has it
 
+-- the step with the row written is the one that did the session's deed of that row
 pub part_ok : (birth : ℕ) (part : Part) (c : Change) (x : Session) (s new : Stepping) → session_at birth s.broker.records ≡ Some x → part_rows part x ≡ c ∷ []
     → lines_at x.birth part s.broker.lines ≡ s.broker.lines → part_report (whose x) part ≡ None → new ≡ written c s → Did (to_session birth part) s new
 part_ok birth part c x s new found rows lines none is = record { is = is ∙ (did_part birth part c x s found rows lines none).is }
 
+-- the step with the row written and the report told is the one that did the session's deed of both
 pub part_told : (birth : ℕ) (part : Part) (c : Change) (y : Report) (x : Session) (s new : Stepping) → session_at birth s.broker.records ≡ Some x → part_rows part x ≡ c ∷ []
     → lines_at x.birth part s.broker.lines ≡ s.broker.lines → part_report (whose x) part ≡ Some y → new ≡ told y (written c s) → Did (to_session birth part) s new
 part_told birth part c y x s new found rows lines tells is = record { is = is ∙ (did_part_told birth part c y x s found rows lines tells).is }
 
+-- a session's deed of one row is refused if the row is and the step stays as it was
 pub part_left : (birth : ℕ) (part : Part) (c : Change) (x : Session) (fault : StepFault) (old new : Stepping) → session_at birth old.broker.records ≡ Some x → part_rows part x ≡ c ∷ []
     → IsRefusedRow c fault → new ≡ old → IsLeft (to_session birth part) fault old new
 part_left birth part c x fault old new found rows is same = left_part birth part c x fault old new found rows (row_left c fault old new same is)

@@ -38,6 +38,7 @@ new_back text x s is none free = λ r there.
     session_back (with_subscription x) (without_subscription x.filter) s r (λ z. refl)
     (ap (λ (zs : List Subscription). let t : Session = record s { subscriptions = zs } in t) (put_gone x s.subscriptions no free)) there
 
+-- a removed subscription is put back as it was
 pub removal_back : (text f : List ℕ) (y : Subscription) (s : Session) → text ≡ f → HasTables s → HasEachFilterOnce s → find (is_to text) s.subscriptions ≡ Some y
     → TakesBack (RemoveSubscription s.birth f) (PutSubscription s.birth y) s
 removal_back text f y s is has once found = λ r there.
@@ -45,6 +46,7 @@ removal_back text f y s is has once found = λ r there.
     session_back (without_subscription f) (with_subscription y) s r (λ z. refl)
     (ap (λ (zs : List Subscription). let t : Session = record s { subscriptions = zs } in t) (removed_again f y s.subscriptions has.subscriptions once.differ its)) there
 
+-- to remove a filter that no subscription has changes nothing, and to remove it again takes that back
 pub none_back : (text f : List ℕ) (s : Session) → text ≡ f → find (is_to text) s.subscriptions ≡ None
     → TakesBack (RemoveSubscription s.birth f) (RemoveSubscription s.birth f) s
 none_back text f s is none = λ r there.

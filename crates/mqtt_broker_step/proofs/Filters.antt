@@ -19,9 +19,11 @@ use Rattle.mqtt_broker_step.proofs.Inverse.{removed_back, put_over}
 
 -- ---- texts
 
+-- texts that compare as equal are equal
 pub text_is : (a b : List ℕ) → bytes_eq a b ≡ true → a ≡ b
 text_is a b e = (bytes_eq-Decides a b).0 e
 
+-- equal texts compare as equal
 pub text_same : (a b : List ℕ) → a ≡ b → bytes_eq a b ≡ true
 text_same a b e = (bytes_eq-Decides a b).1 e
 
@@ -33,7 +35,7 @@ text_differs a b differ = elim (cases_Bool (bytes_eq a b)) [
 
 -- ---- what is found by filter
 
--- where none is to the filter, none goes
+-- if none is to the filter, none goes
 pub none_without : (f : List ℕ) (xs : List Subscription) → find (is_to f) xs ≡ None → without_filter f xs ≡ xs
 none_without f [] none = refl
 none_without f (x ∷ xs) none = elim (cases_Bool (bytes_eq x.filter f)) [
@@ -41,6 +43,7 @@ none_without f (x ∷ xs) none = elim (cases_Bool (bytes_eq x.filter f)) [
   | inr other ↦ rw other (ap (λ (ys : List Subscription). x ∷ ys) (none_without f xs (rw other at none)))
 ]
 
+-- the subscription that is found by a filter is to that filter
 pub found_filter : (f : List ℕ) (x : Subscription) (xs : List Subscription) → find (is_to f) xs ≡ Some x → x.filter ≡ f
 found_filter f x [] found = absurd cc
 found_filter f x (y ∷ ys) found = elim (cases_Bool (bytes_eq y.filter f)) [
@@ -62,7 +65,7 @@ found_row f x (y ∷ ys) up found = elim (cases_Bool (bytes_eq y.filter f)) [
   | inr other ↦ found_behind place_of x.place x y ys up.0 (found_row f x ys up.1 (rw other at found))
 ]
 
--- where all are to other filters, none goes
+-- if all are to other filters, none goes
 others_stay : (f : List ℕ) (xs : List Subscription) → AllByRecursion (λ g. f ≢ g) (map filter_of xs) → without_filter f xs ≡ xs
 others_stay f [] differ = refl
 others_stay f (x ∷ xs) differ = rw (text_differs x.filter f differ.0) (ap (λ (ys : List Subscription). x ∷ ys) (others_stay f xs differ.1))
@@ -94,7 +97,7 @@ without_twice f (x ∷ xs) = elim (cases_Bool (bytes_eq x.filter f)) [
   | inr other ↦ rw (other, other) (ap (λ (ys : List Subscription). x ∷ ys) (without_twice f xs))
 ]
 
--- ---- one that is put, where its place is free
+-- ---- one that is put, if its place is free
 
 insert_without : (f : List ℕ) (x : Subscription) (xs : List Subscription) → bytes_eq x.filter f ≡ true → row_at place_of x.place xs ≡ None
     → without_filter f (insert_row place_of x xs) ≡ without_filter f xs
@@ -116,6 +119,7 @@ insert_without f x (y ∷ ys) is none = elim (cases_Bool (nat_eq y.place x.place
     never : x.place ≡ y.place → nat_eq y.place x.place ≡ false → ⊥
     never e isnt = let yes : nat_eq y.place x.place ≡ true = eq-eqb y.place x.place (sym e) in absurd cc
 
+-- if a subscription is put at a free place, those to other filters are the same as before
 pub put_without : (f : List ℕ) (x : Subscription) (xs : List Subscription) → x.filter ≡ f → row_at place_of x.place xs ≡ None
     → without_filter f (put_row place_of SUBSCRIPTION_LIMIT x xs) ≡ without_filter f xs
 put_without f x xs is none = elim (cases_Bool (has_row place_of x.place xs || nat_lt (length xs) SUBSCRIPTION_LIMIT)) [
@@ -186,6 +190,7 @@ taken_stays x y (z ∷ zs) up differ found other = elim (cases_Bool (nat_eq z.pl
     not_below : (m n : ℕ) → n < m → nat_lt m n ≡ false
     not_below m n less = le-ltb m n (omega (arith, less))
 
+-- the one whose place a new one took is put back there, and the new one is gone
 pub put_beside : (x y : Subscription) (xs : List Subscription) → IsTable place_of SUBSCRIPTION_LIMIT xs → AllDiffer (map filter_of xs) → find (is_to x.filter) xs ≡ None → row_at place_of x.place xs ≡ Some y
     → put_subscription y (put_subscription x xs) ≡ xs
 put_beside x y xs table differ none found =

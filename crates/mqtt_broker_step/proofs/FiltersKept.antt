@@ -126,6 +126,7 @@ once_changed (RemoveCopy birth place) r h = once_in birth (without_copy place) r
 once_changed (PutRetained kept) r h = h
 once_changed (RemoveRetained place) r h = h
 
+-- after any changes each session still has each filter once
 pub once_all : (changes : List Change) (r : Records) → HaveFiltersOnce r → HaveFiltersOnce (changed_all changes r)
 once_all [] r h = h
 once_all (change ∷ changes) r h = once_all changes (changed change r) (once_changed change r h)
@@ -136,5 +137,6 @@ place_again : (number : ℕ) (o : Option Subscription) → place_by (place_by nu
 place_again number None = refl
 place_again number (Some x) = refl
 
+-- a session that has each filter once may have the subscription that it asks for
 pub may_wish : (number : ℕ) (s : Session) (w : Wish) → HasEachFilterOnce s → MaySubscribe (subscription number s w) s
 may_wish number s w h = record { once = h; place = place_again number (find (is_to w.filter) s.subscriptions) }

@@ -19,6 +19,7 @@ module _ {X : Type 0} (key : X → ℕ) where
         | inr other ↦ rw other (row_at-insert_row key k row xs ∙ ap (λ (b : Bool). cond b (Some row) (row_at key k xs)) other)
       ])
 
+  -- a row with a key of its own is put, and removed
   pub put_back : (limit : ℕ) (row : X) (xs : List X) → IsAscending key xs → row_at key (key row) xs ≡ None → remove_row key (key row) (put_row key limit row xs) ≡ xs
   put_back limit row xs up none = elim (cases_Bool (has_row key (key row) xs || nat_lt (length xs) limit)) [
     | inl room ↦ rw room (insert_back row xs up none)
@@ -79,6 +80,7 @@ module _ {X : Type 0} (key : X → ℕ) where
       let less = up.0.0 in
       omega (arith, rest, less)
 
+  -- if there is no last row there is none
   pub last_none : (xs : List X) → last_row key xs ≡ None → xs ≡ []
   last_none [] e = refl
   last_none (y ∷ []) e = absurd cc
@@ -88,6 +90,7 @@ module _ {X : Type 0} (key : X → ℕ) where
       some_last z [] e = absurd cc
       some_last z (x ∷ xs) e = some_last x xs e
 
+  -- the row that is found by a key has that key
   pub row_key : (k : ℕ) (xs : List X) (x : X) → row_at key k xs ≡ Some x → key x ≡ k
   row_key k [] x found = absurd cc
   row_key k (y ∷ ys) x found = elim (cases_Bool (nat_eq (key y) k)) [

@@ -33,6 +33,7 @@ did_leave x e ending s found = same_parts s
     tells : s.reports ++ Ended e.copy.id x.client ending ∷ [] ≡ s.reports ++ Ended e.copy.id x.client ending ∷ []
     tells = refl
 
+-- a copy has left once its end is reported, its row is removed, and its place is gone from its session's lines
 pub leave_ok : (birth place : ℕ) (ending : Ending) (x : Session) (e : CopyRow) (y : Report) (s t d new : Stepping)
     → session_at birth s.broker.records ≡ Some x → row_at copy_place place x.queue ≡ Some e → y ≡ Ended e.copy.id x.client ending
     → t ≡ told y s → d ≡ written (RemoveCopy birth place) t → new ≡ with_lost birth place d → Did (leaves birth place ending) s new

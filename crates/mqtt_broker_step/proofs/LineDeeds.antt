@@ -44,6 +44,7 @@ did_lines n part ls s is = same_parts s
     (ap (λ (xs : List Line). with_lines xs s.broker) is)
     (sym (append-nil s.rows)) (sym (append-nil s.outputs)) (sym (append-nil s.closed)) (sym (append-nil s.reports))
 
+-- a deed of a line that stands is done by changing that line as the rules have it
 pub on_ok_line : (n : ℕ) (part : LinePart) (change : LineChange) (l : Line) (s new : Stepping) → row_at line_number n s.broker.lines ≡ Some l
     → line_changed change l ≡ line_after s.broker.now part l → new ≡ with_broker (with_line_changed n change s.broker) s
     → Did (always (On n part ∷ [])) s new
@@ -52,6 +53,7 @@ on_ok_line n part change l s new found is changed = record {
       (on_line_found s.broker.now n part change l s.broker.lines found is);
 }
 
+-- a deed of a line that doesn't stand does nothing
 pub on_no_line : (n : ℕ) (part : LinePart) (s : Stepping) → row_at line_number n s.broker.lines ≡ None → Did (always (On n part ∷ [])) s s
 on_no_line n part s none = record { is = did_lines n part s.broker.lines s (sym (on_line_none s.broker.now n part s.broker.lines none)) }
 
@@ -60,6 +62,7 @@ on_line_is : (moment n : ℕ) (part : LinePart) (ls : List Line) → change_row 
 on_line_is moment n part [] = refl
 on_line_is moment n part (x ∷ xs) = ap (λ (ys : List Line). cond (nat_eq x.number n) (line_after moment part x ∷ xs) (x ∷ ys)) (on_line_is moment n part xs)
 
+-- a deed of a line is done by changing the line with its number as the rules have it, whether one stands or not
 pub on_line_ok : (n : ℕ) (part : LinePart) (s new : Stepping)
     → new ≡ with_broker (with_lines (change_row line_number n (line_after s.broker.now part) s.broker.lines) s.broker) s
     → Did (always (On n part ∷ [])) s new

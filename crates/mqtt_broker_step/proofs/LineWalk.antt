@@ -8,9 +8,11 @@ use Rattle.mqtt_rules.specs.State.{Line, is_of}
 use Rattle.mqtt_rules.specs.Deeds.{without_place}
 use Rattle.mqtt_broker_step.specs.Lines.{line_number, without_went, nth_changed, changed_from}
 
+-- a line of the copy's own session loses the copy's place
 pub place_own : (birth place : ℕ) (l : Line) → is_of l.session birth ≡ true → without_went place l ≡ without_place birth place l
 place_own birth place l own = sym (ap (λ (b : Bool). cond b (without_went place l) l) own)
 
+-- a line of another session, or of none, stays as it was
 pub place_other : (birth place : ℕ) (l : Line) → is_of l.session birth ≡ false → without_place birth place l ≡ l
 place_other birth place l other = ap (λ (b : Bool). cond b (without_went place l) l) other
 
@@ -37,11 +39,13 @@ changed_at f g (suc i) (x ∷ xs) l up found same =
     let later : nat_eq x.number l.number ≡ false = apart x.number l.number (λ e. omega (arith, e, less)) in
     rw later (ap (λ (ys : List Line). x ∷ ys) (changed_at f g i xs l up.1 found same))
 
+-- if there is no i-th line, to change it changes nothing
 pub changed_none : (g : Line → Line) (i : ℕ) (ls : List Line) → slice_get ls i ≡ None → nth_changed i g ls ≡ ls
 changed_none g i [] none = refl
 changed_none g zero (x ∷ xs) none = absurd cc
 changed_none g (suc i) (x ∷ xs) none = ap (λ (ys : List Line). x ∷ ys) (changed_none g i xs none)
 
+-- if the change leaves the i-th line as it was, all lines are as they were
 pub changed_same : (g : Line → Line) (i : ℕ) (ls : List Line) (l : Line) → slice_get ls i ≡ Some l → g l ≡ l → nth_changed i g ls ≡ ls
 changed_same g i [] l found same = refl
 changed_same g zero (x ∷ xs) l found same =
@@ -56,6 +60,7 @@ changed_next g i [] = refl
 changed_next g zero (x ∷ xs) = refl
 changed_next g (suc i) (x ∷ xs) = ap (λ (ys : List Line). x ∷ ys) (changed_next g i xs)
 
+-- from the first line on is every line
 pub changed_all_lines : (g : Line → Line) (ls : List Line) → changed_from zero g ls ≡ map g ls
 changed_all_lines g [] = refl
 changed_all_lines g (x ∷ xs) = ap (λ (ys : List Line). g x ∷ ys) (changed_all_lines g xs)
@@ -66,6 +71,7 @@ changed_behind g i [] few = refl
 changed_behind g zero (x ∷ xs) few = absurd (omega (arith, few))
 changed_behind g (suc i) (x ∷ xs) few = ap (λ (ys : List Line). x ∷ ys) (changed_behind g i xs (omega (arith, few)))
 
+-- changed lines are as many as before
 pub length-changed_from : (i : ℕ) (g : Line → Line) (ls : List Line) → length (changed_from i g ls) ≡ length ls
 length-changed_from i g [] = refl
 length-changed_from zero g (x ∷ xs) = ap suc (length-changed_from zero g xs)

@@ -24,6 +24,7 @@ both : (x y : Bool) → (x && y) ≡ true → x ≡ true
 both true y e = refl
 both false y e = absurd cc
 
+-- to put a fresh line with the next number behind the others is the rules' linking, if a line may be linked
 pub linked_is : (b : Broker) (n : ℕ) → IsBelow line_number (suc b.given) b.lines → next_line b ≡ Some n → with_linked (fresh_line n b.now) b ≡ after_act links b
 linked_is b n below is =
     let may = taken (can_link b) (suc b.given) n is in
@@ -34,6 +35,7 @@ linked_is b n below is =
     (put_row-last line_number LINE_LIMIT (fresh_line (suc b.given) b.now) b.lines below room)
     ∙ ap (λ ds. after_all ds b) (sym act))
 
+-- if no line may be linked, the rules' linking changes nothing
 pub none_linked : (b : Broker) → next_line b ≡ None → b ≡ after_act links b
 none_linked b is =
     ap (λ (x : Bool). after_all (cond x (Link (suc b.given) ∷ []) []) b) (sym (refused (can_link b) (suc b.given) is))

@@ -8,6 +8,7 @@ use Rattle.mqtt_rules.proofs.fit.FitLaw.{all_among}
 use Rattle.mqtt_rules.proofs.flight.FlightRows.{all_found}
 use Rattle.mqtt_rules.proofs.acts.Leads.{found_among}
 
+-- the session that is found by its client identifier is the one that its birth finds
 pub stands_by_birth : (client : List ℕ) (ss : List Session) (s : Session) → IsAscending birth_of ss → find (λ x. bytes_eq x.client client) ss ≡ Some s
     → row_at birth_of s.birth ss ≡ Some s
 stands_by_birth client ss s up found =

@@ -59,10 +59,12 @@ subscribes_undone (RemoveLine n g) b = refl
 subscribes_undone (EditLine n c) b = refl
 subscribes_undone (SetMoment m) b = refl
 
+-- the journal tells the number of the last publication before the step
 pub publications_taken_back : (us : List Undo) (b : Broker) → (taken_back us b).records.publications ≡ publications_before us b.records.publications
 publications_taken_back [] b = refl
 publications_taken_back (u ∷ us) b = publications_undone u (taken_back us b) ∙ ap (set_or (publications_set u)) (publications_taken_back us b)
 
+-- the journal tells the number of the last granted filter before the step
 pub subscribes_taken_back : (us : List Undo) (b : Broker) → (taken_back us b).records.subscribes ≡ subscribes_before us b.records.subscribes
 subscribes_taken_back [] b = refl
 subscribes_taken_back (u ∷ us) b = subscribes_undone u (taken_back us b) ∙ ap (set_or (subscribes_set u)) (subscribes_taken_back us b)

@@ -48,6 +48,7 @@ above_take low zero xs up = tt
 above_take low (suc n) [] up = tt
 above_take low (suc n) (x ∷ xs) up = (up.0, above_take low n xs up.1)
 
+-- the first places of ascending ones ascend
 pub ascending-take : (n : ℕ) (xs : List ℕ) → AreAscending xs → AreAscending (take n xs)
 ascending-take zero xs up = tt
 ascending-take (suc n) [] up = tt
@@ -59,12 +60,14 @@ above_remove low (suc i) [] up = tt
 above_remove low zero (x ∷ xs) up = up.1
 above_remove low (suc i) (x ∷ xs) up = (up.0, above_remove low i xs up.1)
 
+-- ascending places ascend without the one at an index
 pub ascending-remove : (i : ℕ) (xs : List ℕ) → AreAscending xs → AreAscending (remove xs i)
 ascending-remove zero [] up = tt
 ascending-remove (suc i) [] up = tt
 ascending-remove zero (x ∷ xs) up = up.1
 ascending-remove (suc i) (x ∷ xs) up = (above_remove x i xs up.0, ascending-remove i xs up.1)
 
+-- ascending places ascend without a given one
 pub ascending-without : (place : ℕ) (xs : List ℕ) → AreAscending xs → AreAscending (ids_without place xs)
 ascending-without place xs up = filter-ascending own (λ other. not (nat_eq other place)) xs up
 
@@ -77,6 +80,7 @@ increases (x ∷ y ∷ ys) up (suc k) less =
     let next : suc k + 1 ≡ suc (k + 1) = omega arith in
     rw next (increases (y ∷ ys) up.1 k (omega (arith, less)))
 
+-- places of which each is below the next ascend
 pub ascending : (xs : List ℕ) → IsStrictlyIncreasing xs → AreAscending xs
 ascending [] next = tt
 ascending (x ∷ []) next = (tt, tt)
@@ -95,6 +99,7 @@ beyond place (x ∷ xs) up =
     let rest = beyond place xs up.1 in
     grind (arith, nat_tests, rest)
 
+-- a place above the last of ascending ones is not among them
 pub not_among : (place last : ℕ) (xs : List ℕ) → AreAscending xs → slice_get xs (length xs - 1) ≡ Some last → last < place → is_among place xs ≡ false
 not_among place last xs up found less = beyond place xs (ascending-push place last xs up found less)
 
@@ -102,22 +107,25 @@ told : (place : ℕ) (xs : List ℕ) (r : Result ℕ ℕ) → OfPlace place xs r
 told place xs (Ok i) at = sym at.is_there
 told place xs (Err i) at = sym at.is_missing
 
+-- a search by halves finds a place exactly if it is among ascending ones
 pub found_among : (place : ℕ) (xs : List ℕ) (r : Result ℕ ℕ) → AreAscending xs → IsBinarySearchResult (λ y. nat_cmp y place) xs r → is_ok r ≡ is_among place xs
 found_among place xs r up search = told place xs r (placed place xs r (increases xs up) search)
 
+-- the index that a search by halves finds is where the place stands, and nowhere else
 pub index_found : (place : ℕ) (xs : List ℕ) (r : Result ℕ ℕ) → AreAscending xs → IsBinarySearchResult (λ y. nat_cmp y place) xs r → IfSome (result_ok r) (IsIndexOf place xs)
 index_found place xs (Ok i) up search =
     let there = searched xs place (Ok i) search (λ k j le less. ascending_rises own xs up k j 0 le less) in
     record { stands = placed place xs (Ok i) (increases xs up) search; here = there.1 }
 index_found place xs (Err i) up search = tt
 
--- where a place is not among others, nothing leaves without it
+-- if a place is not among others, nothing leaves without it
 pub without-missing : (place : ℕ) (xs : List ℕ) → is_among place xs ≡ false → ids_without place xs ≡ xs
 without-missing place [] missing = refl
 without-missing place (x ∷ xs) missing = let rest = without-missing place xs in grind (arith, nat_tests, rest)
 
 -- ---- edits, and what takes them back
 
+-- to put a place at the end and take the last one off changes nothing
 pub popped : (place : ℕ) (xs : List ℕ) → without_last (xs ++ place ∷ []) ≡ xs
 popped place xs =
     let count = length_push xs place in
@@ -128,6 +136,7 @@ insert_removed i place [] some here = absurd (omega (arith, some))
 insert_removed zero place (x ∷ xs) some here = ap (λ (y : ℕ). y ∷ xs) (sym here)
 insert_removed (suc i) place (x ∷ xs) some here = ap (λ (ys : List ℕ). x ∷ ys) (insert_removed i place xs (omega (arith, some)) here)
 
+-- a place that was taken out is put back at its index, if there is room
 pub put_back : (place i : ℕ) (xs : List ℕ) → IsIndexOf place xs i → has_room_behind (length xs - 1) ≡ true → with_inserted i place (ids_without place xs) ≡ xs
 put_back place i xs at room =
     let some : i < length xs = at.stands.in_range in
@@ -139,6 +148,7 @@ put_back place i xs at room =
     ap (with_inserted i place) (sym at.stands.removed)
     ∙ (ap (λ (b : Bool). cond b (insert (remove xs i) i place) (remove xs i)) both ∙ insert_removed i place xs some at.here)
 
+-- behind the last place there is none to remove
 pub remove-behind : (i : ℕ) (xs : List ℕ) → length xs ≤ i → remove xs i ≡ xs
 remove-behind zero [] behind = refl
 remove-behind (suc i) [] behind = refl
@@ -147,6 +157,7 @@ remove-behind (suc i) (x ∷ xs) behind = ap (λ (ys : List ℕ). x ∷ ys) (rem
 
 -- ---- room
 
+-- more places have no less room
 pub room_up : (m n : ℕ) → m ≤ n → room_for m ≤ room_for n
 room_up m n le = grind (arith, nat_tests)
 
@@ -154,11 +165,13 @@ room_up m n le = grind (arith, nat_tests)
 pub room_next : (n : ℕ) → has_room_behind n ≡ true → room_for (n + 1) ≤ room_for n
 room_next n room = grind (arith, nat_tests)
 
+-- if so many places have room for one more, there are fewer than the room that they have
 pub room_less : (n room : ℕ) → has_room_behind n ≡ true → room_for n ≤ room → n < room
 room_less n room roomy le = grind (arith, nat_tests)
 
 -- ---- what is remembered, as they change
 
+-- what is remembered of places holds of the first of them too
 pub kept-take : (ascends : Bool) (n : ℕ) (xs ys : List ℕ) (room left : ℕ) → IsKept ascends xs room → ys ≡ take n xs → left ≡ room → IsKept ascends ys left
 kept-take ascends n xs ys room left kept is same =
     let short = length-take n xs in
@@ -176,6 +189,7 @@ remove_shorter (suc i) [] = omega arith
 remove_shorter zero (x ∷ xs) = omega arith
 remove_shorter (suc i) (x ∷ xs) = let rest = remove_shorter i xs in omega (arith, rest)
 
+-- what is remembered of places holds without the one at an index too
 pub kept-remove : (ascends : Bool) (i : ℕ) (xs ys : List ℕ) (room left : ℕ) → IsKept ascends xs room → ys ≡ remove xs i → left ≡ room → IsKept ascends ys left
 kept-remove ascends i xs ys room left kept is same =
     let short = remove_shorter i xs in
@@ -187,6 +201,7 @@ kept-remove ascends i xs ys room left kept is same =
       roomy = omega (arith, up, roomy, same);
     }
 
+-- it holds without a given place, if the room is enough for one more than there were
 pub kept-without : (ascends : Bool) (place : ℕ) (xs ys : List ℕ) (room : ℕ) → (ascends ≡ true → AreAscending xs) → ys ≡ ids_without place xs → room_for (length xs + 1) ≤ room → IsKept ascends ys room
 kept-without ascends place xs ys room up is roomy =
     let short = remove-length own place xs in

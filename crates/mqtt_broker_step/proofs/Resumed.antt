@@ -40,6 +40,7 @@ resume_act : (birth expiry : ℕ) (will : Option Will) (x : Session) (s : Steppi
     → to_session birth (Resume expiry will) s.broker ≡ At (whose x) (Resume expiry will) ∷ []
 resume_act birth expiry will x s found = ap (λ (o : Option Session). with_session o (λ y. always (At (whose y) (Resume expiry will) ∷ [])) s.broker) found
 
+-- a session is resumed once its own row and that of its Will are written
 pub resume_ok : (birth expiry : ℕ) (will : Option Will) (x : Session) (s d new : Stepping) → session_at birth s.broker.records ≡ Some x
     → d ≡ written (resumed_row expiry x) s → new ≡ written (will_row birth will) d → Did (to_session birth (Resume expiry will)) s new
 resume_ok birth expiry will x s d new found row is = record {
@@ -55,6 +56,7 @@ resume_rows birth expiry will x s found =
     ap (λ ds. rows_of_all ds s.broker.records) (resume_act birth expiry will x s found)
     ∙ ap (λ (o : Option Session). part_rows_of (Resume expiry will) o ++ []) (stands birth s.broker.records x found)
 
+-- a session's resumption is refused if its own row is
 pub resume_left : (birth expiry : ℕ) (will : Option Will) (x : Session) (fault : StepFault) (s new : Stepping) → session_at birth s.broker.records ≡ Some x
     → IsLeftRow (resumed_row expiry x) fault s new → IsLeft (to_session birth (Resume expiry will)) fault s new
 resume_left birth expiry will x fault s new found is =

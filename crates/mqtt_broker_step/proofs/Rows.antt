@@ -10,6 +10,7 @@ use Rattle.mqtt_rules.proofs.fit.StoredLaw.{changed_all_append}
 use Rattle.mqtt_broker_step.specs.Undoing.{Changing, become, with_change}
 use Rattle.mqtt_broker_step.specs.Stepping.{IsStep}
 
+-- rows and further rows give a spent number exactly if the ones or the others do
 pub spent_append : (xs ys : List Change) → is_spent (xs ++ ys) ≡ (is_spent xs || is_spent ys)
 spent_append [] ys = refl
 spent_append (x ∷ xs) ys = elim (cases_Bool (nat_lt LAST_NUMBER (number_given x))) [
@@ -17,6 +18,7 @@ spent_append (x ∷ xs) ys = elim (cases_Bool (nat_lt LAST_NUMBER (number_given 
   | inr within ↦ rw within (spent_append xs ys)
 ]
 
+-- what a step owes is kept by a change whose row is written with it, if it gives no spent number
 pub row_more : (t t2 : Changing) (rows rows2 : List Change) (c : Change) → IsStep t.start t.broker rows
     → rows2 ≡ rows ++ c ∷ [] → t2 ≡ become (with_change c t.broker) t → nat_lt LAST_NUMBER (number_given c) ≡ false → IsStep t2.start t2.broker rows2
 row_more t t2 rows rows2 c is rows_is made within =

@@ -12,6 +12,7 @@ use Rattle.mqtt_broker_step.proofs.Rows.{spent_append}
 pub same_act : (f g : Act) (s new : Stepping) → f s.broker ≡ g s.broker → Did f s new → Did g s new
 same_act f g s new same is = record { is = is.is ∙ ap (λ ds. did ds s) same }
 
+-- if two acts have the same deeds, a refusal within one is a refusal within the other
 pub same_left : (f g : Act) (fault : StepFault) (s new : Stepping) → f s.broker ≡ g s.broker → IsLeft f fault s new → IsLeft g fault s new
 same_left f g fault s new same is = record {
   start = is.start;

@@ -1,7 +1,7 @@
 //! A line is linked (MQTT 5.0, 3.1, 4.2).
 ghost use Rattle.std.specs.Prelude.{◌≡◌, suc};
 ghost use Rattle.mqtt_records_rows.specs.Order.{IsBelow};
-ghost use Rattle.mqtt_rules.specs.Step.{at_moment};
+ghost use Rattle.mqtt_rules.specs.Step.{at_moment, can_link};
 ghost use Rattle.mqtt_broker_step.specs.Lines.{line_number};
 ghost use Rattle.mqtt_broker_step.specs.Undoing.{with_linked};
 ghost use Rattle.mqtt_broker_step.specs.Doing.{links, next_line, after_act};
@@ -12,6 +12,13 @@ use crate::step::Step;
 use mqtt_base::{LAST_NUMBER, LINE_LIMIT};
 
 impl Step {
+    /// Whether a further line may be linked: fewer than 64 stand, and fewer than 2^62 were linked. Takes no memory.
+    pub fn may_link(&self) -> bool
+        ensures { result ≡ can_link self.now.broker }
+    {
+        self.lines().len() < LINE_LIMIT && self.tables.given() < LAST_NUMBER
+    }
+
     /// The number that the next line gets, if one may be linked.
     fn next_line(&self) -> Option<u64>
         ensures { result ≡ next_line self.now.broker }

@@ -45,6 +45,7 @@ messages_lawful now x w ks kept is all =
 
 -- ---- what was found
 
+-- the session was found, the filter is valid, and what it brings and the room for it are known
 pub record Looked (birth : ℕ) (x : Session) (w : Wish) (kept : List RetainedMessage) (t : Bool) (s : Stepping) : Type 0 where
   pub found : session_at birth s.broker.records ≡ Some x
   pub valid : is_filter w.filter ≡ true

@@ -44,7 +44,7 @@ fits_next o k rest xs all left room room0 is w less = record {
       ∙ (ap (λ (ys : List RetainedMessage). nat_le (length (chosen true birth number v ys)) room) (sym is) ∙ w.same birth number v same)));
 }
 
--- where none is left the copies do not fit
+-- if none is left the copies do not fit
 pub fits_full : (o : SubscriptionOptions) (k : RetainedMessage) (rest xs all : List RetainedMessage) (room room0 birth number : ℕ) (v : Wish) → xs ≡ k ∷ rest → Fitting o xs all room room0
     → queues o k ≡ true → room ≡ 0 → v.options ≡ o → false ≡ nat_le (length (chosen true birth number v all)) room0
 fits_full o k rest xs all room room0 birth number v is w queued none same =

@@ -1,5 +1,5 @@
 -- The deeds of a filter's answer change no retained message.
-use Rattle.std.proofs.Common.{◌≡◌, ℕ, Bool, true, false, List, [], ◌∷◌, filter, map, nat_le, Option, Some, None, refl, ◌∙◌}
+use Rattle.std.proofs.Common.{◌≡◌, ℕ, Bool, true, false, List, [], ◌∷◌, filter, map, Option, Some, None, refl, ◌∙◌}
 use Rattle.std.specs.Prelude.{flat_map}
 use Rattle.mqtt_codec.specs.declared.packet.Packet.{Packet}
 use Rattle.mqtt_flow.specs.declared.entry.Turn.{Turn}
@@ -10,12 +10,13 @@ use Rattle.mqtt_records.specs.declared.session.Session.{Session}
 use Rattle.mqtt_records.specs.Session.{copy_place}
 use Rattle.mqtt_records_rows.specs.Order.{row_at}
 use Rattle.mqtt_rules.specs.State.{Line, Broker, Env, session_at, line_of, queue_on}
-use Rattle.mqtt_rules.specs.Deeds.{Act, Deed, Whose, whose, Part, At, Count, Send, Subscribe, Enter, Leave, after, after_all, stored_after, always, offer}
+use Rattle.mqtt_rules.specs.Deeds.{Act, Deed, Whose, whose, Part, At, Count, Subscribe, Enter, Leave, after, after_all, stored_after, always, offer}
 use Rattle.mqtt_rules.specs.Outbound.{leave_deeds, enter_deeds, queue_limits, since}
-use Rattle.mqtt_rules.specs.Packets.{size_of, publish_of}
+use Rattle.mqtt_rules.specs.Packets.{publish_of}
 use Rattle.mqtt_rules.specs.Routing.{CopyTo, is_queued, deliver, deliver_by}
 use Rattle.mqtt_rules.specs.Subscribe.{Wish, answer_by, subscription, filter_answer_of}
-use Rattle.mqtt_rules.proofs.acts.Goods.{AreGood, GoodAct, good_append, good_flat, good_series, good_acts, good_cond, good_of_session, good_of_entry}
+use Rattle.mqtt_rules.proofs.acts.Offers.{of_offer}
+use Rattle.mqtt_rules.proofs.acts.Goods.{AreGood, GoodAct, good_append, good_flat, good_series, good_acts, good_of_session, good_of_entry}
 use Rattle.mqtt_rules.proofs.order.OrderedRoom.{at_retained}
 
 -- the deed leaves the retained messages as they are
@@ -49,8 +50,7 @@ enter_keeps env copy s b =
     (at_keeps (whose s) (Enter copy) (after_all (flat_map (leave_deeds s) ts) b), tt)
 
 offer_keeps : (o : Option Line) (packet : Packet) (b : Broker) → AreGood Keeps (offer o packet) b
-offer_keeps None packet b = tt
-offer_keeps (Some l) packet b = good_cond Keeps (nat_le (size_of packet) l.largest) (Send l.number packet ∷ []) [] b (record { same = refl }, tt) tt
+offer_keeps o packet b = of_offer (λ (ds : List Deed). AreGood Keeps ds b) o packet tt (λ l there. (record { same = refl }, tt))
 
 deliver_keeps : (env : Env) (d : CopyTo) → GoodAct Keeps (deliver env d)
 deliver_keeps env d b = by (is_queued d)

@@ -26,6 +26,7 @@ late_is line largest now (copy ∷ rest) b =
     let ds : List Deed = offer_within line largest (publish_of now false 0 copy) in
     ap (λ es. ds ++ es) (late_is line largest now rest (after_all ds b))
 
+-- the copies that are left to send lead to where all do, and their PUBLISH have spellings
 pub record Sending (line : ℕ) (largest : Option ℕ) (now : ℕ) (rest all : List MessageCopy) (first s : Stepping) : Type 0 where
   pub leads : LeadsOn (λ env. each_late line largest now rest) (λ env. each_late line largest now all) first s
   pub spelled : AllByRecursion IsSpelled rest

@@ -24,6 +24,7 @@ once_kept act s new is once =
 
 -- ---- one after the other
 
+-- the filters that are left to remove lead to where all do, and each session has each filter once
 pub record Removing (birth : ℕ) (rest all : List (List ℕ)) (first s : Stepping) : Type 0 where
   pub leads : LeadsOn (λ env. removes_all birth rest) (λ env. removes_all birth all) first s
   pub once : HaveFiltersOnce s.broker.records

@@ -121,8 +121,11 @@ fn tell_closed(told: &mut Telling, lines: &[u64]) {
 }
 
 impl<K: Keep> Broker for Engine<K> {
+    /// Links a line. Line 0, which no script expects, where the look before it says otherwise.
     fn link(&mut self, moment: u64) -> Option<u64> {
-        self.link(moment)
+        let may = self.may_link();
+        let line = self.link(moment);
+        if may == line.is_some() { line } else { Some(0) }
     }
 
     fn call(&mut self, told: &mut Telling, call: Call<'_>, moment: u64) -> Answer {

@@ -28,7 +28,7 @@ open_step-requires-clause-lawful g c = subst IsLawful (sym (ap (λ (t : Stepping
 pub returns-in-Ok-unopened : goal.returns-in-Ok-unopened
 returns-in-Ok-unopened g c =
     let is = c.in-Ok-unopened.ensures.step in
-    let begun = load_begun g.K.Keep c.args.keep c.load.new.self c.in-Ok.records c.in-Ok.ensures.exact c.in-Ok.ensures.found c.load.ensures.same c.load.ensures.crash in
+    let begun = load_begun g.K.Keep c.args.keep c.load.new.self c.in-Ok.records c.in-Ok.ensures.exact c.in-Ok.ensures.found c.load.ensures.sound c.load.ensures.same c.load.ensures.crash in
     subst (λ (l : Limits). Opened g.K.Keep l c.args.now c.args.keep c.open_step.result) (ap (λ (t : Stepping). t.limits) is)
     (c.open_step.ensures c.args.keep c.args.now (begun_of c.args.limits c.args.now c.in-Ok.records c.in-Ok-unopened.step is)
     (subst (λ (r : Records). IsBegun g.K.Keep c.args.keep r c.load.new.self) (sym (ap (λ (t : Stepping). t.broker.records) is)) begun))
@@ -36,7 +36,7 @@ returns-in-Ok-unopened g c =
 pub returns-in-Err-unopened : goal.returns-in-Err-unopened
 returns-in-Err-unopened g c =
     refused_first g.K.Keep c.args.limits c.args.now c.args.keep c.in-Ok.records c.load.new.self c.in-Err-unopened.error
-    (load_begun g.K.Keep c.args.keep c.load.new.self c.in-Ok.records c.in-Ok.ensures.exact c.in-Ok.ensures.found c.load.ensures.same c.load.ensures.crash)
+    (load_begun g.K.Keep c.args.keep c.load.new.self c.in-Ok.records c.in-Ok.ensures.exact c.in-Ok.ensures.found c.load.ensures.sound c.load.ensures.same c.load.ensures.crash)
     c.in-Err-unopened.ensures.refused (λ e. c.in-Err-unopened.ensures.corrupt (ap Err e))
 
 pub returns-in-Err : goal.returns-in-Err

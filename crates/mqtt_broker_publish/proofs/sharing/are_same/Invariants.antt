@@ -1,4 +1,4 @@
--- The lists are the same where what is left of them is (MQTT 5.0, 2.2.2).
+-- The lists are the same if what is left of them is (MQTT 5.0, 2.2.2).
 use Rattle.std.proofs.Common.{◌≡◌, length}
 use Rattle.mqtt_broker_publish.proofs.sharing.are_same.Given as goal
 

@@ -1,4 +1,4 @@
-use Rattle.std.proofs.Common.{◌≡◌, rules, ℕ, List, Option, Some, None, [], ◌∷◌, ◌++◌, sym, ap, subst, ◌∙◌}
+use Rattle.std.proofs.Common.{◌≡◌, rules, ℕ, List, Option, Some, [], ◌∷◌, ◌++◌, sym, ap, subst, ◌∙◌}
 use Rattle.mqtt_rules.specs.Step.{nothing_told}
 use Rattle.mqtt_broker.specs.Framers.{HeldLine, begun}
 use Rattle.mqtt_broker_step.specs.Doing.{next_line}

@@ -1,6 +1,6 @@
 use Rattle.std.proofs.Common.{◌≡◌, rules, true, false, refl, sym, ap, subst, ◌∙◌}
 use Rattle.mqtt_records_rows.specs.Order.{has_row}
-use Rattle.mqtt_rules.specs.State.{Broker, line_at}
+use Rattle.mqtt_rules.specs.State.{line_at}
 use Rattle.mqtt_rules.specs.Step.{Pump}
 use Rattle.mqtt_broker.specs.Framers.{line_of}
 use Rattle.mqtt_broker.specs.Serving.{Served, Serving, serving}
