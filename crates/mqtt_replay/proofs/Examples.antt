@@ -17,6 +17,7 @@ abbrev known : Play ⊤
 known = record {
   happens = λ w e told after. ⊤;
   is_bad = λ w e. ⊤;
+  due = ⊤;
   sent = λ w client. 1;
   done = λ w client. 0;
   handed = λ w client. 1 ∷ [];

@@ -150,6 +150,7 @@ feeds_join p held one left two rest s mid end before now after f g =
 
 -- ---- what was read and shown so far
 
+-- so much of the input was read, and feeding it led from the one standing to the other
 pub record FedSoFar {W : Type 0} (p : Play W) (held : List ℕ) (input left : Option (List ℕ)) (s end : Standing W) (before after : Option (List ℕ)) : Type 0 where
   pub fed : List ℕ
   pub read : Consumes input left fed

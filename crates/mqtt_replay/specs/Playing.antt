@@ -1,5 +1,5 @@
 -- What can happen in a world, and what a script's events come to there (ours).
-use Rattle.std.specs.Prelude.{◌≡◌, ℕ, ◌+◌, List, [], ◌++◌, Option, None, Some, option_to_list}
+use Rattle.std.specs.Prelude.{◌≡◌, ⊤, ℕ, ◌+◌, List, [], ◌++◌, Option, None, Some, option_to_list}
 use Rattle.std.specs.List.{flat_map}
 use Rattle.mqtt_world_model.specs.Tellings.{Telling}
 use Rattle.mqtt_script.specs.declared.event.Event.{Event}
@@ -9,6 +9,8 @@ use Rattle.mqtt_script.specs.Telling.{publisher_text, receiver_text, broker_text
 use Rattle.mqtt_replay.specs.Told.{told_text}
 use Rattle.mqtt_script.specs.declared.replay_fault.Played.{Played}
 use Rattle.mqtt_script.specs.declared.replay_fault.Played.TheVariants.{Whole, Bad}
+use Rattle.mqtt_script.specs.declared.replay_fault.ReplayFault.{ReplayFault}
+use Rattle.mqtt_script.specs.declared.replay_fault.ReplayFault.TheVariants.{Read, Write, Memory, Store}
 use Rattle.mqtt_replay.specs.declared.ends.End.{End}
 use Rattle.mqtt_replay.specs.declared.ends.End.TheVariants as end
 
@@ -18,6 +20,8 @@ pub record Play (W : Type 0) : Type 1 where
   pub happens : W → Event → Telling → W → Type 0
   -- the event can't happen there
   pub is_bad : W → Event → Type 0
+  -- there is a cause for which a store ends it
+  pub due : Type 0
   -- how many messages a publisher has, and how many of their handshakes are completed
   pub sent : W → List ℕ → ℕ
   pub done : W → List ℕ → ℕ
@@ -27,6 +31,13 @@ pub record Play (W : Type 0) : Type 1 where
   -- how many publications the broker accepted, and how many sessions it has
   pub publications : W → ℕ
   pub sessions : W → ℕ
+
+-- a replay that ends for its store has the cause that its world tells
+abbrev pub IsDue : {W : Type 0} → Play W → ReplayFault → Type 0
+IsDue p Read = ⊤
+IsDue p Write = ⊤
+IsDue p Memory = ⊤
+IsDue p Store = p.due
 
 -- how many events of a script happened, the ends that they made, in order, and the world
 pub record Standing (W : Type 0) : Type 0 where

@@ -3,7 +3,7 @@
 ghost use Rattle.std.specs.Prelude.{◌≡◌, ◌≢◌, ◌+◌, [], ◌∷◌, OnOk, IfOk, IfErr};
 ghost use Rattle.std.specs.Io.KnownBytes.{Appends, Keeps};
 ghost use Rattle.mqtt_script.specs.Telling.{bad_text};
-ghost use Rattle.mqtt_replay.specs.Playing.{last_lines};
+ghost use Rattle.mqtt_replay.specs.Playing.{IsDue, last_lines};
 ghost use Rattle.mqtt_replay.specs.Replaying.{EventShows, LineShows, Shows, ShowsFront};
 
 use crate::runs::Runs;
@@ -34,6 +34,7 @@ fn play_event<P: Runs, W: Write>(
         (W.contents writer.old) (W.contents writer.new) played) }
     ensures err { IfErr result (λ fault. fault ≢ ReplayFault.Write
         → Keeps (W.contents writer.old) (W.contents writer.new)) }
+    ensures cause { IfErr result (IsDue P.play) }
 {
     let mut text = String::new(alloc);
     let played = script.happen(&mut text, event)?;
@@ -51,6 +52,7 @@ fn play_bad<P: Runs, W: Write>(
         (bad_text (script.now.number + 1))) }
     ensures err { IfErr result (λ fault. fault ≢ ReplayFault.Write
         → Keeps (W.contents writer.old) (W.contents writer.new)) }
+    ensures cause { IfErr result (IsDue P.play) }
 {
     let mut text = String::new(alloc);
     script.push_bad(&mut text)?;
@@ -68,6 +70,7 @@ pub fn play_line<P: Runs, W: Write>(
         (W.contents writer.old) (W.contents writer.new) played) }
     ensures err { IfErr result (λ fault. fault ≢ ReplayFault.Write
         → Keeps (W.contents writer.old) (W.contents writer.new)) }
+    ensures cause { IfErr result (IsDue P.play) }
 {
     if is_passed_over(line) {
         return Ok(Played::Whole);
@@ -96,6 +99,7 @@ fn write_last<P: Runs, W: Write>(
         (last_lines P.play script.now)) }
     ensures err { IfErr result (λ fault. fault ≢ ReplayFault.Write
         → Keeps (W.contents writer.old) (W.contents writer.new)) }
+    ensures cause { IfErr result (IsDue P.play) }
 {
     let mut text = String::new(alloc);
     script.push_last(alloc, &mut text)?;
@@ -114,6 +118,7 @@ pub fn play_last<P: Runs, W: Write>(
     ensures err { IfErr result (λ fault. fault ≢ ReplayFault.Write
         → ShowsFront P.play (line.now ∷ []) script.old
         (W.contents writer.old) (W.contents writer.new)) }
+    ensures cause { IfErr result (IsDue P.play) }
 {
     match play_line(alloc, script, line, writer)? {
         Played::Whole => {

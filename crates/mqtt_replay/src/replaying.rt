@@ -1,6 +1,7 @@
 //! How a script is replayed, in whatever pieces it comes (ours).
 
 ghost use Rattle.std.specs.Prelude.{◌≡◌, ◌≢◌, ◌<◌, ℕ, List, [], ◌++◌, length, IfOk, IfErr, IfSome};
+ghost use Rattle.mqtt_replay.specs.Playing.{IsDue};
 ghost use Rattle.mqtt_replay.specs.Replaying.{IsPlain, PieceShows, Replays, ReplaysFront, Shows, ShowsFront, lines_of};
 
 use crate::playing::{play_last, play_line};
@@ -28,6 +29,7 @@ pub fn replay<P: Runs, R: Read, W: Write>(
     ensures err { IfErr result (λ fault. fault ≢ ReplayFault.Write
         → IfSome (R.remaining reader.old) (λ input.
         ReplaysFront P.play world input (W.contents writer.old) (W.contents writer.new))) }
+    ensures cause { IfErr result (IsDue P.play) }
 {
     let mut chunk = [0u8; CHUNK_SIZE];
     let mut held = Vec::new(alloc);
@@ -55,6 +57,7 @@ fn replay_by<P: Runs, R: Read, W: Write>(
     ensures err { IfErr result (λ fault. fault ≢ ReplayFault.Write
         → IfSome (R.remaining reader.old) (λ input. ShowsFront P.play (lines_of input) script.old
         (W.contents writer.old) (W.contents writer.new))) }
+    ensures cause { IfErr result (IsDue P.play) }
 {
     for _ in 0..u64::MAX {
         let count = match reader.read(chunk) {
@@ -88,6 +91,7 @@ fn play_piece<P: Runs, W: Write>(
     ensures err { IfErr result (λ fault. fault ≢ ReplayFault.Write → (more : List ℕ)
         → ShowsFront P.play (lines_of (held.old.items ++ (piece.now ++ more))) script.old
         (W.contents writer.old) (W.contents writer.new)) }
+    ensures cause { IfErr result (IsDue P.play) }
 {
     let mut rest = piece;
     while let Some((byte, after)) = rest.split_first() {

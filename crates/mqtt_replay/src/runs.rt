@@ -18,7 +18,8 @@ pub trait Runs: Drop {
     fn happen(&mut self, event: &Event) -> Result<Told, RunFault>
         ensures happens { IfOk result (λ told. play.happens self.old event.now told self.new) }
         ensures bad { (place : ℕ) → IsErrOf result (RunFault.BadEvent place)
-            → play.is_bad self.old event.now };
+            → play.is_bad self.old event.now }
+        ensures cause { IsErrOf result RunFault.Store → play.due };
 
     /// How many messages a publisher has; 0 where there is no such publisher. Takes no memory.
     fn sent(&self, client: &str) -> u64

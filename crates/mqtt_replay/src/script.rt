@@ -1,11 +1,11 @@
 //! How far a script has come on its world (ours).
 
-ghost use Rattle.std.specs.Prelude.{◌≡◌, ◌+◌, ◌++◌, OnOk, IfOk, option_to_list};
+ghost use Rattle.std.specs.Prelude.{◌≡◌, ◌+◌, ◌++◌, OnOk, IfErr, IfOk, option_to_list};
 ghost use Rattle.std.specs.String.{string_bytes};
 ghost use Rattle.mqtt_script.specs.Lines.{first_word};
 ghost use Rattle.mqtt_script.specs.Telling.{bad_text};
 ghost use Rattle.mqtt_replay.specs.Told.{told_text};
-ghost use Rattle.mqtt_replay.specs.Playing.{AddsLine, last_lines, made_by, start};
+ghost use Rattle.mqtt_replay.specs.Playing.{AddsLine, IsDue, last_lines, made_by, start};
 
 use crate::ends::{End, push_ends, push_made};
 use crate::runs::Runs;
@@ -55,8 +55,9 @@ impl<P: Runs> Script<P> {
 
     /// An event happens, and its line is added; or the line of one that can't happen there.
     pub fn happen(&mut self, text: &mut String, event: &Event) -> Result<Played, ReplayFault>
-        ensures { IfOk result (λ played. AddsLine P.play event.now self.old self.new
+        ensures added { IfOk result (λ played. AddsLine P.play event.now self.old self.new
             (string_bytes text.old) (string_bytes text.new) played) }
+        ensures cause { IfErr result (IsDue P.play) }
     {
         let number = next_number(self.number)?;
         match self.world.happen(event) {

@@ -82,6 +82,7 @@ impl Runs for Toy {
     ghost play = { record {
       happens = λ w e told after. ⊤;
       is_bad = λ w e. ⊤;
+      due = ⊤;
       sent = λ w client. 1;
       done = λ w client. 0;
       handed = λ w client. 1 ∷ [];

@@ -1,3 +1,4 @@
 -- Lemmas on worlds that run, and the text of a script there.
+pub mod Caused
 pub mod Refused
 pub mod Texted

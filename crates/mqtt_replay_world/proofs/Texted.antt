@@ -26,11 +26,10 @@ use Rattle.mqtt_replay.specs.declared.ends.End.{End}
 use Rattle.mqtt_replay.specs.declared.ends.End.TheVariants.{Publisher, Receiver}
 use Rattle.mqtt_replay.specs.Playing.{Happened, Standing, end_line, last_lines, made_by, start}
 use Rattle.mqtt_replay.specs.Replaying.{IsBadLine, LinePlays, LinesPlay, Replays, ReplaysFront, Shows, ShowsFront, lines_of}
-use Rattle.mqtt_world.specs.Events.{IsReached}
-use Rattle.mqtt_world.specs.Openings.{AlwaysSound}
-use Rattle.mqtt_world.specs.Stages.{Staged, broker_of, world_at}
-use Rattle.mqtt_world.specs.Worlds.{Happen, HasCome, Lasting, Starts, done_in, handed_in, publications_in, queue_in, seen_at, sent_in, sessions_in}
-use Rattle.mqtt_world.specs.declared.over.Over.{Over}
+use Rattle.mqtt_world_scene.specs.Events.{IsReached}
+use Rattle.mqtt_world.specs.Stages.{IsSoundAt, Staged, broker_of, world_at}
+use Rattle.mqtt_world.specs.Worlds.{CantHappen, Happen, HasCome, Lasting, Starts, done_in, handed_in, publications_in, queue_in, seen_at, sent_in, sessions_in}
+use Rattle.mqtt_world_scene.specs.declared.over.Over.{Over}
 use Rattle.mqtt_world.proofs.Course.{come_on, happen_more, happen_none}
 use Rattle.mqtt_replay_world.specs.Plays.{play_of}
 use Rattle.mqtt_replay_world.specs.Texts.{AreEventsOf, FrontOver, FrontText, IsBadLineIn, OpensOver, ReplayText, ReplaysOver, RunsLines, Wrote, end_line_in, ends_made, last_lines_in, lines_told}
@@ -144,64 +143,106 @@ module _ {K : Type 0} (g : Ghosts K) where
 
   -- ---- from where a world begins over a store
 
-  module _ (limits : Limits) (keep : K) (w : Lasting K) (starts : Starts g limits keep w) (sound : AlwaysSound g) (phases : HaveSentPhases starts.records) where
+  module _ (limits : Limits) (keep : K) (w : Lasting K) (starts : Starts g limits keep w) where
     abbrev begun : World
     begun = opened_world limits starts.choice 0 starts.records
 
-    has_come : HasCome begun w
-    has_come = starts.comes phases
+    -- what is sound where events led was sound where they began, and as it was loaded
+    from_sound : (es : List Event) (ts : List Telling) (new : Lasting K) → (h : Happen g es ts w new) → IsSoundAt g h.to → IsSoundAt g starts.at
+    from_sound es ts new h sound =
+        subst (λ (s : Staged K). IsSoundAt g s) (ok_is w.stage h.from starts.at h.was starts.stage) (h.runs.sound sound)
 
-    runs_of : (es : List Event) (ts : List Telling) (new : Lasting K) → (h : Happen g es ts w new) → RunsTo limits es ts begun (world_at h.to)
-    runs_of es ts new h =
-        let same : h.from ≡ starts.at = ok_is w.stage h.from starts.at h.was starts.stage in
-        let reached : IsReached h.from.limits (broker_of h.from) = (has_come h.from h.was).reached in
-        let limits_are : h.from.limits ≡ limits = ap (λ (s : Staged K). s.limits) same ∙ starts.limits_are in
-        let world_is : world_at h.from ≡ begun = ap (λ (s : Staged K). world_at s) same ∙ starts.world in
-        subst (λ (x : World). RunsTo limits es ts x (world_at h.to)) world_is
-        (subst (λ (l : Limits). RunsTo l es ts (world_at h.from) (world_at h.to)) limits_are (h.runs.runs sound reached))
+    -- over the store that events left
+    opens_left : (Holds : World → Type 0) (es : List Event) (ts : List Telling) (new : Lasting K) (s : Staged K) → (h : Happen g es ts w new)
+        → (IsSoundAt g s → IsSoundAt g h.to) → (IsSoundAt g s → HaveSentPhases starts.records → Holds begun) → OpensOver g limits keep Holds
+    opens_left Holds es ts new s h was holds = record {
+      loaded = starts.loaded;
+      records = starts.records;
+      load = starts.load;
+      lawful = starts.lawful;
+      choice = starts.choice;
+      unspent = starts.unspent;
+      left = s.played.engine.running.keep;
+      sound = λ sound. starts.sound (from_sound es ts new h (was sound));
+      holds = holds;
+    }
 
-    runs_lines : (lines : List (List ℕ)) (text : List ℕ) (end : Standing (Lasting K)) → (c : Comes g lines (start w) text end)
-        → RunsLines limits lines begun text c.events (world_at c.happen.to)
-    runs_lines lines text end c =
-        let came = has_come starts.at starts.stage in
-        let runs = runs_of c.events c.tells end.world c.happen in
-        record {
-          are = c.are;
-          tells = c.tells;
-          runs = runs;
-          told = c.told;
-          delivers = λ begins clean.
-              delivers_once limits c.events c.tells begun (world_at c.happen.to)
-              (subst (λ (l : Limits). AreWithin l) starts.limits_are came.within) begins clean runs;
-        }
+    module _ (phases : HaveSentPhases starts.records) where
+      has_come : HasCome g begun w
+      has_come = starts.comes phases
+
+      runs_of : (es : List Event) (ts : List Telling) (new : Lasting K) → (h : Happen g es ts w new) → IsSoundAt g h.to → RunsTo limits es ts begun (world_at h.to)
+      runs_of es ts new h sound =
+          let same : h.from ≡ starts.at = ok_is w.stage h.from starts.at h.was starts.stage in
+          let reached : IsReached h.from.limits (broker_of h.from) = (has_come h.from h.was (h.runs.sound sound)).reached in
+          let limits_are : h.from.limits ≡ limits = ap (λ (s : Staged K). s.limits) same ∙ starts.limits_are in
+          let world_is : world_at h.from ≡ begun = ap (λ (s : Staged K). world_at s) same ∙ starts.world in
+          subst (λ (x : World). RunsTo limits es ts x (world_at h.to)) world_is
+          (subst (λ (l : Limits). RunsTo l es ts (world_at h.from) (world_at h.to)) limits_are (h.runs.runs sound reached))
+
+      runs_lines : (lines : List (List ℕ)) (text : List ℕ) (end : Standing (Lasting K)) → (c : Comes g lines (start w) text end)
+          → IsSoundAt g c.happen.to → RunsLines limits lines begun text c.events (world_at c.happen.to)
+      runs_lines lines text end c sound =
+          let came = has_come starts.at starts.stage (from_sound c.events c.tells end.world c.happen sound) in
+          let runs = runs_of c.events c.tells end.world c.happen sound in
+          record {
+            are = c.are;
+            tells = c.tells;
+            runs = runs;
+            told = c.told;
+            delivers = λ begins clean.
+                delivers_once limits c.events c.tells begun (world_at c.happen.to)
+                (subst (λ (l : Limits). AreWithin l) starts.limits_are came.within) begins clean runs;
+          }
+
+      -- an event that can't happen there can't in the definitions' world
+      cant_here : (e : Event) (end after : Lasting K) (es : List Event) (ts : List Telling) → (h : Happen g es ts w end) → (cant : CantHappen g e end after)
+          → IsSoundAt g cant.nothing.to → IsBadHere e (world_at h.to)
+      cant_here e end after es ts h cant sound =
+          let from = cant.nothing.from in
+          let same : from ≡ h.to = ok_is end.stage from h.to cant.nothing.was h.is in
+          let come : HasCome g begun end = come_on g begun es ts w end h has_come in
+          subst (λ (s : Staged K). IsBadHere e (world_at s)) same
+          (cant.bad sound (come from cant.nothing.was (cant.nothing.runs.sound sound)).reached)
+
+    -- what a bad line leaves of the store
+    abbrev left_by : (bad : List ℕ) (end : Standing (Lasting K)) → Staged K → IsBadLine (play_of g) bad end → Staged K
+    left_by bad end s (kept, inl none) = s
+    left_by bad end s (kept, inr (e, is, (after, cant))) = cant.nothing.to
+
+    left_sound : (bad : List ℕ) (end : Standing (Lasting K)) (es : List Event) (ts : List Telling) → (h : Happen g es ts w end.world)
+        → (isbad : IsBadLine (play_of g) bad end) → IsSoundAt g (left_by bad end h.to isbad) → IsSoundAt g h.to
+    left_sound bad end es ts h (kept, inl none) sound = sound
+    left_sound bad end es ts h (kept, inr (e, is, (after, cant))) sound =
+        subst (λ (s : Staged K). IsSoundAt g s) (ok_is end.world.stage cant.nothing.from h.to cant.nothing.was h.is) (cant.nothing.runs.sound sound)
 
     -- a bad line is one in the definitions' world
-    bad_here : (bad : List ℕ) (end : Standing (Lasting K)) (es : List Event) (ts : List Telling) → (h : Happen g es ts w end.world)
-        → IsBadLine (play_of g) bad end → IsBadLineIn bad (world_at h.to)
-    bad_here bad end es ts h (kept, inl none) = (kept, inl none)
-    bad_here bad end es ts h (kept, inr (e, is, refused)) =
-        let (after, cant) = refused in
-        let from = cant.nothing.from in
-        let same : from ≡ h.to = ok_is end.world.stage from h.to cant.nothing.was h.is in
-        let come : HasCome begun end.world = come_on g begun es ts w end.world sound h has_come in
-        (kept, inr (e, is, subst (λ (s : Staged K). IsBadHere e (world_at s)) same (cant.bad sound (come from cant.nothing.was).reached)))
+    bad_here : HaveSentPhases starts.records → (bad : List ℕ) (end : Standing (Lasting K)) (es : List Event) (ts : List Telling) → (h : Happen g es ts w end.world)
+        → (isbad : IsBadLine (play_of g) bad end) → IsSoundAt g (left_by bad end h.to isbad) → IsBadLineIn bad (world_at h.to)
+    bad_here phases bad end es ts h (kept, inl none) sound = (kept, inl none)
+    bad_here phases bad end es ts h (kept, inr (e, is, (after, cant))) sound = (kept, inr (e, is, cant_here phases e end.world after es ts h cant sound))
 
     text_of : (lines : List (List ℕ)) (before after : Option (List ℕ)) (played : Played) → Shows (play_of g) lines (start w) before after played
-        → Wrote (λ text. ReplayText limits begun lines text played) before after
+        → OpensOver g limits keep (λ v. Wrote (λ text. ReplayText limits v lines text played) before after)
     text_of lines before after Whole (front, end, plays, wrote) =
-        let c = comes lines (start w) end front starts.at starts.stage plays in (
+        let c = comes lines (start w) end front starts.at starts.stage plays in
+        opens_left (λ v. Wrote (λ text. ReplayText limits v lines text Whole) before after) c.events c.tells end.world c.happen.to c.happen (λ sound. sound)
+        (λ sound phases. (
           front ++ last_lines (play_of g) end,
           (
             front,
             c.events,
             world_at c.happen.to,
-            runs_lines lines front end c,
+            runs_lines phases lines front end c sound,
             ap (λ (l : List ℕ). front ++ l) (last_seen end c.happen.to c.events c.happen.is (c.happen.kept ∙ ap (λ (es : List Event). es ++ c.events) starts.events) c.ends),
           ),
           wrote,
-        )
+        ))
     text_of lines before after Bad (good, bad, rest, front, end, are, plays, isbad, wrote) =
-        let c = comes good (start w) end front starts.at starts.stage plays in (
+        let c = comes good (start w) end front starts.at starts.stage plays in
+        let was = left_sound bad end c.events c.tells c.happen isbad in
+        opens_left (λ v. Wrote (λ text. ReplayText limits v lines text Bad) before after) c.events c.tells end.world (left_by bad end c.happen.to isbad) c.happen was
+        (λ sound phases. (
           front ++ bad_text (end.number + 1),
           (
             good,
@@ -211,54 +252,44 @@ module _ {K : Type 0} (g : Ghosts K) where
             c.events,
             world_at c.happen.to,
             are,
-            runs_lines good front end c,
-            bad_here bad end c.events c.tells c.happen isbad,
+            runs_lines phases good front end c (was sound),
+            bad_here phases bad end c.events c.tells c.happen isbad sound,
             ap (λ (n : ℕ). front ++ bad_text (n + 1)) (from_none end.number (length c.events) c.number),
           ),
           wrote,
-        )
+        ))
 
     front_of : (lines : List (List ℕ)) (before after : Option (List ℕ)) → ShowsFront (play_of g) lines (start w) before after
-        → Wrote (λ text. FrontText limits begun lines text) before after
+        → OpensOver g limits keep (λ v. Wrote (λ text. FrontText limits v lines text) before after)
     front_of lines before after (good, rest, front, end, are, plays, wrote) =
-        let c = comes good (start w) end front starts.at starts.stage plays in (
+        let c = comes good (start w) end front starts.at starts.stage plays in
+        opens_left (λ v. Wrote (λ text. FrontText limits v lines text) before after) c.events c.tells end.world c.happen.to c.happen (λ sound. sound)
+        (λ sound phases. (
           front,
-          (good, rest, c.events, world_at c.happen.to, are, runs_lines good front end c),
+          (good, rest, c.events, world_at c.happen.to, are, runs_lines phases good front end c sound),
           wrote,
-        )
+        ))
 
+  -- what was shown of lines that play in a world over a store is the text of that store's world
   pub replays_over : (limits : Limits) (keep : K) (w : Lasting K) (lines : List (List ℕ)) (before after : Option (List ℕ)) (played : Played)
       → Starts g limits keep w → Shows (play_of g) lines (start w) before after played → ReplaysOver g limits keep lines before after played
-  replays_over limits keep w lines before after played starts shows = record {
-    loaded = starts.loaded;
-    records = starts.records;
-    load = starts.load;
-    lawful = starts.lawful;
-    choice = starts.choice;
-    unspent = starts.unspent;
-    holds = λ sound phases. text_of limits keep w starts sound phases lines before after played shows;
-  }
+  replays_over limits keep w lines before after played starts shows = text_of limits keep w starts lines before after played shows
 
+  -- a front that was shown of lines in a world over a store is one of that world's text
   pub front_over : (limits : Limits) (keep : K) (w : Lasting K) (lines : List (List ℕ)) (before after : Option (List ℕ))
       → Starts g limits keep w → ShowsFront (play_of g) lines (start w) before after → FrontOver g limits keep lines before after
-  front_over limits keep w lines before after starts shows = record {
-    loaded = starts.loaded;
-    records = starts.records;
-    load = starts.load;
-    lawful = starts.lawful;
-    choice = starts.choice;
-    unspent = starts.unspent;
-    holds = λ sound phases. front_of limits keep w starts sound phases lines before after shows;
-  }
+  front_over limits keep w lines before after starts shows = front_of limits keep w starts lines before after shows
 
   -- ---- of a reader that tells what is left
 
+  -- the same of an input that is told, with its lines
   pub replays_seen : (limits : Limits) (keep : K) (w : Lasting K) (input : Option (List ℕ)) (before after : Option (List ℕ)) (played : Played)
       → Starts g limits keep w → IfSome input (λ bytes. Replays (play_of g) w bytes before after played)
       → IfSome input (λ bytes. ReplaysOver g limits keep (lines_of bytes) before after played)
   replays_seen limits keep w None before after played starts shows = tt
   replays_seen limits keep w (Some bytes) before after played starts shows = replays_over limits keep w (lines_of bytes) before after played starts shows
 
+  -- the same of an input that is told: nothing was written, or a front
   pub front_seen : (limits : Limits) (keep : K) (w : Lasting K) (input : Option (List ℕ)) (before after : Option (List ℕ))
       → Starts g limits keep w → IfSome input (λ bytes. ReplaysFront (play_of g) w bytes before after)
       → IfSome input (λ bytes. Keeps before after ⊎ FrontOver g limits keep (lines_of bytes) before after)
@@ -275,15 +306,15 @@ nothing_runs limits w within = record {
   delivers = λ begins clean. delivers_once limits [] [] w w within begins clean (refl, refl);
 }
 
--- where nothing was written a front of the text was
+-- if nothing was written a front of the text was
 pub front_none : (limits : Limits) (lines : List (List ℕ)) (before after : Option (List ℕ)) → AreWithin limits → Keeps before after
     → Wrote (λ text. FrontText limits start_world lines text) before after
 front_none limits lines before after within kept =
     ([], ([], lines, [], start_world, refl, nothing_runs limits start_world within), Appends-kept before before after [] (Appends-nil before) kept)
 
--- ---- over a store that has nothing, and whose device is always sound
+-- ---- over a store that has nothing, and whose device always returns what was written
 
-module _ {K : Type 0} (g : Ghosts K) (sound : AlwaysSound g) (limits : Limits) (within : AreWithin limits) (keep : K) (empty : g.holds keep nothing) where
+module _ {K : Type 0} (g : Ghosts K) (sound : (keep : K) → g.is_sound keep) (limits : Limits) (within : AreWithin limits) (keep : K) (empty : g.holds keep nothing) where
   records_none : (r : Records) (loaded : K) → IsLoad g keep r loaded → r ≡ nothing
   records_none r loaded load = load.exact nothing empty (sound loaded)
 
@@ -291,8 +322,9 @@ module _ {K : Type 0} (g : Ghosts K) (sound : AlwaysSound g) (limits : Limits) (
   from_nothing Holds opens =
       let none : opens.records ≡ nothing = records_none opens.records opens.loaded opens.load in
       subst (λ (r : Records). Holds (opened_world limits opens.choice 0 r)) none
-      (opens.holds sound (subst (λ (r : Records). HaveSentPhases r) (sym none) tt))
+      (opens.holds (sound opens.left) (subst (λ (r : Records). HaveSentPhases r) (sym none) tt))
 
+  -- over an empty store the text is that of a new world
   pub written : (input : Option (List ℕ)) (before after : Option (List ℕ)) (played : Played)
       → IfSome input (λ bytes. ReplaysOver g limits keep (lines_of bytes) before after played)
       → IfSome input (λ bytes. Wrote (λ text. ReplayText limits start_world (lines_of bytes) text played) before after)
@@ -300,6 +332,7 @@ module _ {K : Type 0} (g : Ghosts K) (sound : AlwaysSound g) (limits : Limits) (
   written (Some bytes) before after played shows =
       from_nothing (λ w. Wrote (λ text. ReplayText limits w (lines_of bytes) text played) before after) shows
 
+  -- over an empty store a front is one of a new world's text
   pub written_front : (input : Option (List ℕ)) (before after : Option (List ℕ))
       → IfSome input (λ bytes. Keeps before after ⊎ FrontOver g limits keep (lines_of bytes) before after)
       → IfSome input (λ bytes. Wrote (λ text. FrontText limits start_world (lines_of bytes) text) before after)
@@ -310,7 +343,7 @@ module _ {K : Type 0} (g : Ghosts K) (sound : AlwaysSound g) (limits : Limits) (
 
 -- nothing was written, whatever a reader would give
 
--- where nothing was written over a store, too
+-- if nothing was written over a store, too
 pub kept_seen : {K : Type 0} (g : Ghosts K) (limits : Limits) (keep : K) (input before : Option (List ℕ))
     → IfSome input (λ bytes. Keeps before before ⊎ FrontOver g limits keep (lines_of bytes) before before)
 kept_seen g limits keep None before = tt

@@ -26,7 +26,6 @@ use Rattle.mqtt_script.specs.declared.replay_fault.Played.TheVariants.{Whole, Ba
 use Rattle.mqtt_replay.specs.declared.ends.End.{End}
 use Rattle.mqtt_replay.specs.declared.ends.End.TheVariants.{Publisher, Receiver}
 use Rattle.mqtt_replay.specs.Playing.{made_by}
-use Rattle.mqtt_world.specs.Openings.{AlwaysSound}
 use Rattle.mqtt_world.specs.Worlds.{done_in, handed_in, queue_in, sent_in}
 
 -- ---- the events of lines: one for each, but for lines that are passed over
@@ -96,7 +95,8 @@ abbrev pub Wrote : (List ℕ → Type 0) → Option (List ℕ) → Option (List 
 Wrote IsText before after = (text : List ℕ) × IsText text × Appends before after text
 
 -- ---- over a store: the broker is opened at moment 0 on lawful records that its load answered; and this holds of the world in
--- which it stands, if the device is always sound and what was in flight has identifiers of two bytes (2.2.1, 4.1)
+-- which it stands, if the device, as the store was left, has returned what was written, and what was in flight has identifiers of
+-- two bytes (2.2.1, 4.1)
 
 pub record OpensOver {K : Type 0} (g : Ghosts K) (limits : Limits) (keep : K) (Holds : World → Type 0) : Type 0 where
   pub loaded : K
@@ -105,7 +105,9 @@ pub record OpensOver {K : Type 0} (g : Ghosts K) (limits : Limits) (keep : K) (H
   pub lawful : IsLawful records
   pub choice : MemberChoice
   pub unspent : is_opening_spent limits choice 0 records ≡ false
-  pub holds : AlwaysSound g → HaveSentPhases records → Holds (opened_world limits choice 0 records)
+  pub left : K
+  pub sound : g.is_sound left → g.is_sound loaded
+  pub holds : g.is_sound left → HaveSentPhases records → Holds (opened_world limits choice 0 records)
 
 abbrev pub ReplaysOver : {K : Type 0} → Ghosts K → Limits → K → List (List ℕ) → Option (List ℕ) → Option (List ℕ) → Played → Type 0
 ReplaysOver g limits keep lines before after played =

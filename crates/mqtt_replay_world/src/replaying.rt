@@ -1,11 +1,12 @@
 //! The replay of a script over a store, and from nothing stored (ours).
 
-ghost use Rattle.std.specs.Prelude.{◌≢◌, ◌⊎◌, IfErr, IfOk, IfSome};
+ghost use Rattle.std.specs.Prelude.{◌≡◌, ◌≢◌, ◌⊎◌, IfErr, IfOk, IfSome};
 ghost use Rattle.std.specs.Io.KnownBytes.{Keeps};
 ghost use Rattle.mqtt_rules.specs.Laws.{AreWithin};
 ghost use Rattle.mqtt_world_headline_laws.specs.Lives.{BeginsWell};
 ghost use Rattle.mqtt_world_model.specs.World.{start};
 ghost use Rattle.mqtt_replay.specs.Replaying.{lines_of};
+ghost use Rattle.mqtt_replay_world.specs.Causes.{IsNumberDue, IsReplayDue, ends_as};
 ghost use Rattle.mqtt_replay_world.specs.Texts.{FrontOver, FrontText, ReplayText, ReplaysOver, Wrote};
 
 use crate::playing::Playing;
@@ -19,7 +20,9 @@ use std::hash::RandomState;
 use std::io::{Read, Write};
 
 /// Why a world that does not begin ends the replay. Takes no memory.
-fn fault_of(fault: RunFault) -> ReplayFault {
+fn fault_of(fault: RunFault) -> ReplayFault
+    ensures { result ≡ ends_as fault }
+{
     match fault {
         RunFault::Memory => ReplayFault::Memory,
         RunFault::Store | RunFault::BadEvent { .. } => ReplayFault::Store,
@@ -45,6 +48,9 @@ pub fn replay_over<K: Keep, R: Read, W: Write>(
     ensures err { IfErr result (λ fault. fault ≢ ReplayFault.Write
         → IfSome (R.remaining reader.old) (λ input. Keeps (W.contents writer.old) (W.contents writer.new)
         ⊎ FrontOver K.Keep limits keep (lines_of input) (W.contents writer.old) (W.contents writer.new))) }
+
+    // `Store` has a cause: the broker was not opened on what is stored, or one that the world tells.
+    ensures cause { IfErr result (IsReplayDue K.Keep limits keep) }
 {
     match World::new(alloc, keep, limits, hasher) {
         Ok(world) => mqtt_replay::replay(alloc, Playing::new(world), reader, writer),
@@ -67,6 +73,9 @@ pub fn replay<R: Read, W: Write>(
     ensures err { IfErr result (λ fault. fault ≢ ReplayFault.Write
         → IfSome (R.remaining reader.old) (λ input. Wrote (λ text. FrontText limits start (lines_of input) text)
         (W.contents writer.old) (W.contents writer.new))) }
+
+    // `Store` has a cause: no store fails here, so a number would be spent, or a broker was not opened again.
+    ensures cause { IfErr result IsNumberDue }
 
     // Nobody is there at first, so exactly-once delivery holds of whatever is replayed.
     ensures untouched { BeginsWell limits start }

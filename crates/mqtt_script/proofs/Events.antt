@@ -259,6 +259,7 @@ not_ascii line text true same is found e said = cc
 -- ---- what is answered
 
 module _ (line text : List ℕ) (same : text ≡ line) where
+  -- a line that was read as an event is the line of that event
   pub reads_line : (ascii : Bool) → ascii ≡ true → MatchBool ascii (IsAscii text) (IsNotAscii text)
       → (r : Result Event ScriptFault) → IsReadAs (event_in (words_of text)) r → IfOk r (λ e. IsLineOf e line)
   reads_line true is ascii (Ok e) read =
@@ -266,6 +267,7 @@ module _ (line text : List ℕ) (same : text ≡ line) where
   reads_line true is ascii (Err fault) read = tt
   reads_line false is ascii r read = cc
 
+  -- a line that was refused, and not for want of memory, is the line of no event
   pub refuses_line : (r : Result Event ScriptFault) → IsReadAs (event_in (words_of text)) r
       → IfErr r (λ fault. fault ≢ Memory → IsNoLine line)
   refuses_line (Ok e) read = tt

@@ -42,6 +42,7 @@ name_is_read word is = granted _ (name_decides word) (Some word) is
 -- ---- choices
 
 module _ (word : List ℕ) where
+  -- a word that is read as a flag is the word of that flag
   pub flag_says : (flag : Bool) → flag_at word ≡ Some flag → word ≡ flag_word flag
   unfolding flag_at
   flag_says flag e = go _ _ (bytes_eq-Decides word (codes "0")).0 (bytes_eq-Decides word (codes "1")).0 flag e
@@ -54,6 +55,7 @@ module _ (word : List ℕ) where
       go false true a b true e = b refl
       go false false a b flag e = cc
 
+  -- a word that is read as a quality of service is the word of it
   pub qos_says : (qos : Qos) → qos_at word ≡ Some qos → word ≡ qos_word qos
   unfolding qos_at
   qos_says qos e =
@@ -69,6 +71,7 @@ module _ (word : List ℕ) where
       go false false true a b c e = subst (λ q. word ≡ qos_word q) (same_some ExactlyOnce qos e) (c refl)
       go false false false a b c e = cc
 
+  -- a word that is read as a Retain Handling is the word of it
   pub handling_says : (handling : RetainHandling) → handling_at word ≡ Some handling → word ≡ handling_word handling
   unfolding handling_at
   handling_says handling e =

@@ -90,6 +90,7 @@ module _ (limits : Limits) (es : List Event) (tells : List Telling) (client : Li
       let causes = (parts HasCause (ends_over limits f.0 w) (ends_over limits turns (run limits f.0 w)) (subst (AllByRecursion HasCause) (ends_append limits f.0 turns w) caused)).1 in
       with_causes client (moment_of v) (ends_over limits turns v) his (subst (λ (u : World). AllByRecursion HasCause (ends_over limits turns u)) (sym f.2) causes)
 
+  -- a drain of a script empties its receiver's queue, in no more rounds than are enough
   pub script_empties : (t : Telling) (after : World) (h : DrainHappens limits client t v after) → IsEmptied limits client h.rounds v after
   script_empties t after h =
       let most = enough some_choice in

@@ -66,7 +66,7 @@ module _ (limits : Limits) (client : List ℕ) (moment : ℕ) where
 
   -- ---- turns that are the same but for their choices
 
-  -- these come to the same world as those, and spend no number where those spend none; and ends are the receiver's in these if they are in those
+  -- these come to the same world as those, and spend no number if those spend none; and ends are the receiver's in these if they are in those
   pub record Alike (ts us : List Turn) (w : World) : Type 0 where
     pub is : run limits ts w ≡ run limits us w
     pub clean : are_beginnings_clean limits ts w ≡ true
@@ -176,6 +176,7 @@ module _ (limits : Limits) (client : List ℕ) (moment : ℕ) where
       subst (λ (ts : List Turn). Alike ts (round_turns limits d client w) w) (sym x.are)
       (subst (λ (v : World). Alike (front ++ x.answers) ((sends ++ all_to_end d client v) ++ all_to_broker d client (run limits (all_to_end d client v) v)) w) one.is read_on)
 
+  -- the turns of a drain, each by a choice of its own, come to what the drain by one choice comes to
   pub rounds_alike : (d : MemberChoice) (rounds : ℕ) (turns : List Turn) (w : World) → AreTurnsOfRounds limits client rounds turns w → IsKept [] client limits w → run_spends limits turns w ≡ false
       → Alike turns (drain_turns limits d client rounds w) w
   rounds_alike d zero turns w h kept unspent = subst (λ (ts : List Turn). Alike ts [] w) (sym h.1) (none_alike w)

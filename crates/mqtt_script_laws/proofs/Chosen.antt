@@ -221,6 +221,7 @@ module _ (limits : Limits) (c d : MemberChoice) (now : ℕ) (r : Receiver) (b : 
           its_prepared clean r.client r.window h (env_of limits c b) (line_of s.birth h) s refl kept
           ∙ sym (its_prepared clean r.client r.window h (env_of limits d b) (line_of s.birth h) s refl kept)
 
+  -- what a receiver sends does the same whatever members are chosen
   pub deeds_same : (largest : ℕ) (ids : List CopyId) (ns : List ℕ) (n : ℕ) (x : Back) (rest : List Back) → IsPlaced largest ids ns r b → r.line.number ≡ Some n → r.line.up ≡ x ∷ rest
       → deeds limits c now (Input n (wire_back r.client r.window x)) b ≡ deeds limits d now (Input n (wire_back r.client r.window x)) b
   deeds_same largest ids ns n x rest placed number up = elim (front placed.birth placed.line x rest r b placed.seat.present up) [

@@ -1,4 +1,4 @@
--- An end waits with Clean Start 1 for a CONNACK only where it has connected with it.
+-- An end waits with Clean Start 1 for a CONNACK only if it has connected with it.
 use Rattle.std.proofs.Common.{◌≡◌, ℕ, zero, suc, Bool, true, false, cond, ◌||◌, List, [], ◌∷◌, ◌++◌, map, Option, Some, None, bytes_eq, refl, sym, ap, ◌∙◌}
 use Rattle.std.specs.Prelude.{find, nat_lt, is_some, if◌then◌else◌, length}
 use Rattle.std.specs.List.{AllByRecursion}
@@ -157,6 +157,7 @@ IsKnown names p = p.line.clean ≡ true → is_named p.client names ≡ true
 abbrev IsKnownBack : List (List ℕ) → Receiver → Type 0
 IsKnownBack names r = r.line.clean ≡ true → is_named r.client names ≡ true
 
+-- each end that waits for the CONNACK to a Clean Start has connected so by a line of the script
 pub record Known (names : List (List ℕ)) (w : World) : Type 0 where
   pub publishers : AllByRecursion (λ (p : Publisher). p.line.clean ≡ true → is_named p.client names ≡ true) w.publishers
   pub receivers : AllByRecursion (λ (r : Receiver). r.line.clean ≡ true → is_named r.client names ≡ true) w.receivers
@@ -261,7 +262,7 @@ more_named true c client names h = or_true (bytes_eq c client) (is_named c names
     or_true false b e = e
 more_named false c client names h = h
 
--- it is named now where the CONNECT has Clean Start 1
+-- it is named now if the CONNECT has Clean Start 1
 own_named : (t : Bool) (c client : List ℕ) (names : List (List ℕ)) → bytes_eq c client ≡ true → t ≡ true → is_named c (cond t (client ∷ names) names) ≡ true
 own_named true c client names is e = ap (λ (a : Bool). a || is_named c names) is
 own_named false c client names is e = never e

@@ -1,4 +1,4 @@
--- None of some turns and those behind them spends a number, where neither do.
+-- None of some turns and those behind them spends a number, if neither do.
 use Rattle.std.proofs.Common.{◌≡◌, Bool, true, false, ◌||◌, List, [], ◌∷◌, ◌++◌}
 use Rattle.mqtt_world_model.specs.Run.{Turn, run, turned, read_at, setting}
 use Rattle.mqtt_world_model.specs.World.{World}

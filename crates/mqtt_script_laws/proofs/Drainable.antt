@@ -142,6 +142,7 @@ module _ (client : List ℕ) (limits : Limits) (choice : MemberChoice) where
           subst (λ (b : Bool). is_over client (run limits (drain_by b turns more) w) ≡ true) on
           (ends_over client limits choice any_size (suc most) w (over_or_drained limits choice client w kept first) (omega (arith, some, enough)))
 
+  -- a drain that isn't bad and has enough rounds can happen, if it spends no number
   pub can_happen : (most : ℕ) (w : World) → IsKept [] client limits w → is_bad_drain client w ≡ false → run_spends limits (drain_turns limits choice client most w) w ≡ false
       → enough_rounds (copies_left client w + length (entered_from limits (round_turns limits choice client w) w)) ≤ most
       → (t : Telling) × DrainHappens limits client t w (drained limits choice client most w)

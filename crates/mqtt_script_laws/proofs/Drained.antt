@@ -28,7 +28,7 @@ use Rattle.mqtt_script_laws.proofs.Repeated.{Comes, IsReady, answers_same, come_
 -- ---- a round by one choice
 
 module _ (client : List ℕ) (limits : Limits) (choice : MemberChoice) where
-  -- where it is not over its receiver is there
+  -- if it is not over its receiver is there
   pub has_receiver : (w : World) → is_over client w ≡ false → is_some (receiver_named client w) ≡ true
   has_receiver w on = by (receiver_named client w) refl
     where
@@ -40,6 +40,7 @@ module _ (client : List ℕ) (limits : Limits) (choice : MemberChoice) where
           none true h = absurd cc
           none false h = absurd cc
 
+  -- a round, each turn by a choice of its own, comes to what the round by one choice comes to
   pub round_by : (t : Telling) (w after : World) → IsReady client limits w → IsRound limits client t w after → Comes limits (round_turns limits choice client w) t w after
   round_by t w after h x =
       let sends : List Turn = turn_of choice (ask (pump client)) ∷ [] in
@@ -74,6 +75,7 @@ module _ (client : List ℕ) (limits : Limits) (choice : MemberChoice) where
   over_after (suc rounds) zero after over le = omega (arith, le)
   over_after (suc rounds) (suc most) after over le = over_after rounds most after over (omega (arith, le))
 
+  -- rounds, each turn by a choice of its own, come to what the drain by one choice comes to
   pub rounds_by : (rounds most : ℕ) (t : Telling) (w after : World) → IsKept [] client limits w → IsEnough rounds most after → MakesRounds limits client rounds t w after → DrainsBy limits choice client most rounds t w after
   rounds_by zero zero t w after kept enough h = record { is = h.1; taken = refl; told = h.0; unspent = refl }
   rounds_by zero (suc most) t w after kept over h =
@@ -113,12 +115,14 @@ module _ (client : List ℕ) (limits : Limits) (choice : MemberChoice) where
   first_unspent rounds t w after kept (on, first, rest, mid, made, others, told) =
       (round_by first w mid (record { kept = kept; there = has_receiver w on }) made).unspent
 
+  -- a round leaves no more copies than stood before it and entered in it together
   pub grown : (w : World) → IsKept [] client limits w → run_spends limits (round_turns limits choice client w) w ≡ false
       → copies_left client (after_round limits choice client w) ≤ copies_left client w + length (entered_from limits (round_turns limits choice client w) w)
   grown w kept unspent =
       let around = kept.stands.standing.around in
       queue_grows client limits (round_turns limits choice client w) w around.within around.steady unspent
 
+  -- a drain makes no more rounds than are enough
   pub few : (rounds : ℕ) (t : Telling) (w after : World) → IsKept [] client limits w → MakesRounds limits client rounds t w after
       → rounds ≤ enough_rounds (copies_left client w + length (entered_from limits (round_turns limits choice client w) w))
   few zero t w after kept h = omega arith
@@ -130,6 +134,7 @@ module _ (client : List ℕ) (limits : Limits) (choice : MemberChoice) where
       let same : rounds_taken limits choice client (suc rounds) w ≡ suc rounds = taken in
       omega (arith, some, within, same)
 
+  -- after enough rounds a drain is over
   pub over_then : (rounds : ℕ) (t : Telling) (w after : World) → IsKept [] client limits w → MakesRounds limits client rounds t w after
       → enough_rounds (copies_left client w + length (entered_from limits (round_turns limits choice client w) w)) ≤ rounds → is_over client after ≡ true
   over_then zero t w after kept h enough = absurd (omega (arith, enough))
@@ -153,19 +158,24 @@ a_round_more limits client (suc rounds) t u w mid after (at, first, rest, v, mad
 
 module _ (limits : Limits) (es : List Event) (tells : List Telling) (choice : MemberChoice) (client : List ℕ) (w v : World) (within : AreWithin limits) (untouched : IsUntouched limits w) (clean : BeginClean limits es w)
     (runs : RunsTo limits es tells w v) where
+  -- where a script has led, the receiver is kept as a drain asks
   pub kept_there : IsKept [] client limits v
   kept_there = let f = script_fair limits es tells w v within untouched clean runs in subst (IsKept [] client limits) (sym f.2) (fair_run_kept limits f.0 w untouched f.1 client)
 
+  -- rounds that were made there come to what the drain by one choice comes to
   pub so_far : (rounds : ℕ) (t : Telling) (after : World) → MakesRounds limits client rounds t v after → DrainsBy limits choice client rounds rounds t v after
   so_far rounds t after made = rounds_by client limits choice rounds rounds t v after kept_there (as_many client limits choice rounds after) made
 
+  -- a drain that happened there is the one by one choice, with as many rounds
   pub whole : (most : ℕ) (t : Telling) (after : World) → (h : DrainHappens limits client t v after) → h.rounds ≤ most → DrainsBy limits choice client most h.rounds t v after
   whole most t after h le = rounds_by client limits choice h.rounds most t v after kept_there (over_after client limits choice h.rounds most after h.over le) h.made
 
+  -- rounds that were made there are no more than are enough
   pub is_within : (rounds : ℕ) (t : Telling) (after : World) → MakesRounds limits client rounds t v after
       → rounds ≤ enough_rounds (copies_left client v + length (entered_from limits (round_turns limits choice client v) v))
   is_within rounds t after made = few client limits choice rounds t v after kept_there made
 
+  -- after enough rounds there the drain is over
   pub is_over_then : (rounds : ℕ) (t : Telling) (after : World) → MakesRounds limits client rounds t v after
       → enough_rounds (copies_left client v + length (entered_from limits (round_turns limits choice client v) v)) ≤ rounds → is_over client after ≡ true
   is_over_then rounds t after made enough = over_then client limits choice rounds t v after kept_there made enough

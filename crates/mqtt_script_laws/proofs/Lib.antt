@@ -14,3 +14,5 @@ pub mod OneTurn
 pub mod Drainable
 pub mod Anew
 pub mod AnewExamples
+pub mod Fronts
+pub mod FrontExamples

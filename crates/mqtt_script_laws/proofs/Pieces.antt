@@ -122,6 +122,7 @@ module _ {X : Type 0} (r : Reading X) (set : Setting) (twice : r.join r.nothing 
       let x = read_if r set (call_of_stranger (stranger_named name w)) w in
       ap (r.join x) (nothing_read more name (held_after held) (next_world set name w) (next_holds set name held w h) none) ∙ alone x
 
+  -- a piece behind which no packet is whole asks for the next call of the stranger's, if anything
   pub piece_read : (name piece : List ℕ) (w : World) → AreAlike name w → first_of (held_after (bytes_come name piece w)) ≡ Ok None
       → read_asked r set (stranger name piece) w ≡ read_if r set (call_of_stranger (stranger_named name (comes set name piece w))) (comes set name piece w)
   piece_read name piece w alike none =

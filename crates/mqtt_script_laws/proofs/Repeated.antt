@@ -53,6 +53,7 @@ come_joined limits xs ys t u w mid after x y = record {
 
 -- ---- where a receiver stands
 
+-- the receiver is there, and kept as a drain asks
 pub record IsReady (client : List ℕ) (limits : Limits) (w : World) : Type 0 where
   pub kept : IsKept [] client limits w
   pub there : is_some (receiver_named client w) ≡ true
@@ -110,6 +111,7 @@ module _ (limits : Limits) (c d : MemberChoice) where
       let same : Pump n ≡ call = cc in
       subst (λ (x : Call). deeds limits c w.now x w.broker ≡ deeds limits d w.now x w.broker) same refl
 
+  -- a turn of sending comes to the same by any choice
   pub pump_same : (client : List ℕ) (w : World) → IsSame limits c d (ask (pump client)) w
   pump_same client w =
       let number = (view_of client w).number in

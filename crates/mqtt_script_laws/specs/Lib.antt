@@ -3,3 +3,4 @@ pub mod Scripted
 pub mod Turns
 pub mod Cleanly
 pub mod Drains
+pub mod Sayable

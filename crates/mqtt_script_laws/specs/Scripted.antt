@@ -143,6 +143,11 @@ pub data IsBadHere (e : Event) (w : World) : Type 0 where
   bad_event : (x : world.Event) → event_of e ≡ Some x → IsBadEvent x w → IsBadHere e w
   bad_drain : (client : List ℕ) → e ≡ Drain client → is_bad_drain client w ≡ true → IsBadHere e w
 
+-- an event of a script that is bad: as the world's that it means, or as a drain
+pub data IsBad (e : Event) (w : World) : Type 0 where
+  bad_as_event : (x : world.Event) → event_of e ≡ Some x → is_bad x w ≡ true → IsBad e w
+  bad_as_drain : (client : List ℕ) → e ≡ Drain client → is_bad_drain client w ≡ true → IsBad e w
+
 -- ---- turns to which events come
 
 -- the turns of one event: those of the world's that it means, or of a drain

@@ -15,6 +15,7 @@ pub use laws::{a_script_runs_by_turns, scripts_follow_one_another, whatever_a_sc
 pub use piece_laws::{a_piece_is_one_turn, bytes_happen_piece_by_piece};
 pub use script_laws::{
     ends_that_come_first_are_made_anew, scripts_deliver_exactly_once, strangers_hold_no_packet,
+    what_is_in_front_is_taken,
 };
 pub use turn_laws::{
     a_stop_before_is_a_restart, a_turn_tells_what_its_event_does, an_event_happens_by_turns,

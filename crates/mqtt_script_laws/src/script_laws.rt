@@ -2,6 +2,7 @@
 ghost use Rattle.std.specs.Prelude.{◌≡◌, List, [], true};
 ghost use Rattle.mqtt_world_headline_laws.specs.Lives.{BeginsWell};
 ghost use Rattle.mqtt_world_model.specs.Tellings.{Telling};
+ghost use Rattle.mqtt_world_model.specs.World as world;
 ghost use Rattle.mqtt_world_model.specs.World.{World, start};
 ghost use Rattle.mqtt_records.specs.Records.{nothing};
 ghost use Rattle.mqtt_rules.specs.Laws.{AreWithin};
@@ -9,8 +10,11 @@ ghost use Rattle.mqtt_rules.specs.State.{MemberChoice};
 ghost use Rattle.mqtt_rules.specs.declared.Limits.{Limits};
 ghost use Rattle.mqtt_script.specs.declared.event.Event.{Event};
 ghost use Rattle.mqtt_script_laws.specs.Cleanly.{AreMadeAnew, BeginClean, HaveNoSession, ScriptDelivers, makes_ends_first};
-ghost use Rattle.mqtt_script_laws.specs.Scripted.{RunsTo};
+ghost use Rattle.mqtt_script_laws.specs.Sayable.{AreSayableEvents};
+ghost use Rattle.mqtt_script_laws.specs.Scripted.{HasBadFront, IsBad, IsBadHere, RunsTo};
 ghost use Rattle.mqtt_world_single_step_laws.specs.Unrolled.{AreAllAlike, HoldNoPacket};
+ghost use Rattle.mqtt_rules_spelling_laws.specs.Sending.{SendsWell};
+ghost use Rattle.mqtt_world_reading_laws.specs.UnderWay.{IsUninhabited};
 ghost use Rattle.mqtt_world_acceptance_laws.specs.Fair.{opened_world};
 
 /// Exactly-once delivery, of every script that ran, whatever was lost, given up, restarted or stopped in it, and whatever turns
@@ -42,4 +46,19 @@ pub fn strangers_hold_no_packet()
         → RunsTo limits es tells w after → AreAllAlike w → AreAllAlike after }
     ensures waits { (limits : Limits) (es : List Event) (tells : List Telling) (w after : World)
         → RunsTo limits es tells w after → AreAllAlike w → HoldNoPacket w → HoldNoPacket after }
+{}
+
+/// Where a script has come to, the broker takes each packet that it may be asked to read next: so it refuses an event only
+/// where that is bad as the world's that it means, or as a drain. Asked: nobody was there at first, the broker sent well then,
+/// texts that the events so far brought are texts, and strangers sent bytes; so from nothing stored that alone (1.5.4, 2.1.4,
+/// 2.2.1).
+pub fn what_is_in_front_is_taken()
+    ensures fronts { (limits : Limits) (es : List Event) (tells : List Telling) (w after : World) → IsUninhabited w
+        → SendsWell w.broker → AreSayableEvents es → RunsTo limits es tells w after
+        → (x : world.Event) → ¬ HasBadFront x after }
+    ensures refuses { (limits : Limits) (es : List Event) (tells : List Telling) (w after : World) → IsUninhabited w
+        → SendsWell w.broker → AreSayableEvents es → RunsTo limits es tells w after
+        → (e : Event) → IsBadHere e after → IsBad e after }
+    ensures from_nothing { (limits : Limits) (es : List Event) (tells : List Telling) (after : World) → AreWithin limits
+        → AreSayableEvents es → RunsTo limits es tells start after → (e : Event) → IsBadHere e after → IsBad e after }
 {}

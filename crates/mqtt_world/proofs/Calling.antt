@@ -1,39 +1,32 @@
 -- What the bytes of a stranger make of a world, piece by piece (MQTT 5.0, 2.1, 4.1, 4.13).
-use Rattle.std.proofs.Common.{◌≡◌, ◌+◌, ◌<◌, ℕ, zero, suc, Bool, true, false, eqb, List, [], ◌∷◌, ◌++◌, length, take, drop, Option, Some, None, refl, sym, ap, subst, ◌∙◌, ◌⊎◌, inl, inr, true≢false, arith, append_assoc, IfOk, OnOk}
+use Rattle.std.proofs.Common.{◌≡◌, ◌<◌, ℕ, zero, suc, Bool, true, false, List, [], ◌∷◌, ◌++◌, length, take, drop, Option, Some, None, refl, sym, ap, subst, ◌∙◌, ◌⊎◌, inl, inr, arith, IfOk}
 use Rattle.std.specs.Prelude.{Result, Ok, Err, is_some}
 use Rattle.std.specs.List.{AllByRecursion}
-use Rattle.std.proofs.lemmas.Bool.{eqb-true}
 use Rattle.std.proofs.lemmas.List.{append-nil, take-append-drop}
-use Rattle.mqtt_codec_parts.specs.Faults.{answer_to}
 use Rattle.mqtt_packet.specs.Front.{first_of}
 use Rattle.mqtt_records.specs.declared.keep.Keep.{Ghosts}
-use Rattle.mqtt_broker.specs.Framers.{AreBytes}
-use Rattle.mqtt_broker.proofs.HeldBytes.{first_taken, nothing_asked}
 use Rattle.mqtt_world_model.specs.Tellings.{Telling, silent}
-use Rattle.mqtt_world_model.specs.World.{Event, Setting, Stranger, World, ask, bytes_held, call_on, calls, calls_if, held_after, held_by, is_bad, is_bad_asking, next_line, stranger, stranger_named}
+use Rattle.mqtt_world_model.specs.World.{Event, Setting, Stranger, World, ask, bytes_held, call_on, calls, calls_if, is_bad, is_bad_asking, next_line, stranger, stranger_named}
 use Rattle.mqtt_rules.specs.Laws.{AreWithin}
-use Rattle.mqtt_rules.specs.Piece.{Front, begins_connect, call_by, code_of, first_call}
-use Rattle.mqtt_rules.specs.State.{MemberChoice}
-use Rattle.mqtt_rules.specs.Step.{BadInput, Call, Input, NewLine}
+use Rattle.mqtt_rules.specs.Piece.{call_by}
+use Rattle.mqtt_rules.specs.Step.{Call, NewLine}
 use Rattle.mqtt_rules.specs.declared.Limits.{Limits}
-use Rattle.mqtt_rules.specs.declared.Report.{Report}
 use Rattle.mqtt_world_clients.specs.Ends.{in_world as among_ends}
 use Rattle.mqtt_world_single_step_laws.specs.Unrolled.{AreAlike, AreAllAlike, HoldNoPacket, HoldsThese, IsDecided, IsFound, IsWhole, bytes_come}
 use Rattle.mqtt_world_single_step_laws.proofs.Answered.{not_both, nothing_first}
 use Rattle.mqtt_world_single_step_laws.proofs.Strangers.{find_one_more, holds_one_more, none_holds}
-use Rattle.mqtt_script_laws.specs.Turns.{IsTurn, both_tell, by_choice, welcomed}
+use Rattle.mqtt_script_laws.specs.Turns.{IsTurn, by_choice, welcomed}
 use Rattle.mqtt_script_laws.proofs.Comings.{piece_first, piece_there}
 use Rattle.mqtt_world_strangers.specs.Fronts.{AsksFor, IsNextPiece, NamesThese, is_end_among}
 use Rattle.mqtt_world_strangers.specs.Strangers.{Comes, held_of, in_world as among_strangers, line_of, named, newcomer}
 use Rattle.mqtt_world_strangers.proofs.Steps.{first_good, good_first}
-use Rattle.mqtt_world.specs.Events.{IsReached, SpellsAll, TakesPacket, world_of}
-use Rattle.mqtt_world.specs.Scenes.{Calls, IsPlayable, Played}
+use Rattle.mqtt_world_scene.specs.Events.{IsReached, SpellsAll, world_of}
+use Rattle.mqtt_world_scene.specs.Hearing.{Asks, Hears}
+use Rattle.mqtt_world_scene.specs.Scenes.{Calls, IsPlayable, Played}
+use Rattle.mqtt_world_scene.proofs.Eventful.{reached_after, world_called}
+use Rattle.mqtt_world_scene.proofs.Heard.{asks_nothing, tells_none}
 use Rattle.mqtt_world.specs.Stages.{IsStanding, Staged, broker_of, world_at}
-use Rattle.mqtt_world.specs.Visits.{Asks, Hears, TakesPiece, TellsPiece, Welcomes}
-use Rattle.mqtt_world.proofs.Eventful.{reached_after, world_called}
-
-any_choice : MemberChoice
-any_choice group clients = clients
+use Rattle.mqtt_world.specs.Visits.{TakesPiece, TellsPiece, Welcomes}
 
 abbrev pub staged : {K : Type 0} → Played K → List Stranger → ℕ → Limits → Staged K
 staged s ss now limits = record { played = s; strangers = ss; now = now; limits = limits }
@@ -41,30 +34,7 @@ staged s ss now limits = record { played = s; strangers = ss; now = now; limits 
 abbrev pub comes_in : List ℕ → List ℕ → Event
 comes_in name bytes = ask (stranger name bytes)
 
--- ---- what is told, one behind the other
-
-pub tells_none : (t : Telling) → t ≡ both_tell t silent
-tells_none t =
-    let same : t.out + 0 ≡ t.out = omega arith in
-    sym (ap (λ (rs : List Report). record { reports = rs; out = t.out + 0 }) (append-nil t.reports)
-    ∙ ap (λ (n : ℕ). record { reports = t.reports; out = n }) same)
-
-pub none_tells : (t : Telling) → t ≡ both_tell silent t
-none_tells t =
-    let same : 0 + t.out ≡ t.out = omega arith in
-    sym (ap (λ (n : ℕ). record { reports = t.reports; out = n }) same)
-
-pub tells_after : (a b c : Telling) → both_tell (both_tell a b) c ≡ both_tell a (both_tell b c)
-tells_after a b c =
-    let sum : a.out + b.out + c.out ≡ a.out + (b.out + c.out) = omega arith in
-    ap (λ (rs : List Report). record { reports = rs; out = a.out + b.out + c.out }) (append_assoc a.reports b.reports c.reports)
-    ∙ ap (λ (n : ℕ). record { reports = a.reports ++ (b.reports ++ c.reports); out = n }) sum
-
 -- ---- what bytes ask for
-
-none_asked : (line : Option ℕ) → call_on line [] ≡ None
-none_asked None = refl
-none_asked (Some n) = nothing_asked n
 
 none_whole : (line : Option ℕ) (bytes : List ℕ) → first_of bytes ≡ Ok None → call_on line bytes ≡ None
 none_whole None bytes e = refl
@@ -73,73 +43,6 @@ none_whole (Some n) bytes e = ap (call_by n bytes) e
 same_asked : (line : Option ℕ) (bytes given : List ℕ) → AsksFor bytes given → call_on line given ≡ call_on line bytes
 same_asked None bytes given a = refl
 same_asked (Some n) bytes given a = a.asks n
-
--- where nothing is left of some bytes they ask for something
-some_asked : (line : ℕ) (bytes : List ℕ) → AreBytes bytes → held_after bytes ≡ [] → (bytes ≡ [] → ⊥)
-    → (call : Call) × (first_call line bytes ≡ Some call) × TakesPacket call
-some_asked line bytes each left some = by (first_of bytes) refl
-  where
-    by : (f : Front) → first_of bytes ≡ f → (call : Call) × (first_call line bytes ≡ Some call) × TakesPacket call
-    by (Ok None) e = absurd (some (sym (ap (λ (f : Front). held_by f bytes) e) ∙ left))
-    by (Ok (Some x)) e = (Input line x.0, ap (call_by line bytes) e, first_taken bytes x.0 x.1 each e)
-    by (Err fault) e = (BadInput line (begins_connect bytes) (code_of (answer_to fault)), ap (call_by line bytes) e, (fault, refl))
-
-module _ {K : Type 0} (g : Ghosts K) (now : ℕ) where
-  asks_nothing : (s : Played K) → IsPlayable g s → Asks g now None s silent s
-  asks_nothing s playable = record {
-    choice = any_choice;
-    playable = playable;
-    limits = refl;
-    reached = λ reached. reached;
-    unspent = λ ss. refl;
-    told = λ ss. refl;
-    done = λ spells reached ss. refl;
-  }
-
-  asks_call : (call : Call) (old new : Played K) (t : Telling) → TakesPacket call → Calls g now call old t new → Asks g now (Some call) old t new
-  asks_call call old new t takes c = record {
-    choice = c.choice;
-    playable = c.playable;
-    limits = c.limits;
-    reached = reached_after g now call old new t takes c;
-    unspent = λ ss. c.unspent;
-    told = λ ss. c.told_is;
-    done = λ spells reached ss. world_called g now call old new t ss reached takes c spells;
-  }
-
-  -- nothing came, or there is no line
-  pub heard_nothing : (call : Option Call) (s : Played K) (t : Telling) → IsPlayable g s → call ≡ None → Hears g now call s t t s
-  heard_nothing call s t playable none = record {
-    t = silent;
-    asks = subst (λ (o : Option Call). Asks g now o s silent s) (sym none) (asks_nothing s playable);
-    told = tells_none t;
-  }
-
-  pub heard_no_bytes : (line : Option ℕ) (bytes : List ℕ) (s : Played K) (t : Telling) → IsPlayable g s → bytes ≡ [] → Hears g now (call_on line bytes) s t t s
-  heard_no_bytes line bytes s t playable none =
-      heard_nothing (call_on line bytes) s t playable (ap (λ (xs : List ℕ). call_on line xs) none ∙ none_asked line)
-
-  pub heard_call : {X E : Type 0} (r : Result X E) (line : ℕ) (bytes : List ℕ) (old new : Played K) (before after more : Telling)
-      → AreBytes bytes → held_after bytes ≡ [] → (bytes ≡ [] → ⊥)
-      → ((call : Call) → first_call line bytes ≡ Some call → Calls g now call old more new)
-      → OnOk r (after ≡ both_tell before more) → OnOk r (Hears g now (first_call line bytes) old before after new)
-  heard_call (Err e) line bytes old new before after more each left some called told = tt
-  heard_call (Ok x) line bytes old new before after more each left some called told =
-      let a = some_asked line bytes each left some in
-      record {
-        t = more;
-        asks = subst (λ (o : Option Call). Asks g now o old more new) (sym a.1) (asks_call a.0 old new more a.2 (called a.0 a.1));
-        told = told;
-      }
-
--- ---- bytes, of which there are some or none
-
-pub none_of : (bytes : List ℕ) (empty : Bool) → empty ≡ eqb (length bytes) 0 → empty ≡ true → bytes ≡ []
-none_of [] empty is none = refl
-none_of (x ∷ xs) empty is none = let clash : suc (length xs) ≡ 0 = eqb-true (suc (length xs)) 0 (sym is ∙ none) in absurd (omega arith)
-
-pub some_of : (bytes : List ℕ) (empty : Bool) → empty ≡ eqb (length bytes) 0 → empty ≡ false → bytes ≡ [] → ⊥
-some_of bytes empty is some none = true≢false (sym (ap (λ (xs : List ℕ). eqb (length xs) 0) none) ∙ (sym is ∙ some))
 
 -- ---- whom CONNECTs name
 
@@ -154,6 +57,7 @@ any_named P ss now limits s name bytes names seen bad view these same is =
 
 -- ---- who is there
 
+-- what is not there is none
 pub is_none : {X : Type 0} (o : Option X) → is_some o ≡ false → o ≡ None
 is_none None h = refl
 is_none (Some x) h = let clash : true ≡ false = h in absurd cc
@@ -163,26 +67,32 @@ module _ {K : Type 0} (P : Played K) (ss : List Stranger) (now : ℕ) (limits : 
   seen_in : (has : Bool) → ((w : World) → has ≡ is_some (stranger_named text (among_strangers ss w))) → is_some (named name ss) ≡ has
   seen_in has found = ap (λ (n : List ℕ). is_some (named n ss)) (sym same) ∙ sym (found (world_of now ss P))
 
+  -- if a look at the strangers finds this name, a stranger of it is there
   pub there_in : (has : Bool) → ((w : World) → has ≡ is_some (stranger_named text (among_strangers ss w))) → has ≡ true → is_some (named name s.strangers) ≡ true
   there_in has found is = subst (λ (x : Staged K). is_some (named name x.strangers) ≡ true) view (seen_in has found ∙ is)
 
+  -- if it finds none, no stranger has this name
   pub none_in : (has : Bool) → ((w : World) → has ≡ is_some (stranger_named text (among_strangers ss w))) → has ≡ false → named name ss ≡ None
   none_in has found is = is_none (named name ss) (seen_in has found ∙ is)
 
+  -- if strangers of one name always hold the same bytes, those of this name do so here
   pub alike_in : ((w : World) → AreAllAlike (among_strangers ss w)) → AreAlike name (world_at s)
   alike_in all = subst (λ (x : Staged K). AreAlike name (world_at x)) view (all (world_of now ss P) name)
 
+  -- if nothing whole is held of any stranger, nothing whole is held of this one
   pub waits_in : ((w : World) → HoldNoPacket (among_strangers ss w)) → first_of (held_of name s.strangers) ≡ Ok None
   waits_in none = subst (λ (x : Staged K). first_of (held_of name x.strangers) ≡ Ok None) view (none (world_of now ss P) name)
 
 -- ---- a stranger is welcomed
 
 module _ {K : Type 0} (g : Ghosts K) (name : List ℕ) where
+  -- a stranger that is there already, of which nothing whole is held, is welcome as it is
   pub welcome_again : (s : Staged K) → IsStanding g s → is_some (named name s.strangers) ≡ true → AreAlike name (world_at s)
       → first_of (held_of name s.strangers) ≡ Ok None → Welcomes g name s s
   welcome_again s standing there alike waits = record {
     standing = standing;
     limits = refl;
+    sound = λ sound. sound;
     reached = λ reached. reached;
     there = there;
     same = refl;
@@ -200,6 +110,7 @@ module _ {K : Type 0} (g : Ghosts K) (name : List ℕ) where
     first_welcomed playable within none alike line_is c = record {
       standing = record { playable = c.playable; limits = sym c.limits; within = within };
       limits = refl;
+      sound = c.sound;
       reached = reached_after g now NewLine P N silent tt c;
       there = ap is_some found;
       same = ap bytes_held found ∙ sym (ap bytes_held none);
@@ -236,6 +147,7 @@ module _ {K : Type 0} (g : Ghosts K) (name : List ℕ) where
             ap (λ (v : World). record v { strangers = all }) (world_called g now NewLine P N silent ss reached tt c spells)
             ∙ ap (λ (l : Option ℕ). record (calls set NewLine w) { strangers = ss ++ newcomer name l ∷ [] }) line_is
 
+  -- a stranger that comes first is put behind the others, with the line that the broker gave it, and is welcome
   pub welcome_first : (now : ℕ) (limits : Limits) (s : Staged K) (P N : Played K) (ss all : List Stranger) (copy : List ℕ) (line : Option ℕ) → staged P ss now limits ≡ s
       → IsStanding g s → named name ss ≡ None → AreAlike name (world_of now ss P) → line ≡ next_line P.engine.running.broker
       → Calls g now NewLine P silent N → copy ≡ name → all ≡ ss ++ newcomer copy line ∷ [] → Welcomes g name s (staged N all now limits)
@@ -259,6 +171,7 @@ further_on held bytes zero waits (inr whole) =
     absurd (not_both (first_of held) whole.0 (length (held ++ take 0 bytes)) waits (ap first_of (sym same) ∙ whole.1))
 further_on held bytes (suc n) waits (inr whole) = inr (omega arith)
 
+-- if nothing is left behind what was taken, all was taken
 pub all_taken : (bytes : List ℕ) (taken : ℕ) → drop taken bytes ≡ [] → take taken bytes ≡ bytes
 all_taken bytes taken none =
     sym (append-nil (take taken bytes)) ∙ (ap (λ (xs : List ℕ). take taken bytes ++ xs) (sym none) ∙ take-append-drop taken bytes)
@@ -274,6 +187,7 @@ piece_good name bytes taken w n good = by n.ends
         good_first name (take taken bytes) (drop taken bytes) w whole
         (ap (λ (xs : List ℕ). is_bad (comes_in name xs) w) (take-append-drop taken bytes) ∙ good)
 
+-- of bytes that are one whole packet it is known what they are, before more come
 pub decided : (bytes : List ℕ) → IsWhole bytes → IsDecided bytes
 decided bytes whole = subst IsFound (sym whole.1) tt
 
@@ -285,6 +199,7 @@ module _ {K : Type 0} (g : Ghosts K) (name bytes : List ℕ) (now taken : ℕ) (
   piece_taken line t playable within there alike waits line_is given c a = record {
     standing = record { playable = a.playable; limits = sym a.limits; within = within };
     limits = refl;
+    sound = a.sound;
     reached = a.reached;
     within = c.within;
     next = c.next;
@@ -358,6 +273,7 @@ module _ {K : Type 0} (g : Ghosts K) (name bytes : List ℕ) (old mid new : Stag
   welcomed_piece taken t w p = record {
     standing = p.standing;
     limits = p.limits ∙ w.limits;
+    sound = λ sound. w.sound (p.sound sound);
     reached = λ reached. subst (λ (l : Limits). IsReached l (broker_of mid) → IsReached l (broker_of new)) w.limits p.reached (w.reached reached);
     within = p.within;
     next = subst (λ (held : List ℕ). IsNextPiece held (take taken bytes) (drop taken bytes)) w.same p.next;
@@ -370,6 +286,7 @@ module _ {K : Type 0} (g : Ghosts K) (name bytes : List ℕ) (old mid new : Stag
         spells (w.reached reached) (w.good spells reached (take taken bytes) good));
   }
 
+  -- a welcome and the piece behind it are one piece of the stranger, and tell the same
   pub welcomed_pieces : {E : Type 0} (r : Result ℕ E) (before after : Telling) → Welcomes g name old mid
       → IfOk r (λ taken. TellsPiece g name bytes mid taken before after new) → IfOk r (λ taken. TellsPiece g name bytes old taken before after new)
   welcomed_pieces (Err e) before after w h = tt

@@ -16,17 +16,17 @@ use Rattle.mqtt_script_laws.proofs.Carrying.{delivers_once}
 use Rattle.mqtt_script_laws.proofs.Scripts.{runs_join}
 use Rattle.mqtt_rules.specs.Laws.{AreWithin}
 use Rattle.mqtt_rules.specs.declared.Limits.{Limits}
-use Rattle.mqtt_world.specs.Draining.{PlaysDrain}
-use Rattle.mqtt_world.specs.Events.{IsReached}
-use Rattle.mqtt_world.specs.Openings.{AlwaysSound}
-use Rattle.mqtt_world.specs.Stages.{IsStanding, Staged, broker_of, world_at}
-use Rattle.mqtt_world.specs.Worlds.{Came, CantHappen, DrainEmpties, Happen, HappenDrained, HasCome, HasDelivered, IfSound, Lasting, Performs, Refuses, Runs, Stops, fault_of, over_by, performs_drain, performs_event, with_stage}
-use Rattle.mqtt_world.specs.declared.over.Over.{Over}
-use Rattle.mqtt_world.specs.declared.over.Over.TheVariants as over
-use Rattle.mqtt_world.proofs.ReadAsSent.{spells_all}
+use Rattle.mqtt_world_scene.specs.Events.{IsReached}
+use Rattle.mqtt_world_scene.specs.Halting.{fault_of}
+use Rattle.mqtt_world.specs.Stages.{IsSoundAt, IsStanding, PlaysDrain, Staged, broker_of, world_at}
+use Rattle.mqtt_world.specs.Worlds.{Came, CantHappen, DrainEmpties, Happen, HappenDrained, HasCome, HasDelivered, IfSound, Lasting, Performs, Refuses, Runs, Stops, over_by, performs_drain, performs_event, with_stage}
+use Rattle.mqtt_world_scene.specs.declared.over.Over.{Over}
+use Rattle.mqtt_world_scene.specs.declared.over.Over.TheVariants as over
+use Rattle.mqtt_world_scene.proofs.ReadAsSent.{spells_all}
 
 -- ---- results
 
+-- one result has one value
 pub ok_is : {A E : Type 0} (r : Result A E) (a b : A) → r ≡ Ok a → r ≡ Ok b → a ≡ b
 ok_is r a b is same = cc
 
@@ -40,23 +40,26 @@ none_of (x ∷ xs) is = absurd (cc)
 module _ {K : Type 0} (g : Ghosts K) where
   -- ---- on the stage
 
+  -- if no event comes, the stage stays as it is
   pub runs_none : (s : Staged K) → Runs g [] s [] s
-  runs_none s = record { limits = refl; reached = λ sound reached. reached; runs = λ sound reached. (refl, refl) }
+  runs_none s = record { limits = refl; sound = λ sound. sound; reached = λ sound reached. reached; runs = λ sound reached. (refl, refl) }
 
-  reached_on : (es : List Event) (old : Staged K) (ts : List Telling) (new : Staged K) → Runs g es old ts new → AlwaysSound g
+  reached_on : (es : List Event) (old : Staged K) (ts : List Telling) (new : Staged K) → Runs g es old ts new → IsSoundAt g new
       → IsReached old.limits (broker_of old) → IsReached new.limits (broker_of new)
   reached_on es old ts new r sound reached = subst (λ (l : Limits). IsReached l (broker_of new)) (sym r.limits) (r.reached sound reached)
 
+  -- events that ran, and more that ran from there, ran one after the other
   pub runs_joined : (es more : List Event) (ts us : List Telling) (old mid new : Staged K) → Runs g es old ts mid → Runs g more mid us new
       → Runs g (es ++ more) old (ts ++ us) new
   runs_joined es more ts us old mid new a b = record {
     limits = b.limits ∙ a.limits;
+    sound = λ sound. a.sound (b.sound sound);
     reached = λ sound reached.
-        subst (λ (l : Limits). IsReached l (broker_of new)) a.limits (b.reached sound (reached_on es old ts mid a sound reached));
+        subst (λ (l : Limits). IsReached l (broker_of new)) a.limits (b.reached sound (reached_on es old ts mid a (b.sound sound) reached));
     runs = λ sound reached.
-        runs_join old.limits es more ts us (world_at old) (world_at mid) (world_at new) (a.runs sound reached)
+        runs_join old.limits es more ts us (world_at old) (world_at mid) (world_at new) (a.runs (b.sound sound) reached)
         (subst (λ (l : Limits). RunsTo l more us (world_at mid) (world_at new)) a.limits
-        (b.runs sound (reached_on es old ts mid a sound reached)));
+        (b.runs sound (reached_on es old ts mid a (b.sound sound) reached)));
   }
 
   -- whatever it comes to, what stands can go on
@@ -68,12 +71,14 @@ module _ {K : Type 0} (g : Ghosts K) where
   pub played_one : (e : Event) (old : Staged K) (t : Telling) (new : Staged K) → Performs g e old (Some t) new → Runs g (e ∷ []) old (t ∷ []) new
   played_one e old t new (performs_event x is p) = record {
     limits = p.limits;
+    sound = p.sound;
     reached = p.reached;
     runs = λ sound reached. (world_at new, as_event x is (p.done sound (spells_all old.limits) reached), (refl, refl));
   }
   played_one e old t new (performs_drain client is (None, told, p)) = absurd (cc)
   played_one e old t new (performs_drain client is (Some x, told, p)) = record {
     limits = p.limits;
+    sound = p.sound;
     reached = p.reached;
     runs = λ sound reached.
         let happens : DrainHappens old.limits client x.0 (world_at old) (world_at new) = (p.done sound (spells_all old.limits) reached).0 in
@@ -85,26 +90,30 @@ module _ {K : Type 0} (g : Ghosts K) where
   played_none : (e : Event) (old new : Staged K) → Performs g e old None new → Runs g [] old [] new
   played_none e old new (performs_event x is p) = record {
     limits = p.limits;
+    sound = p.sound;
     reached = p.reached;
     runs = λ sound reached. (refl, (p.done sound (spells_all old.limits) reached).1);
   }
   played_none e old new (performs_drain client is (None, told, p)) = record {
     limits = p.limits;
+    sound = p.sound;
     reached = p.reached;
     runs = λ sound reached. (refl, (p.done sound (spells_all old.limits) reached).1);
   }
   played_none e old new (performs_drain client is (Some x, told, p)) = absurd (cc)
 
-  played_bad : (e : Event) (old new : Staged K) → Performs g e old None new → IfSound g old (IsBadHere e (world_at old))
+  played_bad : (e : Event) (old new : Staged K) → Performs g e old None new → IfSound g old new (IsBadHere e (world_at old))
   played_bad e old new (performs_event x is p) = λ sound reached. bad_event x is (p.done sound (spells_all old.limits) reached).0
   played_bad e old new (performs_drain client is (None, told, p)) = λ sound reached. bad_drain client is (p.done sound (spells_all old.limits) reached).0
   played_bad e old new (performs_drain client is (Some x, told, p)) = absurd (cc)
 
   -- ---- in the world
 
+  -- if nothing happens, a world that stands stays as it is
   pub happen_none : (s : Staged K) (w : Lasting K) → w.stage ≡ Ok s → Happen g [] [] w w
   happen_none s w is = record { from = s; to = s; was = is; is = is; runs = runs_none s; kept = sym (append-nil w.events) }
 
+  -- what happened, and what happened behind it, happened one after the other, and the world keeps both
   pub happen_more : (es more : List Event) (ts us : List Telling) (old mid new : Lasting K) → Happen g es ts old mid → Happen g more us mid new
       → Happen g (es ++ more) (ts ++ us) old new
   happen_more es more ts us old mid new a b =
@@ -118,10 +127,12 @@ module _ {K : Type 0} (g : Ghosts K) where
         kept = b.kept ∙ (ap (λ (xs : List Event). xs ++ more) a.kept ∙ append_assoc old.events es more);
       }
 
+  -- an event that was performed on the stage has happened, and the world keeps it behind those before
   pub happened_one : (e : Event) (s n : Staged K) (t : Telling) (w new : Lasting K) → Performs g e s (Some t) n → new.stage ≡ Ok n
       → new.events ≡ w.events ++ e ∷ [] → Happen g (e ∷ []) (t ∷ []) (with_stage s w) new
   happened_one e s n t w new p is kept = record { from = s; to = n; was = refl; is = is; runs = played_one e s t n p; kept = kept }
 
+  -- an event that could not be performed on the stage can't happen, and the world keeps nothing of it
   pub cant_happen : (e : Event) (s n : Staged K) (w : Lasting K) → Performs g e s None n → CantHappen g e (with_stage s w) (with_stage n w)
   cant_happen e s n w p = record {
     nothing = record {
@@ -142,7 +153,7 @@ module _ {K : Type 0} (g : Ghosts K) where
 
   -- ---- all that it keeps
 
-  came_on : (start : World) (es more : List Event) (us : List Telling) (s n : Staged K) → AlwaysSound g → Came start es s → Runs g more s us n
+  came_on : (start : World) (es more : List Event) (us : List Telling) (s n : Staged K) → IsSoundAt g n → Came start es s → Runs g more s us n
       → Came start (es ++ more) n
   came_on start es more us s n sound c r = record {
     within = subst (λ (l : Limits). AreWithin l) (sym r.limits) c.within;
@@ -152,40 +163,45 @@ module _ {K : Type 0} (g : Ghosts K) where
         (runs_join s.limits es more c.tells us start (world_at s) (world_at n) c.runs (r.runs sound c.reached));
   }
 
-  pub come_on : (start : World) (es : List Event) (ts : List Telling) (old new : Lasting K) → AlwaysSound g → Happen g es ts old new → HasCome start old
-      → HasCome start new
-  come_on start es ts old new sound h come = λ s is.
+  -- if the kept events led to a world, they lead on with those that happened since
+  pub come_on : (start : World) (es : List Event) (ts : List Telling) (old new : Lasting K) → Happen g es ts old new → HasCome g start old
+      → HasCome g start new
+  come_on start es ts old new h come = λ s is sound.
       let same : h.to ≡ s = ok_is new.stage h.to s h.is is in
+      let here : IsSoundAt g h.to = subst (λ (x : Staged K). IsSoundAt g x) (sym same) sound in
       subst (λ (x : Staged K). Came start new.events x) same
       (subst (λ (xs : List Event). Came start xs h.to) (sym h.kept)
-      (came_on start old.events es ts h.from h.to sound (come h.from h.was) h.runs))
+      (came_on start old.events es ts h.from h.to here (come h.from h.was (h.runs.sound here)) h.runs))
 
-  come_over : (start : World) (o : Over) (old new : Lasting K) → new ≡ over_by o old → HasCome start new
-  come_over start o old new is = λ s stands. ok_no_err new.stage s o stands (ap (λ (w : Lasting K). w.stage) is)
+  come_over : (start : World) (o : Over) (old new : Lasting K) → new ≡ over_by o old → HasCome g start new
+  come_over start o old new is = λ s stands sound. ok_no_err new.stage s o stands (ap (λ (w : Lasting K). w.stage) is)
 
-  pub come_refused : (start : World) (e : Event) (f : RunFault) (old new : Lasting K) → AlwaysSound g → Refuses g e f old new → HasCome start old
-      → HasCome start new
-  come_refused start e fault.Memory old new sound r come = come_over start over.Memory old new r
-  come_refused start e fault.Store old new sound r come = come_over start over.Store old new r
-  come_refused start e (fault.BadEvent place) old new sound r come = come_on start [] [] old new sound r.0.nothing come
+  -- if an event is refused, the kept events still lead to what stands
+  pub come_refused : (start : World) (e : Event) (f : RunFault) (old new : Lasting K) → Refuses g e f old new → HasCome g start old
+      → HasCome g start new
+  come_refused start e fault.Memory old new r come = come_over start over.Memory old new r
+  come_refused start e fault.Store old new r come = come_over start over.Store old new r
+  come_refused start e (fault.BadEvent place) old new r come = come_on start [] [] old new r.0.nothing come
 
-  pub come_stopped : (start : World) (es : List Event) (f : RunFault) (old new : Lasting K) → AlwaysSound g → Stops g es f old new → HasCome start old
-      → HasCome start new
-  come_stopped start es f old new sound s come =
-      come_refused start s.event f s.mid new sound s.refused (come_on start s.before s.tells old s.mid sound s.happened come)
+  -- so they do if a run stops at an event: those before it are kept, and it is not
+  pub come_stopped : (start : World) (es : List Event) (f : RunFault) (old new : Lasting K) → Stops g es f old new → HasCome g start old
+      → HasCome g start new
+  come_stopped start es f old new s come =
+      come_refused start s.event f s.mid new s.refused (come_on start s.before s.tells old s.mid s.happened come)
 
   -- ---- a result of many events, or of one
 
   -- one event
-  pub one_comes : (start : World) (e : Event) (r : Result Telling RunFault) (old new : Lasting K) → AlwaysSound g
+  pub one_comes : (start : World) (e : Event) (r : Result Telling RunFault) (old new : Lasting K)
       → IfOk r (λ (t : Telling). Happen g (e ∷ []) (t ∷ []) old new) → IfErr r (λ (f : RunFault). Refuses g e f old new)
-      → HasCome start old → HasCome start new
-  one_comes start e (Ok t) old new sound h r come = come_on start (e ∷ []) (t ∷ []) old new sound h come
-  one_comes start e (Err f) old new sound h r come = come_refused start e f old new sound r come
+      → HasCome g start old → HasCome g start new
+  one_comes start e (Ok t) old new h r come = come_on start (e ∷ []) (t ∷ []) old new h come
+  one_comes start e (Err f) old new h r come = come_refused start e f old new r come
 
-pub delivered : {K : Type 0} (start : World) (w : Lasting K) → HasCome start w → HasDelivered start w
-delivered {K} start w come = λ s is begins clean.
-    let c = come s is in
+-- if the events that a world keeps led to it, their messages were delivered exactly once
+pub delivered : {K : Type 0} (g : Ghosts K) (start : World) (w : Lasting K) → HasCome g start w → HasDelivered g start w
+delivered {K} g start w come = λ s is sound begins clean.
+    let c = come s is sound in
     delivers_once s.limits w.events c.tells start (world_at s) c.within begins clean c.runs
 
 module _ {K : Type 0} (g : Ghosts K) where
@@ -209,6 +225,7 @@ module _ {K : Type 0} (g : Ghosts K) where
 
   -- ---- what a drain comes to
 
+  -- a drain that was played and is kept has happened, in as many rounds as it took
   pub kept_drain : (e : Event) (client : List ℕ) (rounds : ℕ) (s n : Staged K) (told : Telling) (w new : Lasting K) (r : Result Telling RunFault) → e ≡ Drain client
       → PlaysDrain g client s (Some (told, rounds)) n
       → IfOk r (λ (t : Telling). new ≡ record { stage = Ok n; events = w.events ++ e ∷ [] })
@@ -223,12 +240,13 @@ module _ {K : Type 0} (g : Ghosts K) where
         drained = λ from to was goes.
             let begins : s ≡ from = ok_is {E = Over} (Ok s) s from refl was in
             let ends : n ≡ to = ok_is new.stage n to stage goes in
-            subst (λ (x : Staged K). IfSound g x ((h : DrainHappens x.limits client told (world_at x) (world_at to)) × (h.rounds ≡ rounds))) begins
-            (subst (λ (x : Staged K). IfSound g s ((h : DrainHappens s.limits client told (world_at s) (world_at x)) × (h.rounds ≡ rounds))) ends
+            subst (λ (x : Staged K). IfSound g x to ((h : DrainHappens x.limits client told (world_at x) (world_at to)) × (h.rounds ≡ rounds))) begins
+            (subst (λ (x : Staged K). IfSound g s x ((h : DrainHappens s.limits client told (world_at s) (world_at x)) × (h.rounds ≡ rounds))) ends
             (λ sound reached. p.done sound (spells_all s.limits) reached));
       }
   kept_drain e client rounds s n told w new (Err f) is p kept = tt
 
+  -- a drain that can't happen is refused, with its place behind the events that are kept
   pub drain_refused : (client : List ℕ) (s n : Staged K) (w new : Lasting K) (f : RunFault) → PlaysDrain g client s None n → f ≡ fault.BadEvent (length w.events)
       → new ≡ with_stage n w → Refuses g (Drain client) f (with_stage s w) new
   drain_refused client s n w new f p is same =
@@ -244,6 +262,7 @@ module _ {K : Type 0} (g : Ghosts K) where
   kept_none e s w new (Ok u) h = tt
   kept_none e s w new (Err f) h = subst (λ (x : RunFault). Refuses g e x (with_stage s w) new) (sym h.0) h.1
 
+  -- if the world ended, the event was refused for what ended it
   pub ended : (e : Event) (o : Over) (s : Staged K) (w new : Lasting K) (f : RunFault) → f ≡ fault_of o → new ≡ over_by o w → Refuses g e f (with_stage s w) new
   ended e o s w new f is over =
       subst (λ (x : RunFault). Refuses g e x (with_stage s w) new) (sym is)
@@ -256,6 +275,7 @@ module _ {K : Type 0} (g : Ghosts K) where
       subst (λ (x : List ℕ). IfOk r (λ (n : ℕ). HappenDrained g x n (with_stage s w) new)) same
       (subst (λ (x : Lasting K). IfOk r (λ (n : ℕ). HappenDrained g name n (with_stage s x) new)) is h)
 
+  -- if client and world are the same, the same drain is refused
   pub drain_refused_as : (name client : List ℕ) (s : Staged K) (mid w new : Lasting K) (r : Result ℕ RunFault) → name ≡ client → mid ≡ w
       → IfErr r (λ (f : RunFault). Refuses g (Drain name) f (with_stage s mid) new) → IfErr r (λ (f : RunFault). Refuses g (Drain client) f (with_stage s w) new)
   drain_refused_as name client s mid w new r same is h =
@@ -266,20 +286,25 @@ module _ {K : Type 0} (g : Ghosts K) where
   abbrev lasting : Result (Staged K) Over → List Event → Lasting K
   lasting stage es = record { stage = stage; events = es }
 
+  -- a world is its stage, as it was found to be, with the events that it keeps
   pub lasting_as : (stage at : Result (Staged K) Over) (es : List Event) (w : Lasting K) → lasting stage es ≡ w → stage ≡ at → lasting at es ≡ w
   lasting_as stage at es w view is = ap (λ (x : Result (Staged K) Over). lasting x es) (sym is) ∙ view
 
+  -- what drained a receiver in a world taken apart drained it in that world as a whole
   pub drained_at : (client : List ℕ) (w0 w new : Lasting K) (r : Result ℕ RunFault) → w0 ≡ w → IfOk r (λ (n : ℕ). HappenDrained g client n w0 new)
       → IfOk r (λ (n : ℕ). HappenDrained g client n w new)
   drained_at client w0 w new r same h = subst (λ (x : Lasting K). IfOk r (λ (n : ℕ). HappenDrained g client n x new)) same h
 
+  -- and a drain refused in a world taken apart is refused in that world as a whole
   pub drain_refused_at : (client : List ℕ) (w0 w new : Lasting K) (r : Result ℕ RunFault) → w0 ≡ w → IfErr r (λ (f : RunFault). Refuses g (Drain client) f w0 new)
       → IfErr r (λ (f : RunFault). Refuses g (Drain client) f w new)
   drain_refused_at client w0 w new r same h = subst (λ (x : Lasting K). IfErr r (λ (f : RunFault). Refuses g (Drain client) f x new)) same h
 
+  -- a world that stands is not over
   pub none_over : {P : Type 0} (s : Staged K) (es : List Event) (w : Lasting K) → lasting (Ok s) es ≡ w → (o : Over) → w.stage ≡ Err o → P
   none_over s es w view o is = ok_no_err w.stage s o (ap (λ (x : Lasting K). x.stage) (sym view)) is
 
+  -- a world that is over refuses each event for what ended it, and stays over
   pub still_over : (e : Event) (o : Over) (es : List Event) (w new : Lasting K) (f : RunFault) → f ≡ fault_of o → new ≡ lasting (Err o) es → lasting (Err o) es ≡ w
       → Refuses g e f w new
   still_over e o es w new f is over view =
@@ -287,6 +312,7 @@ module _ {K : Type 0} (g : Ghosts K) where
       (subst (λ (x : Lasting K). Refuses g e (fault_of o) w x) (sym over)
       (subst (λ (x : Lasting K). Refuses g e (fault_of o) x (lasting (Err o) es)) view (refused_over g e o (lasting (Err o) es))))
 
+  -- a world that is over answers why it ended, and stays as it is
   pub answers_why : {T : Type 0} (o : Over) (es : List Event) (w new : Lasting K) (f : RunFault) → f ≡ fault_of o → new ≡ lasting (Err o) es → lasting (Err o) es ≡ w
       → (p : Over) → w.stage ≡ Err p → (◌≡◌ {A = Result T RunFault} (Err f) (Err (fault_of p))) × (new ≡ w)
   answers_why {T} o es w new f is over view p at =
@@ -294,26 +320,30 @@ module _ {K : Type 0} (g : Ghosts K) where
       let same : o ≡ p = cc in
       (ap (λ (x : RunFault). Err x) (is ∙ ap fault_of same), over ∙ view)
 
-  pub over_comes : (start : World) (o : Over) (es : List Event) (new : Lasting K) → new ≡ lasting (Err o) es → HasCome start new
+  -- if a world is over, nothing stands to which its events had to lead
+  pub over_comes : (start : World) (o : Over) (es : List Event) (new : Lasting K) → new ≡ lasting (Err o) es → HasCome g start new
   over_comes start o es new is = come_over g start o (lasting (Err o) es) new is
 
   -- all that a world keeps after it
-  pub drain_comes : (start : World) (client : List ℕ) (r : Result ℕ RunFault) (old new : Lasting K) → AlwaysSound g
+  pub drain_comes : (start : World) (client : List ℕ) (r : Result ℕ RunFault) (old new : Lasting K)
       → IfOk r (λ (n : ℕ). HappenDrained g client n old new) → IfErr r (λ (f : RunFault). Refuses g (Drain client) f old new)
-      → HasCome start old → HasCome start new
-  drain_comes start client (Ok n) old new sound h r come = come_on g start (Drain client ∷ []) (h.t ∷ []) old new sound h.happened come
-  drain_comes start client (Err f) old new sound h r come = come_refused g start (Drain client) f old new sound r come
+      → HasCome g start old → HasCome g start new
+  drain_comes start client (Ok n) old new h r come = come_on g start (Drain client ∷ []) (h.t ∷ []) old new h.happened come
+  drain_comes start client (Err f) old new h r come = come_refused g start (Drain client) f old new r come
 
   -- and what it leaves of the queue
-  pub drain_empties : (start : World) (client : List ℕ) (r : Result ℕ RunFault) (old new : Lasting K) → AlwaysSound g
-      → IfOk r (λ (n : ℕ). HappenDrained g client n old new) → HasCome start old
-      → IfOk r (λ (n : ℕ). DrainEmpties start client n old new)
-  drain_empties start client (Ok n) old new sound h come = λ from to was is untouched clean.
-      let c = come from was in
+  pub drain_empties : (start : World) (client : List ℕ) (r : Result ℕ RunFault) (old new : Lasting K)
+      → IfOk r (λ (n : ℕ). HappenDrained g client n old new) → HasCome g start old
+      → IfOk r (λ (n : ℕ). DrainEmpties g start client n old new)
+  drain_empties start client (Ok n) old new h come = λ from to was is sound untouched clean.
+      let ends : h.happened.to ≡ to = ok_is new.stage h.happened.to to h.happened.is is in
+      let begins : h.happened.from ≡ from = ok_is old.stage h.happened.from from h.happened.was was in
+      let here : IsSoundAt g h.happened.to = subst (λ (x : Staged K). IsSoundAt g x) (sym ends) sound in
+      let c = come from was (subst (λ (x : Staged K). IsSoundAt g x) begins (h.happened.runs.sound here)) in
       let d = h.drained from to was is sound c.reached in
       subst (λ (k : ℕ). IsEmptied from.limits client k (world_at from) (world_at to)) d.1
       (script_empties from.limits old.events c.tells client start (world_at from) c.within untouched clean c.runs h.t (world_at to) d.0)
-  drain_empties start client (Err f) old new sound h come = tt
+  drain_empties start client (Err f) old new h come = tt
 
   -- ---- what a run comes to
 
@@ -321,9 +351,11 @@ module _ {K : Type 0} (g : Ghosts K) where
   pub data IsSoFar (es : List Event) (old : Lasting K) (ts : List Telling) (rest : List Event) (new : Lasting K) : Type 0 where
     so_far : (done : List Event) → es ≡ done ++ rest → Happen g done ts old new → IsSoFar es old ts rest new
 
+  -- at first no event has happened, and all are left
   pub so_far_none : (es : List Event) (s : Staged K) (w : Lasting K) (ts : List Telling) → w.stage ≡ Ok s → ts ≡ [] → IsSoFar es w ts es w
   so_far_none es s w ts is none = so_far [] refl (subst (λ (xs : List Telling). Happen g [] xs w w) (sym none) (happen_none g s w is))
 
+  -- if the first that is left happens, it is one of those that did, and those behind it are left
   pub so_far_more : (es : List Event) (old : Lasting K) (ts us : List Telling) (rest after : List Event) (e : Event) (t : Telling) (mid new : Lasting K)
       → IsSoFar es old ts rest mid → rest ≡ e ∷ after → us ≡ ts ++ t ∷ [] → Happen g (e ∷ []) (t ∷ []) mid new → IsSoFar es old us after new
   so_far_more es old ts us rest after e t mid new (so_far done are happened) first told next =
@@ -332,6 +364,7 @@ module _ {K : Type 0} (g : Ghosts K) where
       (subst (λ (xs : List Telling). Happen g (done ++ e ∷ []) xs old new) (sym told)
       (happen_more g done (e ∷ []) ts (t ∷ []) old mid new happened next))
 
+  -- if the first that is left is refused, the run stops at it
   pub so_far_stops : (es : List Event) (old : Lasting K) (ts : List Telling) (rest after : List Event) (e : Event) (f : RunFault) (mid new : Lasting K)
       → IsSoFar es old ts rest mid → rest ≡ e ∷ after → Refuses g e f mid new → Stops g es f old new
   so_far_stops es old ts rest after e f mid new (so_far done are happened) first refused = record {
@@ -345,6 +378,7 @@ module _ {K : Type 0} (g : Ghosts K) where
     refused = refused;
   }
 
+  -- if none is left, all have happened
   pub so_far_all : (es : List Event) (old : Lasting K) (ts : List Telling) (rest : List Event) (new : Lasting K) → IsSoFar es old ts rest new → length rest ≡ 0
       → Happen g es ts old new
   so_far_all es old ts rest new (so_far done are happened) none =
@@ -352,7 +386,7 @@ module _ {K : Type 0} (g : Ghosts K) where
       (sym (are ∙ (ap (λ (xs : List Event). done ++ xs) (none_of rest none) ∙ append-nil done))) happened
 
   -- all that a world keeps after a run
-  pub run_comes : {U : Type 0} (start : World) (es : List Event) (ts : List Telling) (r : Result U RunFault) (old new : Lasting K) → AlwaysSound g
-      → OnOk r (Happen g es ts old new) → IfErr r (λ (f : RunFault). Stops g es f old new) → HasCome start old → HasCome start new
-  run_comes start es ts (Ok u) old new sound h s come = come_on g start es ts old new sound h come
-  run_comes start es ts (Err f) old new sound h s come = come_stopped g start es f old new sound s come
+  pub run_comes : {U : Type 0} (start : World) (es : List Event) (ts : List Telling) (r : Result U RunFault) (old new : Lasting K)
+      → OnOk r (Happen g es ts old new) → IfErr r (λ (f : RunFault). Stops g es f old new) → HasCome g start old → HasCome g start new
+  run_comes start es ts (Ok u) old new h s come = come_on g start es ts old new h come
+  run_comes start es ts (Err f) old new h s come = come_stopped g start es f old new s come

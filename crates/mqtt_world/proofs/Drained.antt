@@ -1,292 +1,16 @@
--- A drain on the scene and on the stage, from what its turns make of the broker and its ends (MQTT 5.0, 4.3, 4.4, 4.6).
-use Rattle.std.proofs.Common.{◌≡◌, ℕ, suc, ◌+◌, Bool, true, false, not, length, List, Option, Some, None, option_map, append-nil, arith, refl, sym, ap, subst, ◌∙◌}
-use Rattle.std.specs.Prelude.{IfOk, OnOk, Ok, Err, Result, unwrap_or}
+-- A drain on the stage, from what it makes of the scene (MQTT 5.0, 4.3, 4.4, 4.6).
+use Rattle.std.proofs.Common.{◌≡◌, ℕ, List, Option, refl, sym, subst, ◌∙◌}
+use Rattle.std.specs.Prelude.{IfOk, Ok, Err, Result}
 use Rattle.mqtt_records.specs.declared.keep.Keep.{Ghosts}
-use Rattle.mqtt_world_model.specs.Ends.{Receiver}
-use Rattle.mqtt_world_model.specs.Lines.{stands}
-use Rattle.mqtt_world_model.specs.Tellings.{Telling, silent}
-use Rattle.mqtt_world_model.specs.World.{Event, Stranger, World, ask, pump, receiver_named, to_broker, to_end}
-use Rattle.mqtt_world_receiver_laws.specs.Drains.{copies_left, downs_by, is_bad_drain, is_none_left, is_over, line_stands, ups_by}
-use Rattle.mqtt_broker.specs.Serving.{Serving}
+use Rattle.mqtt_world_model.specs.Tellings.{Telling}
+use Rattle.mqtt_world_model.specs.World.{Stranger}
 use Rattle.mqtt_rules.specs.declared.Limits.{Limits}
-use Rattle.mqtt_world_clients.specs.Ends.{Ends, in_world}
-use Rattle.mqtt_world.specs.declared.over.Over.{Over}
-use Rattle.mqtt_script_laws.specs.Drains.{IsRound, Repeats}
-use Rattle.mqtt_script_laws.specs.Scripted.{Happens}
-use Rattle.mqtt_script_laws.specs.Turns.{IsTurn, both_tell}
-use Rattle.mqtt_script_laws.proofs.Drained.{a_round_more}
-use Rattle.mqtt_script_laws.proofs.Repeated.{once_more}
-use Rattle.mqtt_world.specs.Draining.{Drains, GoesOn, IsDrainDone, PlaysDrain, all_rounds, answers_all, once, one_round, reads_all, so_many_rounds, so_often}
-use Rattle.mqtt_world.specs.Events.{Does, IsReached, SpellsAll, played, world_of}
-use Rattle.mqtt_world.specs.Scenes.{IsPlayable, Played}
-use Rattle.mqtt_world.specs.Stages.{IsStanding, Staged}
-use Rattle.mqtt_world.proofs.Calling.{none_tells, tells_after}
+use Rattle.mqtt_world_scene.specs.declared.over.Over.{Over}
+use Rattle.mqtt_world_scene.specs.Draining.{Drains, IsDrainDone}
+use Rattle.mqtt_world_scene.specs.Events.{IsReached, SpellsAll, world_of}
+use Rattle.mqtt_world_scene.specs.Scenes.{Played}
+use Rattle.mqtt_world.specs.Stages.{IsStanding, PlaysDrain, Staged}
 use Rattle.mqtt_world.proofs.Staged.{staged}
-use Rattle.mqtt_world.proofs.Unasked.{or_first, or_second}
-
--- ---- what is looked at
-
-downs_of : (o : Option Receiver) → unwrap_or (option_map (λ r. length r.line.down) o) 0 ≡ downs_by o
-downs_of None = refl
-downs_of (Some r) = refl
-
-ups_of : (o : Option Receiver) → unwrap_or (option_map (λ r. length r.line.up) o) 0 ≡ ups_by o
-ups_of None = refl
-ups_of (Some r) = refl
-
-bad_some : (o : Option Receiver) (w : World) (b : Bool) → Some b ≡ option_map (λ r. stands r.line.number w.broker) o → not b ≡ not (line_stands o w)
-bad_some None w b is = absurd (cc)
-bad_some (Some r) w b is = let same : b ≡ stands r.line.number w.broker = cc in ap not same
-
-bad_none : (o : Option Receiver) (w : World) → None ≡ option_map (λ r. stands r.line.number w.broker) o → true ≡ not (line_stands o w)
-bad_none None w is = refl
-bad_none (Some r) w is = absurd (cc)
-
--- what is seen of the ends is seen in the world
-looked : {A : Type 0} (f : World → A) {K : Type 0} (s : Played K) (E : Serving K) (O : Ends) (t : A) → played E O ≡ s → ((w : World) → t ≡ f (in_world O w))
-    → (now : ℕ) (ss : List Stranger) → t ≡ f (world_of now ss s)
-looked f s E O t view tells now ss = tells (world_of now ss (played E O)) ∙ ap (λ (x : Played _). f (world_of now ss x)) view
-
-module _ {K : Type 0} (client : List ℕ) (s : Played K) (E : Serving K) (O : Ends) where
-  pub packets_to : (d : Option ℕ) (n : ℕ) → played E O ≡ s → ((w : World) → d ≡ option_map (λ r. length r.line.down) (receiver_named client (in_world O w)))
-      → n ≡ unwrap_or d 0 → (now : ℕ) (ss : List Stranger) → n ≡ downs_by (receiver_named client (world_of now ss s))
-  packets_to d n view tells is now ss =
-      is
-      ∙ (ap (λ (o : Option ℕ). unwrap_or o 0) (looked (λ (w : World). option_map (λ r. length r.line.down) (receiver_named client w)) s E O d view tells now ss)
-      ∙ downs_of (receiver_named client (world_of now ss s)))
-
-  pub packets_from : (d : Option ℕ) (n : ℕ) → played E O ≡ s → ((w : World) → d ≡ option_map (λ r. length r.line.up) (receiver_named client (in_world O w)))
-      → n ≡ unwrap_or d 0 → (now : ℕ) (ss : List Stranger) → n ≡ ups_by (receiver_named client (world_of now ss s))
-  packets_from d n view tells is now ss =
-      is
-      ∙ (ap (λ (o : Option ℕ). unwrap_or o 0) (looked (λ (w : World). option_map (λ r. length r.line.up) (receiver_named client w)) s E O d view tells now ss)
-      ∙ ups_of (receiver_named client (world_of now ss s)))
-
-  line_of : (o : Option Bool) → played E O ≡ s
-      → ((w : World) → o ≡ option_map (λ r. stands r.line.number E.running.broker) (receiver_named client (in_world O w)))
-      → (now : ℕ) (ss : List Stranger) → o ≡ option_map (λ r. stands r.line.number s.engine.running.broker) (receiver_named client (world_of now ss s))
-  line_of o view tells now ss =
-      tells (world_of now ss (played E O))
-      ∙ ap (λ (x : Played K). option_map (λ r. stands r.line.number x.engine.running.broker) (receiver_named client (world_of now ss x))) view
-
-  pub bad_where_some : (o : Option Bool) (b : Bool) → played E O ≡ s
-      → ((w : World) → o ≡ option_map (λ r. stands r.line.number E.running.broker) (receiver_named client (in_world O w)))
-      → o ≡ Some b → (now : ℕ) (ss : List Stranger) → not b ≡ is_bad_drain client (world_of now ss s)
-  bad_where_some o b view tells is now ss =
-      let w = world_of now ss s in
-      bad_some (receiver_named client w) w b (sym is ∙ line_of o view tells now ss)
-
-  pub bad_where_none : (o : Option Bool) → played E O ≡ s
-      → ((w : World) → o ≡ option_map (λ r. stands r.line.number E.running.broker) (receiver_named client (in_world O w)))
-      → o ≡ None → (now : ℕ) (ss : List Stranger) → true ≡ is_bad_drain client (world_of now ss s)
-  bad_where_none o view tells is now ss =
-      let w = world_of now ss s in
-      bad_none (receiver_named client w) w (sym is ∙ line_of o view tells now ss)
-
--- by no copies, or by its line
-pub over_by_copies : (none : Bool) (client : List ℕ) (w : World) → none ≡ true → none ≡ is_none_left (copies_left client w)
-    → none ≡ is_over client w
-over_by_copies none client w is same = or_first (is_none_left (copies_left client w)) (is_bad_drain client w) none same is
-
-pub over_by_line : (none bad : Bool) (client : List ℕ) (w : World) → none ≡ false → none ≡ is_none_left (copies_left client w)
-    → bad ≡ is_bad_drain client w → bad ≡ is_over client w
-over_by_line none bad client w is same line = or_second (is_none_left (copies_left client w)) (is_bad_drain client w) bad (sym same ∙ is) line
-
--- ---- what is told
-
-nothing_behind : (t : Telling) → t ≡ both_tell t silent
-nothing_behind t =
-    let same : t.out + 0 ≡ t.out = omega arith in
-    sym (ap (λ rs. record { reports = rs; out = t.out + 0 }) (append-nil t.reports) ∙ ap (λ (n : ℕ). record { reports = t.reports; out = n }) same)
-
--- ---- what happens behind what happened
-
-module _ {K : Type 0} (g : Ghosts K) (now : ℕ) where
-  goes_none : (P : Limits → Telling → World → World → Type 0) (s : Played K) (told : Telling) → IsPlayable g s
-      → ((limits : Limits) (w : World) → P limits silent w w) → GoesOn g now P s told told s
-  goes_none P s told playable none = record {
-    playable = playable;
-    limits = refl;
-    reached = λ reached. reached;
-    t = silent;
-    told = nothing_behind told;
-    done = λ spells reached ss. none s.engine.running.limits (world_of now ss s);
-  }
-
-  -- the same, said in other words of these worlds
-  pub goes_as : (P Q : Limits → Telling → World → World → Type 0) (old new : Played K) (before after : Telling)
-      → ((limits : Limits) (t : Telling) (ss : List Stranger) → P limits t (world_of now ss old) (world_of now ss new)
-      → Q limits t (world_of now ss old) (world_of now ss new))
-      → GoesOn g now P old before after new → GoesOn g now Q old before after new
-  goes_as P Q old new before after says x = record {
-    playable = x.playable;
-    limits = x.limits;
-    reached = x.reached;
-    t = x.t;
-    told = x.told;
-    done = λ spells reached ss. says old.engine.running.limits x.t ss (x.done spells reached ss);
-  }
-
-  goes_behind : (P Q R : Limits → Telling → World → World → Type 0) (old mid new : Played K) (before between after : Telling)
-      → ((limits : Limits) (t u : Telling) (w v x : World) → P limits t w v → Q limits u v x → R limits (both_tell t u) w x)
-      → GoesOn g now P old before between mid → GoesOn g now Q mid between after new → GoesOn g now R old before after new
-  goes_behind P Q R old mid new before between after joins x y =
-      let limits = old.engine.running.limits in
-      record {
-        playable = y.playable;
-        limits = y.limits ∙ x.limits;
-        reached = λ reached.
-            subst (λ (l : Limits). IsReached l new.engine.running.broker) x.limits
-            (y.reached (subst (λ (l : Limits). IsReached l mid.engine.running.broker) (sym x.limits) (x.reached reached)));
-        t = both_tell x.t y.t;
-        told = y.told ∙ (ap (λ (z : Telling). both_tell z y.t) x.told ∙ tells_after before x.t y.t);
-        done = λ spells reached ss.
-            joins limits x.t y.t (world_of now ss old) (world_of now ss mid) (world_of now ss new) (x.done spells reached ss)
-            (subst (λ (l : Limits). Q l y.t (world_of now ss mid) (world_of now ss new)) x.limits
-            (y.done (subst SpellsAll (sym x.limits) spells)
-            (subst (λ (l : Limits). IsReached l mid.engine.running.broker) (sym x.limits) (x.reached reached)) ss));
-      }
-
-  -- ---- one turn
-
-  goes_once : (e : Event) (old new : Played K) (t before after : Telling)
-      → ((limits : Limits) (u : Telling) (w v : World) → Happens limits e u w v → IsTurn limits e u w v)
-      → Does g now e old (Some t) new → after ≡ both_tell before t → GoesOn g now (once e) old before after new
-  goes_once e old new t before after turns does told = record {
-    playable = does.playable;
-    limits = does.limits;
-    reached = does.reached;
-    t = t;
-    told = told;
-    done = λ spells reached ss. turns old.engine.running.limits t (world_of now ss old) (world_of now ss new) (does.done spells reached ss);
-  }
-
-  -- if what is told was added
-  pub goes_added : {U : Type 0} (e : Event) (old new : Played K) (more : Option Telling) (before after : Telling) (r : Result U Over)
-      → ((limits : Limits) (u : Telling) (w v : World) → Happens limits e u w v → IsTurn limits e u w v) → Does g now e old more new
-      → OnOk r ((t : Telling) × (more ≡ Some t) × (after ≡ both_tell before t)) → OnOk r (GoesOn g now (once e) old before after new)
-  goes_added e old new more before after (Ok u) turns does (t, some, told) =
-      goes_once e old new t before after turns (subst (λ (o : Option Telling). Does g now e old o new) some does) told
-  goes_added e old new more before after (Err f) turns does told = tt
-
-  -- ---- turns of one event, one after the other
-
-  pub none_yet : (e : Event) (s : Played K) (told : Telling) → IsPlayable g s → GoesOn g now (so_often 0 e) s told told s
-  none_yet e s told playable = goes_none (so_often 0 e) s told playable (λ limits w. (refl, refl))
-
-  pub one_more : (n m : ℕ) (e : Event) (old mid new : Played K) (before between after : Telling) → m ≡ suc n
-      → GoesOn g now (so_often n e) old before between mid → GoesOn g now (once e) mid between after new
-      → GoesOn g now (so_often m e) old before after new
-  one_more n m e old mid new before between after is x y =
-      subst (λ (k : ℕ). GoesOn g now (so_often k e) old before after new) (sym is)
-      (goes_behind (so_often n e) (once e) (so_often (suc n) e) old mid new before between after
-      (λ limits t u w v z h does. once_more limits n e t u w v z h does) x y)
-
-  pub all_read : (client : List ℕ) (n m : ℕ) (old new : Played K) (before after : Telling) → n ≡ m
-      → ((ss : List Stranger) → m ≡ downs_by (receiver_named client (world_of now ss old)))
-      → GoesOn g now (so_often n (to_end client)) old before after new → GoesOn g now (reads_all client) old before after new
-  all_read client n m old new before after is all x =
-      goes_as (so_often n (to_end client)) (reads_all client) old new before after
-      (λ limits t ss h. subst (λ (k : ℕ). Repeats limits k (to_end client) t (world_of now ss old) (world_of now ss new)) (is ∙ all ss) h) x
-
-  pub all_answered : (client : List ℕ) (n m : ℕ) (old new : Played K) (before after : Telling) → n ≡ m
-      → ((ss : List Stranger) → m ≡ ups_by (receiver_named client (world_of now ss old)))
-      → GoesOn g now (so_often n (ask (to_broker client))) old before after new → GoesOn g now (answers_all client) old before after new
-  all_answered client n m old new before after is all x =
-      goes_as (so_often n (ask (to_broker client))) (answers_all client) old new before after
-      (λ limits t ss h. subst (λ (k : ℕ). Repeats limits k (ask (to_broker client)) t (world_of now ss old) (world_of now ss new)) (is ∙ all ss) h) x
-
-  -- ---- a round
-
-  abbrev reads_and_answers : List ℕ → Limits → Telling → World → World → Type 0
-  reads_and_answers client limits t w after =
-      (second : Telling) × (third : Telling) × (read : World) × reads_all client limits second w read × answers_all client limits third read after
-      × (t ≡ both_tell second third)
-
-  round_is : (client : List ℕ) (limits : Limits) (t u : Telling) (w v after : World) → once (ask (pump client)) limits t w v
-      → reads_and_answers client limits u v after → IsRound limits client (both_tell t u) w after
-  round_is client limits t u w v after sends (second, third, read, reads, answers, told) = record {
-    first = t;
-    second = second;
-    third = third;
-    sent = v;
-    read = read;
-    sends = sends;
-    reads = reads;
-    answers = answers;
-    told = ap (both_tell t) told;
-  }
-
-  pub goes_round : {U : Type 0} (client : List ℕ) (old sent read new : Played K) (a b c d : Telling) (r : Result U Over)
-      → GoesOn g now (once (ask (pump client))) old a b sent → GoesOn g now (reads_all client) sent b c read
-      → OnOk r (GoesOn g now (answers_all client) read c d new) → OnOk r (GoesOn g now (one_round client) old a d new)
-  goes_round client old sent read new a b c d (Ok x) sends reads answers =
-      goes_behind (once (ask (pump client))) (reads_and_answers client) (one_round client) old sent new a b d (round_is client) sends
-      (goes_behind (reads_all client) (answers_all client) (reads_and_answers client) sent read new b c d
-      (λ limits t u w v after first then. (t, u, v, first, then, refl)) reads answers)
-  goes_round client old sent read new a b c d (Err f) sends reads answers = tt
-
-  -- ---- rounds
-
-  pub no_round_yet : (client : List ℕ) (s : Played K) (told : Telling) → IsPlayable g s → GoesOn g now (so_many_rounds client 0) s told told s
-  no_round_yet client s told playable = goes_none (so_many_rounds client 0) s told playable (λ limits w. (refl, refl))
-
-  abbrev going_round : List ℕ → Limits → Telling → World → World → Type 0
-  going_round client limits t w after = (is_over client w ≡ false) × IsRound limits client t w after
-
-  pub one_round_more : (client : List ℕ) (n m : ℕ) (old mid new : Played K) (before between after : Telling) (over : Bool) → m ≡ suc n
-      → ((ss : List Stranger) → over ≡ is_over client (world_of now ss mid)) → over ≡ false
-      → GoesOn g now (so_many_rounds client n) old before between mid → GoesOn g now (one_round client) mid between after new
-      → GoesOn g now (so_many_rounds client m) old before after new
-  one_round_more client n m old mid new before between after over is looks on x y =
-      subst (λ (k : ℕ). GoesOn g now (so_many_rounds client k) old before after new) (sym is)
-      (goes_behind (so_many_rounds client n) (going_round client) (so_many_rounds client (suc n)) old mid new before between after
-      (λ limits t u w v z made goes. a_round_more limits client n t u w v z made goes.0 goes.1) x
-      (goes_as (one_round client) (going_round client) mid new between after (λ limits t ss h. (sym (looks ss) ∙ on, h)) y))
-
-  pub rounds_over : (client : List ℕ) (n : ℕ) (old new : Played K) (before after : Telling) (over : Bool)
-      → ((ss : List Stranger) → over ≡ is_over client (world_of now ss new)) → over ≡ true
-      → GoesOn g now (so_many_rounds client n) old before after new → GoesOn g now (all_rounds client n) old before after new
-  rounds_over client n old new before after over looks is x =
-      goes_as (so_many_rounds client n) (all_rounds client n) old new before after (λ limits t ss h. (h, sym (looks ss) ∙ is)) x
-
-  -- ---- a drain
-
-  pub no_drain : (client : List ℕ) (s : Played K) (bad : Bool) → IsPlayable g s → ((ss : List Stranger) → bad ≡ is_bad_drain client (world_of now ss s))
-      → bad ≡ true → Drains g now client s None s
-  no_drain client s bad playable looks is = record {
-    playable = playable;
-    limits = refl;
-    reached = λ reached. reached;
-    done = λ spells reached ss. (sym (looks ss) ∙ is, refl);
-  }
-
-  pub drain_done : (client : List ℕ) (n : ℕ) (old new : Played K) (nothing told : Telling) (bad : Bool) → nothing ≡ silent
-      → ((ss : List Stranger) → bad ≡ is_bad_drain client (world_of now ss old)) → bad ≡ false
-      → GoesOn g now (all_rounds client n) old nothing told new → Drains g now client old (Some (told, n)) new
-  drain_done client n old new nothing told bad is looks good x =
-      let same : told ≡ x.t = x.told ∙ (ap (λ (t : Telling). both_tell t x.t) is ∙ sym (none_tells x.t)) in
-      subst (λ (t : Telling). Drains g now client old (Some (t, n)) new) (sym same) (record {
-        playable = x.playable;
-        limits = x.limits;
-        reached = x.reached;
-        done = λ spells reached ss.
-            let made = x.done spells reached ss in
-            (record { good = sym (looks ss) ∙ good; rounds = n; made = made.0; over = made.1 }, refl);
-      })
-
--- ---- whatever the moment
-
-module _ {K : Type 0} (g : Ghosts K) where
-  pub goes_added_ever : {U : Type 0} (e : Event) (old new : Played K) (more : Option Telling) (before after : Telling) (r : Result U Over)
-      → ((limits : Limits) (u : Telling) (w v : World) → Happens limits e u w v → IsTurn limits e u w v) → ((now : ℕ) → Does g now e old more new)
-      → OnOk r ((t : Telling) × (more ≡ Some t) × (after ≡ both_tell before t)) → OnOk r ((now : ℕ) → GoesOn g now (once e) old before after new)
-  goes_added_ever {U} e old new more before after (Ok u) turns does told = λ now.
-      let r : Result U Over = Ok u in
-      goes_added g now e old new more before after r turns (does now) told
-  goes_added_ever e old new more before after (Err f) turns does told = tt
-
--- ---- on the stage
 
 module _ {K : Type 0} (g : Ghosts K) (client : List ℕ) where
   plays_drain : (S P : Played K) (ss : List Stranger) (now : ℕ) (limits : Limits) (x : Option (Telling × ℕ))
@@ -296,6 +20,7 @@ module _ {K : Type 0} (g : Ghosts K) (client : List ℕ) where
       record {
         standing = record { playable = does.playable; limits = here ∙ sym does.limits; within = stands.within };
         limits = refl;
+        sound = does.sound;
         reached = λ sound reached.
             subst (λ (l : Limits). IsReached l P.engine.running.broker) (sym here)
             (does.reached (subst (λ (l : Limits). IsReached l S.engine.running.broker) here reached));
@@ -304,6 +29,7 @@ module _ {K : Type 0} (g : Ghosts K) (client : List ℕ) where
             (does.done (subst SpellsAll here spells) (subst (λ (l : Limits). IsReached l S.engine.running.broker) here reached) ss);
       }
 
+  -- what a drain makes of the scene it makes of the stage, whose strangers and moment it leaves alone
   pub all_drain : (S P : Played K) (ss : List Stranger) (now : ℕ) (limits : Limits) (s : Staged K) (r : Result (Option (Telling × ℕ)) Over)
       → staged S ss now limits ≡ s → IsStanding g s → IfOk r (λ x. Drains g now client S x P)
       → IfOk r (λ x. PlaysDrain g client s x (staged P ss now limits))

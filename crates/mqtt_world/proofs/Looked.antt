@@ -10,8 +10,8 @@ use Rattle.mqtt_broker.specs.Serving.{Serving}
 use Rattle.mqtt_rules.specs.State.{session_named}
 use Rattle.mqtt_rules.specs.declared.Limits.{Limits}
 use Rattle.mqtt_world_clients.specs.Ends.{Ends}
-use Rattle.mqtt_world.specs.Events.{played, world_of}
-use Rattle.mqtt_world.specs.Scenes.{Played}
+use Rattle.mqtt_world_scene.specs.Events.{played, world_of}
+use Rattle.mqtt_world_scene.specs.Scenes.{Played}
 use Rattle.mqtt_world.specs.Stages.{Staged, world_at}
 use Rattle.mqtt_world.specs.Worlds.{is_publish_of, queue_in, sent_in}
 
@@ -36,9 +36,11 @@ so_many_sent : (o : Option Publisher) (is : Bool) (n : ℕ) → is ≡ is_some o
 so_many_sent None is n same there = absurd cc
 so_many_sent (Some p) is n same there = refl
 
+-- if no publisher has this name, there is no number of messages to tell
 pub no_publisher : (is : Bool) (client : List ℕ) (es : List Event) (w : World) → is ≡ is_some (publisher_named client w) → is ≡ false → None ≡ sent_in client es w
 no_publisher is client es w same none = nothing_sent (publisher_named client w) is (count_by (is_publish_of client) es) same none
 
+-- if one has, it was given as many messages as the kept events say
 pub its_messages : (is : Bool) (client : List ℕ) (es : List Event) (w : World) (n : ℕ) → is ≡ is_some (publisher_named client w) → is ≡ true
     → n ≡ count_by (is_publish_of client) es → Some n ≡ sent_in client es w
 its_messages is client es w n same there count = ap Some count ∙ so_many_sent (publisher_named client w) is (count_by (is_publish_of client) es) same there
@@ -48,17 +50,21 @@ its_messages is client es w n same there count = ap Some count ∙ so_many_sent 
 abbrev its : List ℕ → World → Bool → Option ℕ
 its client w is = cond is (Some (queue_length (session_named client w.broker.records))) None
 
+-- if no end has this name, there is no queue to tell of
 pub no_queue : (is : Bool) (client : List ℕ) (w : World) → is ≡ is_end client w → is ≡ false → None ≡ queue_in client w
 no_queue is client w same none = ap (its client w) (sym none ∙ same)
 
+-- if one has, its queue is as long as its session's
 pub its_queue : (is : Bool) (client : List ℕ) (w : World) (n : ℕ) → is ≡ is_end client w → is ≡ true
     → n ≡ queue_length (session_named client w.broker.records) → Some n ≡ queue_in client w
 its_queue is client w n same there len = ap Some len ∙ ap (its client w) (sym there ∙ same)
 
+-- if a queue of some length was seen, that is the length of the session's queue
 pub length_some : (n : ℕ) (o : Option Session) → Some n ≡ option_map (λ s. length s.queue) o → n ≡ queue_length o
 length_some n None h = cc
 length_some n (Some s) h = cc
 
+-- if no session was seen, its queue counts as empty
 pub length_none : (o : Option Session) → None ≡ option_map (λ s. length s.queue) o → 0 ≡ queue_length o
 length_none None h = refl
 length_none (Some s) h = cc

@@ -6,54 +6,27 @@ use Rattle.mqtt_world_model.specs.Tellings.{Telling}
 use Rattle.mqtt_world_model.specs.World as world
 use Rattle.mqtt_world_peers.specs.Publishers.{draft_of}
 use Rattle.mqtt_world_peers.specs.Receivers.{wish_of}
-use Rattle.mqtt_world.specs.declared.over.Over.{Over}
 use Rattle.mqtt_script.specs.declared.event.Asking.{Asking}
 use Rattle.mqtt_script.specs.declared.event.Asking.TheVariants as asking
 use Rattle.mqtt_script.specs.declared.event.Event.{Event}
 use Rattle.mqtt_script.specs.declared.event.Event.TheVariants.{Publisher, Receiver, Connect, GiveUp, Publish, Subscribe}
 use Rattle.mqtt_script.specs.declared.event.Event.TheVariants.{ToBroker, ToEnd, Break, Pump, Clock, Tick, Restart, StopBefore}
 use Rattle.mqtt_script.specs.declared.event.Event.TheVariants.{StopAfter, Stranger, Drain}
-use Rattle.mqtt_script.specs.declared.event.Draft.{Draft}
-use Rattle.mqtt_script.specs.declared.event.Wish.{Wish}
 use Rattle.mqtt_script_laws.specs.Scripted as scripted
 use Rattle.mqtt_script_laws.specs.Scripted.{asking_of, event_of}
 use Rattle.mqtt_script_laws.specs.Turns.{IsPlain}
-use Rattle.mqtt_world_clients.specs.Ends.{reading}
 use Rattle.mqtt_rules.specs.declared.Limits.{Limits}
-use Rattle.mqtt_world.specs.Draining.{TellsDrain}
-use Rattle.mqtt_world.specs.Events.{Does}
-use Rattle.mqtt_world.specs.Scenes.{Played}
-use Rattle.mqtt_world.specs.Stages.{IsStanding, Plays, Staged}
-use Rattle.mqtt_world.specs.Stopping.{stop_at}
-use Rattle.mqtt_world.specs.Worlds.{DoesIf, IsOfEnds, Performs, PlaysIf, performs_drain, performs_event}
+use Rattle.mqtt_world_scene.specs.declared.over.Over.{Over}
+use Rattle.mqtt_world_scene.specs.Playing.{DoesIf, IsOfEnds}
+use Rattle.mqtt_world_scene.specs.Scenes.{Played}
+use Rattle.mqtt_world_scene.specs.Stopping.{stop_at}
+use Rattle.mqtt_world.specs.Stages.{IsStanding, Plays, Staged, TellsDrain}
+use Rattle.mqtt_world.specs.Worlds.{Performs, PlaysIf, performs_drain, performs_event}
 use Rattle.mqtt_world.proofs.Staged.{plays_in, staged}
 
 -- ---- which events they are
 
--- any other than those by which ends and the broker alone do something
-pub other_events : (e : Event) → ((c : List ℕ) → e ≢ Publisher c) → ((c : List ℕ) (n : ℕ) → e ≢ Receiver c n) → ((c : List ℕ) (b : Bool) → e ≢ Connect c b)
-    → ((c : List ℕ) → e ≢ GiveUp c) → ((c : List ℕ) (d : Draft) → e ≢ Publish c d) → ((c : List ℕ) (x : Wish) → e ≢ Subscribe c x)
-    → ((c : List ℕ) (b : Bool) → e ≢ ToBroker c b) → ((c : List ℕ) → e ≢ ToEnd c) → ((c : List ℕ) → e ≢ Break c) → ((c : List ℕ) → e ≢ Pump c) → e ≢ Tick
-    → IsOfEnds e → ⊥
-other_events (Publisher c) n1 n2 n3 n4 n5 n6 n7 n8 n9 n10 n11 is = n1 c refl
-other_events (Receiver c n) n1 n2 n3 n4 n5 n6 n7 n8 n9 n10 n11 is = n2 c n refl
-other_events (Connect c b) n1 n2 n3 n4 n5 n6 n7 n8 n9 n10 n11 is = n3 c b refl
-other_events (GiveUp c) n1 n2 n3 n4 n5 n6 n7 n8 n9 n10 n11 is = n4 c refl
-other_events (Publish c d) n1 n2 n3 n4 n5 n6 n7 n8 n9 n10 n11 is = n5 c d refl
-other_events (Subscribe c x) n1 n2 n3 n4 n5 n6 n7 n8 n9 n10 n11 is = n6 c x refl
-other_events (ToBroker c b) n1 n2 n3 n4 n5 n6 n7 n8 n9 n10 n11 is = n7 c b refl
-other_events (ToEnd c) n1 n2 n3 n4 n5 n6 n7 n8 n9 n10 n11 is = n8 c refl
-other_events (Break c) n1 n2 n3 n4 n5 n6 n7 n8 n9 n10 n11 is = n9 c refl
-other_events (Pump c) n1 n2 n3 n4 n5 n6 n7 n8 n9 n10 n11 is = n10 c refl
-other_events (Clock wait) n1 n2 n3 n4 n5 n6 n7 n8 n9 n10 n11 is = is
-other_events Tick n1 n2 n3 n4 n5 n6 n7 n8 n9 n10 n11 is = n11 refl
-other_events Restart n1 n2 n3 n4 n5 n6 n7 n8 n9 n10 n11 is = is
-other_events (StopBefore a) n1 n2 n3 n4 n5 n6 n7 n8 n9 n10 n11 is = is
-other_events (StopAfter a) n1 n2 n3 n4 n5 n6 n7 n8 n9 n10 n11 is = is
-other_events (Stranger name bytes) n1 n2 n3 n4 n5 n6 n7 n8 n9 n10 n11 is = is
-other_events (Drain c) n1 n2 n3 n4 n5 n6 n7 n8 n9 n10 n11 is = is
-
--- and those that are left are of ends
+-- those that are left are of ends
 pub events_of_ends : (e : Event) → e ≢ Restart → ((a : Asking) → e ≢ StopBefore a) → ((a : Asking) → e ≢ StopAfter a) → ((n : ℕ) → e ≢ Clock n)
     → ((name bytes : List ℕ) → e ≢ Stranger name bytes) → ((c : List ℕ) → e ≢ Drain c) → IsOfEnds e
 events_of_ends (Publisher c) n1 n2 n3 n4 n5 n6 = tt
@@ -74,6 +47,7 @@ events_of_ends (StopAfter a) n1 n2 n3 n4 n5 n6 = n3 a refl
 events_of_ends (Stranger name bytes) n1 n2 n3 n4 n5 n6 = n5 name bytes refl
 events_of_ends (Drain c) n1 n2 n3 n4 n5 n6 = n6 c refl
 
+-- what a script asks of the broker is plain unless a stranger asks it
 pub plain_askings : (a : Asking) → ((name bytes : List ℕ) → a ≢ asking.Stranger name bytes) → IsPlain (asking_of a)
 plain_askings (asking.ToBroker c false) n = tt
 plain_askings (asking.ToBroker c true) n = tt
@@ -81,34 +55,6 @@ plain_askings (asking.Break c) n = tt
 plain_askings (asking.Pump c) n = tt
 plain_askings asking.Tick n = tt
 plain_askings (asking.Stranger name bytes) n = absurd (n name bytes refl)
-
--- ---- on the scene
-
-reading_same : (old : Bool) (client : List ℕ) → reading old client ≡ scripted.reading old client
-reading_same false client = refl
-reading_same true client = refl
-
--- a call does it, of this name
-module _ {K : Type 0} (g : Ghosts K) (now : ℕ) (e : Event) (s new : Played K) where
-  at_name : (x : List ℕ → world.Event) (named name : List ℕ) (t : Option Telling) → event_of e ≡ Some (x name) → named ≡ name → Does g now (x named) s t new
-      → DoesIf g now (event_of e) s t new
-  at_name x named name t is same does =
-      subst (λ (o : Option world.Event). DoesIf g now o s t new) (sym is) (subst (λ (n : List ℕ). Does g now (x n) s t new) same does)
-
-  -- whatever the moment
-  pub does_at : (x : List ℕ → world.Event) (named name : List ℕ) (r : Result (Option Telling) Over) → event_of e ≡ Some (x name) → named ≡ name
-      → IfOk r (λ (t : Option Telling). (n : ℕ) → Does g n (x named) s t new) → IfOk r (λ (t : Option Telling). DoesIf g now (event_of e) s t new)
-  does_at x named name (Ok t) is same h = at_name x named name t is same (h now)
-  does_at x named name (Err f) is same h = tt
-
-  -- at this moment
-  pub does_now : (x : List ℕ → world.Event) (named name : List ℕ) (r : Result (Option Telling) Over) → event_of e ≡ Some (x name) → named ≡ name
-      → IfOk r (λ (t : Option Telling). Does g now (x named) s t new) → IfOk r (λ (t : Option Telling). DoesIf g now (event_of e) s t new)
-  does_now x named name (Ok t) is same h = at_name x named name t is same h
-  does_now x named name (Err f) is same h = tt
-
-pub reads_event : (e : Event) (old : Bool) (client : List ℕ) → e ≡ ToBroker client old → event_of e ≡ Some (world.ask (reading old client))
-reads_event e old client is = ap event_of is ∙ ap (λ (a : world.Asking). Some (world.ask a)) (sym (reading_same old client))
 
 -- ---- on the stage
 
@@ -118,6 +64,7 @@ module _ {K : Type 0} (g : Ghosts K) (S P : Played K) (ss : List world.Stranger)
   plays_by None t view stands h = (h.0, ap (λ (x : Played K). staged x ss now limits) h.1 ∙ view)
   plays_by (Some e) t view stands h = plays_in g e S P ss now limits s t view stands h
 
+  -- an event done in the scene is played on the stage; what is no event of the world changes nothing there
   pub if_plays : (o : Option world.Event) (r : Result (Option Telling) Over) → staged S ss now limits ≡ s → IsStanding g s
       → IfOk r (λ (t : Option Telling). DoesIf g now o S t P) → IfOk r (λ (t : Option Telling). PlaysIf g o s t (staged P ss now limits))
   if_plays o (Ok t) view stands h = plays_by o t view stands h
@@ -133,11 +80,13 @@ with_told P mid r (Err f) is h = tt
 
 -- and of an event that is one of the world's
 module _ {K : Type 0} (g : Ghosts K) (e : Event) (x : world.Event) (s : Staged K) where
+  -- if a script's event means one of the world, it is performed as that one is played
   pub plays_of : (r : Result (Staged K × Option Telling) Over) → event_of e ≡ Some x
       → IfOk r (λ (y : Staged K × Option Telling). Plays g x s y.1 y.0) → IfOk r (λ (y : Staged K × Option Telling). Performs g e s y.1 y.0)
   plays_of (Ok y) is h = performs_event x is h
   plays_of (Err f) is h = tt
 
+  -- so it is if what was told is answered with the stage that is left
   pub told_of : (mid : Staged K) (r : Result (Option Telling) Over) (y : Result (Staged K × Option Telling) Over) → event_of e ≡ Some x
       → IfOk y (λ (z : Staged K × Option Telling). (z.0 ≡ mid) × (r ≡ Ok z.1)) → IfOk r (λ (t : Option Telling). Plays g x s t mid)
       → IfOk y (λ (z : Staged K × Option Telling). Performs g e s z.1 z.0)
@@ -163,6 +112,7 @@ of_ends_if g (StopAfter a) s n t is p = absurd is
 of_ends_if g (Stranger name bytes) s n t is p = absurd is
 of_ends_if g (Drain c) s n t is p = absurd is
 
+-- an event of ends and the broker alone is performed as what it means in the world, and tells the same
 pub told_of_ends : {K : Type 0} (g : Ghosts K) (e : Event) (s mid : Staged K) (r : Result (Option Telling) Over) (y : Result (Staged K × Option Telling) Over) → IsOfEnds e
     → IfOk y (λ (z : Staged K × Option Telling). (z.0 ≡ mid) × (r ≡ Ok z.1)) → IfOk r (λ (t : Option Telling). PlaysIf g (event_of e) s t mid)
     → IfOk y (λ (z : Staged K × Option Telling). Performs g e s z.1 z.0)
@@ -179,6 +129,7 @@ drain_if : {K : Type 0} (g : Ghosts K) (e : Event) (client : List ℕ) (s mid : 
 drain_if g e client s mid (Ok t) is h = performs_drain client is h
 drain_if g e client s mid (Err f) is h = tt
 
+-- a drain is performed as it was played, and tells the same, but for its rounds
 pub told_of_drain : {K : Type 0} (g : Ghosts K) (e : Event) (client : List ℕ) (s mid : Staged K) (r : Result (Option Telling) Over)
     (y : Result (Staged K × Option Telling) Over) → e ≡ Drain client
     → IfOk y (λ (z : Staged K × Option Telling). (z.0 ≡ mid) × (r ≡ Ok z.1)) → IfOk r (λ (t : Option Telling). TellsDrain g client s t mid)

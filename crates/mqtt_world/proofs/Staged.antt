@@ -9,25 +9,27 @@ use Rattle.mqtt_rules.specs.Laws.{AreWithin}
 use Rattle.mqtt_rules.specs.State.{later}
 use Rattle.mqtt_rules.specs.Step.{is_opening_spent}
 use Rattle.mqtt_rules.specs.declared.Limits.{Limits}
-use Rattle.mqtt_world.specs.declared.over.Over.{Over}
+use Rattle.mqtt_world_scene.specs.declared.over.Over.{Over}
 use Rattle.mqtt_script_laws.specs.Scripted.{IsBadEvent}
 use Rattle.mqtt_script_laws.specs.Turns.{IsPlain, IsReopened, by_choice}
 use Rattle.mqtt_script_laws.proofs.Single.{quiet, reopens, stops_before}
-use Rattle.mqtt_world.specs.Events.{Does, IsDone, IsReached, SpellsAll, world_of}
-use Rattle.mqtt_world.specs.Openings.{AlwaysSound, Reopens}
-use Rattle.mqtt_world.specs.Scenes.{HoldNone, IsPlayable, Played}
-use Rattle.mqtt_world.specs.Stages.{IsStanding, Plays, Restages, Staged, broker_of, world_at}
-use Rattle.mqtt_world.specs.Stopping.{IsTakenOff, TakesOff}
-use Rattle.mqtt_world.proofs.Eventful.{any_choice}
+use Rattle.mqtt_world_scene.specs.Events.{Does, IsDone, IsReached, SpellsAll, world_of}
+use Rattle.mqtt_world_scene.specs.Openings.{Reopens}
+use Rattle.mqtt_world_scene.specs.Scenes.{HoldNone, IsPlayable, Played}
+use Rattle.mqtt_world.specs.Stages.{IsSoundAt, IsStanding, Plays, Restages, Staged, broker_of, world_at}
+use Rattle.mqtt_world_scene.specs.Stopping.{IsTakenOff, TakesOff}
+use Rattle.mqtt_world_scene.proofs.Eventful.{any_choice}
 use Rattle.mqtt_world.proofs.Stopped.{reached_again, reopened, stops_behind}
 
 abbrev pub staged : {K : Type 0} → Played K → List Stranger → ℕ → Limits → Staged K
 staged s strangers now limits = record { played = s; strangers = strangers; now = now; limits = limits }
 
+-- if one thing leads to another, it does so of whatever was answered
 pub ok_as : {X E : Type 0} (P Q : X → Type 0) (r : Result X E) → ((x : X) → P x → Q x) → IfOk r P → IfOk r Q
 ok_as P Q (Ok x) leads h = leads x h
 ok_as P Q (Err e) leads h = tt
 
+-- what holds of whatever is answered holds of this answer
 pub ok_is : {X E : Type 0} (P : X → Type 0) (r : Result X E) (x : X) → r ≡ Ok x → IfOk r P → P x
 ok_is {X} {E} P r x is h = subst (λ (y : Result X E). IfOk y P) is h
 
@@ -39,6 +41,7 @@ module _ {K : Type 0} (g : Ghosts K) where
       → IsStanding g s → IsPlayable g S
   playable_in S ss now limits s view stands = (subst (IsStanding g) (sym view) stands).playable
 
+  -- a stage that can go on has limits within those of the tables
   pub within_in : (S : Played K) (ss : List Stranger) (now : ℕ) (limits : Limits) (s : Staged K) → staged S ss now limits ≡ s
       → IsStanding g s → AreWithin limits
   within_in S ss now limits s view stands = (subst (IsStanding g) (sym view) stands).within
@@ -50,6 +53,7 @@ module _ {K : Type 0} (g : Ghosts K) where
       record {
         standing = record { playable = does.playable; limits = here ∙ sym does.limits; within = stands.within };
         limits = refl;
+        sound = does.sound;
         reached = λ sound reached.
             subst (λ (l : Limits). IsReached l P.engine.running.broker) (sym here)
             (does.reached (subst (λ (l : Limits). IsReached l S.engine.running.broker) here reached));
@@ -58,6 +62,7 @@ module _ {K : Type 0} (g : Ghosts K) where
             (does.done (subst SpellsAll here spells) (subst (λ (l : Limits). IsReached l S.engine.running.broker) here reached) ss);
       }
 
+  -- what an event makes of the scene it makes of the stage, whose strangers and moment it leaves alone
   pub plays_in : (e : Event) (S P : Played K) (ss : List Stranger) (now : ℕ) (limits : Limits) (s : Staged K) (t : Option Telling)
       → staged S ss now limits ≡ s → IsStanding g s → Does g now e S t P → Plays g e s t (staged P ss now limits)
   plays_in e S P ss now limits s t view stands does =
@@ -79,11 +84,13 @@ module _ {K : Type 0} (g : Ghosts K) where
   clock_plays wait S ss now after limits stands is = record {
     standing = record { playable = stands.playable; limits = stands.limits; within = stands.within };
     limits = refl;
+    sound = λ sound. sound;
     reached = λ sound reached. reached;
     done = λ sound spells reached.
         quiet limits any_choice (clock wait) (world_of now ss S) (world_of after ss S) tt refl (ap (λ (n : ℕ). world_of n ss S) is);
   }
 
+  -- if time passes, the moment is later, nothing else changes, and nothing is told
   pub clock_plays_in : (wait : ℕ) (S : Played K) (ss : List Stranger) (now after : ℕ) (limits : Limits) (s : Staged K) (t : Telling)
       → staged S ss now limits ≡ s → IsStanding g s → after ≡ later now wait → t ≡ silent
       → Plays g (clock wait) s (Some t) (staged S ss after limits)
@@ -94,6 +101,7 @@ module _ {K : Type 0} (g : Ghosts K) where
 
   -- ---- the broker is opened again
 
+  -- if the scene's broker is opened again and strangers have no lines, so is the stage's, and nothing is told
   pub restages : (S P : Played K) (ss rs : List Stranger) (now : ℕ) (limits : Limits) (s : Staged K) (t : Telling)
       → staged S ss now limits ≡ s → Reopens g limits now S P → rs ≡ map unlinked ss → t ≡ silent
       → Restages g s (Some t) (staged P rs now limits)
@@ -101,6 +109,7 @@ module _ {K : Type 0} (g : Ghosts K) where
       subst (λ (x : Staged K). Restages g x (Some t) (staged P rs now limits)) view
       (record { reopens = again; strangers = is; now = refl; limits = refl; told = ap (λ (x : Telling). Some x) told })
 
+  -- if a stage can go on, it can once its broker is opened again
   pub standing_again : (mid new : Staged K) (t : Option Telling) → IsStanding g mid → Restages g mid t new → IsStanding g new
   standing_again mid new t stands r = record {
     playable = r.reopens.playable;
@@ -114,13 +123,15 @@ module _ {K : Type 0} (g : Ghosts K) where
       ap (λ (n : ℕ). world_of n new.strangers new.played) r.now
       ∙ ap (λ (ss : List Stranger). world_of mid.now ss new.played) r.strangers
 
-  pub reopened_at : (mid new : Staged K) (t : Option Telling) → Restages g mid t new → AlwaysSound g
+  -- if the store's device is sound, the stage's world is the old one, opened again
+  pub reopened_at : (mid new : Staged K) (t : Option Telling) → Restages g mid t new → IsSoundAt g new
       → IsReopened mid.limits (world_at mid) (world_at new)
   reopened_at mid new t r sound =
       subst (λ (w : World). IsReopened mid.limits (world_at mid) w) (sym (world_after mid new t r))
       (reopened g mid.now mid.limits mid.played new.played mid.strangers r.reopens sound)
 
-  pub reached_at : (mid new : Staged K) (t : Option Telling) → Restages g mid t new → AlwaysSound g
+  -- if the old broker can come to be, so can the one that is opened again on a sound device
+  pub reached_at : (mid new : Staged K) (t : Option Telling) → Restages g mid t new → IsSoundAt g new
       → IsReached mid.limits (broker_of mid) → IsReached mid.limits (broker_of new)
   reached_at mid new t r sound reached = reached_again g mid.now mid.limits mid.played new.played r.reopens sound reached
 
@@ -130,6 +141,7 @@ module _ {K : Type 0} (g : Ghosts K) where
       subst (λ (x : Option Telling). Plays g restart old x new) (sym r.told) (record {
         standing = standing_again old new t stands r;
         limits = r.limits;
+        sound = r.reopens.sound;
         reached = reached_at old new t r;
         done = λ sound spells reached. reopens old.limits (world_at old) (world_at new) (reopened_at old new t r sound);
       })
@@ -141,19 +153,20 @@ module _ {K : Type 0} (g : Ghosts K) where
       subst (λ (x : Option Telling). Plays g (stop_after a) old x new) (sym r.told) (record {
         standing = standing_again mid new t asked.standing r;
         limits = r.limits ∙ asked.limits;
+        sound = λ sound. asked.sound (r.reopens.sound sound);
         reached = λ sound reached.
             subst (λ (l : Limits). IsReached l (broker_of new)) asked.limits
             (reached_at mid new t r sound
-            (subst (λ (l : Limits). IsReached l (broker_of mid)) (sym asked.limits) (asked.reached sound reached)));
+            (subst (λ (l : Limits). IsReached l (broker_of mid)) (sym asked.limits) (asked.reached (r.reopens.sound sound) reached)));
         done = λ sound spells reached.
-            stops_behind old.limits a u (world_at old) (world_at mid) (world_at new) plain (asked.done sound spells reached)
+            stops_behind old.limits a u (world_at old) (world_at mid) (world_at new) plain (asked.done (r.reopens.sound sound) spells reached)
             (subst (λ (l : Limits). IsReopened l (world_at mid) (world_at new)) asked.limits (reopened_at mid new t r sound));
       })
 
   -- what can't be asked can't be stopped after
   pub stop_after_bad : (a : Asking) (old new : Staged K) → Plays g (ask a) old None new → Plays g (stop_after a) old None new
   stop_after_bad a old new asked =
-      record { standing = asked.standing; limits = asked.limits; reached = asked.reached; done = asked.done }
+      record { standing = asked.standing; limits = asked.limits; sound = asked.sound; reached = asked.reached; done = asked.done }
 
   -- ---- a stop before the commit
 
@@ -181,6 +194,7 @@ module _ {K : Type 0} (g : Ghosts K) where
       subst (λ (x : Option Telling). Plays g (stop_before a) old x new) (sym r.told) (record {
         standing = standing_again mid new t (off_stands a old M stands off) r;
         limits = r.limits;
+        sound = λ sound. subst (λ (e : Serving K). g.is_sound e.running.keep) off.engine (r.reopens.sound sound);
         reached = λ sound reached.
             reached_at mid new t r sound
             (subst (λ (e : Serving K). IsReached old.limits e.running.broker) (sym off.engine) reached);
@@ -192,6 +206,7 @@ module _ {K : Type 0} (g : Ghosts K) where
             (o.is ∙ ap (restarts (by_choice old.limits o.choice)) is);
       })
 
+  -- a packet that is taken off, and the broker opened again behind it, are a stop before the commit
   pub stop_before_plays : (a : Asking) (old mid new : Staged K) (t : Option Telling) → IsStanding g old
       → mid ≡ record old { played = mid.played } → IsTakenOff a old.played mid.played → Restages g mid t new
       → Plays g (stop_before a) old t new
@@ -204,6 +219,7 @@ module _ {K : Type 0} (g : Ghosts K) where
       subst (λ (x : Played K). Plays g e old None (record old { played = x })) (sym same) (record {
         standing = record { playable = stands.playable; limits = stands.limits; within = stands.within };
         limits = refl;
+        sound = λ sound. sound;
         reached = λ sound reached. reached;
         done = λ sound spells reached. (is, refl);
       })
@@ -217,18 +233,21 @@ module _ {K : Type 0} (g : Ghosts K) where
 
   -- ---- whatever is answered
 
+  -- if the opening answered a scene, the stage is opened again with it
   pub all_restages : (S P : Played K) (ss rs : List Stranger) (now : ℕ) (limits : Limits) (s : Staged K) (r : Result (Played K) Over) (t : Telling)
       → staged S ss now limits ≡ s → r ≡ Ok P → IfOk r (λ x. Reopens g limits now S x) → rs ≡ map unlinked ss → t ≡ silent
       → Restages g s (Some t) (staged P rs now limits)
   all_restages S P ss rs now limits s r t view ok h is told =
       restages S P ss rs now limits s t view (ok_is (λ (x : Played K). Reopens g limits now S x) r P ok h) is told
 
+  -- what was asked, and the broker opened again behind it, are a stop after the commit, whatever is answered
   pub all_stop_after : (a : Asking) (old mid : Staged K) (u : Telling) (r : Result (Staged K × Option Telling) Over) → IsPlain a
       → Plays g (ask a) old (Some u) mid → IfOk r (λ x. Restages g mid x.1 x.0) → IfOk r (λ x. Plays g (stop_after a) old x.1 x.0)
   all_stop_after a old mid u r plain asked h =
       ok_as (λ (x : Staged K × Option Telling). Restages g mid x.1 x.0) (λ (x : Staged K × Option Telling). Plays g (stop_after a) old x.1 x.0) r
       (λ x again. stop_after_plays a old mid x.0 u x.1 plain asked again) h
 
+  -- a packet taken off, and the broker opened again, are a stop before the commit, whatever is answered
   pub all_stop_before : (a : Asking) (old mid : Staged K) (r : Result (Staged K × Option Telling) Over) → IsStanding g old
       → mid ≡ record old { played = mid.played } → IsTakenOff a old.played mid.played → IfOk r (λ x. Restages g mid x.1 x.0)
       → IfOk r (λ x. Plays g (stop_before a) old x.1 x.0)

@@ -13,9 +13,9 @@ use Rattle.mqtt_rules.specs.State.{Broker}
 use Rattle.mqtt_rules.specs.Step.{opened}
 use Rattle.mqtt_rules.specs.declared.Limits.{Limits}
 use Rattle.mqtt_world_clients.specs.Ends.{Ends}
-use Rattle.mqtt_world.specs.Events.{IsReached, opens, world_of}
-use Rattle.mqtt_world.specs.Openings.{Begins, Opens, no_ends}
-use Rattle.mqtt_world.specs.Scenes.{Played}
+use Rattle.mqtt_world_scene.specs.Events.{IsReached, opens, world_of}
+use Rattle.mqtt_world_scene.specs.Openings.{Begins, Opens, no_ends}
+use Rattle.mqtt_world_scene.specs.Scenes.{Played}
 use Rattle.mqtt_world.specs.Stages.{IsStanding}
 use Rattle.mqtt_world.specs.Worlds.{Came, Starts}
 use Rattle.mqtt_world.proofs.Course.{ok_is}
@@ -52,18 +52,21 @@ module _ {K : Type 0} (g : Ghosts K) (limits : Limits) (keep : K) (s : Played K)
     choice = b.opens.choice;
     unspent = b.opens.unspent;
     at = staged s [] 0 limits;
+    sound = b.sound;
     stage = refl;
     limits_are = refl;
     world = world_began g limits b.records s b.opens b.ends;
     events = nothing;
-    comes = λ phases t is.
+    comes = λ phases t is sound.
         subst (Came (opened_world limits b.opens.choice 0 b.records) events) (ok_is (Ok (staged s [] 0 limits)) (staged s [] 0 limits) t refl is)
         (came_first g limits b.records s events b.opens b.ends nothing within b.lawful phases);
   }
 
+  -- a world that just began, without strangers, can go on
   pub begun_stands_in : (ss : List Stranger) → ss ≡ [] → AreWithin limits → Begins g limits 0 keep s → IsStanding g (staged s ss 0 limits)
   begun_stands_in ss nobody within b = subst (λ (xs : List Stranger). IsStanding g (staged s xs 0 limits)) (sym nobody) (begun_stands within b)
 
+  -- an opening on lawful records starts a world, if there is no stranger yet and no event has happened
   pub starts_in : (ss : List Stranger) (events : List Event) → ss ≡ [] → events ≡ [] → AreWithin limits → Begins g limits 0 keep s
       → Starts g limits keep (record { stage = Ok (staged s ss 0 limits); events = events })
   starts_in ss events nobody nothing within b =

@@ -17,9 +17,9 @@ use Rattle.mqtt_script_laws.specs.Scripted.{Happens}
 use Rattle.mqtt_script_laws.specs.Turns.{IsPlain, IsReopened}
 use Rattle.mqtt_script_laws.proofs.Scripts.{spent_joined}
 use Rattle.mqtt_script_laws.proofs.Single.{turn_unspent}
-use Rattle.mqtt_world.specs.Events.{IsReached, opens_again, world_of}
-use Rattle.mqtt_world.specs.Openings.{AlwaysSound, Reopens}
-use Rattle.mqtt_world.specs.Scenes.{Played}
+use Rattle.mqtt_world_scene.specs.Events.{IsReached, opens_again, world_of}
+use Rattle.mqtt_world_scene.specs.Openings.{Reopens}
+use Rattle.mqtt_world_scene.specs.Scenes.{Played}
 
 -- ---- of a world
 
@@ -60,13 +60,15 @@ stops_behind limits a t w mid after p does opens =
 -- ---- of a broker with its ends
 
 module _ {K : Type 0} (g : Ghosts K) (now : ℕ) (limits : Limits) (old new : Played K) where
-  pub reached_again : Reopens g limits now old new → AlwaysSound g
+  -- if the old broker can come to be, so can the one that is opened again on a sound device
+  pub reached_again : Reopens g limits now old new → g.is_sound new.engine.running.keep
       → IsReached limits old.engine.running.broker → IsReached limits new.engine.running.broker
   reached_again r sound reached =
       let o = r.opens sound in
       subst (IsReached limits) (sym o.broker) (opens_again o.choice now old.engine.running.broker reached o.unspent)
 
-  pub reopened : (ss : List Stranger) → Reopens g limits now old new → AlwaysSound g
+  -- if the broker is opened again on a sound device, so is its world, in which no stranger has a line
+  pub reopened : (ss : List Stranger) → Reopens g limits now old new → g.is_sound new.engine.running.keep
       → IsReopened limits (world_of now ss old) (world_of now (map unlinked ss) new)
   reopened ss r sound =
       let o = r.opens sound in

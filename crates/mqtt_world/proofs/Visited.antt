@@ -13,17 +13,19 @@ use Rattle.mqtt_script_laws.proofs.Comings.{stops_before_first, stops_before_the
 use Rattle.mqtt_script_laws.proofs.Pieces.{last_piece, piece_and_more, stops_after_piece}
 use Rattle.mqtt_world_strangers.specs.Strangers.{named, newcomer}
 use Rattle.mqtt_world_strangers.proofs.Steps.{good_rest}
-use Rattle.mqtt_world.specs.Events.{IsReached, SpellsAll, world_of}
-use Rattle.mqtt_world.specs.Scenes.{Played}
+use Rattle.mqtt_world_scene.specs.Events.{IsReached, SpellsAll, world_of}
+use Rattle.mqtt_world_scene.specs.Scenes.{Played, WasSound}
+use Rattle.mqtt_world_scene.proofs.Heard.{none_tells, tells_after}
 use Rattle.mqtt_world.specs.Stages.{IsStanding, Plays, Restages, Staged, broker_of, world_at}
 use Rattle.mqtt_world.specs.Visits.{MayStopAt, StopsAt, TakesPiece, TellsPiece}
-use Rattle.mqtt_world.proofs.Calling.{all_taken, comes_in, decided, none_tells, piece_good, staged, tells_after}
+use Rattle.mqtt_world.proofs.Calling.{all_taken, comes_in, decided, piece_good, staged}
 use Rattle.mqtt_world.proofs.Staged.{ok_as, reached_at as reached_again, reopened_at, standing_again}
 
 -- so many pieces have come, and the rest comes where they led
 pub record ComesOn {K : Type 0} (g : Ghosts K) (name bytes : List ℕ) (old : Staged K) (told : Telling) (mid : Staged K) (rest : List ℕ) : Type 0 where
   pub standing : IsStanding g mid
   pub limits : mid.limits ≡ old.limits
+  pub sound : WasSound g old.played mid.played
   pub reached : IsReached old.limits (broker_of old) → IsReached old.limits (broker_of mid)
   pub good : SpellsAll old.limits → IsReached old.limits (broker_of old) → is_bad (comes_in name rest) (world_at mid) ≡ false
   pub done : SpellsAll old.limits → IsReached old.limits (broker_of old) → (u : Telling) (after : World)
@@ -47,11 +49,13 @@ module _ {K : Type 0} (g : Ghosts K) (name : List ℕ) where
 
   -- ---- before the first
 
+  -- before the first piece nothing has come, and all the bytes are to come yet
   pub comes_first : (bytes : List ℕ) (old : Staged K) (told : Telling) → IsStanding g old → told ≡ silent
       → is_bad_asking (stranger name bytes) (world_at old) ≡ false → ComesOn g name bytes old told old bytes
   comes_first bytes old told standing none good = record {
     standing = standing;
     limits = refl;
+    sound = λ sound. sound;
     reached = λ reached. reached;
     good = λ spells reached. good;
     done = λ spells reached u after does.
@@ -103,12 +107,14 @@ module _ {K : Type 0} (g : Ghosts K) (name : List ℕ) where
     its_end some (inl none) = absurd (some none)
     its_end some (inr whole) = whole
 
+    -- if more is behind a piece, that comes from the stage to which the piece led
     pub comes_further : (more ≡ [] → ⊥) → ComesOn g name bytes old later new more
     comes_further some =
         let whole = its_end some p.takes.next.ends in
         record {
           standing = p.takes.standing;
           limits = p.takes.limits ∙ c.limits;
+          sound = λ sound. c.sound (p.takes.sound sound);
           reached = λ reached. reached_at rest taken p.t mid new old.limits c.limits p.takes (c.reached reached);
           good = rest_good whole;
           done = rest_done whole;
@@ -116,10 +122,12 @@ module _ {K : Type 0} (g : Ghosts K) (name : List ℕ) where
 
     -- ---- the last
 
+    -- if nothing is behind a piece, all that the stranger sent has come
     pub comes_last : more ≡ [] → Plays g (comes_in name bytes) old (Some later) new
     comes_last none = record {
       standing = p.takes.standing;
       limits = p.takes.limits ∙ c.limits;
+      sound = λ sound. c.sound (p.takes.sound sound);
       reached = λ sound reached. reached_at rest taken p.t mid new old.limits c.limits p.takes (c.reached reached);
       done = λ sound spells reached.
           subst (λ (t : Telling). Happens old.limits (comes_in name bytes) t (world_at old) (world_at new)) (sym p.told)
@@ -130,22 +138,26 @@ module _ {K : Type 0} (g : Ghosts K) (name : List ℕ) where
 
   -- ---- bytes that may not come
 
+  -- if bytes may not come, nothing changes
   pub refused : (bytes : List ℕ) (s : Staged K) (bad : Bool) → IsStanding g s → bad ≡ is_bad_asking (stranger name bytes) (world_at s) → bad ≡ true
       → Plays g (comes_in name bytes) s None s
   refused bytes s bad standing tells is = record {
     standing = standing;
     limits = refl;
+    sound = λ sound. sound;
     reached = λ sound reached. reached;
     done = λ sound spells reached. (inl (sym tells ∙ is), refl);
   }
 
   -- ---- a stop after the first piece
 
+  -- a stop after the commit comes behind the first piece of a stranger's bytes, and no more of them is read
   pub cut_short : (bytes : List ℕ) (taken : ℕ) (t : Telling) (old new : Staged K) → TakesPiece g name bytes old taken t new
       → is_bad_asking (stranger name bytes) (world_at old) ≡ false → StopsAt g (stop_after (stranger name bytes)) old new
   cut_short bytes taken t old new p good = record {
     standing = p.standing;
     limits = p.limits;
+    sound = p.sound;
     reached = p.reached;
     done = λ spells reached after opens.
         let w = world_at old in
@@ -161,15 +173,18 @@ module _ {K : Type 0} (g : Ghosts K) (name : List ℕ) where
 
   -- ---- and before it
 
+  -- a stop before the commit leaves a stranger that is there already as it was
   pub named_before : (s : Staged K) → IsStanding g s → is_some (named name s.strangers) ≡ true → (bytes : List ℕ)
       → is_bad_asking (stranger name bytes) (world_at s) ≡ false → StopsAt g (stop_before (stranger name bytes)) s s
   named_before s standing there bytes good = record {
     standing = standing;
     limits = refl;
+    sound = λ sound. sound;
     reached = λ reached. reached;
     done = λ spells reached after opens. stops_before_there s.limits name bytes (world_at s) after there good opens;
   }
 
+  -- it leaves a stranger that comes first behind the others, without a line
   pub named_first : (s : Staged K) (P : Played K) (ss all : List Stranger) (copy : List ℕ) (now : ℕ) (limits : Limits) → staged P ss now limits ≡ s → IsStanding g s
       → named name ss ≡ None → copy ≡ name → all ≡ ss ++ newcomer copy None ∷ [] → (bytes : List ℕ) → is_bad_asking (stranger name bytes) (world_at s) ≡ false
       → StopsAt g (stop_before (stranger name bytes)) s (staged P all now limits)
@@ -183,6 +198,7 @@ module _ {K : Type 0} (g : Ghosts K) (name : List ℕ) where
       (record {
         standing = record { playable = at.playable; limits = at.limits; within = at.within };
         limits = refl;
+        sound = λ sound. sound;
         reached = λ reached. reached;
         done = λ spells reached after opens. stops_before_first limits name bytes (world_of now ss P) after none fine opens;
       }))
@@ -195,6 +211,7 @@ module _ {K : Type 0} (g : Ghosts K) (e : Event) where
       subst (λ (x : Option Telling). Plays g e old x new) (sym r.told) (record {
         standing = standing_again g mid new t s.standing r;
         limits = r.limits ∙ s.limits;
+        sound = λ sound. s.sound (r.reopens.sound sound);
         reached = λ sound reached.
             subst (λ (l : Limits). IsReached l (broker_of new)) s.limits
             (reached_again g mid new t r sound (subst (λ (l : Limits). IsReached l (broker_of mid)) (sym s.limits) (s.reached reached)));
@@ -203,6 +220,7 @@ module _ {K : Type 0} (g : Ghosts K) (e : Event) where
             (subst (λ (l : Limits). IsReopened l (world_at mid) (world_at new)) s.limits (reopened_at g mid new t r sound));
       })
 
+  -- a stop, and the broker opened again behind it, are the event that stops, whatever is answered
   pub all_stop : {E : Type 0} (old mid : Staged K) (r : Result (Staged K × Option Telling) E) → StopsAt g e old mid
       → IfOk r (λ x. Restages g mid x.1 x.0) → IfOk r (λ x. Plays g e old x.1 x.0)
   all_stop old mid r s h =
@@ -216,6 +234,7 @@ module _ {K : Type 0} (g : Ghosts K) (e : Event) where
       (record {
         standing = standing;
         limits = refl;
+        sound = λ sound. sound;
         reached = λ sound reached. reached;
         done = λ sound spells reached. (inl bad.0, refl);
       })

@@ -1,49 +1,24 @@
 -- The bytes of a stranger, as they come to a broker piece by piece (MQTT 5.0, 2.1, 4.1, 4.13).
-use Rattle.std.specs.Prelude.{◌≡◌, ◌≤◌, ◌<◌, ◌⊎◌, ℕ, Bool, false, true, List, [], length, take, drop, Option, None, is_some, Ok}
+use Rattle.std.specs.Prelude.{◌≡◌, ◌≤◌, ◌<◌, ◌⊎◌, ℕ, Bool, false, true, List, [], length, take, drop, None, is_some, Ok}
 use Rattle.mqtt_records.specs.declared.keep.Keep.{Ghosts}
 use Rattle.mqtt_packet.specs.Front.{first_of}
-use Rattle.mqtt_world_model.specs.Run.{read_if, the_deeds}
-use Rattle.mqtt_world_model.specs.Tellings.{Telling, silent, telling}
-use Rattle.mqtt_world_model.specs.World.{Event, Stranger, World, ask, calls_if, is_bad, stranger}
-use Rattle.mqtt_rules.specs.State.{MemberChoice}
-use Rattle.mqtt_rules.specs.Step.{Call}
-use Rattle.mqtt_world_acceptance_laws.specs.Spending.{spending}
+use Rattle.mqtt_world_model.specs.Tellings.{Telling, silent}
+use Rattle.mqtt_world_model.specs.World.{Event, World, ask, is_bad, stranger}
 use Rattle.mqtt_world_single_step_laws.specs.Unrolled.{AreAlike}
 use Rattle.mqtt_script_laws.specs.Scripted.{Happens}
-use Rattle.mqtt_script_laws.specs.Turns.{IsReopened, IsTurn, both_tell, by_choice}
+use Rattle.mqtt_script_laws.specs.Turns.{IsReopened, IsTurn, both_tell}
 use Rattle.mqtt_world_strangers.specs.Fronts.{IsNextPiece}
 use Rattle.mqtt_world_strangers.specs.Strangers.{held_of, named}
-use Rattle.mqtt_world.specs.Events.{IsReached, SpellsAll, world_of}
-use Rattle.mqtt_world.specs.Scenes.{IsPlayable, Played}
+use Rattle.mqtt_world_scene.specs.Events.{IsReached, SpellsAll}
+use Rattle.mqtt_world_scene.specs.Scenes.{WasSound}
 use Rattle.mqtt_world.specs.Stages.{IsStanding, Staged, broker_of, world_at}
-
--- ---- the broker is asked for this, if for anything: for some choice of members that spends no number, whatever strangers
--- there are
-
-pub record Asks {K : Type 0} (g : Ghosts K) (now : ℕ) (call : Option Call) (old : Played K) (t : Telling) (new : Played K) : Type 0 where
-  pub choice : MemberChoice
-  pub playable : IsPlayable g new
-  pub limits : new.engine.running.limits ≡ old.engine.running.limits
-  pub reached : IsReached old.engine.running.limits old.engine.running.broker → IsReached old.engine.running.limits new.engine.running.broker
-  pub unspent : (strangers : List Stranger)
-      → read_if spending (by_choice old.engine.running.limits choice) call (world_of now strangers old) ≡ false
-  pub told : (strangers : List Stranger)
-      → t ≡ telling (read_if the_deeds (by_choice old.engine.running.limits choice) call (world_of now strangers old))
-  pub done : SpellsAll old.engine.running.limits → IsReached old.engine.running.limits old.engine.running.broker
-      → (strangers : List Stranger)
-      → world_of now strangers new ≡ calls_if (by_choice old.engine.running.limits choice) call (world_of now strangers old)
-
--- and what it tells is told behind what was told before
-pub record Hears {K : Type 0} (g : Ghosts K) (now : ℕ) (call : Option Call) (old : Played K) (before after : Telling) (new : Played K) : Type 0 where
-  pub t : Telling
-  pub asks : Asks g now call old t new
-  pub told : after ≡ both_tell before t
 
 -- ---- a stranger is there, as if it had been linked before, and had sent nothing, where it comes first
 
 pub record Welcomes {K : Type 0} (g : Ghosts K) (name : List ℕ) (old new : Staged K) : Type 0 where
   pub standing : IsStanding g new
   pub limits : new.limits ≡ old.limits
+  pub sound : WasSound g old.played new.played
   pub reached : IsReached old.limits (broker_of old) → IsReached old.limits (broker_of new)
   pub there : is_some (named name new.strangers) ≡ true
   pub same : held_of name new.strangers ≡ held_of name old.strangers
@@ -62,6 +37,7 @@ pub record Welcomes {K : Type 0} (g : Ghosts K) (name : List ℕ) (old new : Sta
 pub record TakesPiece {K : Type 0} (g : Ghosts K) (name bytes : List ℕ) (old : Staged K) (taken : ℕ) (t : Telling) (new : Staged K) : Type 0 where
   pub standing : IsStanding g new
   pub limits : new.limits ≡ old.limits
+  pub sound : WasSound g old.played new.played
   pub reached : IsReached old.limits (broker_of old) → IsReached old.limits (broker_of new)
   pub within : taken ≤ length bytes
   pub next : IsNextPiece (held_of name old.strangers) (take taken bytes) (drop taken bytes)
@@ -82,6 +58,7 @@ pub record TellsPiece {K : Type 0} (g : Ghosts K) (name bytes : List ℕ) (old :
 pub record StopsAt {K : Type 0} (g : Ghosts K) (e : Event) (old new : Staged K) : Type 0 where
   pub standing : IsStanding g new
   pub limits : new.limits ≡ old.limits
+  pub sound : WasSound g old.played new.played
   pub reached : IsReached old.limits (broker_of old) → IsReached old.limits (broker_of new)
   pub done : SpellsAll old.limits → IsReached old.limits (broker_of old) → (after : World)
       → IsReopened old.limits (world_at new) after → Happens old.limits e silent (world_at old) after

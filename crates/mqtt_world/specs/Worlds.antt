@@ -1,6 +1,6 @@
 -- Worlds that run: what a script's events come to there, one after the other, and what holds of all of them (MQTT 5.0, 4.1 to
 -- 4.4).
-use Rattle.std.specs.Prelude.{◌≡◌, ⊤, ℕ, Bool, false, List, [], ◌∷◌, ◌++◌, length, count_by, cond, bytes_eq, Option, None}
+use Rattle.std.specs.Prelude.{◌≡◌, ℕ, Bool, false, List, [], ◌∷◌, ◌++◌, length, count_by, cond, bytes_eq, Option, None}
 use Rattle.std.specs.Prelude.{Some, Result, Ok, Err, option_map}
 use Rattle.mqtt_records.specs.declared.keep.Keep.{Ghosts}
 use Rattle.mqtt_records.specs.declared.records.Records.{Records}
@@ -12,9 +12,7 @@ use Rattle.mqtt_world_peers.specs.declared.told.RunFault.{RunFault}
 use Rattle.mqtt_world_peers.specs.declared.told.RunFault.TheVariants as fault
 use Rattle.mqtt_broker_engine.specs.Opening.{IsLoad}
 use Rattle.mqtt_script.specs.declared.event.Event.{Event}
-use Rattle.mqtt_script.specs.declared.event.Event.TheVariants.{Publisher, Receiver, Connect, GiveUp, Publish, Subscribe}
-use Rattle.mqtt_script.specs.declared.event.Event.TheVariants.{ToBroker, ToEnd, Break, Pump, Clock, Tick, Restart, StopBefore}
-use Rattle.mqtt_script.specs.declared.event.Event.TheVariants.{StopAfter, Stranger, Drain}
+use Rattle.mqtt_script.specs.declared.event.Event.TheVariants.{Publish, Drain}
 use Rattle.mqtt_script_laws.specs.Cleanly.{BeginClean, ScriptDelivers}
 use Rattle.mqtt_script_laws.specs.Drains.{DrainHappens}
 use Rattle.mqtt_script_laws.specs.Scripted.{IsBadHere, RunsTo, event_of}
@@ -27,41 +25,15 @@ use Rattle.mqtt_rules.specs.Laws.{AreWithin}
 use Rattle.mqtt_rules.specs.State.{MemberChoice, session_named}
 use Rattle.mqtt_rules.specs.Step.{is_opening_spent}
 use Rattle.mqtt_rules.specs.declared.Limits.{Limits}
-use Rattle.mqtt_world.specs.declared.over.Over.{Over}
-use Rattle.mqtt_world.specs.declared.over.Over.TheVariants as over
-use Rattle.mqtt_world.specs.Draining.{TellsDrain}
-use Rattle.mqtt_world.specs.Events.{Does, IsReached}
-use Rattle.mqtt_world.specs.Openings.{AlwaysSound}
-use Rattle.mqtt_world.specs.Scenes.{Played}
-use Rattle.mqtt_world.specs.Stages.{Plays, Staged, broker_of, world_at}
+use Rattle.mqtt_world_scene.specs.declared.over.Over.{Over}
+use Rattle.mqtt_world_scene.specs.declared.over.Over.TheVariants as over
+use Rattle.mqtt_world_scene.specs.Events.{IsReached}
+use Rattle.mqtt_world_scene.specs.Scenes.{WasSound}
+use Rattle.mqtt_world.specs.Stages.{IsSoundAt, Plays, Staged, TellsDrain, broker_of, world_at}
 
 -- ---- one event of a script
 
--- ends and the broker alone take part in it, and the broker stays open
-abbrev pub IsOfEnds : Event → Type 0
-IsOfEnds (Publisher client) = ⊤
-IsOfEnds (Receiver client window) = ⊤
-IsOfEnds (Connect client clean_start) = ⊤
-IsOfEnds (GiveUp client) = ⊤
-IsOfEnds (Publish client draft) = ⊤
-IsOfEnds (Subscribe client wish) = ⊤
-IsOfEnds (ToBroker client old) = ⊤
-IsOfEnds (ToEnd client) = ⊤
-IsOfEnds (Break client) = ⊤
-IsOfEnds (Pump client) = ⊤
-IsOfEnds (Clock wait) = ⊥
-IsOfEnds Tick = ⊤
-IsOfEnds Restart = ⊥
-IsOfEnds (StopBefore a) = ⊥
-IsOfEnds (StopAfter a) = ⊥
-IsOfEnds (Stranger name bytes) = ⊥
-IsOfEnds (Drain client) = ⊥
-
 -- what is no event of the world can't happen, and nothing changes
-abbrev pub DoesIf : {K : Type 0} → Ghosts K → ℕ → Option world.Event → Played K → Option Telling → Played K → Type 0
-DoesIf g now None old t new = (t ≡ None) × (new ≡ old)
-DoesIf g now (Some e) old t new = Does g now e old t new
-
 abbrev pub PlaysIf : {K : Type 0} → Ghosts K → Option world.Event → Staged K → Option Telling → Staged K → Type 0
 PlaysIf g None old t new = (t ≡ None) × (new ≡ old)
 PlaysIf g (Some e) old t new = Plays g e old t new
@@ -73,15 +45,16 @@ pub data Performs {K : Type 0} (g : Ghosts K) (e : Event) (old : Staged K) (t : 
 
 -- ---- events, one after the other
 
--- over a store whose device is always sound, from a broker that there is
-abbrev pub IfSound : {K : Type 0} → Ghosts K → Staged K → Type 0 → Type 0
-IfSound g s P = AlwaysSound g → IsReached s.limits (broker_of s) → P
+-- over a store whose device is sound after it, from a broker that there is
+abbrev pub IfSound : {K : Type 0} → Ghosts K → Staged K → Staged K → Type 0 → Type 0
+IfSound g old new P = IsSoundAt g new → IsReached old.limits (broker_of old) → P
 
 -- they happen in the definitions' world, with what each tells
 pub record Runs {K : Type 0} (g : Ghosts K) (es : List Event) (old : Staged K) (ts : List Telling) (new : Staged K) : Type 0 where
   pub limits : new.limits ≡ old.limits
-  pub reached : IfSound g old (IsReached old.limits (broker_of new))
-  pub runs : IfSound g old (RunsTo old.limits es ts (world_at old) (world_at new))
+  pub sound : WasSound g old.played new.played
+  pub reached : IfSound g old new (IsReached old.limits (broker_of new))
+  pub runs : IfSound g old new (RunsTo old.limits es ts (world_at old) (world_at new))
 
 -- ---- a world: what stands, or why it is over; and the events that happened in it
 
@@ -94,11 +67,6 @@ with_stage s w = record w { stage = Ok s }
 
 abbrev pub over_by : {K : Type 0} → Over → Lasting K → Lasting K
 over_by o w = record w { stage = Err o }
-
--- what each call of a world that is over answers
-abbrev pub fault_of : Over → RunFault
-fault_of over.Memory = fault.Memory
-fault_of over.Store = fault.Store
 
 -- events happened, with what each tells, and the world keeps them
 pub record Happen {K : Type 0} (g : Ghosts K) (es : List Event) (ts : List Telling) (old new : Lasting K) : Type 0 where
@@ -114,12 +82,12 @@ pub record HappenDrained {K : Type 0} (g : Ghosts K) (client : List ℕ) (rounds
   pub t : Telling
   pub happened : Happen g (Drain client ∷ []) (t ∷ []) old new
   pub drained : (from to : Staged K) → old.stage ≡ Ok from → new.stage ≡ Ok to
-      → IfSound g from ((h : DrainHappens from.limits client t (world_at from) (world_at to)) × (h.rounds ≡ rounds))
+      → IfSound g from to ((h : DrainHappens from.limits client t (world_at from) (world_at to)) × (h.rounds ≡ rounds))
 
 -- an event can't happen there, and nothing changed
 pub record CantHappen {K : Type 0} (g : Ghosts K) (e : Event) (old new : Lasting K) : Type 0 where
   pub nothing : Happen g [] [] old new
-  pub bad : IfSound g nothing.from (IsBadHere e (world_at nothing.from))
+  pub bad : IfSound g nothing.from nothing.to (IsBadHere e (world_at nothing.from))
 
 -- why an event did not happen: it can't, and its place is behind those that the world keeps; or the world is over
 abbrev pub Refuses : {K : Type 0} → Ghosts K → Event → RunFault → Lasting K → Lasting K → Type 0
@@ -147,22 +115,22 @@ pub record Came {K : Type 0} (start : World) (es : List Event) (s : Staged K) : 
   pub tells : List Telling
   pub runs : RunsTo s.limits es tells start (world_at s)
 
--- while it stands, the events that it keeps led there
-abbrev pub HasCome : {K : Type 0} → World → Lasting K → Type 0
-HasCome {K} start w = (s : Staged K) → w.stage ≡ Ok s → Came start w.events s
+-- while it stands, and the device of its store has returned what was written, the events that it keeps led there
+abbrev pub HasCome : {K : Type 0} → Ghosts K → World → Lasting K → Type 0
+HasCome {K} g start w = (s : Staged K) → w.stage ≡ Ok s → IsSoundAt g s → Came start w.events s
 
 -- exactly-once delivery, of all of them, whatever turns they came to: where nobody was there at first, what was stored is as a
 -- broker leaves it, and their ends begin clean (3.1.2.4, 3.3.4, 4.3, 4.4, 4.6, 4.8, 4.9)
-abbrev pub HasDelivered : {K : Type 0} → World → Lasting K → Type 0
-HasDelivered {K} start w = (s : Staged K) → w.stage ≡ Ok s → BeginsWell s.limits start → BeginClean s.limits w.events start
-    → ScriptDelivers s.limits w.events start (world_at s)
+abbrev pub HasDelivered : {K : Type 0} → Ghosts K → World → Lasting K → Type 0
+HasDelivered {K} g start w = (s : Staged K) → w.stage ≡ Ok s → IsSoundAt g s → BeginsWell s.limits start
+    → BeginClean s.limits w.events start → ScriptDelivers s.limits w.events start (world_at s)
 
 -- a drain empties the queue, and the receiver's line stands still; it takes no more rounds than twice the copies that stand in
 -- the queue at its start or enter in its first round, and one; and each copy that ends in it is the receiver's, and ends for a
 -- cause of a drain; if nobody was there at first and the ends so far began clean (3.1.2.4, 3.1.2.11, 3.3.2.3.3, 4.3, 4.4, 4.6,
 -- 4.9)
-abbrev pub DrainEmpties : {K : Type 0} → World → List ℕ → ℕ → Lasting K → Lasting K → Type 0
-DrainEmpties {K} start client rounds old new = (from to : Staged K) → old.stage ≡ Ok from → new.stage ≡ Ok to
+abbrev pub DrainEmpties : {K : Type 0} → Ghosts K → World → List ℕ → ℕ → Lasting K → Lasting K → Type 0
+DrainEmpties {K} g start client rounds old new = (from to : Staged K) → old.stage ≡ Ok from → new.stage ≡ Ok to → IsSoundAt g to
     → IsUntouched from.limits start → BeginClean from.limits old.events start
     → IsEmptied from.limits client rounds (world_at from) (world_at to)
 
@@ -175,12 +143,13 @@ pub record Starts {K : Type 0} (g : Ghosts K) (limits : Limits) (keep : K) (w : 
   pub choice : MemberChoice
   pub unspent : is_opening_spent limits choice 0 records ≡ false
   pub at : Staged K
+  pub sound : IsSoundAt g at → g.is_sound loaded
   pub stage : w.stage ≡ Ok at
   pub limits_are : at.limits ≡ limits
   pub world : world_at at ≡ opened_world limits choice 0 records
   pub events : w.events ≡ []
   -- its runs have all that is proved of every run, if what was in flight has identifiers of two bytes (2.2.1)
-  pub comes : HaveSentPhases records → HasCome (opened_world limits choice 0 records) w
+  pub comes : HaveSentPhases records → HasCome g (opened_world limits choice 0 records) w
 
 -- ---- what is seen of a world; of one that is over there is nothing to see
 

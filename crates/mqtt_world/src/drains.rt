@@ -4,21 +4,19 @@ ghost use Rattle.std.specs.Prelude.{◌≡◌, ℕ, List, Err, IfErr, IfOk, Some
 ghost use Rattle.mqtt_world_model.specs.World.{World as Start};
 ghost use Rattle.mqtt_world_peers.specs.declared.told.RunFault.TheVariants as fault;
 ghost use Rattle.mqtt_script.specs.declared.event.Event.TheVariants.{Drain};
-ghost use Rattle.mqtt_world.specs.Draining.{PlaysDrain};
-ghost use Rattle.mqtt_world.specs.Halting.{IsFaultDue};
-ghost use Rattle.mqtt_world.specs.Openings.{AlwaysSound};
-ghost use Rattle.mqtt_world.specs.Stages.{IsStanding, Staged};
-ghost use Rattle.mqtt_world.specs.Worlds.{DrainEmpties, HappenDrained, HasCome, HasDelivered, Refuses, fault_of, over_by, with_stage};
-ghost use Rattle.mqtt_world.specs.declared.over.Over.{Over as Why};
-ghost use Rattle.mqtt_world.specs.declared.over.Over.TheVariants as over;
+ghost use Rattle.mqtt_world_scene.specs.Halting.{IsFaultDue, fault_of};
+ghost use Rattle.mqtt_world.specs.Stages.{IsStanding, PlaysDrain, Staged};
+ghost use Rattle.mqtt_world.specs.Worlds.{DrainEmpties, HappenDrained, HasCome, HasDelivered, Refuses, over_by, with_stage};
+ghost use Rattle.mqtt_world_scene.specs.declared.over.Over.{Over as Why};
+ghost use Rattle.mqtt_world_scene.specs.declared.over.Over.TheVariants as over;
 
-use crate::halt::Halt;
 use crate::stage::Stage;
 use crate::world::World;
 use mqtt_base::Text;
 use mqtt_records::Keep;
 use mqtt_script::Event;
 use mqtt_world_peers::{RunFault, Told};
+use mqtt_world_scene::Halt;
 use std::alloc::AllocError;
 use std::mem;
 
@@ -121,13 +119,13 @@ impl<K: Keep> World<K> {
 
         // It ends within so many rounds, and then no copy waits for the receiver, or is in flight to it. Those that end in
         // it are the receiver's, and end for a cause of a drain.
-        ensures empty { AlwaysSound K.Keep → (start : Start) → HasCome start self.old
-            → IfOk result (λ n. DrainEmpties start client.now n self.old self.new) }
+        ensures empty { (start : Start) → HasCome K.Keep start self.old
+            → IfOk result (λ n. DrainEmpties K.Keep start client.now n self.old self.new) }
 
-        // All that it keeps is a run of the definitions' world, and exactly-once delivery holds of it.
-        ensures goes_on { AlwaysSound K.Keep → (start : Start) → HasCome start self.old → HasCome start self.new }
-        ensures delivers { AlwaysSound K.Keep → (start : Start) → HasCome start self.old
-            → HasDelivered start self.new }
+        // All that it keeps is a run of the definitions' world, and exactly-once delivery holds of it, if the device of
+        // its store is sound then.
+        ensures goes_on { (start : Start) → HasCome K.Keep start self.old → HasCome K.Keep start self.new }
+        ensures delivers { (start : Start) → HasCome K.Keep start self.old → HasDelivered K.Keep start self.new }
     {
         match mem::replace(&mut self.stage, Err(Halt::by_memory())) {
             Ok(stage) => self.drain_on(stage, client),

@@ -2,19 +2,10 @@
 //! happen in it (MQTT 5.0, 4.1 to 4.4).
 #![tactic(auto)]
 
-mod asks;
 mod draining;
 mod drains;
-mod halt;
-mod joining;
-mod lines;
 mod looks;
-mod opening;
-mod over;
 mod playing;
-mod quiet;
-mod scene;
-mod spelled;
 mod stage;
 mod stopping;
 mod visits;
@@ -24,5 +15,5 @@ pub use mqtt_records::Keep;
 pub use mqtt_rules::Limits;
 pub use mqtt_script::{Asking, Event};
 pub use mqtt_world_peers::{RunFault, Told};
-pub use spelled::each_packet_is_read_as_it_was_sent;
+pub use mqtt_world_scene::each_packet_is_read_as_it_was_sent;
 pub use world::World;

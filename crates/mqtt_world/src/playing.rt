@@ -2,50 +2,16 @@
 
 ghost use Rattle.std.specs.Prelude.{◌≡◌, Ok, IfOk};
 ghost use Rattle.mqtt_script_laws.specs.Scripted.{asking_of, event_of};
-ghost use Rattle.mqtt_world.specs.Scenes.{IsPlayable};
+ghost use Rattle.mqtt_world_scene.specs.Playing.{IsOfEnds};
+ghost use Rattle.mqtt_world_scene.specs.Stopping.{stop_at};
 ghost use Rattle.mqtt_world.specs.Stages.{IsStanding, Plays};
-ghost use Rattle.mqtt_world.specs.Stopping.{stop_at};
-ghost use Rattle.mqtt_world.specs.Worlds.{DoesIf, IsOfEnds, Performs, PlaysIf};
+ghost use Rattle.mqtt_world.specs.Worlds.{Performs, PlaysIf};
 
-use crate::halt::Halt;
-use crate::scene::Scene;
 use crate::stage::Stage;
 use mqtt_records::Keep;
 use mqtt_script::{Asking, Event};
 use mqtt_world_peers::Told;
-use std::alloc::Global;
-
-impl<K: Keep> Scene<K> {
-    /// An event in which ends and the broker alone take part, and the broker stays open.
-    pub(crate) fn play(
-        &mut self,
-        alloc: Global,
-        event: &Event,
-        now: u64,
-    ) -> Result<Option<Told>, Halt<K>>
-        requires { IsPlayable K.Keep self.old }
-        ensures { IsOfEnds event.now
-            → IfOk result (λ t. DoesIf K.Keep now (event_of event.now) self.old t self.new) }
-    {
-        match event {
-            Event::Publisher { client } => self.make_publisher(alloc, client),
-            Event::Receiver { client, window } => self.make_receiver(alloc, client, *window),
-            Event::Connect {
-                client,
-                clean_start,
-            } => self.connect(alloc, client.as_str(), *clean_start, now),
-            Event::GiveUp { client } => Ok(self.give_up(alloc, client.as_str())),
-            Event::Publish { client, draft } => self.publish(alloc, client.as_str(), draft),
-            Event::Subscribe { client, wish } => self.subscribe(alloc, client.as_str(), wish),
-            Event::ToBroker { client, old } => self.ask_packet(alloc, client.as_str(), *old, now),
-            Event::ToEnd { client } => self.to_end(alloc, client.as_str()),
-            Event::Break { client } => self.ask_break(alloc, client.as_str(), now),
-            Event::Pump { client } => self.ask_pump(alloc, client.as_str(), now),
-            Event::Tick => self.ask_tick(now),
-            _ => Ok(None),
-        }
-    }
-}
+use mqtt_world_scene::Halt;
 
 impl<K: Keep> Stage<K> {
     /// The stage, with what was told on it.

@@ -4,12 +4,11 @@ ghost use Rattle.std.specs.Prelude.{IfOk, Some};
 ghost use Rattle.mqtt_world_model.specs.World.{clock, restart};
 ghost use Rattle.mqtt_world.specs.Stages.{IsStanding, Plays, Restages};
 
-use crate::halt::Halt;
-use crate::scene::Scene;
 use mqtt_broker_decisions::later;
 use mqtt_records::Keep;
 use mqtt_rules::Limits;
 use mqtt_world_peers::Told;
+use mqtt_world_scene::{Halt, Scene};
 use mqtt_world_strangers::Strangers;
 use std::alloc::Global;
 use std::hash::RandomState;

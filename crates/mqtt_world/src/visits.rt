@@ -1,27 +1,23 @@
 //! Strangers send bytes on lines of their own: they come to the broker packet by packet (MQTT 5.0, 2.1, 4.1, 4.13).
 
-ghost use Rattle.std.specs.Prelude.{◌≡◌, ◌≤◌, ℕ, [], false, is_some, length, List, None, Ok, Some, true, IfOk, OnOk};
-ghost use Rattle.mqtt_base.specs.declared.limits.TheConstants.{PACKET_LIMIT};
+ghost use Rattle.std.specs.Prelude.{◌≡◌, ℕ, false, is_some, List, None, Ok, Some, true, IfOk, OnOk};
 ghost use Rattle.mqtt_packet.specs.Front.{first_of};
 ghost use Rattle.mqtt_world_model.specs.Tellings.{silent};
-ghost use Rattle.mqtt_world_model.specs.World.{World, ask, call_on, held_after, is_bad_asking, stop_after, stop_before, stranger};
+ghost use Rattle.mqtt_world_model.specs.World.{World, ask, is_bad_asking, stop_after, stop_before, stranger};
 ghost use Rattle.mqtt_world_clients.specs.Ends.{in_world};
-ghost use Rattle.mqtt_script_laws.specs.Turns.{both_tell};
 ghost use Rattle.mqtt_world_strangers.specs.Fronts.{is_end_among};
 ghost use Rattle.mqtt_world_strangers.specs.Strangers.{held_of, named};
 ghost use Rattle.mqtt_world_single_step_laws.specs.Unrolled.{AreAlike};
-ghost use Rattle.mqtt_world.specs.Scenes.{IsPlayable};
+ghost use Rattle.mqtt_world_scene.specs.Stopping.{stop_at};
 ghost use Rattle.mqtt_world.specs.Stages.{IsStanding, Plays, world_at};
-ghost use Rattle.mqtt_world.specs.Stopping.{stop_at};
-ghost use Rattle.mqtt_world.specs.Visits.{Hears, MayStopAt, StopsAt, TellsPiece, Welcomes};
+ghost use Rattle.mqtt_world.specs.Visits.{MayStopAt, StopsAt, TellsPiece, Welcomes};
 
-use crate::halt::Halt;
-use crate::scene::Scene;
 use crate::stage::Stage;
 use mqtt_base::Text;
 use mqtt_records::Keep;
 use mqtt_world_clients::Clients;
 use mqtt_world_peers::Told;
+use mqtt_world_scene::Halt;
 use mqtt_world_strangers::Piece;
 use std::alloc::AllocError;
 
@@ -35,49 +31,6 @@ fn is_end_among(clients: &Clients, names: &[Text]) -> bool
         }
     }
     false
-}
-
-/// What one tells, behind what was told before.
-pub(crate) fn join<K: Keep>(told: &mut Told, more: Told) -> Result<(), Halt<K>>
-    ensures { OnOk result (told.new ≡ both_tell told.old more) }
-{
-    let Told { mut reports, out } = more;
-    match told.out.checked_add(out) {
-        Some(sum) => {
-            told.reports.append(&mut reports)?;
-            told.out = sum;
-            Ok(())
-        }
-        None => Err(Halt::by_memory()),
-    }
-}
-
-impl<K: Keep> Scene<K> {
-    /// The broker is given what came on a line, of which nothing is left: nothing, where nothing came, or no line is
-    /// linked.
-    fn hear(
-        &mut self,
-        line: Option<u64>,
-        bytes: &[u8],
-        now: u64,
-        told: &mut Told,
-    ) -> Result<(), Halt<K>>
-        requires playable { IsPlayable K.Keep self.old }
-        requires left { held_after bytes.now ≡ [] }
-        requires within { length bytes.now ≤ PACKET_LIMIT }
-        ensures { OnOk result (Hears K.Keep now (call_on line bytes.now) self.old told.old told.new self.new) }
-    {
-        if bytes.is_empty() {
-            return Ok(());
-        }
-        match line {
-            Some(line) => {
-                let more = self.give(line, bytes, now)?;
-                join(told, more)
-            }
-            None => Ok(()),
-        }
-    }
 }
 
 impl<K: Keep> Stage<K> {

@@ -6,20 +6,18 @@ ghost use Rattle.mqtt_rules.specs.Laws.{AreWithin};
 ghost use Rattle.mqtt_world_model.specs.Tellings.{Telling};
 ghost use Rattle.mqtt_world_model.specs.World.{World as Start};
 ghost use Rattle.mqtt_world_peers.specs.declared.told.RunFault.TheVariants as fault;
-ghost use Rattle.mqtt_world.specs.Halting.{IsFaultDue, IsNoStart};
-ghost use Rattle.mqtt_world.specs.Openings.{AlwaysSound};
+ghost use Rattle.mqtt_world_scene.specs.Halting.{IsFaultDue, IsNoStart, fault_of};
 ghost use Rattle.mqtt_world.specs.Stages.{IsStanding, Staged};
-ghost use Rattle.mqtt_world.specs.Worlds.{Happen, HasCome, HasDelivered, Performs, Refuses, Starts, Stops, fault_of, over_by, with_stage};
-ghost use Rattle.mqtt_world.specs.declared.over.Over.{Over as Why};
-ghost use Rattle.mqtt_world.specs.declared.over.Over.TheVariants as over;
+ghost use Rattle.mqtt_world.specs.Worlds.{Happen, HasCome, HasDelivered, Performs, Refuses, Starts, Stops, over_by, with_stage};
+ghost use Rattle.mqtt_world_scene.specs.declared.over.Over.{Over as Why};
+ghost use Rattle.mqtt_world_scene.specs.declared.over.Over.TheVariants as over;
 
-use crate::halt::Halt;
-use crate::scene::Scene;
 use crate::stage::Stage;
 use mqtt_records::Keep;
 use mqtt_rules::Limits;
 use mqtt_script::Event;
 use mqtt_world_peers::{RunFault, Told};
+use mqtt_world_scene::{Halt, Scene};
 use mqtt_world_strangers::Strangers;
 use std::alloc::{AllocError, Global};
 use std::hash::RandomState;
@@ -236,10 +234,10 @@ impl<K: Keep> World<K> {
         ensures over { (o : Why) → self.old.stage ≡ Err o
             → (result ≡ Err (fault_of o)) × (self.new ≡ self.old) }
 
-        // All that it keeps is a run of the definitions' world, and exactly-once delivery holds of it.
-        ensures goes_on { AlwaysSound K.Keep → (start : Start) → HasCome start self.old → HasCome start self.new }
-        ensures delivers { AlwaysSound K.Keep → (start : Start) → HasCome start self.old
-            → HasDelivered start self.new }
+        // All that it keeps is a run of the definitions' world, and exactly-once delivery holds of it, if the device of
+        // its store is sound then.
+        ensures goes_on { (start : Start) → HasCome K.Keep start self.old → HasCome K.Keep start self.new }
+        ensures delivers { (start : Start) → HasCome K.Keep start self.old → HasDelivered K.Keep start self.new }
     {
         match mem::replace(&mut self.stage, Err(Halt::by_memory())) {
             Ok(stage) => self.go_on(stage, event),
@@ -292,10 +290,10 @@ impl<K: Keep> World<K> {
         ensures over { (o : Why) → self.old.stage ≡ Err o
             → (result ≡ Err (fault_of o)) × (self.new ≡ self.old) }
 
-        // All that it keeps is a run of the definitions' world, and exactly-once delivery holds of it.
-        ensures goes_on { AlwaysSound K.Keep → (start : Start) → HasCome start self.old → HasCome start self.new }
-        ensures delivers { AlwaysSound K.Keep → (start : Start) → HasCome start self.old
-            → HasDelivered start self.new }
+        // All that it keeps is a run of the definitions' world, and exactly-once delivery holds of it, if the device of
+        // its store is sound then.
+        ensures goes_on { (start : Start) → HasCome K.Keep start self.old → HasCome K.Keep start self.new }
+        ensures delivers { (start : Start) → HasCome K.Keep start self.old → HasDelivered K.Keep start self.new }
     {
         if let Err(over) = &self.stage {
             return Err(over.fault());

@@ -1,5 +1,7 @@
+use Rattle.std.proofs.Common.{refl}
 use Rattle.std.proofs.lemmas.Result.{IfErr-weaker, IfOk-weaker}
 use Rattle.mqtt_world_headline_laws.proofs.Lives.{start_begins}
+use Rattle.mqtt_replay_world.proofs.Caused.{number_due}
 use Rattle.mqtt_replay_world.proofs.Texted.{any_fault, front_kept, written, written_front}
 use Rattle.mqtt_replay_world.proofs.replaying.replay.Goals as goal
 
@@ -14,6 +16,12 @@ returns-clause-err g c =
     IfErr-weaker c.replay_over.result _ _
     (λ fault front n. written_front _ (λ keep. tt) c.args.limits c.requires.within _ c.in_ok-keep.ensures _ _ _ (front n))
     c.replay_over.ensures.err
+
+pub returns-clause-cause : goal.returns-clause-cause
+returns-clause-cause g c =
+    IfErr-weaker c.replay_over.result _ _
+    (λ fault due. number_due _ (λ a b. refl) (λ keep. tt) (λ keep e is. is) c.args.limits _ c.in_ok-keep.ensures fault due)
+    c.replay_over.ensures.cause
 
 pub returns-in_err-keep-clause-err : goal.returns-in_err-keep-clause-err
 returns-in_err-keep-clause-err g c =

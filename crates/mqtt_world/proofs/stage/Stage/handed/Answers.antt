@@ -1,7 +1,7 @@
 use Rattle.std.proofs.Common.{◌≡◌, IfOk, ap, option_map, vec_items}
 use Rattle.mqtt_world_model.specs.World.{World}
 use Rattle.mqtt_world.specs.declared.stage.Stage.TheInside.{Inside}
-use Rattle.mqtt_world.specs.Events.{played, world_of}
+use Rattle.mqtt_world_scene.specs.Events.{played, world_of}
 use Rattle.mqtt_world.specs.Worlds.{handed_in}
 use Rattle.mqtt_world.proofs.Looked.{ok_at, seen_from}
 use Rattle.mqtt_world.proofs.stage.Stage.handed.Goals as goal

@@ -1,6 +1,6 @@
 -- By the names of the CONNECTs.
 use Rattle.std.proofs.Common.{ap, ◌∙◌}
-use Rattle.mqtt_world.specs.Events.{played}
+use Rattle.mqtt_world_scene.specs.Events.{played}
 use Rattle.mqtt_world.proofs.Calling.{any_named, staged}
 use Rattle.mqtt_world.proofs.stage.Stage.is_bad_visit.Goals as goal
 

@@ -1,6 +1,6 @@
 -- By one piece more.
 use Rattle.std.proofs.Common.{ℕ, List, ◌∙◌, subst, sym}
-use Rattle.mqtt_world.proofs.Calling.{none_of, some_of}
+use Rattle.mqtt_world_scene.proofs.Heard.{none_of, some_of}
 use Rattle.mqtt_world.proofs.Visited.{ComesOn, comes_first, comes_further, comes_last}
 use Rattle.mqtt_world.proofs.stage.Stage.pieces.Goals as goal
 

@@ -2,7 +2,7 @@ use Rattle.std.proofs.Common.{◌≡◌, ◌∙◌, None, Some, ap, sym}
 use Rattle.mqtt_world_model.specs.World.{World}
 use Rattle.mqtt_rules.specs.State.{session_named}
 use Rattle.mqtt_world.specs.declared.stage.Stage.TheInside.{Inside}
-use Rattle.mqtt_world.specs.Events.{played, world_of}
+use Rattle.mqtt_world_scene.specs.Events.{played, world_of}
 use Rattle.mqtt_world.specs.Worlds.{queue_in}
 use Rattle.mqtt_world.proofs.Looked.{its_queue, length_none, length_some, no_queue, seen_from}
 use Rattle.mqtt_world.proofs.stage.Stage.queue.Goals as goal

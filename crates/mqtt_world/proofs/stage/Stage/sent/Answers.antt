@@ -1,7 +1,7 @@
 use Rattle.std.proofs.Common.{◌≡◌, None, Some, ap}
 use Rattle.mqtt_world_model.specs.World.{World}
 use Rattle.mqtt_world.specs.declared.stage.Stage.TheInside.{Inside}
-use Rattle.mqtt_world.specs.Events.{played, world_of}
+use Rattle.mqtt_world_scene.specs.Events.{played, world_of}
 use Rattle.mqtt_world.specs.Worlds.{sent_in}
 use Rattle.mqtt_world.proofs.Looked.{its_messages, no_publisher, seen_from}
 use Rattle.mqtt_world.proofs.stage.Stage.sent.Goals as goal

@@ -3,7 +3,7 @@ use Rattle.std.proofs.Common.{Bool, subst, sym}
 use Rattle.std.specs.Prelude.{IfOk}
 use Rattle.mqtt_script_laws.specs.Scripted.{asking_of}
 use Rattle.mqtt_world.specs.Stages.{Plays}
-use Rattle.mqtt_world.specs.Stopping.{stop_at}
+use Rattle.mqtt_world_scene.specs.Stopping.{stop_at}
 use Rattle.mqtt_world.proofs.stage.Stage.stop_plain.Goals as goal
 
 pub returns-then-after : goal.returns-then-after

@@ -1,7 +1,7 @@
 -- By what happens before the broker is opened again.
 use Rattle.std.proofs.Common.{Bool, subst}
 use Rattle.mqtt_world_model.specs.World.{stranger}
-use Rattle.mqtt_world.specs.Stopping.{stop_at}
+use Rattle.mqtt_world_scene.specs.Stopping.{stop_at}
 use Rattle.mqtt_world.specs.Visits.{MayStopAt}
 use Rattle.mqtt_world.proofs.Visited.{all_stop}
 use Rattle.mqtt_world.proofs.stage.Stage.stop_visit.Goals as goal

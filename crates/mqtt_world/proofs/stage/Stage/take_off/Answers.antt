@@ -2,9 +2,9 @@
 use Rattle.std.proofs.Common.{ap, subst}
 use Rattle.std.specs.Prelude.{IfOk}
 use Rattle.mqtt_script_laws.specs.Scripted.{asking_of}
-use Rattle.mqtt_world.specs.Scenes.{Played}
+use Rattle.mqtt_world_scene.specs.Scenes.{Played}
 use Rattle.mqtt_world.specs.Stages.{Staged}
-use Rattle.mqtt_world.specs.Stopping.{TakesOff}
+use Rattle.mqtt_world_scene.specs.Stopping.{TakesOff}
 use Rattle.mqtt_world.proofs.stage.Stage.take_off.Goals as goal
 
 pub returns-clause-same : goal.returns-clause-same

@@ -1,7 +1,7 @@
 -- By what is whole of what came.
 use Rattle.std.proofs.Common.{◌≡◌, None, Some, option_map, refl, rules, subst}
 use Rattle.mqtt_world_strangers.specs.Strangers.{Comes}
-use Rattle.mqtt_world.specs.Events.{world_of}
+use Rattle.mqtt_world_scene.specs.Events.{world_of}
 use Rattle.mqtt_world.proofs.Calling.{piece_given, piece_held}
 use Rattle.mqtt_world.proofs.stage.Stage.take_piece.Goals as goal
 

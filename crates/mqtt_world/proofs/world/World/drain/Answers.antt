@@ -30,22 +30,22 @@ pub returns-in-Ok-clause-empty : goal.returns-in-Ok-clause-empty
 returns-in-Ok-clause-empty g c =
     let i = c.self.inside in
     let view = lasting_as g.K.Keep i.stage (Ok c.in-Ok.stage) i.events.items c.args.self.now c.self.view_is (sym c.replace.ensures.value ∙ c.in-Ok.is) in
-    λ sound start come.
-    drain_empties g.K.Keep start c.args.client.now c.drain_on.result c.args.self.now c.drain_on.new.self sound
+    λ start come.
+    drain_empties g.K.Keep start c.args.client.now c.drain_on.result c.args.self.now c.drain_on.new.self
     (drained_at g.K.Keep c.args.client.now _ c.args.self.now c.drain_on.new.self c.drain_on.result view c.drain_on.ensures.drained) come
 
 pub returns-in-Ok-clause-goes_on : goal.returns-in-Ok-clause-goes_on
 returns-in-Ok-clause-goes_on g c =
     let i = c.self.inside in
     let view = lasting_as g.K.Keep i.stage (Ok c.in-Ok.stage) i.events.items c.args.self.now c.self.view_is (sym c.replace.ensures.value ∙ c.in-Ok.is) in
-    λ sound start come.
-    drain_comes g.K.Keep start c.args.client.now c.drain_on.result c.args.self.now c.drain_on.new.self sound
+    λ start come.
+    drain_comes g.K.Keep start c.args.client.now c.drain_on.result c.args.self.now c.drain_on.new.self
     (drained_at g.K.Keep c.args.client.now _ c.args.self.now c.drain_on.new.self c.drain_on.result view c.drain_on.ensures.drained)
     (drain_refused_at g.K.Keep c.args.client.now _ c.args.self.now c.drain_on.new.self c.drain_on.result view c.drain_on.ensures.refused) come
 
 pub returns-in-Ok-clause-delivers : goal.returns-in-Ok-clause-delivers
 returns-in-Ok-clause-delivers g c =
-    λ sound start come. delivered start c.drain_on.new.self (returns-in-Ok-clause-goes_on g c sound start come)
+    λ start come. delivered g.K.Keep start c.drain_on.new.self (returns-in-Ok-clause-goes_on g c start come)
 
 -- ---- where it is over
 
@@ -66,11 +66,11 @@ returns-in-Err-clause-over g c =
     λ o is. answers_why g.K.Keep c.in-Err.over i.events.items c.args.self.now c.end.new.self c.end.result c.end.ensures.fault c.end.ensures.over view o is
 
 pub returns-in-Err-clause-empty : goal.returns-in-Err-clause-empty
-returns-in-Err-clause-empty g c = λ sound start come. tt
+returns-in-Err-clause-empty g c = λ start come. tt
 
 pub returns-in-Err-clause-goes_on : goal.returns-in-Err-clause-goes_on
-returns-in-Err-clause-goes_on g c = λ sound start come. over_comes g.K.Keep start c.in-Err.over c.self.inside.events.items c.end.new.self c.end.ensures.over
+returns-in-Err-clause-goes_on g c = λ start come. over_comes g.K.Keep start c.in-Err.over c.self.inside.events.items c.end.new.self c.end.ensures.over
 
 pub returns-in-Err-clause-delivers : goal.returns-in-Err-clause-delivers
-returns-in-Err-clause-delivers g c = λ sound start come.
-    delivered start c.end.new.self (over_comes g.K.Keep start c.in-Err.over c.self.inside.events.items c.end.new.self c.end.ensures.over)
+returns-in-Err-clause-delivers g c = λ start come.
+    delivered g.K.Keep start c.end.new.self (over_comes g.K.Keep start c.in-Err.over c.self.inside.events.items c.end.new.self c.end.ensures.over)

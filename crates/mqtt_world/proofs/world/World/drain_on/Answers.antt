@@ -2,7 +2,7 @@
 use Rattle.std.proofs.Common.{◌∙◌, ap}
 use Rattle.mqtt_script.specs.declared.event.Event.TheVariants.{Drain}
 use Rattle.mqtt_world.specs.Worlds.{Lasting, over_by}
-use Rattle.mqtt_world.specs.declared.over.Over.TheVariants as over
+use Rattle.mqtt_world_scene.specs.declared.over.Over.TheVariants as over
 use Rattle.mqtt_world.proofs.Course.{drain_refused_as, drained_as, ended}
 use Rattle.mqtt_world.proofs.world.World.drain_on.Goals as goal
 

@@ -1,7 +1,8 @@
 -- By how a world ends.
 use Rattle.std.proofs.Common.{◌∙◌, ap}
-use Rattle.mqtt_world.specs.Worlds.{fault_of, over_by}
-use Rattle.mqtt_world.specs.declared.over.Over.{Over}
+use Rattle.mqtt_world_scene.specs.declared.over.Over.{Over}
+use Rattle.mqtt_world_scene.specs.Halting.{fault_of}
+use Rattle.mqtt_world.specs.Worlds.{over_by}
 use Rattle.mqtt_world.proofs.world.World.end_short.Goals as goal
 
 pub returns-clause-fault : goal.returns-clause-fault

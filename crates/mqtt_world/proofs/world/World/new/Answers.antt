@@ -2,7 +2,7 @@
 use Rattle.mqtt_world.proofs.Started.{begun_stands_in, starts_in}
 use Rattle.std.proofs.Common.{arith, min}
 use Rattle.mqtt_base.specs.declared.limits.TheConstants.{LAST_NUMBER}
-use Rattle.mqtt_world.proofs.Halted.{no_start}
+use Rattle.mqtt_world_scene.proofs.Halted.{no_start}
 use Rattle.mqtt_world.proofs.world.World.new.Goals as goal
 
 pub invariant_of-result : goal.invariant_of-result

@@ -2,7 +2,7 @@
 use Rattle.std.proofs.Common.{ℕ, Option, subst}
 use Rattle.mqtt_world_model.specs.Tellings.{Telling}
 use Rattle.mqtt_script.specs.declared.event.Event.TheVariants.{Drain}
-use Rattle.mqtt_world.specs.Draining.{PlaysDrain}
+use Rattle.mqtt_world.specs.Stages.{PlaysDrain}
 use Rattle.mqtt_world.proofs.Course.{drain_refused, ended, kept_none}
 use Rattle.mqtt_world.proofs.world.World.play_drain.Goals as goal
 

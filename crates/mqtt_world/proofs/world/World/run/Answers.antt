@@ -8,23 +8,23 @@ run_all-requires-clause-stands g c =
     (c.in_default.field-0, ap (λ (w : Lasting _). w.stage) (sym c.self.view_is) ∙ c.in_default.is)
 
 pub returns-in-Ok-clause-goes_on : goal.returns-in-Ok-clause-goes_on
-returns-in-Ok-clause-goes_on g c = λ sound start come.
-    run_comes g.K.Keep start c.args.events.now c.run_all.new.tells.items c.run_all.result c.args.self.now c.run_all.new.self sound
+returns-in-Ok-clause-goes_on g c = λ start come.
+    run_comes g.K.Keep start c.args.events.now c.run_all.new.tells.items c.run_all.result c.args.self.now c.run_all.new.self
     c.run_all.ensures.happened c.run_all.ensures.refused come
 
 pub returns-in-Ok-clause-delivers : goal.returns-in-Ok-clause-delivers
-returns-in-Ok-clause-delivers g c = λ sound start come.
-    delivered start c.run_all.new.self
-    (run_comes g.K.Keep start c.args.events.now c.run_all.new.tells.items c.run_all.result c.args.self.now c.run_all.new.self sound
+returns-in-Ok-clause-delivers g c = λ start come.
+    delivered g.K.Keep start c.run_all.new.self
+    (run_comes g.K.Keep start c.args.events.now c.run_all.new.tells.items c.run_all.result c.args.self.now c.run_all.new.self
     c.run_all.ensures.happened c.run_all.ensures.refused come)
 
 pub returns-in-Err-run_all-clause-goes_on : goal.returns-in-Err-run_all-clause-goes_on
-returns-in-Err-run_all-clause-goes_on g c = λ sound start come.
-    run_comes g.K.Keep start c.args.events.now c.run_all.new.tells.items c.run_all.result c.args.self.now c.run_all.new.self sound
+returns-in-Err-run_all-clause-goes_on g c = λ start come.
+    run_comes g.K.Keep start c.args.events.now c.run_all.new.tells.items c.run_all.result c.args.self.now c.run_all.new.self
     c.run_all.ensures.happened c.run_all.ensures.refused come
 
 pub returns-in-Err-run_all-clause-delivers : goal.returns-in-Err-run_all-clause-delivers
-returns-in-Err-run_all-clause-delivers g c = λ sound start come.
-    delivered start c.run_all.new.self
-    (run_comes g.K.Keep start c.args.events.now c.run_all.new.tells.items c.run_all.result c.args.self.now c.run_all.new.self sound
+returns-in-Err-run_all-clause-delivers g c = λ start come.
+    delivered g.K.Keep start c.run_all.new.self
+    (run_comes g.K.Keep start c.args.events.now c.run_all.new.tells.items c.run_all.result c.args.self.now c.run_all.new.self
     c.run_all.ensures.happened c.run_all.ensures.refused come)

@@ -1,0 +1,110 @@
+-- Why a replay ends for its store, by what its world tells.
+use Rattle.std.proofs.Common.{◌≡◌, ◌≢◌, ◌⊎◌, ℕ, false, inl, inr, arith, refl, sym, subst, ◌∙◌, true≢false}
+use Rattle.std.specs.Prelude.{Result, IfErr, Ok, Err, IsErrOf}
+use Rattle.mqtt_records_lawful.specs.Lawful.{IsLawful}
+use Rattle.mqtt_records.specs.Records.{nothing}
+use Rattle.mqtt_records.specs.declared.keep.Keep.{Ghosts}
+use Rattle.mqtt_records.specs.declared.keep.KeepError.{KeepError}
+use Rattle.mqtt_records.specs.declared.keep.KeepError.TheVariants as refusal
+use Rattle.mqtt_records.specs.declared.records.Records.{Records}
+use Rattle.mqtt_rules.specs.State.{MemberChoice}
+use Rattle.mqtt_rules.specs.Step.{SpentOpening, is_opening_spent}
+use Rattle.mqtt_rules.specs.declared.Limits.{Limits}
+use Rattle.mqtt_broker_engine.specs.Opening.{HasFailed, IsUnfit}
+use Rattle.mqtt_broker_engine.specs.Opening as opening
+use Rattle.mqtt_script.specs.declared.replay_fault.ReplayFault.{ReplayFault}
+use Rattle.mqtt_script.specs.declared.replay_fault.ReplayFault.TheVariants.{Read, Write, Memory, Store}
+use Rattle.mqtt_world_peers.specs.declared.told.RunFault.{RunFault}
+use Rattle.mqtt_world_peers.specs.declared.told.RunFault.TheVariants as fault
+use Rattle.mqtt_replay.specs.Playing.{IsDue}
+use Rattle.mqtt_world_scene.specs.Halting.{IsFaultDue, IsNoStart, IsStoreDue, IsUnopened, not_opened, numbers_spent, store_failed}
+use Rattle.mqtt_world.specs.Worlds.{Lasting, Starts}
+use Rattle.mqtt_replay_world.specs.Causes.{HasNumberCause, HasStoreCause, IsNumberDue, IsReplayDue, call_spends, ends_as, in_its_run, none_opens, not_begun}
+use Rattle.mqtt_replay_world.specs.Plays.{play_of}
+
+-- ---- over any store
+
+module _ {K : Type 0} (g : Ghosts K) where
+  -- what a world answers for its store has its cause
+  pub store_due : {T : Type 0} (r : Result T RunFault) → IfErr r (IsFaultDue g) → IsErrOf r fault.Store → IsStoreDue g
+  store_due {T} r due is = subst (λ (x : Result T RunFault). IfErr x (IsFaultDue g)) is due
+
+  module _ (limits : Limits) (keep : K) where
+    -- a world that does not begin
+    pub none_began : (f : RunFault) → IsNoStart g limits 0 keep f → IsReplayDue g limits keep (ends_as f)
+    none_began fault.Memory none = tt
+    none_began fault.Store none = not_begun none
+    none_began (fault.BadEvent place) none = absurd none
+
+    -- if no world begins, the end of the replay has the cause of that
+    pub none_begun : (f : RunFault) (end : ReplayFault) → end ≡ ends_as f → IsNoStart g limits 0 keep f → IsReplayDue g limits keep end
+    none_begun f end is none = subst (IsReplayDue g limits keep) (sym is) (none_began f none)
+
+    -- one that does
+    pub due_in : (w : Lasting K) → Starts g limits keep w → (end : ReplayFault) → IsDue (play_of g) end → IsReplayDue g limits keep end
+    due_in w starts Read due = tt
+    due_in w starts Write due = tt
+    due_in w starts Memory due = tt
+    due_in w starts Store due = in_its_run w starts due
+
+-- ---- over a store that has nothing, counts no failure and refuses a load for want of memory alone
+
+nothing_lawful : IsLawful nothing
+nothing_lawful = record {
+  numbers = record { births = omega arith; publications = omega arith; subscribes = omega arith; autos = omega arith; moment = omega arith };
+  sessions = record { table = record { ascending = tt; within = omega arith }; clients = tt; places = tt; each = tt };
+  retained = record { table = record { ascending = tt; within = omega arith }; topics = tt; each = tt };
+}
+
+nothing_unspent : (limits : Limits) → SpentOpening limits nothing 0 → ⊥
+nothing_unspent limits o = true≢false (sym o.spent ∙ unspent o.choice)
+  where
+    unspent : (choice : MemberChoice) → is_opening_spent limits choice 0 nothing ≡ false
+    unspent choice = refl
+
+nothing_fits : (limits : Limits) → (IsLawful nothing → ⊥) ⊎ SpentOpening limits nothing 0 → ⊥
+nothing_fits limits (inl unlawful) = unlawful nothing_lawful
+nothing_fits limits (inr spent) = nothing_unspent limits spent
+
+module _ {K : Type 0} (g : Ghosts K) (counts : (a b : K) → g.counted a ≡ g.counted b) (sound : (k : K) → g.is_sound k)
+    (refuses : (k : K) (e : KeepError) → g.refuses k e → e ≡ refusal.Memory) where
+  never_failed : (keep left : K) → HasFailed g keep left → ⊥
+  never_failed keep left (inl other) = other (counts left keep)
+  never_failed keep left (inr since) = since.counted (counts left since.loaded)
+
+  unfit_by : (limits : Limits) (now : ℕ) (keep left : K) (e : KeepError) → opening.IsDue g limits now keep e left → e ≢ refusal.Memory → IsUnfit g limits now keep
+  unfit_by limits now keep left refusal.Memory due other = absurd (other refl)
+  unfit_by limits now keep left refusal.Disk due other = absurd (never_failed keep left due)
+  unfit_by limits now keep left refusal.Size due other = absurd (never_failed keep left due)
+  unfit_by limits now keep left refusal.Corrupt (inl refused) other = absurd (other (refuses keep refusal.Corrupt (refused (sound left))))
+  unfit_by limits now keep left refusal.Corrupt (inr unfit) other = unfit
+  unfit_by limits now keep left refusal.Schema refused other = absurd (other (refuses keep refusal.Schema (refused (sound left))))
+
+  unfit_of : (limits : Limits) (now : ℕ) (keep : K) → IsUnopened g limits now keep → IsUnfit g limits now keep
+  unfit_of limits now keep u = unfit_by limits now keep u.left u.error u.refused.due u.not_memory
+
+  in_a_run : IsStoreDue g → HasNumberCause
+  in_a_run (store_failed s left playable failed) = absurd (failed (counts left s.engine.running.keep))
+  in_a_run (numbers_spent s now call playable spent) = call_spends s.engine.running.limits s.engine.running.broker now call spent
+  in_a_run (not_opened limits now keep u) =
+      let unfit = unfit_of limits now keep u in
+      none_opens limits unfit.records now unfit.why
+
+  module _ (limits : Limits) (keep : K) (empty : g.holds keep nothing) where
+    -- the broker is opened on nothing
+    begins : IsUnopened g limits 0 keep → ⊥
+    begins u =
+        let unfit = unfit_of limits 0 keep u in
+        let none : unfit.records ≡ nothing = unfit.load.exact nothing empty (sound unfit.loaded) in
+        nothing_fits limits (subst (λ (r : Records). (IsLawful r → ⊥) ⊎ SpentOpening limits r 0) none unfit.why)
+
+    by_number : HasStoreCause g limits keep → HasNumberCause
+    by_number (not_begun u) = absurd (begins u)
+    by_number (in_its_run w starts due) = in_a_run due
+
+    -- on nothing stored, a replay that ends for its store spent its numbers, or its broker was not opened again
+    pub number_due : (end : ReplayFault) → IsReplayDue g limits keep end → IsNumberDue end
+    number_due Read due = tt
+    number_due Write due = tt
+    number_due Memory due = tt
+    number_due Store due = by_number due

@@ -1,0 +1,12 @@
+use Rattle.std.proofs.Common.{◌∙◌, sym}
+use Rattle.mqtt_world_model.specs.World.{is_bad_name, is_end}
+use Rattle.mqtt_world_scene.specs.Events.{world_of}
+use Rattle.mqtt_world_scene.proofs.Unasked.{or_second, seen}
+use Rattle.mqtt_world_scene.proofs.scene.Scene.is_bad_publisher.Goals as goal
+
+pub returns-else-is_bad_name : goal.returns-else-is_bad_name
+returns-else-is_bad_name g c = λ now ss.
+    let there = seen (is_end c.args.client.now) c.args.self.now c.self.inside.engine c.self.inside.clients c.is_end.result
+    c.self.view_is c.is_end.ensures now ss in
+    or_second (is_bad_name c.args.client.now) (is_end c.args.client.now (world_of now ss c.args.self.now)) c.is_end.result
+    (sym c.is_bad_name.ensures ∙ c.if-is_bad_name.false) there

@@ -1,0 +1,35 @@
+-- What is asked of a broker, if anything is, and what it tells (MQTT 5.0, 4.1).
+use Rattle.std.specs.Prelude.{◌≡◌, ℕ, false, List, Option}
+use Rattle.mqtt_records.specs.declared.keep.Keep.{Ghosts}
+use Rattle.mqtt_world_model.specs.Run.{read_if, the_deeds}
+use Rattle.mqtt_world_model.specs.Tellings.{Telling, telling}
+use Rattle.mqtt_world_model.specs.World.{Stranger, calls_if}
+use Rattle.mqtt_rules.specs.State.{MemberChoice}
+use Rattle.mqtt_rules.specs.Step.{Call}
+use Rattle.mqtt_world_acceptance_laws.specs.Spending.{spending}
+use Rattle.mqtt_script_laws.specs.Turns.{both_tell, by_choice}
+use Rattle.mqtt_world_scene.specs.Events.{IsReached, SpellsAll, world_of}
+use Rattle.mqtt_world_scene.specs.Scenes.{IsPlayable, Played, WasSound}
+
+-- ---- the broker is asked for this, if for anything: for some choice of members that spends no number, whatever strangers
+-- there are
+
+pub record Asks {K : Type 0} (g : Ghosts K) (now : ℕ) (call : Option Call) (old : Played K) (t : Telling) (new : Played K) : Type 0 where
+  pub choice : MemberChoice
+  pub playable : IsPlayable g new
+  pub limits : new.engine.running.limits ≡ old.engine.running.limits
+  pub sound : WasSound g old new
+  pub reached : IsReached old.engine.running.limits old.engine.running.broker → IsReached old.engine.running.limits new.engine.running.broker
+  pub unspent : (strangers : List Stranger)
+      → read_if spending (by_choice old.engine.running.limits choice) call (world_of now strangers old) ≡ false
+  pub told : (strangers : List Stranger)
+      → t ≡ telling (read_if the_deeds (by_choice old.engine.running.limits choice) call (world_of now strangers old))
+  pub done : SpellsAll old.engine.running.limits → IsReached old.engine.running.limits old.engine.running.broker
+      → (strangers : List Stranger)
+      → world_of now strangers new ≡ calls_if (by_choice old.engine.running.limits choice) call (world_of now strangers old)
+
+-- and what it tells is told behind what was told before
+pub record Hears {K : Type 0} (g : Ghosts K) (now : ℕ) (call : Option Call) (old : Played K) (before after : Telling) (new : Played K) : Type 0 where
+  pub t : Telling
+  pub asks : Asks g now call old t new
+  pub told : after ≡ both_tell before t

@@ -1,0 +1,49 @@
+-- A broker that is opened over a store, and one that is closed and opened again (MQTT 5.0, 4.1).
+use Rattle.std.specs.Prelude.{◌≡◌, ℕ, false, map, []}
+use Rattle.mqtt_records_lawful.specs.Lawful.{IsLawful}
+use Rattle.mqtt_records.specs.declared.keep.Keep.{Ghosts}
+use Rattle.mqtt_records.specs.declared.records.Records.{Records}
+use Rattle.mqtt_broker_engine.specs.Opening.{IsLoad}
+use Rattle.mqtt_world_model.specs.World.{publisher_restarted, receiver_restarted}
+use Rattle.mqtt_rules.specs.State.{MemberChoice}
+use Rattle.mqtt_rules.specs.Step.{is_opening_spent, opened}
+use Rattle.mqtt_rules.specs.declared.Limits.{Limits}
+use Rattle.mqtt_world_clients.specs.Ends.{Ends}
+use Rattle.mqtt_world_scene.specs.Scenes.{IsPlayable, Played, WasSound}
+
+-- the broker begins with an opening of these records, for some choice of members, that spends no number
+pub record Opens {K : Type 0} (g : Ghosts K) (limits : Limits) (now : ℕ) (r : Records) (s : Played K) : Type 0 where
+  pub choice : MemberChoice
+  pub unspent : is_opening_spent limits choice now r ≡ false
+  pub broker : s.engine.running.broker ≡ opened limits choice now r
+  pub limits_are : s.engine.running.limits ≡ limits
+  pub playable : IsPlayable g s
+
+-- ---- the first time: on what a load answered, and there is no end
+
+abbrev pub no_ends : Ends
+no_ends = record { publishers = []; receivers = [] }
+
+pub record Begins {K : Type 0} (g : Ghosts K) (limits : Limits) (now : ℕ) (keep : K) (s : Played K) : Type 0 where
+  pub loaded : K
+  pub records : Records
+  pub load : IsLoad g keep records loaded
+  pub sound : g.is_sound s.engine.running.keep → g.is_sound loaded
+  pub lawful : IsLawful records
+  pub opens : Opens g limits now records s
+  pub ends : s.ends ≡ no_ends
+
+-- ---- and again: on what is stored, where the device returns what was written, and each end's lines are lost
+
+abbrev pub ends_restarted : Ends → Ends
+ends_restarted e = record {
+  publishers = map publisher_restarted e.publishers;
+  receivers = map receiver_restarted e.receivers;
+}
+
+pub record Reopens {K : Type 0} (g : Ghosts K) (limits : Limits) (now : ℕ) (old new : Played K) : Type 0 where
+  pub playable : IsPlayable g new
+  pub limits_are : new.engine.running.limits ≡ limits
+  pub sound : WasSound g old new
+  pub opens : g.is_sound new.engine.running.keep → Opens g limits now old.engine.running.broker.records new
+  pub ends : new.ends ≡ ends_restarted old.ends
