@@ -6,3 +6,4 @@ pub mod Identities
 pub mod Steps
 pub mod Entries
 pub mod AtOnce
+pub mod LineNumbers

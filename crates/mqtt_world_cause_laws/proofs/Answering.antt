@@ -111,6 +111,7 @@ module _ (m : Asked) (now : ℕ) (l : Line) (s : Session) where
     puback_at_fine None h = tt
     puback_at_fine (Some x) h = puback_by_fine x.phase x (h x refl) refl
 
+    -- a copy that leaves by a PUBACK has its cause
     pub puback_fine : IsAscending copy_place s.queue → IsFineAnswer (rules.puback p.identifier p.reason.0 (queue_on l.went s))
     puback_fine up = puback_at_fine (holder p.identifier (queue_on l.went s)) (λ x is. held p.identifier x up is)
 
@@ -142,6 +143,7 @@ module _ (m : Asked) (now : ℕ) (l : Line) (s : Session) where
     pubrec_at_fine order None h = tt
     pubrec_at_fine order (Some x) h = pubrec_by_fine x.phase order x (h x refl) refl
 
+    -- a copy that leaves by a PUBREC has its cause
     pub pubrec_fine : IsAscending copy_place s.queue → IsFineAnswer (rules.pubrec p.identifier p.reason.0 (queue_on l.went s))
     pubrec_fine up = pubrec_at_fine (next_order (queue_on l.went s)) (holder p.identifier (queue_on l.went s)) (λ x is. held p.identifier x up is)
 
@@ -168,5 +170,6 @@ module _ (m : Asked) (now : ℕ) (l : Line) (s : Session) where
     pubcomp_at_fine None h = tt
     pubcomp_at_fine (Some x) h = pubcomp_by_fine x.phase x (h x refl) refl
 
+    -- a copy that leaves by a PUBCOMP has its cause
     pub pubcomp_fine : IsAscending copy_place s.queue → IsFineAnswer (rules.pubcomp p.identifier (queue_on l.went s))
     pubcomp_fine up = pubcomp_at_fine (holder p.identifier (queue_on l.went s)) (λ x is. held p.identifier x up is)

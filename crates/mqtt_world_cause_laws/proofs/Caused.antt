@@ -40,6 +40,7 @@ module _ (m : Asked) where
   abbrev pub Caused : List Deed → Broker → Type 0
   Caused ds b = (rest : List Deed) → CausedBefore rest ds b
 
+  -- deeds whose ends have their causes, and others behind them, have them together
   pub caused_next : (xs ys : List Deed) (b : Broker) → Caused xs b → Caused ys (after_all xs b) → Caused (xs ++ ys) b
   caused_next [] ys b p q rest = q rest
   caused_next (x ∷ xs) ys b p q rest =
@@ -64,6 +65,7 @@ module _ (m : Asked) where
   quiet_one b ds (At who (Leave e ending)) h = absurd h
   quiet_one b ds d h = tt
 
+  -- deeds that end no copy need no cause
   pub quietly : (ds : List Deed) (b : Broker) → AreQuiet ds → Caused ds b
   quietly [] b h rest = tt
   quietly (d ∷ ds) b h rest = (quiet_one b (ds ++ rest) d h.0, quietly ds (after d b) h.1 rest)
@@ -80,5 +82,6 @@ module _ (m : Asked) where
   each_stood [] b p q = tt
   each_stood (d ∷ ds) b p q = stood b ds d (ends_of m ds (after d b)) p.0 q.0 (each_stood ds (after d b) p.1 q.1)
 
+  -- each copy that ends in such deeds has its cause
   pub all_caused : (ds : List Deed) (b : Broker) → Caused ds b → AreGood Stands ds b → AllByRecursion HasCause (ends_of m ds b)
   all_caused ds b p q = each_stood ds b (p []) q

@@ -436,6 +436,7 @@ module _ (m : Asked) where
 
   -- ---- calls, each on the state in which it comes, and openings
 
+  -- each copy that ends in a call has its cause
   pub call_caused : (call : Call) → m.call ≡ Some call → Orders m.step.broker → Caused m (deeds_of env call m.step.broker) m.step.broker
   call_caused NewLine asked h = let b = m.step.broker in quietly m (cond (can_link b) (Link (suc b.given) ∷ []) []) b (quiet_cond (can_link b) (Link (suc b.given) ∷ []) [] (tt, tt) tt)
   call_caused (Input n packet) asked h =
@@ -451,5 +452,6 @@ module _ (m : Asked) where
   closed_if false s b h = nothing b
   closed_if true s b h = acts (always (At (whose s) (Close b.now) ∷ []) ∷ settle env s.birth ∷ []) (quiet (At (whose s) (Close b.now) ∷ []) (tt, tt), (settling s.birth, tt)) b h
 
+  -- each copy that ends in an opening has its cause
   pub opening_caused : CausedAct (opening env)
   opening_caused b h = acts (map (λ s. close_if (is_connected s) env s) b.records.sessions) (each_act (λ (s : Session). close_if (is_connected s) env s) (λ s. closed_if (is_connected s) s) b.records.sessions) b h

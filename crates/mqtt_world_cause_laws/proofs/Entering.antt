@@ -66,6 +66,7 @@ module _ (m : Asked) where
       let x = ended_for s same.session e b behind same.closed same.expiry (among_last (Finish (whose s)) more rest) may in
       (record { session = same.session; found = same.there; its = same.its; cause = x }, all_end s es (after (At (whose s) (Leave e endings.SessionEnded)) b) rest (same_left s e endings.SessionEnded b same) may)
 
+  -- the copies of a session that may end have their cause
   pub end_caused : (s : Session) (b : Broker) → session_at s.birth b.records ≡ Some s → MayEnd s b.now → Caused m (end_session s) b
   end_caused s b there may rest = all_end s s.queue b rest (same_now s b.records there) may
 
@@ -163,22 +164,25 @@ module _ (m : Asked) where
         let same = length-mapped (entry_on []) s.queue in
         record { session = s; there = there; its = refl; long_is = omega (arith, same, is) }
 
+    -- in a queue that drops, copies that make way have their cause
     pub drop_caused : (b : Broker) → Orders b → session_at s.birth b.records ≡ Some s → Caused m (enter_deeds m.step.env copy s) b
     drop_caused b orders there rest =
         all_leave s.queue (length (queue_on [] s) + 1 - limit) b rest orders (above_now b (length (queue_on [] s) + 1 - limit) there refl) (all_found copy_place s.queue up)
 
-  -- ---- where a full queue refuses, a copy enters only where there is room, and none gives way
+  -- ---- if a full queue refuses, a copy enters only if there is room, and none gives way
 
   none_dropped : (k first : ℕ) (s : Session) (es : List CopyRow) → k ≡ 0 → dropped k first (map (entry_on []) es) ≡ []
   none_dropped k first s [] none = refl
   none_dropped zero first s (e ∷ es) none = refl
   none_dropped (suc k) first s (e ∷ es) none = absurd cc
 
+  -- in a queue below its limit no copy makes way
   pub only_enters : (copy : MessageCopy) (s : Session) → length s.queue < limit → enter_deeds m.step.env copy s ≡ At (whose s) (Enter copy) ∷ []
   only_enters copy s room =
       let same = length-mapped (entry_on []) s.queue in
       let none : length (queue_on [] s) + 1 - limit ≡ 0 = omega (arith, same, room) in
       ap (λ (ts : List Turn). flat_map (leave_deeds s) ts ++ At (whose s) (Enter copy) ∷ []) (none_dropped (length (queue_on [] s) + 1 - limit) (since m.step.env s) s s.queue none)
 
+  -- a copy that enters a queue below its limit ends none
   pub enter_caused : (copy : MessageCopy) (s : Session) (b : Broker) → length s.queue < limit → Caused m (enter_deeds m.step.env copy s) b
   enter_caused copy s b room = subst (λ (ds : List Deed). Caused m ds b) (sym (only_enters copy s room)) (quietly m (At (whose s) (Enter copy) ∷ []) b (tt, tt))

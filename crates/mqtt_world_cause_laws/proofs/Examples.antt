@@ -27,6 +27,7 @@ use Rattle.mqtt_world_cause_laws.specs.Endings.{Asked, EndAt, ends_in, ends_over
 
 -- ---- what is seen of an end
 
+-- how a copy ended: its cause, its phase right before, and its queue's length there
 pub record Seen : Type 0 where
   pub by : Ending
   pub phase : Phase

@@ -1,4 +1,4 @@
--- Publications and granted filters: where a full queue refuses, their copies enter only where there is room.
+-- Publications and granted filters: if a full queue refuses, their copies enter only if there is room.
 use Rattle.std.proofs.Common.{◌≡◌, ℕ, suc, ◌-◌, ◌≤◌, ◌<◌, Bool, true, false, cond, not, ◌&&◌, List, [], ◌∷◌, ◌++◌, length, filter, map, Option, Some, None, nat_eq, refl, sym, ap, subst, ◌∙◌, ◌⊎◌, inl, inr, arith}
 use Rattle.std.specs.Prelude.{nat_le}
 use Rattle.std.proofs.lemmas.Bool.{cases_Bool, eqb-true}
@@ -41,7 +41,7 @@ module _ (m : Asked) where
   abbrev pub limit : ℕ
   limit = m.step.env.limits.queue
 
-  -- where a full queue refuses: the copies still to be delivered fit
+  -- if a full queue refuses: the copies still to be delivered fit
   abbrev pub Fits : List CopyTo → Records → Type 0
   Fits ds r = m.step.env.limits.full ≡ Refuse → (birth : ℕ) (s : Session) → session_at birth r ≡ Some s → length (filter (is_to birth) ds) ≤ limit - length s.queue
 
@@ -171,6 +171,7 @@ module _ (m : Asked) where
       by (Some k) = refl
   retain_sessions true false number message b = refl
 
+  -- each copy that ends by an accepted publication has its cause
   pub publish_caused : (origin : Origin) (message : Message) (ds : List CopyTo) (b : Broker) → Orders b → accepted_copies m.step.env message b ≡ Some ds → Caused m (publish m.step.env origin message ds b) b
   publish_caused origin message ds b orders is =
       let number = next_publication b.records in
@@ -214,6 +215,7 @@ module _ (m : Asked) where
     | inr other ↦ let none = none_brought (not (begins_share w.filter) && sub.wants_retained w.options.retain_handling (sub.has_filter w.filter s)) b.now (sub.next_number b.records) s w b.records.retained birth other in omega (arith, none)
   ]
 
+  -- each copy that ends by a granted filter has its cause
   pub grant_caused : (w : sub.Wish) (s : Session) (b : Broker) → Orders b → session_at s.birth b.records ≡ Some s → length (filter is_queued (brought_to w s b)) ≤ room m.step.env s
       → Caused m (sub.granted_filter m.step.env (sub.next_number b.records) s w (brought_to w s b) b).deeds b
   grant_caused w s b orders there few =

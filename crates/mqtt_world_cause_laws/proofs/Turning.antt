@@ -81,6 +81,7 @@ module _ (m : Asked) where
   turn_turned line s (turns.Unknown id) b fine same = (quietly m (turn_deeds b.now line s (turns.Unknown id)) b (tt, tt), same)
   turn_turned line s (turns.Leave place ending) b fine same = leave_turned s place ending b fine same
 
+  -- a copy that leaves by a turn has its cause, if it has a reason
   pub turn_caused : (line : ℕ) (s : Session) (t : Turn) (b : Broker) → IsFine b.now s t → Same s b.records → Caused m (turn_deeds b.now line s t) b
   turn_caused line s t b fine same = (turn_turned line s t b fine same).0
 
@@ -130,6 +131,7 @@ module _ (m : Asked) where
     pub found : line_at number m.step.broker ≡ Some line
     pub its : line.session ≡ Some birth
 
+  -- an end in a step of this line's call is an end of that line
   pub of_line : (what : ℕ → Call) (line : Line) (s : Session) (x : EndAt) → x.asked ≡ m → x.who ≡ whose s → Comes what line s.birth → IsOfItsLine x what line
   of_line what line s x mine is h = record {
     number = h.number;
@@ -178,6 +180,7 @@ module _ (m : Asked) where
           let both = both_true (is_waiting e.phase) (is_late now (queued_copy e.copy)) is in
           (its_turn now s e endings.Expired there.0 (has_expired now s e (waits e.phase both.0) both.1 (λ b behind. inl asked)), more)
 
+  -- a copy that expires by the clock has its cause
   pub lapse_caused : (s : Session) (b : Broker) → m.call ≡ Some Tick → IsAscending copy_place s.queue → Same s b.records → Caused m (lapse_deeds b.now s) b
   lapse_caused s b asked up same = leaves_caused s (lapses b.now s) b b.now refl (lapsed_fine b.now s s.queue asked (all_found copy_place s.queue up)) same
 
@@ -247,6 +250,7 @@ module _ (m : Asked) where
         let x = entry_on l.went e in
         paced_fine p.left e (verdict (way_of l now) x) p (pump_from (way_of l now) (map (entry_on l.went) es)) there.0 (verdict_fine e x.here e.phase refl) (λ q. pump_fine es q there.1)
 
+  -- a copy that leaves by a pump has its cause
   pub pump_caused : (l : Line) (s : Session) (b : Broker) → Comes Pump l s.birth → IsAscending copy_place s.queue → Same s b.records → Caused m (pump_deeds l b.now s) b
   pump_caused l s b comes up same =
       turns_caused l.number s (pump_turns l b.now s) b b.now refl (pump_fine b.now l s comes s.queue (pace (way_of l b.now) (queue_on l.went s)) (all_found copy_place s.queue up)) same

@@ -17,6 +17,7 @@ use Rattle.mqtt_rules.specs.Laws.{AreWithin}
 use Rattle.mqtt_rules.specs.State.{Broker}
 use Rattle.mqtt_rules.specs.declared.Limits.{Limits}
 use Rattle.mqtt_world_acceptance_laws.specs.Fair.{IsSteady}
+use Rattle.mqtt_world_acceptance_laws.specs.LineNumbers.{HasApart, IsApartFrom}
 
 -- ---- its lines, as those of a publisher that sends the same CONNECTs, and something else where it sends something else
 
@@ -61,13 +62,17 @@ pub record IsPlaced (largest : ℕ) (ids : List CopyId) (ns : List ℕ) (r : Rec
 
 -- ---- the others
 
+-- no line of this number was ever its own, and 0 is the number of none
+abbrev pub IsOutOf : List ℕ → ℕ → Type 0
+IsOutOf ns n = is_one_of (Some n) (0 ∷ ns) ≡ false
+
 -- a line of this number was given, and not to the receiver
 abbrev pub IsAnothers : List ℕ → ℕ → Option ℕ → Type 0
-IsAnothers ns given x = (n : ℕ) → x ≡ Some n → (is_one_of (Some n) (0 ∷ ns) ≡ false) × (n ≤ given)
+IsAnothers ns given x = IsApartFrom (IsOutOf ns) given x
 
-pub record HasOthers {U : Type 0} (ns : List ℕ) (given : ℕ) (l : Line U) : Type 0 where
-  pub number : IsAnothers ns given l.number
-  pub old_number : IsAnothers ns given l.old_number
+-- so were those of another end's line
+abbrev pub HasOthers : {U : Type 0} → List ℕ → ℕ → Line U → Type 0
+HasOthers ns given l = HasApart (IsOutOf ns) given l
 
 abbrev pub IsOtherPublisher : List ℕ → ℕ → Publisher → Type 0
 IsOtherPublisher ns given p = HasOthers ns given p.line

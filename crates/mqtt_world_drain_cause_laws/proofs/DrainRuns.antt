@@ -255,7 +255,7 @@ module _ (large : Type 0) (client : List ℕ) (limits : Limits) (K : World → T
       let three = times_go (ups_by (receiver_named client then_)) (ask (to_broker client)) then_ read_right (λ v. refl) two.ready later.1 others.1 in
       go_on sends (reads ++ answers) w one (go_on reads answers sent two three)
 
-  -- where a drain goes on its receiver is there
+  -- if a drain goes on its receiver is there
   has_receiver : (w : World) → is_over client w ≡ false → is_some (receiver_named client w) ≡ true
   has_receiver w on = by (receiver_named client w) refl
     where
@@ -267,6 +267,7 @@ module _ (large : Type 0) (client : List ℕ) (limits : Limits) (K : World → T
       by (Some r) e = refl
       by None e = none (is_none_left (copies_left client w)) (sym (ap (λ (o : Option Receiver). is_none_left (copies_left client w) || not (line_stands o w)) e) ∙ on)
 
+  -- in a drain that spends no number only the receiver's copies end, for what ends them in a drain
   pub drain_its : (most : ℕ) (w : World) → IsKept [] client limits w → AllSay w → moment_of w ≡ moment → K w → run_spends limits (drain_turns limits choice client most w) w ≡ false
       → AllByRecursion S (asked_over limits (drain_turns limits choice client most w) w) → AreIts large client moment (asked_over limits (drain_turns limits choice client most w) w)
   drain_its zero w kept says at known unspent steps = tt
@@ -285,7 +286,7 @@ module _ (large : Type 0) (client : List ℕ) (limits : Limits) (K : World → T
           let first = round_goes w (record { kept = kept; there = has_receiver w is; says = says; at = at; known = known }) costs.0 parts.0 in
           subst (AreIts large client moment) (sym (asked_append limits xs ys w)) (both_its large client moment (asked_over limits xs w) (asked_over limits ys v) first.ends (next v first.ready.kept first.ready.says first.ready.at first.ready.known costs.1 parts.1))
 
--- ---- where nothing is known beside
+-- ---- if nothing is known beside
 
 abbrev Anywhere : World → Type 0
 Anywhere w = ⊤

@@ -111,6 +111,7 @@ module _ (client : List ℕ) (limits : Limits) where
   fit_rows went [] copied over = tt
   fit_rows went (row ∷ rows) copied over = (fit_row went row copied.0 over.0, fit_rows went rows copied.1 over.1)
 
+  -- a receiver's copies fit on its line, if contents are lawful
   pub its_fit : (w : World) (r : Receiver) → IsKept [] client limits w → IsContentful w → receiver_named client w ≡ Some r → HasFit ⊥ r w.broker
   its_fit w r kept contents e n l birth s number at on there its =
       let b = w.broker in
@@ -142,5 +143,6 @@ module _ (client : List ℕ) (limits : Limits) where
               in
               queue_over lots s w.broker unsent (subst (λ (o : Option Session). AreQueued lots o w.broker) (own_there any_size kept.stands.ids kept.stands.ns r w.broker n row.copy.id placed number here) run_is.queue_is)
 
+  -- so much is known at each step of a run with lawful packets
   pub knows_fit : Knows ⊥ client limits IsContentful ReadsLawful
   knows_fit = record { fits = its_fit; keeps = λ t w kept unspent steps known. turn_contents limits t w known steps }

@@ -1,4 +1,4 @@
--- No copy ends as too large in a drain, where what is stored came in packets (MQTT 5.0, 2.1.4, 3.1.2.11.4).
+-- No copy ends as too large in a drain, if what is stored came in packets (MQTT 5.0, 2.1.4, 3.1.2.11.4).
 use Rattle.std.proofs.Common.{◌≡◌, ℕ, Bool, true, false, cond, List, [], ◌∷◌, ◌++◌, refl, subst}
 use Rattle.std.specs.List.{AllByRecursion}
 use Rattle.mqtt_rules.specs.State.{MemberChoice}

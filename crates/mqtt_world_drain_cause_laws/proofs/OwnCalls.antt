@@ -217,6 +217,7 @@ module _ (large : Type 0) (limits : Limits) (choice : MemberChoice) (now : ℕ) 
           own_prepared large clean r.client r.window h (Some (Input l.number (packets.Connect (greeting clean r.client r.window)))) l.number refl (env_of limits choice b) l (line_of s.birth h) s refl kept
 
   module _ (largest : ℕ) (ids : List CopyId) (ns : List ℕ) (placed : IsPlaced largest ids ns r b) where
+    -- by what a receiver sends only its own copies end, for what ends them in a drain
     pub input_own : (n : ℕ) (x : Back) (rest : List Back) → r.line.number ≡ Some n → r.line.up ≡ x ∷ rest → SaysWell x → IsOwnCall (Input n (wire_back r.client r.window x))
     input_own n x rest number up says = elim (front placed.birth placed.line x rest r b placed.seat.present up) [
       | inl j ↦ where_joined j
@@ -281,6 +282,7 @@ module _ (large : Type 0) (limits : Limits) (choice : MemberChoice) (now : ℕ) 
             let it : s ≡ k.0 = cc in
             ap (λ (y : Session). y.client) it ∙ k.2.name
 
+    -- by a turn of sending on its line only a receiver's own copies end, for what ends them in a drain
     pub pump_own : (n : ℕ) → r.line.number ≡ Some n → IsOwnCall (Pump n)
     pump_own n number = on_line (line_at n b) refl
       where

@@ -74,10 +74,12 @@ module _ (large : Type 0) (client : List ℕ) (call : Option Call) where
   abbrev pub AreOwn : List Deed → Type 0
   AreOwn ds = AllByRecursion IsOwn ds
 
+  -- if by either choice of deeds copies end only as in a drain, they do so by the one that is made
   pub own_cond : (t : Bool) (xs ys : List Deed) → AreOwn xs → AreOwn ys → AreOwn (cond t xs ys)
   own_cond true xs ys p q = p
   own_cond false xs ys p q = q
 
+  -- a packet that goes out ends no copy
   pub own_offer : (o : Option Line) (packet : Packet) → AreOwn (offer o packet)
   own_offer None packet = tt
   own_offer (Some l) packet = own_cond (nat_le (size_of packet) l.largest) (Send l.number packet ∷ []) [] (tt, tt) tt
@@ -95,6 +97,7 @@ module _ (large : Type 0) (client : List ℕ) (call : Option Call) where
   own_entry None f h = tt
   own_entry (Some e) f h = h e
 
+  -- if a copy of the client leaves by a turn as in a drain, none ends otherwise by its deeds
   pub own_leave : (s : Session) (t : Turn) → s.client ≡ client → IsWell t → AreOwn (leave_deeds s t)
   own_leave s (turns.Leave place ending) its h = own_entry (row_at copy_place place s.queue) (λ e. At (whose s) (Leave e ending) ∷ []) (λ e. ((its, h), tt))
   own_leave s (turns.Send place id) its h = tt
@@ -104,6 +107,7 @@ module _ (large : Type 0) (client : List ℕ) (call : Option Call) where
   own_leave s (turns.Repeat id) its h = tt
   own_leave s (turns.Unknown id) its h = tt
 
+  -- if by a turn of the client's queue none leaves but as in a drain, none ends otherwise by its deeds
   pub own_turn : (now line : ℕ) (s : Session) (t : Turn) → s.client ≡ client → IsWell t → AreOwn (turn_deeds now line s t)
   own_turn now line s (turns.Leave place ending) its h = own_leave s (turns.Leave place ending) its h
   own_turn now line s (turns.Send place id) its h = own_entry (row_at copy_place place s.queue) _ (λ e. (tt, (tt, (tt, tt))))
@@ -117,10 +121,12 @@ module _ (large : Type 0) (client : List ℕ) (call : Option Call) where
   own_append [] ys p q = q
   own_append (x ∷ xs) ys p q = (p.0, own_append xs ys p.1 q)
 
+  -- if by turns of the client's queue none leaves but as in a drain, none ends otherwise by their deeds
   pub own_turns : (now line : ℕ) (s : Session) (ts : List Turn) → s.client ≡ client → AreWell ts → AreOwn (all_turn_deeds now line s ts)
   own_turns now line s [] its h = tt
   own_turns now line s (t ∷ ts) its h = own_append (turn_deeds now line s t) (all_turn_deeds now line s ts) (own_turn now line s t its h.0) (own_turns now line s ts its h.1)
 
+  -- if copies of the client leave as in a drain, none ends otherwise by their deeds
   pub own_leaves : (s : Session) (ts : List Turn) → s.client ≡ client → AreWell ts → AreOwn (flat_map (leave_deeds s) ts)
   own_leaves s [] its h = tt
   own_leaves s (t ∷ ts) its h = own_append (leave_deeds s t) (flat_map (leave_deeds s) ts) (own_leave s t its h.0) (own_leaves s ts its h.1)
@@ -164,6 +170,7 @@ module _ (large : Type 0) (client : List ℕ) (call : Option Call) where
   step_well (suc left) send place phase p rest h more = room_well p.room (turns.Send place (free_identifier p.used)) phase p rest tt more
   step_well (suc left) (resend i) place phase p rest h more = room_well p.room (turns.Resend place i) phase p rest tt more
 
+  -- a pump on a line that the copies fit lets none leave otherwise
   pub pump_well : (way : Way) (es : List FlowEntry) (p : Pacing) → AreFit large way.largest es → AreWell (pump_from way es p)
   pump_well way [] p fit = tt
   pump_well way (e ∷ es) p fit = step_well p.left (verdict way e) e.place e.phase p (pump_from way es) (verdict_well way e.copy e.here e.phase fit.0.above) (λ q. pump_well way es q fit.1)
@@ -183,6 +190,7 @@ module _ (large : Type 0) (client : List ℕ) (call : Option Call) where
   acknowledged_well AtLeastOnce code place h = subst (λ (t : Bool). Ends large client call (ending_by t)) (sym h) tt
   acknowledged_well ExactlyOnce code place h = tt
 
+  -- a PUBACK that tells success lets none leave otherwise
   pub puback_well : (code : ℕ) (o : Option FlowEntry) → is_refusal code ≡ false → IsWellAnswer (puback_at code o)
   puback_well code None h = tt
   puback_well code (Some e) h = by e.phase
@@ -198,6 +206,7 @@ module _ (large : Type 0) (client : List ℕ) (call : Option Call) where
   received_well AtLeastOnce code place i order h = tt
   received_well ExactlyOnce code place i order h = subst (λ (t : Bool). IsWellAnswer (released_by t place i order)) (sym h) tt
 
+  -- a PUBREC that tells success lets none leave otherwise
   pub pubrec_well : (i code order : ℕ) (o : Option FlowEntry) → is_refusal code ≡ false → IsWellAnswer (pubrec_at i code order o)
   pubrec_well i code order None h = tt
   pubrec_well i code order (Some e) h = by e.phase
@@ -208,6 +217,7 @@ module _ (large : Type 0) (client : List ℕ) (call : Option Call) where
       by (Released j k) = tt
       by (Oversize j k) = tt
 
+  -- a PUBCOMP lets none leave otherwise, if none was released as too large
   pub pubcomp_well : (o : Option FlowEntry) → ((e : FlowEntry) → o ≡ Some e → IsFitPhase large e.phase) → IsWellAnswer (pubcomp_at o)
   pubcomp_well None h = tt
   pubcomp_well (Some e) h = by e.phase (h e refl)
@@ -220,6 +230,7 @@ module _ (large : Type 0) (client : List ℕ) (call : Option Call) where
 
   -- ---- copies that make way
 
+  -- in a SUBSCRIBE copies may make way
   pub drop_well : Subscribes call → (k since : ℕ) (es : List FlowEntry) → AreWell (dropped k since es)
   drop_well asks k since [] = tt
   drop_well asks zero since (e ∷ es) = tt

@@ -34,7 +34,7 @@ none_waits c w h = by (session_named c w.broker.records) refl
     by None e = refl
     by (Some s) e = sym (ap copies_by e) ∙ h
 
--- where its line stands, a drain is over when none is left
+-- if its line stands, a drain is over when none is left
 none_left : (n : ℕ) (bad : Bool) → bad ≡ false → (is_none_left n || bad) ≡ true → n ≡ 0
 none_left zero bad good h = refl
 none_left (suc n) bad good h = let clash : true ≡ false = sym h ∙ good in absurd cc
@@ -42,7 +42,7 @@ none_left (suc n) bad good h = let clash : true ≡ false = sym h ∙ good in ab
 over_of : (c : List ℕ) (w : World) → copies_left c w ≡ 0 → is_over c w ≡ true
 over_of c w h = ap (λ (n : ℕ). is_none_left n || not (line_stands (receiver_named c w) w)) h
 
--- where it is not over, a session of its name stands
+-- if it is not over, a session of its name stands
 session_there : (c : List ℕ) (w : World) → is_over c w ≡ false → is_some (session_named c w.broker.records) ≡ true
 session_there c w on = by (session_named c w.broker.records) refl
   where

@@ -69,6 +69,7 @@ module _ (c : List ℕ) (limits : Limits) (choice : MemberChoice) (w : World) (k
           let behind : Former (Some s.birth) placed.line (line_like r.line) b = subst (λ (z : ℕ). Former (Some z) placed.line (line_like r.line) b) (sym y.1) former in
           greets_as s (may_resume placed.line r x.line s b kept.fit.unused x.awaits y.2 own (spared_left r.client s.birth placed.line r b own behind)) x.clean
 
+  -- once its CONNECT is read the receiver's session is connected on its line
   pub greeted_is_on : publisher_named c w ≡ None → IsOn c (turned limits (turn_of choice (ask (to_broker c))) w)
   greeted_is_on alone =
       let set : Setting = record { limits = limits; choice = choice } in

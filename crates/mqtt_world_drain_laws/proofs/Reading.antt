@@ -1,4 +1,4 @@
--- The receiver reads all that is under way to it: where its session is connected it stays so, and while its CONNECT is under way it
+-- The receiver reads all that is under way to it: if its session is connected it stays so, and while its CONNECT is under way it
 -- keeps its line (MQTT 5.0, 3.2, 4.3).
 use Rattle.std.proofs.Common.{◌≡◌, ℕ, zero, suc, Bool, true, List, [], ◌∷◌, Option, Some, None, bytes_eq, refl, sym, ap, subst, ◌∙◌}
 use Rattle.std.specs.Prelude.{⊤, filter_map, is_some}
@@ -64,12 +64,13 @@ module _ (c : List ℕ) (limits : Limits) (choice : MemberChoice) where
   abbrev reads_one : Turn
   reads_one = turn_of choice (to_end c)
 
+  -- a connected receiver that reads all that is under way to it is connected still
   pub read_on : (up : List Back) (w : World) → Connected c up w → IsOn c (run limits (all_to_end choice c w) w)
   read_on up w x =
       let y = reads limits choice c (place_of x.ids) any_size x.window x.ids x.birth x.ns (λ us. ⊤) (record { none = tt; more = λ us a h. tt }) up x.hop w x.here in
       (on_again (place_of x.ids) any_size x.window x.ids x.birth x.ns c y.ups _ (run limits (all_to_end choice c w) w) y.sees).on
 
-  -- so many times, where it leaves its line for none of them
+  -- so many times, if it leaves its line for none of them
   quiet_reads : (k : ℕ) (v : World) (q : Receiver) → receiver_named c v ≡ Some q → publisher_named c v ≡ None → filter_map heard_in q.line.down ≡ []
       → (p : Receiver) × (receiver_named c (run limits (times k (turn_of choice (to_end c))) v) ≡ Some p) × (p.line.number ≡ q.line.number)
       × ((run limits (times k (turn_of choice (to_end c))) v).broker ≡ v.broker)
@@ -89,6 +90,7 @@ module _ (c : List ℕ) (limits : Limits) (choice : MemberChoice) where
       subst (λ (u : World). (p : Receiver) × (receiver_named c (run limits (times k (turn_of choice (to_end c))) u) ≡ Some p) × (p.line.number ≡ q.line.number)
       × ((run limits (times k (turn_of choice (to_end c))) u).broker ≡ v.broker)) (sym is) all
 
+  -- a receiver whose CONNECT is under way may be emptied still once it has read all
   pub read_waits : (w : World) → Waits c w → publisher_named c w ≡ None → is_some (session_named c w.broker.records) ≡ true → MayEmpty c (run limits (all_to_end choice c w) w)
   read_waits w x alone session =
       let r = x.receiver in

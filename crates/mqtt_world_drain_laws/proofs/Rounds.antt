@@ -49,6 +49,7 @@ module _ (c : List ℕ) (limits : Limits) (choice : MemberChoice) where
         subst (λ (k : ℕ). IsOn c (run limits (times k (reads_back c limits choice)) w)) (sym one) (greeted_is_on c limits choice w kept waits m.session (nobody w kept waits.receiver waits.named))
   ]
 
+  -- after a round a receiver whose line and session stand has its session connected there
   pub round_on : (w : World) → IsKept [] c limits w → run_spends limits (round_turns limits choice c w) w ≡ false → MayEmpty c w → IsOn c (after_round limits choice c w)
   round_on w kept unspent m =
       let first = sends c limits choice ∷ [] in

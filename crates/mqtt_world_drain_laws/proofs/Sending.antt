@@ -1,4 +1,4 @@
--- The broker is asked to send: where the receiver's session is connected it stays so, and a line that waits for CONNECT stays
+-- The broker is asked to send: if the receiver's session is connected it stays so, and a line that waits for CONNECT stays
 -- (MQTT 5.0, 3.1, 4.6).
 use Rattle.std.proofs.Common.{◌≡◌, ℕ, true, List, [], Option, None, ap, subst, sym, ◌∙◌}
 use Rattle.std.specs.Prelude.{is_some}
@@ -20,9 +20,11 @@ module _ (c : List ℕ) (limits : Limits) (choice : MemberChoice) where
   abbrev pub sends : Turn
   sends = turn_of choice (ask (pump c))
 
+  -- a connected receiver that is sent what waits for it is connected still, with the same under way from it
   pub sent_on : (up : List Back) (w : World) → Connected c up w → IsOnWith c up (turned limits sends w)
   sent_on up w x = on_again (place_of x.ids) any_size x.window x.ids x.birth x.ns c up _ (turned limits sends w) (pumps limits choice c (place_of x.ids) any_size x.window x.ids x.birth x.ns up x.hop w x.here)
 
+  -- a receiver whose CONNECT is under way may be emptied still when the broker was asked to send
   pub sent_waits : (w : World) → Waits c w → publisher_named c w ≡ None → is_some (session_named c w.broker.records) ≡ true → MayEmpty c (turned limits sends w)
   sent_waits w x alone session =
       let set : Setting = record { limits = limits; choice = choice } in

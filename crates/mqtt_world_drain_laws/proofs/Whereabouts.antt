@@ -98,10 +98,11 @@ module _ (c : List ℕ) (limits : Limits) (w : World) (kept : IsKept [] c limits
   abbrev s : Stands [] c any_size limits w
   s = kept.stands
 
+  -- a receiver that is kept has a place, with its copies and its lines
   pub placed_of : (r : Receiver) → receiver_named c w ≡ Some r → IsPlaced any_size kept.stands.ids kept.stands.ns r w.broker
   placed_of r e = subst (IsSeen any_size s.ids s.ns w.broker) e s.standing.seen
 
-  -- where its line stands
+  -- if its line stands
   pub where_is : is_bad_drain c w ≡ false → IsOn c w ⊎ Waits c w
   where_is good = by (receiver_named c w) refl
     where
@@ -129,7 +130,7 @@ module _ (c : List ℕ) (limits : Limits) (w : World) (kept : IsKept [] c limits
                 | inr h ↦ inr (record { receiver = r; named = e; line = h.1.line; awaits = h.1.awaits; clean = clean; up = up; quiet = down })
               ]
 
-  -- ---- where its session is connected
+  -- ---- if its session is connected
 
   module _ (x : IsOn c w) where
     abbrev r : Receiver
@@ -150,6 +151,7 @@ module _ (c : List ℕ) (limits : Limits) (w : World) (kept : IsKept [] c limits
         by (waiting n clean at link_is clean_is connects_ down idle there) = absurd (off (ap (λ (o : Option ℕ). is_linked o w.broker) at ∙ idle_linked n w.broker idle))
         by (joined birth own at there) = record { birth = birth; own = own; at = at; there = there }
 
+    -- a receiver whose session is connected on its line may be emptied
     pub on_may : MayEmpty c w
     on_may = record {
       good = good_of c r w x.named (linked_stands r.line.number w.broker x.linked);
@@ -159,6 +161,7 @@ module _ (c : List ℕ) (limits : Limits) (w : World) (kept : IsKept [] c limits
           subst (λ (name : List ℕ). is_some (session_named name w.broker.records) ≡ true) (named_receiver c r w x.named) his.1;
     }
 
+    -- a receiver whose session is connected on its line is in step with the broker
     pub connected_of : Connected c x.receiver.line.up w
     connected_of =
         let j = joined_there in

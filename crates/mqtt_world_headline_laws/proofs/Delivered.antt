@@ -60,6 +60,7 @@ module _ (limits : Limits) (ts : List Turn) (w : World) (m : BeginsWell limits w
         };
   }
 
+  -- every fair run that begins well delivers exactly once
   pub run_delivers_all : DeliversExactlyOnce limits ts w
   run_delivers_all = record {
     messages = record { each = all.accepted; carried = all.carried; few_open = all.few_open };

@@ -1,5 +1,5 @@
 -- Worked lives and runs: one begins on what another left, with a session and a copy in its queue; a message of QoS 1 is accepted
--- twice, and a copy of QoS 1 read twice, where an answer is lost (MQTT 5.0, 4.1, 4.3.2, 4.4).
+-- twice, and a copy of QoS 1 read twice, if an answer is lost (MQTT 5.0, 4.1, 4.3.2, 4.4).
 use Rattle.std.proofs.Common.{◌≡◌, ℕ, false, List, [], ◌∷◌, ◌++◌, map, Some, refl, arith}
 use Rattle.std.specs.Prelude.{codes, option_map}
 use Rattle.mqtt_base.specs.Values.{varint}

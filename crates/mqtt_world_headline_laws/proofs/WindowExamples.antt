@@ -1,4 +1,4 @@
--- Worked drains through a window of twenty: twenty copies of QoS 2 are in flight at once, and two rounds take them; where all wait
+-- Worked drains through a window of twenty: twenty copies of QoS 2 are in flight at once, and two rounds take them; if all wait
 -- still it takes three, since a pump sends sixteen at most (MQTT 5.0, 3.1.2.11.3, 4.3.3, 4.6, 4.9).
 use Rattle.std.proofs.Common.{◌≡◌, ℕ, zero, suc, false, List, [], ◌∷◌, ◌++◌, map, refl}
 use Rattle.std.specs.Prelude.{codes}
@@ -41,7 +41,7 @@ abbrev burst : ℕ → ℕ → List Event
 burst zero id = []
 burst (suc more) id = ask (stranger s1 (publish_bytes id)) ∷ burst more (suc id)
 
--- so many of them, where it may have twenty open; as functions of numbers, since of constants the checks take too many steps
+-- so many of them, if it may have twenty open; as functions of numbers, since of constants the checks take too many steps
 abbrev burst_of : ℕ → List Event
 burst_of n = receiver r1 20 ∷ joins r1 false ++ (subscribes r1 ++ (ask (stranger s1 greeting) ∷ burst n 1))
 
@@ -81,7 +81,7 @@ pub two_rounds_take_what_is_in_flight : rounds 2 20 ≡ 2
 unfolding varint first_of size_at packet_at frame_at versioned_at lawful_at body_at connect_at fields_at will_at user_name_at password_at publish_at delivery_at layout_at block_at items_at items_in text_at blob_at is_utf8 chars encode varint_at groups_at prop_at value_at
 two_rounds_take_what_is_in_flight = refl
 
--- where none has gone out yet the second round sends the last four
+-- if none has gone out yet the second round sends the last four
 pub three_rounds_take_what_waits : rounds 0 20 ≡ 3
 unfolding varint first_of size_at packet_at frame_at versioned_at lawful_at body_at connect_at fields_at will_at user_name_at password_at publish_at delivery_at layout_at block_at items_at items_in text_at blob_at is_utf8 chars encode varint_at groups_at prop_at value_at
 three_rounds_take_what_waits = refl

@@ -14,14 +14,16 @@ use Rattle.mqtt_rules.specs.Contents.{IsTaken, TakesLawful}
 use Rattle.mqtt_rules.specs.Piece.{Front, call_by}
 use Rattle.mqtt_rules.specs.Step.{Call}
 use Rattle.mqtt_world_model.specs.Ends.{Back, Publisher, Receiver, wire, wire_back}
-use Rattle.mqtt_world_model.specs.World.{Stranger, View, call_of_stranger, call_on, held_after, held_by, input_on, lost_on, pump_on, view_by}
+use Rattle.mqtt_world_model.specs.World.{Stranger, call_of_stranger, call_on, held_after, held_by, input_on, lost_on, pump_on, view_by}
 use Rattle.mqtt_rules_spelling_laws.specs.Sending.{TellsFault}
 use Rattle.mqtt_world_single_step_laws.specs.Taken.{HasIdentifier, IsTakenBack, IsTakenFrom, IsTakenFromReceiver}
 use Rattle.mqtt_world_reading_laws.specs.Sayable.{AreBytes}
+use Rattle.mqtt_world_reading_laws.specs.UnderWay.{IsViewTaken}
 use Rattle.mqtt_world_reading_laws.proofs.Backs.{IsFine}
 
 -- ---- what may be asked
 
+-- the packet of the call is lawful, or its code tells of a fault
 pub record IsWell (call : Call) : Type 0 where
   pub taken : TakesLawful call
   pub tells : TellsFault call
@@ -31,10 +33,6 @@ IsWellIf None = ⊤
 IsWellIf (Some call) = IsWell call
 
 -- ---- of an end
-
-pub record IsViewTaken (v : View) : Type 0 where
-  pub up : AllByRecursion IsTaken v.up
-  pub old : AllByRecursion IsTaken v.old
 
 -- the broker takes what a receiver has under way
 pub record IsBackTaken (r : Receiver) : Type 0 where

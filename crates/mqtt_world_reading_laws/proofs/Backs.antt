@@ -76,11 +76,13 @@ module _ (t : Bool) where
   hears_fine copy (packets.Disconnect n) r spelled h = record { line = left_carries HasIdentifier r.line h.line; down = tt }
   hears_fine copy packet r spelled h = h
 
+  -- a receiver that reads packets with a spelling answers with identifiers
   pub reads_fine : (ds : List Down) (r : Receiver) → AllByRecursion IsSpelled ds → IsFine r → IsFine (receiver_reads t ds r)
   reads_fine [] r downs h = h
   reads_fine (d ∷ rest) r downs h =
       hears_fine d.copy d.packet (record r { line = record r.line { down = rest } }) downs.0 (record { line = record { up = h.line.up; old = h.line.old }; down = downs.1 })
 
+  -- a receiver that asks for a subscription still answers with identifiers
   pub wish_fine : (w : Wish) (r : Receiver) → IsFine r → IsFine (asks_wish t w r)
   wish_fine w r h = record { line = goes_carries HasIdentifier t (asks_for w ∷ []) r.line (tt, tt) h.line; down = h.down }
 

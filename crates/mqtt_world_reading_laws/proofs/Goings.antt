@@ -21,8 +21,9 @@ use Rattle.mqtt_world_single_step_laws.specs.Taken.{HasTexts, HaveTexts, IsTaken
 use Rattle.mqtt_world_single_step_laws.proofs.TakenEnds.{publishers_taken, receivers_taken}
 use Rattle.mqtt_world_drain_cause_laws.specs.Fitting.{AllReadLawful, ReadsLawful}
 use Rattle.mqtt_world_reading_laws.specs.Sayable.{AreSayable, BringsBytes, HasBytes}
+use Rattle.mqtt_world_reading_laws.specs.UnderWay.{IsViewTaken, TakesAllUnderWay}
 use Rattle.mqtt_world_reading_laws.proofs.Backs.{IsFine, gives_fine, joined_fine, left_fine, new_fine, old_fine, reads_fine, restarted_fine, told_fine, up_fine, wish_fine}
-use Rattle.mqtt_world_reading_laws.proofs.Asked.{HoldsBytes, IsBackTaken, IsViewTaken, IsWell, IsWellIf, after_bytes, bytes_append, found, input_well, lost_well, no_bytes, pump_well, stranger_well, view_taken}
+use Rattle.mqtt_world_reading_laws.proofs.Asked.{HoldsBytes, IsBackTaken, IsWell, IsWellIf, after_bytes, bytes_append, found, input_well, lost_well, no_bytes, pump_well, stranger_well, view_taken}
 
 -- the broker sends well, what comes to receivers has a spelling, and what strangers hold is bytes
 pub record IsGoing (w : World) : Type 0 where
@@ -57,6 +58,12 @@ each_stranger name f g ss h = each HoldsBytes (λ s. cond (bytes_eq s.name name)
 both_taken : (rs : List Receiver) → AllByRecursion IsTakenFromReceiver rs → AllByRecursion IsFine rs → AllByRecursion IsBackTaken rs
 both_taken [] h k = tt
 both_taken (r ∷ rs) h k = (record { taken = h.0; fine = k.0 }, both_taken rs h.1 k.1)
+
+-- whatever an end has under way the broker takes
+view_well : (d : List ℕ) (w : World) → AreTaken w → IsGoing w → IsViewTaken (view_of d w)
+view_well d w taken h =
+    view_taken (publisher_named d w) (receiver_named d w) (found IsTakenFrom (λ p. bytes_eq p.client d) w.publishers taken.publishers)
+    (found IsBackTaken (λ r. bytes_eq r.client d) w.receivers (both_taken w.receivers taken.receivers h.receivers))
 
 module _ (set : Setting) where
   -- ---- steps of the broker
@@ -119,11 +126,6 @@ module _ (set : Setting) where
   before_going (pump d) w brings h = h
   before_going tick w brings h = h
   before_going (stranger name bytes) w brings h = comes_going name bytes w brings h
-
-  view_well : (d : List ℕ) (w : World) → AreTaken w → IsGoing w → IsViewTaken (view_of d w)
-  view_well d w taken h =
-      view_taken (publisher_named d w) (receiver_named d w) (found IsTakenFrom (λ p. bytes_eq p.client d) w.publishers taken.publishers)
-      (found IsBackTaken (λ r. bytes_eq r.client d) w.receivers (both_taken w.receivers taken.receivers h.receivers))
 
   call_well : (a : Asking) (w : World) → BringsBytes a → AreTaken w → IsGoing w → IsWellIf (call_of set a w)
   call_well (to_broker d) w brings taken h = let v = view_of d w in input_well v.number v.up (view_well d w taken h).up
@@ -239,6 +241,10 @@ pub record GoesOn (limits : Limits) (ts : List Turn) (w : World) : Type 0 where
   pub lawful : AllReadLawful limits ts w
   pub going : IsGoing (run limits ts w)
 
+have_texts : (ts : List Turn) → AreSayable ts → HaveTexts ts
+have_texts [] say = tt
+have_texts (t ∷ ts) say = (say.0.texts, have_texts ts say.1)
+
 module _ (limits : Limits) (w : World) (ps : w.publishers ≡ []) (rs : w.receivers ≡ []) where
   taken_at : (xs : List Turn) (v : World) → HaveTexts xs → run limits xs w ≡ v → AreTaken v
   taken_at xs v texts is = subst AreTaken is (record { publishers = publishers_taken limits xs w ps rs texts; receivers = receivers_taken limits xs w ps rs texts })
@@ -260,3 +266,9 @@ pub goes_on : (limits : Limits) (ts : List Turn) (w : World) → w.publishers �
 goes_on limits ts w ps rs ss sends say unspent =
     goes_behind limits w ps rs [] ts w tt refl say unspent
     (record { sends = sends; receivers = subst (AllByRecursion IsFine) (sym rs) tt; strangers = subst (AllByRecursion HoldsBytes) (sym ss) tt })
+
+-- in such a run the broker takes whatever is under way from an end
+pub all_taken : (limits : Limits) (ts : List Turn) (w : World) → w.publishers ≡ [] → w.receivers ≡ [] → w.strangers ≡ [] → SendsWell w.broker → AreSayable ts → run_spends limits ts w ≡ false → TakesAllUnderWay (run limits ts w)
+all_taken limits ts w ps rs ss sends say unspent =
+    let g = goes_on limits ts w ps rs ss sends say unspent in
+    λ d. view_well d (run limits ts w) (taken_at limits w ps rs ts (run limits ts w) (have_texts ts say) refl) g.going

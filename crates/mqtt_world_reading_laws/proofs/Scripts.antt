@@ -1,5 +1,5 @@
 -- Scripts, and what begins with nothing stored (MQTT 5.0, 2.1.4, 3.1.2.11.4).
-use Rattle.std.proofs.Common.{ℕ, zero, suc, Bool, true, false, cond, List, [], ◌∷◌, ◌++◌}
+use Rattle.std.proofs.Common.{◌≡◌, ℕ, zero, suc, Bool, true, false, cond, List, [], ◌∷◌, ◌++◌, refl}
 use Rattle.mqtt_rules.proofs.numbers.Copies.{each_append}
 use Rattle.mqtt_rules.specs.Laws.{AreWithin}
 use Rattle.mqtt_rules.specs.State.{MemberChoice}
@@ -15,7 +15,9 @@ use Rattle.mqtt_rules_spelling_laws.specs.Sending.{SendsWell}
 use Rattle.mqtt_world_drain_cause_laws.specs.Fitting.{AllDrainsFit, AllReadLawful}
 use Rattle.mqtt_world_drain_cause_laws.proofs.Fitting.{script_fits}
 use Rattle.mqtt_world_reading_laws.specs.Sayable.{AreSayable, AreSayableDoings, IsSayable, IsSayableDoing}
-use Rattle.mqtt_world_reading_laws.proofs.Goings.{GoesOn, goes_on}
+use Rattle.mqtt_world_reading_laws.specs.UnderWay.{IsUninhabited, TakesAllUnderWay}
+use Rattle.mqtt_world_acceptance_laws.specs.Spending.{run_spends}
+use Rattle.mqtt_world_reading_laws.proofs.Goings.{GoesOn, all_taken, goes_on}
 
 -- ---- a drain brings nothing
 
@@ -94,3 +96,13 @@ drains_fit limits ds w u sends fair say = script_fits limits ds w u sends.conten
 -- also from the start
 pub start_drains_fit : (limits : Limits) (ds : List Doing) → IsFair limits (all_turns limits ds start) start → AreSayableDoings ds → AllDrainsFit limits ds start
 start_drains_fit limits ds fair say = drains_fit limits ds start (start_untouched limits fair.within) (start_sends limits fair.within) fair say
+
+-- ---- what is under way
+
+-- the broker takes all that is under way from ends, wherever such a run has come to
+pub under_way : (limits : Limits) (ts : List Turn) (w : World) → IsUninhabited w → SendsWell w.broker → run_spends limits ts w ≡ false → AreSayable ts → TakesAllUnderWay (run limits ts w)
+under_way limits ts w nobody sends unspent say = all_taken limits ts w nobody.publishers nobody.receivers nobody.strangers sends say unspent
+
+-- also from the start
+pub start_under_way : (limits : Limits) (ts : List Turn) → AreWithin limits → run_spends limits ts start ≡ false → AreSayable ts → TakesAllUnderWay (run limits ts start)
+start_under_way limits ts within unspent say = under_way limits ts start (record { publishers = refl; receivers = refl; strangers = refl }) (start_sends limits within) unspent say

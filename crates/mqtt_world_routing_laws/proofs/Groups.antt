@@ -50,6 +50,7 @@ module _ (at : Answers) (p : Publication) (birth : ℕ) where
   joined true false r n m e f alone = omega (arith, e, f)
   joined false t r n m e f alone = omega (arith, e, f)
 
+  -- a session gets one direct copy if it is to get one, and else none
   pub direct_once : (xs : List Subscriber) → AreInOrder xs → count_by is_its (directs at p xs) ≡ cond (gets_direct at p birth xs) 1 0
   direct_once [] h = refl
   direct_once (x ∷ xs) h =
@@ -87,7 +88,7 @@ module _ (p : Publication) (text : List ℕ) where
     | inr behind ↦ rw behind (ap (λ (t : Bool). bytes_eq x.sub.filter text || t) (inserted m xs) ∙ or_swap (bytes_eq x.sub.filter text) (bytes_eq m.sub.filter text) (among xs))
   ]
 
-  -- a subscription more: a member of its group, where it is shared and matches
+  -- a subscription more: a member of its group, if it is shared and matches
   joins : (t : Bool) (birth : ℕ) (s : Subscription) (before : List Member) (later : Bool)
       → (later || among (cond t (insert_member (record { birth = birth; sub = s }) before) before)) ≡ (((bytes_eq s.filter text && t) || later) || among before)
   joins true birth s before later =
@@ -142,6 +143,7 @@ module _ (p : Publication) (text : List ℕ) where
       by true first other rest = rw other rest
       by false first other rest = rw (first, other) rest
 
+  -- a group is there exactly if some session has a matching subscription to it
   pub groups_match : (sessions : List Subscriber) → list_any (bytes_eq text) (groups (members p sessions)) ≡ has_member p text sessions
   groups_match sessions = named_by [] (members p sessions) refl ∙ of_sessions sessions [] ∙ or_none (has_member p text sessions)
 
@@ -185,6 +187,7 @@ module _ (p : Publication) (m : Member) where
     ]
   ]
 
+  -- each member of a group is a session's subscription
   pub belongs_to : (sessions : List Subscriber) → IsAmong m (members p sessions) → IsOfSession sessions m
   belongs_to sessions h = elim (of_one sessions [] h) [ inl it ↦ it | inr none ↦ absurd none ]
 
@@ -237,6 +240,7 @@ module _ (at : Answers) (p : Publication) (all : List Member) (direct : List Cop
             once = (one_served (first_choice choices) f before s (eligible_of at p direct before f all) refl is, rest.once);
           }
 
+  -- groups that were served have the names of the filters, in order
   pub names_are : (before : List Served) (texts : List (List ℕ)) (ss : List Served) → AreServedOnce at p all direct before texts ss → map (λ (s : Served). s.group) ss ≡ map group_of texts
   names_are before [] [] h = refl
   names_are before [] (s ∷ ss) h = absurd h
@@ -290,6 +294,7 @@ module _ (at : Answers) (p : Publication) (choices : List ℕ) (sessions : List 
         served = once;
       })
 
+  -- who is routed to gets one copy each, directly and by the groups
   pub each_gets_one : (r : Routed) → routed at p choices sessions ≡ Some r → EachGetsOne at p sessions r
   each_gets_one r e = by (list_all (has_room at) (directs at p sessions)) e
     where

@@ -55,6 +55,7 @@ all_next (x ∷ xs) h a among = in_front (accepted_in x) h.0 (all_next xs h.1 a)
 
 -- ---- the routing by which a publication was accepted
 
+-- these copies are those that a routing of the publication means
 pub record WasRouted (a : Acceptance) (ds : List CopyTo) : Type 0 where
   pub routing : Routed
   pub routing_is : routing_of a.env a.message a.broker.records ≡ Some routing
@@ -133,6 +134,7 @@ module _ (limits : Limits) (ts : List Turn) (w : World) (new : IsNew w) (fair : 
           ∙ ap (count_by (is_groups a.number s.group)) entered_are
           ∙ one_each a.number a.broker.now a.message r (served_differ (answers a.env a.broker.records) (publication_of a.message) choices (subscribers a.broker.records) order r routed.routing_is) s stands
 
+  -- in a fair run from nothing the copies of each publication enter as they were meant
   pub all_enter : AllEnterAsIntended limits ts w
   all_enter = each_among (EntersAsIntended limits ts w) (acceptances_over limits ts w) (λ a among. of_acceptance a among (next a among))
 

@@ -47,7 +47,7 @@ use Rattle.mqtt_world_model.specs.Run.{Acceptance, acceptances_of}
 use Rattle.mqtt_world_acceptance_laws.specs.Fair.{IsSteady}
 use Rattle.mqtt_world_routing_laws.proofs.OwnSteps.{IsOther, AreOther, other_deliveries, other_retain, leave_other}
 
--- ---- a deed that fits, and lines that are unique where it accepts a publication
+-- ---- a deed that fits, and lines that are unique if it accepts a publication
 
 abbrev IsLined : Deed → Broker → Type 0
 IsLined (Accept number origin m) b = b.records.autos ≤ LAST_NUMBER → HasUniqueLines b
@@ -241,7 +241,7 @@ module _ (env : Env) (within : AreWithin env.limits) where
     sends = λ n packet b k its. quiet (Send n packet ∷ []) b k (fit.sends n packet b k.0 its) (tt, tt) (tt, tt);
   }
 
--- ---- a call: where it accepts a publication lines are unique
+-- ---- a call: if it accepts a publication lines are unique
 
 abbrev pub IsUnique : Acceptance → Type 0
 IsUnique a = HasUniqueLines a.broker

@@ -7,7 +7,7 @@ use Rattle.mqtt_routes.specs.Intended.{is_none}
 use Rattle.mqtt_rules.specs.Laws.{IsAmong}
 
 module _ {X : Type 0} where
-  -- some element passes exactly where those that pass aren't none
+  -- some element passes exactly if those that pass aren't none
   pub some_pass : (test : X → Bool) (xs : List X) → not (is_none (filter test xs)) ≡ list_any test xs
   some_pass test [] = refl
   some_pass test (x ∷ xs) = elim (cases_Bool (test x)) [

@@ -1,4 +1,4 @@
--- A member of a group that gets a copy of QoS 0 is connected, and stands on a line where lines are unique (MQTT 5.0, 3.1.4, 4.8.2).
+-- A member of a group that gets a copy of QoS 0 is connected, and stands on a line if lines are unique (MQTT 5.0, 3.1.4, 4.8.2).
 use Rattle.std.proofs.Common.{◌≡◌, ℕ, max, ◌⊎◌, true, false, List, [], ◌∷◌, ◌++◌, map, Option, Some, None, nat_lt, refl, sym, ap, subst, ◌∙◌, arith, inl, inr}
 use Rattle.std.specs.Prelude.{flat_map, is_none}
 use Rattle.std.specs.List.{AllByRecursion, list_any}

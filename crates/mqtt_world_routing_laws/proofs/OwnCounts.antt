@@ -81,12 +81,15 @@ abbrev one_if : Bool → ℕ
 one_if t = cond t 1 0
 
 module _ {X : Type 0} (P : X → Bool) where
+  -- one more is counted if it passes
   pub counted_cons : (x : X) (xs : List X) → count_by P (x ∷ xs) ≡ cond (P x) 1 0 + count_by P xs
   counted_cons x xs = sum_by-cons (λ y. cond (P y) 1 0) x xs
 
+  -- two lists are counted together
   pub counted_append : (xs ys : List X) → count_by P (xs ++ ys) ≡ count_by P xs + count_by P ys
   counted_append xs ys = sum_by-append (λ y. cond (P y) 1 0) xs ys
 
+  -- what passes is counted in a part that has all that pass
   pub count_kept : (keep : X → Bool) → ((x : X) → P x ≡ true → keep x ≡ true) → (xs : List X) → count_by P xs ≡ count_by P (filter keep xs)
   count_kept keep stays [] = refl
   count_kept keep stays (x ∷ xs) = elim (cases_Bool (keep x)) [
@@ -121,7 +124,7 @@ groups_own n group x h =
     let routed : is_routed x.cause ≡ true = share_routed group x.cause (and_right (nat_eq x.publication n) (is_share group x.cause) h) in
     rw (number, routed) refl
 
--- ---- copies that differ: each is counted once where it is one of them
+-- ---- copies that differ: each is counted once if it is one of them
 
 counted_once : (c : CopyId) (is : List CopyId) → AllDiffer is → count_of c is ≡ cond (list_any (is_copy c) is) 1 0
 counted_once c [] h = refl
@@ -213,7 +216,7 @@ module _ (number now : ℕ) (m : Message) (group : List ℕ) where
       omega (arith, cut, none)
 
 module _ (number now : ℕ) (m : Message) where
-  -- of each that was served, and no other of its name, one copy where it got one that enters
+  -- of each that was served, and no other of its name, one copy if it got one that enters
   one_for : (s : Served) (ss : List Served) → AllDiffer (map (λ (x : Served). x.group) ss) → IsAmong s ss
       → count_by (is_groups number s.group) (queued_ids (flat_map (served_copies_to number now m) ss)) ≡ cond (enters_queue s.copy) 1 0
   one_for s [] differ among = absurd among
@@ -242,6 +245,7 @@ module _ (number now : ℕ) (m : Message) where
           let none : one_if (bytes_eq s.group x.group && enters_queue x.copy) ≡ 0 = rw other refl in
           omega (arith, all, rest, none)
 
+  -- each group that was served has one copy in a queue, or none
   pub one_each : (r : Routed) → AllDiffer (map (λ (x : Served). x.group) r.served) → (s : Served) → IsAmong s r.served
       → count_by (is_groups number s.group) (queued_ids (copies_to number now m r)) ≡ cond (enters_queue s.copy) 1 0
   one_each r differ s among = counted_routed number now m s.group r ∙ one_for s r.served differ among

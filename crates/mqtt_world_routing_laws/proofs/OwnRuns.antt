@@ -43,7 +43,7 @@ number_of a = a.number
 abbrev pub accepted_in : Step → List Acceptance
 accepted_in x = acceptances_of x.env x.deeds x.broker
 
--- lines are unique where a publication is accepted, or none stands
+-- lines are unique if a publication is accepted, or none stands
 abbrev pub IsLinedUp : Acceptance → Type 0
 IsLinedUp a = HasUniqueLines a.broker ⊎ (a.broker.lines ≡ [])
 

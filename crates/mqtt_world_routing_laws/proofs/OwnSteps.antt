@@ -81,6 +81,7 @@ accepted_append env (x ∷ xs) ys b = by (accepted_by env x b) (accepted_append 
 
 -- ---- an acceptance as it comes: it has the next number, and was routed on tables in order
 
+-- the publication has the next number, and is accepted on tables in order, in these copies
 pub record IsNext (a : Acceptance) : Type 0 where
   pub number : a.number ≡ next_publication a.broker.records
   pub order : Orders a.broker
@@ -117,6 +118,7 @@ module _ (env : Env) where
       by (Some s) = other_enter d.copy s
   other_deliver false d b = plains_other (deliver_by false env d b) (plain_offer (line_of d.birth b) (publish_of b.now false 0 d.copy))
 
+  -- handing over copies accepts nothing
   pub other_deliveries : (ds : List CopyTo) (b : Broker) → AreOther (series (map (deliver env) ds) b)
   other_deliveries [] b = tt
   other_deliveries (d ∷ ds) b =
@@ -128,6 +130,7 @@ module _ (env : Env) where
   other_forgets None = tt
   other_forgets (Some k) = (tt, tt)
 
+  -- retaining a message accepts nothing
   pub other_retain : (retain empty : Bool) (number : ℕ) (m : Message) (b : Broker) → AreOther (retain_by retain empty number m b)
   other_retain false empty number m b = tt
   other_retain true true number m b = other_forgets (retained_of m.topic b.records)
@@ -151,9 +154,11 @@ module _ (env : Env) where
   saying : Says env whatever Orders (Next env)
   saying = says_still env (Next env) stills_next next_then publish_next grants_next
 
+  -- each publication that a call accepts has the next number
   pub call_next : (call : Call) (b : Broker) → Orders b → Next env (deeds_of env call b) b
   call_next call b h = call_says env whatever Orders (Next env) saying call (λ n packet e. tt) b h
 
+  -- each publication that an opening accepts has the next number
   pub opening_next : (b : Broker) → Orders b → Next env (opening env b) b
   opening_next b h = opening_says env whatever Orders (Next env) saying b h
 

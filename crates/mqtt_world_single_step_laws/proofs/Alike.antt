@@ -37,7 +37,7 @@ one_more_held : (name held : List ℕ) (s : Stranger) (ss : List Stranger) → b
 one_more_held name held s [] differ h = (λ is. let clash : true ≡ false = sym is ∙ differ in absurd cc, tt)
 one_more_held name held s (x ∷ ss) differ h = (h.0, one_more_held name held s ss differ h.1)
 
--- bytes that come for one stranger are held by him alone
+-- bytes that come for one stranger are held by it alone
 pub come_held : (set : Setting) (name other held bytes : List ℕ) (w : World) → bytes_eq other name ≡ false → Holds name held w
     → Holds name held (comes set other bytes w)
 come_held set name other held bytes w differ h = by (is_some (stranger_named other w))
@@ -70,7 +70,7 @@ bytes_alike set name other bytes w alike = elim (cases_Bool (bytes_eq other name
 
 -- ---- calls and restarts
 
--- where the strangers are the same
+-- if the strangers are the same
 same_strangers : (v w : World) → v.strangers ≡ w.strangers → AreAllAlike w → AreAllAlike v
 same_strangers v w is alike name =
     subst (λ (ss : List Stranger). AllByRecursion (HoldsThese name (bytes_held (find (its name) ss))) ss) (sym is) (alike name)

@@ -41,7 +41,7 @@ if_with set (Some call) w ss = refl
 
 -- ---- what is asked for by what is held
 
--- nothing is asked for where nothing is whole
+-- nothing is asked for if nothing is whole
 none_by : (o : Option Stranger) (held : List ℕ) → ((s : Stranger) → o ≡ Some s → s.held ≡ held) → first_of held ≡ Ok None → call_of_stranger o ≡ None
 none_by None held is e = refl
 none_by (Some s) held is e = by s.number
@@ -53,12 +53,12 @@ none_by (Some s) held is e = by s.number
     by None = refl
     by (Some n) = ap (λ (f : Front). call_by n s.held f) same
 
--- where no packet is whole a stranger calls nothing
+-- if no packet is whole a stranger calls nothing
 pub nothing_asked : (name held : List ℕ) (w : World) → Holds name held w → first_of held ≡ Ok None
     → call_of_stranger (stranger_named name w) ≡ None
 nothing_asked name held w h e = none_by (stranger_named name w) held (λ s is. found_holds name held s w.strangers h is) e
 
--- and nothing is taken from what he holds
+-- and nothing is taken from what it holds
 pub nothing_left : (name held : List ℕ) (w : World) → Holds name held w → held_after held ≡ held → next_held name w ≡ w
 nothing_left name held w h e = ap (with_strangers w) (same_held name held held_after w.strangers h e)
 
@@ -79,7 +79,7 @@ still set name held w (suc more) h e =
 abbrev pub next_world : Setting → List ℕ → World → World
 next_world set name w = calls_if set (call_of_stranger (stranger_named name w)) (next_held name w)
 
--- behind an answer he holds what was behind the packet
+-- behind an answer the stranger holds what was behind the packet
 pub next_holds : (set : Setting) (name held : List ℕ) (w : World) → Holds name held w → Holds name (held_after held) (next_world set name w)
 next_holds set name held w h = by (call_of_stranger (stranger_named name w))
   where
@@ -100,7 +100,7 @@ less_by held (Err fault) more is within found =
     let left : length (held_after held) ≡ 0 = ap (λ (f : Front). length (held_behind f held)) is in
     omega (arith, left)
 
--- where nothing is held there is no packet
+-- if nothing is held there is no packet
 pub none_longer : (held : List ℕ) → length held ≤ 0 → first_of held ≡ Ok None
 none_longer [] e = nothing_first
 none_longer (b ∷ held) e = absurd (omega arith)
@@ -123,22 +123,22 @@ enough set name held w (suc m) (suc n) h a b = elim (is_none_first (first_of hel
       (less_by held (first_of held) m refl a e) (less_by held (first_of held) n refl b e)
 ]
 
--- ---- where the stranger is there
+-- ---- if the stranger is there
 
 -- the world in which bytes have come
 abbrev pub come : List ℕ → List ℕ → World → World
 come name bytes w = with_strangers w (map (changed name (λ (held : List ℕ). held ++ bytes)) w.strangers)
 
--- bytes that come for a stranger who stands are held by him
+-- bytes that come for a stranger that stands are held by it
 pub comes_is : (set : Setting) (name bytes : List ℕ) (w : World) → is_some (stranger_named name w) ≡ true
     → comes set name bytes w ≡ come name bytes w
 comes_is set name bytes w there = ap (λ (t : Bool). linked_at set t name bytes w) there
 
--- behind what he held
+-- behind what it held
 pub come_holds : (name held bytes : List ℕ) (w : World) → Holds name held w → Holds name (held ++ bytes) (come name bytes w)
 come_holds name held bytes w h = holds_changed name held (λ (old : List ℕ). old ++ bytes) w.strangers h
 
--- and that is how he is found
+-- and that is how it is found
 pub come_found : (name bytes : List ℕ) (w : World)
     → stranger_named name (come name bytes w) ≡ option_map (held_by (λ (held : List ℕ). held ++ bytes)) (stranger_named name w)
 come_found name bytes w = find_changed name (λ (held : List ℕ). held ++ bytes) w.strangers
@@ -152,11 +152,11 @@ still_there : (f : List ℕ → List ℕ) (o : Option Stranger) → is_some o �
 still_there f None e = e
 still_there f (Some s) e = refl
 
--- he still stands
+-- it still stands
 pub come_there : (name bytes : List ℕ) (w : World) → is_some (stranger_named name w) ≡ true → is_some (stranger_named name (come name bytes w)) ≡ true
 come_there name bytes w there = ap is_some (come_found name bytes w) ∙ still_there (λ (held : List ℕ). held ++ bytes) (stranger_named name w) there
 
--- and he holds as many more
+-- and it holds as many more
 pub come_count : (name held bytes : List ℕ) (w : World) → Holds name held w → is_some (stranger_named name w) ≡ true
     → held_count (stranger_named name (come name bytes w)) ≡ length (held ++ bytes)
 come_count name held bytes w h there =
@@ -276,7 +276,7 @@ splits_there set name held part more packet w h there e =
         ap (answers_rest set n name) (next_is set name held (part ++ more) more packet (length (held ++ part)) w h whole behind)
         ∙ enough set name more (answered set name packet more w) n (length more) (constant_holds name held more set packet w h) (omega arith) (omega arith)
 
--- ---- where it comes for the first time
+-- ---- if it comes for the first time
 
 -- the world in which it is linked, and nothing of it has come
 abbrev pub newcomer : Setting → List ℕ → World → Stranger
@@ -294,7 +294,7 @@ welcomed_found set name w none = find_one_more name (newcomer set name w) w.stra
 pub welcomed_holds : (set : Setting) (name : List ℕ) (w : World) → stranger_named name w ≡ None → Holds name [] (welcomed set name w)
 welcomed_holds set name w none = holds_one_more name [] (newcomer set name w) w.strangers (none_holds name [] w.strangers none) refl
 
--- the first bytes of a stranger come behind his welcome
+-- the first bytes of a stranger come behind its welcome
 pub comes_welcomed : (set : Setting) (name bytes : List ℕ) (w : World) → stranger_named name w ≡ None
     → comes set name bytes w ≡ come name bytes (welcomed set name w)
 comes_welcomed set name bytes w none =
@@ -307,7 +307,7 @@ pub comes_both : (set : Setting) (name bytes : List ℕ) (w : World) → strange
 comes_both set name bytes w none =
     comes_welcomed set name bytes w none ∙ sym (comes_is set name bytes (welcomed set name w) (ap is_some (welcomed_found set name w none)))
 
--- what he asks first is asked behind his welcome
+-- what it asks first is asked behind its welcome
 pub asks_both : (set : Setting) (name bytes : List ℕ) (w : World) → stranger_named name w ≡ None
     → asks set (stranger name bytes) w ≡ asks set (stranger name bytes) (welcomed set name w)
 asks_both set name bytes w none = ap (λ (v : World). answers_rest set (held_count (stranger_named name v)) name v) (comes_both set name bytes w none)
@@ -339,7 +339,7 @@ holds_nothing name w h = by (stranger_named name w) refl
     by None is = refl
     by (Some s) is = found_holds name [] s w.strangers h is
 
--- behind a whole packet he holds nothing
+-- behind a whole packet the stranger holds nothing
 pub none_behind : (set : Setting) (name part : List ℕ) (w : World) → AreAlike name w → IsWhole (bytes_come name part w)
     → bytes_held (stranger_named name (asks set (stranger name part) w)) ≡ []
 none_behind set name part w alike whole = by (stranger_named name w) refl
@@ -366,7 +366,7 @@ rest_alike : (set : Setting) (name held : List ℕ) (w : World) (more : ℕ) →
 rest_alike set name held w zero h = (held, h)
 rest_alike set name held w (suc more) h = rest_alike set name (held_after held) (next_world set name w) more (next_holds set name held w h)
 
--- who holds something is alike with himself
+-- who holds something is alike with itself
 pub alike_by : (name held : List ℕ) (w : World) → Holds name held w → AreAlike name w
 alike_by name held w h = by (stranger_named name w) refl
   where
@@ -376,7 +376,7 @@ alike_by name held w h = by (stranger_named name w) refl
         let same : held ≡ bytes_held (stranger_named name w) = sym (ap bytes_held is ∙ found_holds name held s w.strangers h is) in
         subst (λ (bytes : List ℕ). Holds name bytes w) same h
 
--- what a stranger asks leaves those of his name alike
+-- what a stranger asks leaves those of its name alike
 pub asks_alike : (set : Setting) (name bytes : List ℕ) (w : World) → AreAlike name w → AreAlike name (asks set (stranger name bytes) w)
 asks_alike set name bytes w alike = by (stranger_named name w) refl
   where

@@ -16,7 +16,7 @@ use Rattle.mqtt_world_model.specs.World.{linked_at, names_end, next_held, publis
 use Rattle.mqtt_world_model.specs.World.{stranger, stranger_named}
 use Rattle.mqtt_world_single_step_laws.proofs.Answered.{is_none_first, less_by, none_longer, not_both, nothing_first}
 
--- where neither holds, both fail
+-- if neither holds, both fail
 pub either_false : (a b : Bool) → (a || b) ≡ false → (a ≡ false) × (b ≡ false)
 either_false true b h = absurd cc
 either_false false b h = (refl, h)
@@ -82,7 +82,7 @@ bytes_same (suc n) bytes v w same =
 
 -- ---- as many looks as there are bytes are enough
 
--- where no packet is whole no end is named
+-- if no packet is whole no end is named
 pub none_named : (n : ℕ) (bytes : List ℕ) (w : World) → first_of bytes ≡ Ok None → bytes_name n bytes w ≡ false
 none_named zero bytes w e = refl
 none_named (suc n) bytes w e =

@@ -21,7 +21,7 @@ use Rattle.mqtt_world_single_step_laws.proofs.Stopped.{first_alone, good_part, r
 good_step : (set : Setting) (a : Asking) (w : World) → is_bad_asking a w ≡ false → step set (ask a) w ≡ asks set a w
 good_step set a w good = ap (λ (t : Bool). cond t w (asks set a w)) good
 
--- what a stranger asks, as an event, leaves those of his name alike
+-- what a stranger asks, as an event, leaves those of its name alike
 pub alike_step : (set : Setting) (name bytes : List ℕ) (w : World) → AreAlike name w → AreAlike name (step set (ask (stranger name bytes)) w)
 alike_step set name bytes w alike = by (is_bad_asking (stranger name bytes) w)
   where

@@ -18,7 +18,7 @@ held_by f s = record s { held = f s.held }
 abbrev pub changed : List ℕ → (List ℕ → List ℕ) → Stranger → Stranger
 changed name f s = cond (bytes_eq s.name name) (held_by f s) s
 
--- what changes what a stranger holds keeps his name
+-- what changes what a stranger holds keeps its name
 pub name_stays : (name : List ℕ) (f : List ℕ → List ℕ) (s : Stranger) → (changed name f s).name ≡ s.name
 name_stays name f s = by (bytes_eq s.name name)
   where
@@ -35,7 +35,7 @@ find_changed name f (s ∷ ss) = elim (cases_Bool (bytes_eq s.name name)) [
   | inr other ↦ rw (other, other) (find_changed name f ss)
 ]
 
--- so do all of his name
+-- so do all of its name
 pub holds_changed : (name held : List ℕ) (f : List ℕ → List ℕ) (ss : List Stranger) → AllByRecursion (HoldsThese name held) ss
     → AllByRecursion (HoldsThese name (f held)) (map (changed name f) ss)
 holds_changed name held f [] h = tt

@@ -23,6 +23,7 @@ use Rattle.mqtt_world_single_step_laws.proofs.TakenPublishers.{IsGoodSent, IsSou
 use Rattle.mqtt_world_single_step_laws.proofs.TakenReceivers.{IsGoodBack, alike_sound, new_receiver_sound, receiver_reads_sound, sound_taken_back, wish_sound}
 use Rattle.mqtt_world_single_step_laws.proofs.TakenReceivers.{IsSound as IsSoundReceiver}
 
+-- every end has sent, and will send, what the broker takes
 pub record AreSound (w : World) : Type 0 where
   pub publishers : AllByRecursion IsSound w.publishers
   pub receivers : AllByRecursion IsSoundReceiver w.receivers

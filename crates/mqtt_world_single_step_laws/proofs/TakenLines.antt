@@ -10,10 +10,12 @@ use Rattle.mqtt_world_model.specs.Lines.{Line, gives_up, is_one_of, joined, left
 use Rattle.mqtt_world_model.specs.World.{taken_old, taken_up}
 
 module _ {U : Type 0} (G : U → Type 0) where
+  -- this holds of each packet under way from the end, on its line and on the one that it gave up
   pub record Carries (l : Line U) : Type 0 where
     pub up : AllByRecursion G l.up
     pub old : AllByRecursion G l.old
 
+  -- from no line nothing is under way
   pub none_carries : Carries no_line
   none_carries = record { up = tt; old = tt }
 
@@ -21,15 +23,19 @@ module _ {U : Type 0} (G : U → Type 0) where
   behind_first [] h = tt
   behind_first (x ∷ xs) h = h.1
 
+  -- what holds of each packet under way does once one was read
   pub up_carries : (l : Line U) → Carries l → Carries (taken_up l)
   up_carries l h = record { up = behind_first l.up h.up; old = h.old }
 
+  -- what holds of each packet under way does once one was read of the line that was given up
   pub old_carries : (l : Line U) → Carries l → Carries (taken_old l)
   old_carries l h = record { up = h.up; old = behind_first l.old h.old }
 
+  -- what holds of each packet under way does once the line is left
   pub left_carries : (l : Line U) → Carries l → Carries (left l)
   left_carries l h = record { up = tt; old = h.old }
 
+  -- what holds of each packet under way does once the line is given up
   pub gives_carries : (l : Line U) → Carries l → Carries (gives_up l.link l)
   gives_carries l h = by l.link
     where
@@ -38,9 +44,11 @@ module _ {U : Type 0} (G : U → Type 0) where
       by asked = record { up = tt; old = h.up }
       by live = record { up = tt; old = h.up }
 
+  -- what holds of each packet under way does on a new line, if it holds of the first one there
   pub joined_carries : (x : U) (n : ℕ) (clean : Bool) (l : Line U) → G x → Carries l → Carries (joined x n clean l)
   joined_carries x n clean l g h = record { up = (g, tt); old = h.old }
 
+  -- after a restart nothing is under way
   pub restarted_carries : (l : Line U) → Carries (restarted l)
   restarted_carries l = record { up = tt; old = tt }
 
@@ -48,6 +56,7 @@ module _ {U : Type 0} (G : U → Type 0) where
   unless true xs h = tt
   unless false xs h = h
 
+  -- what holds of each packet under way does whatever the broker tells
   pub told_carries : (b : Broker) (out : Outcome) (l : Line U) → Carries l → Carries (told_by b out l)
   told_carries b out l h = record { up = unless (is_one_of l.number out.closed) l.up h.up; old = unless (is_one_of l.old_number out.closed) l.old h.old }
 
@@ -55,5 +64,6 @@ module _ {U : Type 0} (G : U → Type 0) where
   sent_carries true xs ys h g = each_append G xs ys h g
   sent_carries false xs ys h g = h
 
+  -- what holds of each packet under way does when more go out of which it holds
   pub goes_carries : (t : Bool) (xs : List U) (l : Line U) → AllByRecursion G xs → Carries l → Carries (goes t xs l)
   goes_carries t xs l g h = record { up = sent_carries t l.up xs h.up g; old = h.old }

@@ -158,6 +158,7 @@ unknown_taken id one = taken (sent.pubcomp id identifier_not_found) (fits_16 id 
 
 -- ---- CONNECT
 
+-- a client identifier is a text, and no longer than one may be
 pub record IsName (client : List ℕ) : Type 0 where
   pub text : is_text client ≡ true
   pub short : length client ≤ CLIENT_LIMIT

@@ -76,6 +76,7 @@ IsGoodDraft d = IsTested d.qos d.content
 
 -- ---- the publisher
 
+-- what a publisher has sent and has to send are packets that the broker takes, with identifiers of two bytes
 pub record IsSound (p : Publisher) : Type 0 where
   pub name : IsName p.client
   pub fates : AllByRecursion IsGoodFate p.fates
@@ -317,7 +318,7 @@ if_sound : (t : Bool) (x : Option ToPublisher) (p : Publisher) → IsSound p →
 if_sound t None p h = h
 if_sound t (Some packet) p h = reads_sound t packet p h
 
--- so does his reading
+-- so does its reading
 pub publisher_reads_sound : (t : Bool) (ds : List Down) (p : Publisher) → IsSound p → IsSound (publisher_reads t ds p)
 publisher_reads_sound t [] p h = h
 publisher_reads_sound t (d ∷ rest) p h = if_sound t (heard d.packet) (record p { line = record p.line { down = rest } }) (on_line_sound p (record p.line { down = rest }) h (record { up = h.line.up; old = h.line.old }))

@@ -1,4 +1,4 @@
--- What a receiver sends, whatever it reads, the broker takes, where its answers have identifiers (MQTT 5.0, 2.2.1, 4.3, 4.4).
+-- What a receiver sends, whatever it reads, the broker takes, if its answers have identifiers (MQTT 5.0, 2.2.1, 4.3, 4.4).
 use Rattle.std.proofs.Common.{◌≡◌, ◌≤◌, ◌<◌, ◌^◌, ℕ, Bool, true, false, cond, ◌⊎◌, if◌then◌else◌, List, [], ◌∷◌, Option, nat_lt, refl, sym, ap, subst, ◌∙◌, arith, inl, inr}
 use Rattle.std.specs.Prelude.{⊤}
 use Rattle.mqtt_base.specs.Codes.{success, identifier_not_found}
@@ -29,6 +29,7 @@ IsGoodBack (answers (pubrec i code)) = code ≡ success
 IsGoodBack (answers (pubcomp i code)) = (code ≡ success) ⊎ (code ≡ identifier_not_found)
 IsGoodBack (asks_for w) = IsTaken (subscribe_with w)
 
+-- what a receiver has sent are packets that the broker takes
 pub record IsSound (r : Receiver) : Type 0 where
   pub name : IsName r.client
   pub window : is_window r.window ≡ true

@@ -19,7 +19,7 @@ use Rattle.mqtt_rules.proofs.acts.ByDeeds.{DeedLaw, TurnLaw, by_deeds, by_deeds_
 use Rattle.mqtt_rules.proofs.acts.Goods.{AreGood}
 use Rattle.mqtt_rules.proofs.numbers.Copies.{each_flat}
 
--- where it sets a phase, that isn't of a copy that waits
+-- if it sets a phase, that isn't of a copy that waits
 abbrev pub IsMarked : Deed → Type 0
 IsMarked (At who (Mark place phase)) = phase ≡ Waiting → ⊥
 IsMarked d = ⊤

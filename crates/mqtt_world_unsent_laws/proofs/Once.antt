@@ -116,7 +116,7 @@ module _ (x : CopyId) where
 
   -- ---- in all queues
 
-  -- where a row of it stands it counts
+  -- if a row of it stands it counts
   pub session_counts : (s : Session) (row : CopyRow) (ss : List Session) → IsAmong s ss → IsAmong row s.queue → row.copy.id ≡ x → 1 ≤ count_of x (flat_map standing_in ss)
   session_counts s row [] there among is = absurd there
   session_counts s row (y ∷ ys) there among is =
@@ -134,7 +134,7 @@ module _ (x : CopyId) where
       let rest : count_of x (flat_map standing_in ys) ≡ 0 = omega (arith, all, none) in
       (none_rows y.queue first, none_sessions ys rest)
 
-  -- where it stands once, in a row that doesn't wait, none waits
+  -- if it stands once, in a row that doesn't wait, none waits
   pub sessions_sent : (s : Session) (row : CopyRow) (ss : List Session) → IsAmong s ss → IsAmong row s.queue → row.copy.id ≡ x → (row.phase ≡ Waiting → ⊥) → count_of x (flat_map standing_in ss) ≤ 1 → AreSent x ss
   sessions_sent s row [] there among is sent few = absurd there
   sessions_sent s row (y ∷ ys) there among is sent few =

@@ -1,4 +1,4 @@
--- A copy is read at some moment of a run, where it is the first under way to the receiver; whatever else happens, the receiver has
+-- A copy is read at some moment of a run, if it is the first under way to the receiver; whatever else happens, the receiver has
 -- read of it what it had (MQTT 5.0, 4.3.2, 4.3.3).
 use Rattle.std.proofs.Common.{◌≡◌, ◌⊎◌, ℕ, zero, suc, ◌+◌, ◌<◌, ◌≤◌, Bool, true, false, cond, List, [], ◌∷◌, ◌++◌, map, Option, Some, None, nat_lt, bytes_eq, refl, sym, ap, subst, ◌∙◌, arith, inl, inr}
 use Rattle.std.specs.Prelude.{find, if◌then◌else◌, is_some, option_map}
@@ -265,7 +265,7 @@ module _ (c : List ℕ) (x : CopyId) where
     pub are : first ++ later ≡ ts
     pub moment : ReadsNext (run limits first w)
 
-  -- there is one where the receiver has read more of it by the end
+  -- there is one if the receiver has read more of it by the end
   pub is_read : (limits : Limits) (ts : List Turn) (w : World) → count_at w < count_at (run limits ts w) → IsReadIn limits ts w
   is_read limits [] w h = absurd (omega (arith, h))
   is_read limits (t ∷ ts) w h = by (less_or_not (count_at w) (count_at (turned limits t w))) (λ more. is_read limits ts (turned limits t w) more)

@@ -52,6 +52,7 @@ pub record IsNext (x : CopyId) (r : Receiver) : Type 0 where
 
 -- ---- a copy that stands, and waits no more
 
+-- a row of the queue is of this copy, and it doesn't wait
 pub record SentRow (x : CopyId) (rows : List CopyRow) : Type 0 where
   pub row : CopyRow
   pub among : IsAmong row rows

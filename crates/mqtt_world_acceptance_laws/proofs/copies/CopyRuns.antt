@@ -45,6 +45,7 @@ module _ (c : CopyId) (limits : Limits) (within : AreWithin limits) where
       let same = ap (N c) rows in
       omega (arith, all, same)
 
+  -- over an opening a copy stands as often as it stood and entered, less its ends
   pub opening_balances : (choice : MemberChoice) (now : ℕ) (b : Broker) → IsOrdered b.records → Balances c (opening (env_of limits choice (unopened now b.records)) (unopened now b.records)) b (opened limits choice now b.records)
   opening_balances choice now b ordered =
       let begin = unopened now b.records in

@@ -136,7 +136,7 @@ module _ (c : CopyId) where
         rw other (omega (arith, rest, new, old))
   ]
 
-  -- where its queue stays
+  -- if its queue stays
   queue_stays : (k : ℕ) (f : Session → Session) (ss : List Session) → ((s : Session) → Q (f s).queue ≡ Q s.queue) → N (change_row birth_of k f ss) ≡ N ss
   queue_stays k f [] same = refl
   queue_stays k f (x ∷ ss) same = by (nat_eq (birth_of x) k) (queue_stays k f ss same)
@@ -314,15 +314,19 @@ module _ (c : CopyId) where
       first None rest = rest
       first (Some e) rest = ap (λ (ks : List CopyId). e.copy ∷ ks) rest
 
+  -- what enters by deeds and by others behind them is counted together
   pub e_append : (xs ys : List Deed) → E (xs ++ ys) ≡ E xs + E ys
   e_append xs ys = ap (count_of c) (filter_map-append entered_in xs ys) ∙ count_append c (filter_map entered_in xs) (filter_map entered_in ys)
 
+  -- what ends by deeds and by others behind them is counted together
   pub x_append : (xs ys : List Deed) → X (xs ++ ys) ≡ X xs + X ys
   x_append xs ys = ap (count_of c) (ends_append xs ys) ∙ count_append c (map (λ (e : End). e.copy) (filter_map ended_in xs)) (map (λ (e : End). e.copy) (filter_map ended_in ys))
 
+  -- the counts of deeds, and of others behind them, balance together
   pub then_balances : (xs ys : List Deed) (a b d : Broker) → Balances xs a b → Balances ys b d → Balances (xs ++ ys) a d
   then_balances xs ys a b d p q = let e = e_append xs ys in let x = x_append xs ys in omega (arith, p, q, e, x)
 
+  -- over deeds that find what they speak of, a copy's counts balance
   pub all_balance : (ds : List Deed) (b : Broker) → IsOrdered b.records → AreGood Here ds b → AreGood Stands ds b → AreGood RoomToEnter ds b → Balances ds b (after_all ds b)
   all_balance [] b h here stands room = refl
   all_balance (d ∷ ds) b h here stands room =

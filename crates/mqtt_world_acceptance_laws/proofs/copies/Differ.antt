@@ -53,6 +53,7 @@ module _ {X Y : Type 0} (key : X → ℕ) (f : X → Y) where
         ]
       ]
 
+  -- a row put among rows that differ, and that differs from them, leaves all different
   pub put_differ : (limit : ℕ) (row : X) (xs : List X) → AllByRecursion (λ x. f row ≢ f x) xs → AllDiffer (map f xs) → AllDiffer (map f (put_row key limit row xs))
   put_differ limit row xs new h = elim (cases_Bool (has_row key (key row) xs || nat_lt (length xs) limit)) [
     | inl room ↦ rw room (insert_differ row xs new h)

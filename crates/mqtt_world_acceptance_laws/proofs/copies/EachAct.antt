@@ -141,7 +141,7 @@ pub record Says (env : Env) (came : Came) (Keeps : Broker → Type 0) (R : List 
   pub grants : (w : sub.Wish) (s : Session) (b : Broker) → came.wished w.filter → is_filter w.filter ≡ true → session_at s.birth b.records ≡ Some s
       → R (sub.granted_filter env (sub.next_number b.records) s w (brought_to w s b) b).deeds b
 
--- on a state in order, whatever packets come in, where a session that begins and an identifier that opens are as calm
+-- on a state in order, whatever packets come in, if a session that begins and an identifier that opens are as calm
 -- deeds are
 pub says_still : (env : Env) (R : List Deed → Broker → Type 0) → ((ds : List Deed) (b : Broker) → AreStill ds → R ds b)
     → ((xs ys : List Deed) (b : Broker) → R xs b → R ys (after_all xs b) → R (xs ++ ys) b)
@@ -439,6 +439,7 @@ module _ (env : Env) (came : Came) (Keeps : Broker → Type 0) (R : List Deed �
   pumping l None b h = nothing b
   pumping l (Some birth) b h = on_birth birth (λ s. always (pump_deeds l b.now s)) (λ s. calm (pump_deeds l b.now s) (calm_turns b.now l.number s (pump_turns l b.now s))) b h
 
+  -- what is said of publications, beginnings, openings and grants is said of a call
   pub call_says : (call : Call) → CameIn came call → SaysAct (deeds_of env call)
   call_says NewLine took b h = calmly (cond (can_link b) (Link (suc b.given) ∷ []) []) b (calm_cond (can_link b) (Link (suc b.given) ∷ []) [] (tt, tt) tt)
   call_says (Input n packet) took b h =
@@ -453,5 +454,6 @@ module _ (env : Env) (came : Came) (Keeps : Broker → Type 0) (R : List Deed �
   closed_if false s b h = nothing b
   closed_if true s b h = acts (always (At (whose s) (Close b.now) ∷ []) ∷ settle env s.birth ∷ []) (calm (At (whose s) (Close b.now) ∷ []) (tt, tt), (settling s.birth, tt)) b h
 
+  -- what is said of them is said of an opening
   pub opening_says : SaysAct (opening env)
   opening_says b h = acts (map (λ s. close_if (is_connected s) env s) b.records.sessions) (each_act (λ (s : Session). close_if (is_connected s) env s) (λ s. closed_if (is_connected s) s) b.records.sessions) b h

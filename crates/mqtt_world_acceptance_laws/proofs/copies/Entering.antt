@@ -1,6 +1,6 @@
 -- What enters by the deeds of a publication and of a granted filter: the queued copies, each once.
 use Rattle.std.proofs.Common.{◌≡◌, ℕ, suc, ◌≤◌, Bool, true, false, cond, not, ◌&&◌, inl, inr, List, [], ◌∷◌, ◌++◌, map, filter, length, Option, Some, None, refl, sym, ap, subst, ◌∙◌, append_assoc, append-nil, arith}
-use Rattle.std.specs.Prelude.{⊤, is_some, nat_le, flat_map, filter_map}
+use Rattle.std.specs.Prelude.{⊤, is_some, flat_map, filter_map}
 use Rattle.std.specs.List.{AllByRecursion, cons_option}
 use Rattle.std.proofs.lemmas.Bool.{cases_Bool}
 use Rattle.std.proofs.lemmas.Cmp.{nat_eq_equiv}
@@ -18,7 +18,7 @@ use Rattle.mqtt_records.specs.declared.session.Session.{Session}
 use Rattle.mqtt_records.specs.declared.records.Records.{Records}
 use Rattle.mqtt_records.specs.Session.{copy_place}
 use Rattle.mqtt_records_rows.specs.Order.{row_at}
-use Rattle.mqtt_rules.specs.Packets.{publish_of, size_of}
+use Rattle.mqtt_rules.specs.Packets.{publish_of}
 use Rattle.mqtt_rules.specs.State.{Line, Broker, Env, session_at, line_of, queue_on}
 use Rattle.mqtt_rules.specs.Deeds.{whose, Message, Origin, Subscribe, Open, Enter, Leave, Deed, Accept, Begin, Count, At, Keep, Send, after, after_all, always, series, with_session, offer}
 use Rattle.mqtt_rules.specs.Outbound.{of_entry, leave_deeds, since, queue_limits, enter_deeds, room_at}
@@ -26,6 +26,7 @@ use Rattle.mqtt_rules.specs.Routing.{CopyTo, is_queued, deliver_by, deliver, ret
 use Rattle.mqtt_routes.specs.Retained.{kept_for}
 use Rattle.mqtt_topic.specs.Filters.{begins_share}
 use Rattle.mqtt_rules.specs.Subscribe as sub
+use Rattle.mqtt_rules.proofs.acts.Offers.{of_offer}
 use Rattle.mqtt_rules.proofs.acts.Acts.{brought_to}
 use Rattle.mqtt_rules.proofs.numbers.Copies.{each_flat}
 use Rattle.mqtt_rules.proofs.order.OrderedAccepted.{is_to, accepted_within}
@@ -165,8 +166,7 @@ calm_leaves s ts = each_flat IsCalm (leave_deeds s) (calm_leave s) ts
 
 -- an offer to a line is calm
 pub calm_offer : (o : Option Line) (packet : Packet) → AreCalm (offer o packet)
-calm_offer None packet = tt
-calm_offer (Some l) packet = calm_cond _ (Send l.number packet ∷ []) [] (tt, tt) tt
+calm_offer o packet = of_offer AreCalm o packet tt (λ l there. (tt, tt))
 
 entered_once : (env : Env) (copy : MessageCopy) (s : Session) → entered (enter_deeds env copy s) ≡ copy.id ∷ []
 entered_once env copy s =
@@ -193,12 +193,7 @@ stay [] r q keeps h = tt
 stay (d ∷ ds) r q keeps h = ((λ is. keeps d.birth (h.0 is)), stay ds r q keeps h.1)
 
 for_offer : (k : ℕ) (o : Option Line) (packet : Packet) → AreFor k (offer o packet)
-for_offer k None packet = tt
-for_offer k (Some l) packet = by (nat_le (size_of packet) l.largest)
-  where
-    by : (t : Bool) → AreFor k (cond t (Send l.number packet ∷ []) [])
-    by true = (tt, tt)
-    by false = tt
+for_offer k o packet = of_offer (AreFor k) o packet tt (λ l there. (tt, tt))
 
 -- what a delivery lets enter, that it brings nothing, and that it ends no session
 pub record Delivers (t : Bool) (env : Env) (d : CopyTo) (b : Broker) : Type 0 where

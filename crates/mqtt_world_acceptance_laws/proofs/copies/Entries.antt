@@ -105,6 +105,7 @@ module _ (c : CopyId) where
   abbrev pub Counted : List Deed → Broker → Type 0
   Counted ds b = AreKept (kinds b.records) → Enters ds (kinds b.records) (kinds (after_all ds b).records)
 
+  -- what enters by deeds, and by others behind them, is counted off together
   pub enters_next : (xs ys : List Deed) (a b d : Kinds) → Enters xs a b → Enters ys b d → Enters (xs ++ ys) a d
   enters_next xs ys a b d p q =
       let all = e_append c xs ys in
@@ -299,6 +300,7 @@ module _ (c : CopyId) where
   kinds_done [] b = refl
   kinds_done (row ∷ rows) b = refl
 
+  -- what enters by a call is counted off
   pub call_counted : (limits : Limits) (choice : MemberChoice) (now : ℕ) (call : Call) (b : Broker) → Orders b → AreKept (kinds b.records)
       → Enters (deeds limits choice now call b) (kinds b.records) (kinds (stepped limits choice now call b).records)
   call_counted limits choice now call b h k =
@@ -307,6 +309,7 @@ module _ (c : CopyId) where
       let ds = deeds limits choice now call b in
       subst (Enters ds (kinds b.records)) (sym (kinds_done (rows_of_all ds a.records) (after_all ds a))) (call_says env whatever Orders Counted (counting env) call (λ n packet e. tt) a h k)
 
+  -- what enters by an opening is counted off
   pub opening_counted : (limits : Limits) (choice : MemberChoice) (now : ℕ) (b : Broker) → Orders b → AreKept (kinds b.records)
       → Enters (opening (env_of limits choice (unopened now b.records)) (unopened now b.records)) (kinds b.records) (kinds (opened limits choice now b.records).records)
   opening_counted limits choice now b h k =

@@ -42,7 +42,8 @@ use Rattle.mqtt_rules.specs.Subscribe as sub
 use Rattle.mqtt_rules.specs.Step.{Call, deeds_of, opening}
 use Rattle.mqtt_rules.specs.Tick.{lapses, lapse_deeds}
 use Rattle.mqtt_rules.specs.Laws.{IsAmong, IsOrdered}
-use Rattle.mqtt_rules.proofs.acts.Goods.{AreGood, good_append, good_cond, good_with_session}
+use Rattle.mqtt_rules.proofs.acts.Offers.{of_offer}
+use Rattle.mqtt_rules.proofs.acts.Goods.{AreGood, good_append, good_with_session}
 use Rattle.mqtt_rules.proofs.acts.Leads.{Leads}
 use Rattle.mqtt_rules.proofs.acts.Acts.{anyone, call_of_anyone, finds_anyone, is_alone, closing_session, closing_on, closing, brought_to, Law, leads_call, leads_opening}
 use Rattle.mqtt_rules.proofs.flight.FlightRows.{found_key, all_found, change_row-here}
@@ -285,8 +286,7 @@ found_has k s r e = subst (λ (n : ℕ). Has n r) (sym (found_key birth_of k s r
 -- ---- publications
 
 here_offer : (o : Option Line) (packet : Packet) (b : Broker) → AreGood Here (offer o packet) b
-here_offer None packet b = tt
-here_offer (Some l) packet b = good_cond Here _ (Send l.number packet ∷ []) [] b (tt, tt) tt
+here_offer o packet b = of_offer (λ (ds : List Deed). AreGood Here ds b) o packet tt (λ l there. (tt, tt))
 
 here_deliver : (t : Bool) (env : Env) (d : CopyTo) (b : Broker) → AreGood Here (deliver_by t env d b) b
 here_deliver true env d b =

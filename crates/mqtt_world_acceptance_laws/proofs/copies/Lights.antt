@@ -21,6 +21,7 @@ use Rattle.mqtt_rules.specs.Packets.{publish_of, size_of}
 use Rattle.mqtt_rules.specs.Routing.{CopyTo, accepted_copies, deliver, deliver_by, forgets, is_queued, next_publication, publish, retain_by, retained_of}
 use Rattle.mqtt_rules.specs.State.{Broker, Env, Line, is_of, line_of, queue_on, session_at}
 use Rattle.mqtt_rules.specs.Subscribe as sub
+use Rattle.mqtt_rules.proofs.acts.Offers.{of_offer}
 use Rattle.mqtt_rules.proofs.acts.Acts.{brought_to}
 use Rattle.mqtt_rules.proofs.fit.StandLaw.{Orders}
 use Rattle.mqtt_world_acceptance_laws.specs.AtOnce.{IsPart, due, due_at, due_by, due_for, due_if, put_on}
@@ -188,12 +189,7 @@ light_leaves s [] = tt
 light_leaves s (t ∷ ts) = light_append (leave_deeds s t) (flat_map (leave_deeds s) ts) (light_leave s t) (light_leaves s ts)
 
 light_offer : (o : Option Line) (packet : Packet) → AreLight (offer o packet)
-light_offer None packet = tt
-light_offer (Some l) packet = by (nat_le (size_of packet) l.largest)
-  where
-    by : (t : Bool) → AreLight (cond t (Send l.number packet ∷ []) [])
-    by true = (tt, tt)
-    by false = tt
+light_offer o packet = of_offer AreLight o packet tt (λ l there. (tt, tt))
 
 light_deliver : (t : Bool) (env : Env) (d : CopyTo) (b : Broker) → AreLight (deliver_by t env d b)
 light_deliver true env d b = by (session_at d.birth b.records)

@@ -63,9 +63,11 @@ module _ (limits : Limits) (ts : List Turn) (w : World) (new : IsNew w) (fair : 
   counted : count_of c (entered_from limits ts w) + U c (kinds (run limits ts w).broker.records) ≤ U c (kinds w.broker.records)
   counted = (run_walks (Counts c) limits ts w (counts c limits) new fair (coherent_kept w.broker.records new.steady.coherent apart)).counted
 
+  -- in a fair run a copy enters at most once
   pub enters_once : EntersOnce c limits ts w
   enters_once = let all = counted in let first = one_or_other c w.broker.records apart in omega (arith, all, first)
 
+  -- in a fair run a copy ends at most once
   pub ends_once : EndsOnce c limits ts w
   ends_once =
       let all = counted in
@@ -73,6 +75,7 @@ module _ (limits : Limits) (ts : List Turn) (w : World) (new : IsNew w) (fair : 
       let even = run_balances limits ts w new fair c in
       omega (arith, all, first, even)
 
+  -- in a fair run a copy that entered waits or has one end
   pub waits_or_has_ended : WaitsOrHasEnded c limits ts w
   waits_or_has_ended entered =
       let all = counted in

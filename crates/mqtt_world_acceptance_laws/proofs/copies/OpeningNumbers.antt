@@ -42,10 +42,12 @@ module _ (env : Env) where
   none_if true act b h = h
   none_if false act b h = refl
 
+  -- an act of a session that may not be there accepts nothing if the act does
   pub none_with : (o : Option Session) (f : Session → Act) (b : Broker) → ((s : Session) → AcceptsNone (f s b)) → AcceptsNone (with_session o f b)
   none_with None f b h = refl
   none_with (Some s) f b h = h s
 
+  -- what is due of a session accepts nothing of a client
   pub none_settle : (k : ℕ) (b : Broker) → AcceptsNone (settle env k b)
   none_settle k b =
       let will : Session → Act = λ s. only_if (has_due_will b.now s) (publish_will env s) in
@@ -70,5 +72,6 @@ module _ (env : Env) where
       let c = after_all first b in
       none_append first (series (map (λ y. close_if (is_connected y) env y) xs) c) (none_closed (is_connected x) x b) (none_each xs c)
 
+  -- an opening accepts nothing of a client
   pub opening_none : (b : Broker) → AcceptsNone (opening env b)
   opening_none b = none_each b.records.sessions b

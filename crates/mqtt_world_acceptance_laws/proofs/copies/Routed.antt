@@ -131,9 +131,11 @@ module _ (env : Env) where
     moment = λ now r h. tt;
   }
 
+  -- each publication that a call accepts was routed on the state in which it was
   pub call_good : (call : Call) (b : Broker) → AreGood Good (deeds_of env call b) b
   call_good call b = (leads_all env Nothing Good keeping call b tt).0
 
+  -- each publication that an opening accepts was routed on the state in which it was
   pub opening_good : (b : Broker) → AreGood Good (opening env b) b
   opening_good b = (leads_open env Nothing Good keeping b tt).0
 

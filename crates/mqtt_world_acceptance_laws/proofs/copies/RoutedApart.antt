@@ -39,6 +39,7 @@ module _ (at : Answers) (p : Publication) where
   one_first birth [] cs up h = h
   one_first birth (s ∷ ss) cs up h = (each_map (λ n. birth ≢ n) (λ (c : Copy). c.birth) cs (each_more (λ c. birth < c.birth) (λ c. birth ≢ c.birth) (λ c less e. omega (arith, less, e)) cs up), h)
 
+  -- direct copies are for different sessions
   pub directs_differ : (xs : List Subscriber) → IsAscending (λ x. x.birth) xs → AllDiffer (map (λ c. c.birth) (directs at p xs))
   directs_differ [] h = tt
   directs_differ (x ∷ xs) h = one_first x.birth (hits_of at p x.birth x.subs) (directs at p xs) (directs_above x.birth xs h.0) (directs_differ xs h.1)
@@ -150,6 +151,7 @@ serving_groups at p all direct choices (f ∷ fs) before result e =
 
 -- ---- a routing
 
+-- direct copies are for different sessions, and groups have different names
 pub record IsApart (Stands : List ℕ → Type 0) (r : Routed) : Type 0 where
   pub direct : AllDiffer (map (λ c. c.birth) r.direct)
   pub filters : List (List ℕ)
@@ -251,6 +253,7 @@ module _ (number now : ℕ) (m : Message) where
       others [] h q = tt
       others (y ∷ ys) h q = ((λ e. h.0 (same_group f y s.0 q.0 e)), others ys h.1 q.1)
 
+  -- the copies of a publication differ in their identities
   pub copies_differ : (Stands : List ℕ → Type 0) (r : Routed) → IsApart Stands r → AllDiffer (ids_to (copies_to number now m r))
   copies_differ Stands r h =
       let direct = map (copy_to number now m Direct) r.direct in
@@ -267,6 +270,7 @@ module _ (number now : ℕ) (m : Message) where
   group_causes Stands [] h = tt
   group_causes Stands (f ∷ fs) h = ((f, h.0, refl), group_causes Stands fs h.1)
 
+  -- the copies of a publication are direct, or of a group that stands
   pub copies_caused : (Stands : List ℕ → Type 0) (r : Routed) → IsApart Stands r → AllByRecursion (λ d. IsCauseOf Stands d.copy.id.cause) (copies_to number now m r)
   copies_caused Stands r h =
       each_append (λ d. IsCauseOf Stands d.copy.id.cause) (map (copy_to number now m Direct) r.direct) (served_to r.served) (direct_causes Stands r.direct)

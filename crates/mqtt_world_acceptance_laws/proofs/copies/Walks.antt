@@ -42,6 +42,7 @@ module _ (R : List Deed → Broker → Broker → Type 0) (set : Setting) (walk 
   call_goes : (call : Call) (w : World) → IsSteady w.broker → read_if spending set (Some call) w ≡ false → Goes (deeds set.limits set.choice w.now call w.broker) w (calls set call w)
   call_goes call w s unspent = record { steady = steady_step set.limits set.choice w.now call w.broker within s unspent; said = walk.call set.choice w.now call w.broker s unspent }
 
+  -- a call goes by its deeds
   pub if_goes : (call : Option Call) (w : World) → IsSteady w.broker → read_if spending set call w ≡ false → Goes (read_if the_deeds set call w) w (calls_if set call w)
   if_goes None w s unspent = still w w s refl
   if_goes (Some call) w s unspent = call_goes call w s unspent
@@ -64,6 +65,7 @@ module _ (R : List Deed → Broker → Broker → Type 0) (set : Setting) (walk 
 
   -- ---- what is asked for
 
+  -- bytes that come on a stranger's line go by no deeds
   pub comes_goes : (name bytes : List ℕ) (w : World) → IsSteady w.broker → Goes [] w (comes set name bytes w)
   comes_goes name bytes w s = by (is_some (stranger_named name w))
     where
@@ -71,6 +73,7 @@ module _ (R : List Deed → Broker → Broker → Type 0) (set : Setting) (walk 
       by true = still w (linked_at set true name bytes w) s refl
       by false = let x = linking_goes w s in record { steady = x.steady; said = x.said }
 
+  -- what comes before a call goes by no deeds
   pub before_goes : (a : Asking) (w : World) → IsSteady w.broker → Goes [] w (before set a w)
   before_goes (to_broker d) w s = still w (before set (to_broker d) w) s refl
   before_goes (old_to_broker d) w s = still w (before set (old_to_broker d) w) s refl
@@ -79,11 +82,13 @@ module _ (R : List Deed → Broker → Broker → Type 0) (set : Setting) (walk 
   before_goes tick w s = still w w s refl
   before_goes (stranger name bytes) w s = comes_goes name bytes w s
 
+  -- the first step of what is asked goes by its deeds
   pub first_goes : (a : Asking) (w : World) → IsSteady w.broker → read_first spending set a w ≡ false → Goes (read_first the_deeds set a w) w (first_step set a w)
   first_goes a w s unspent =
       let x = before_goes a w s in
       then_goes [] (read_first the_deeds set a w) w (before set a w) (first_step set a w) x (if_goes (call_of set a w) (before set a w) x.steady unspent)
 
+  -- a call spends the same once the stranger's next packet is held
   pub same_cost : (name : List ℕ) (v : World) (x : Option Call) → read_if spending set x v ≡ false → read_if spending set x (next_held name v) ≡ false
   same_cost name v None e = refl
   same_cost name v (Some x) e = e

@@ -51,7 +51,7 @@ pub it_enters_no_queue : entered_from usual (turns given) start ≡ []
 unfolding varint
 it_enters_no_queue = refl
 
--- also where the broker stops
+-- also if the broker stops
 pub it_is_due_in_a_stopped_step : due_after stopped ≡ 1
 unfolding varint
 it_is_due_in_a_stopped_step = refl

@@ -1,4 +1,4 @@
--- Worked runs: the premises of the laws hold of them, and fail where a Clean Start is not carried through; a broker that
+-- Worked runs: the premises of the laws hold of them, and fail if a Clean Start is not carried through; a broker that
 -- has all its lines gives none; a group's copy ends with its member (MQTT 5.0, 3.1.2.4, 4.3.3, 4.4, 4.8.2).
 use Rattle.std.proofs.Common.{◌≡◌, ℕ, zero, suc, Bool, true, false, not, ◌&&◌, List, [], ◌∷◌, ◌++◌, map, Option, Some, None, refl}
 use Rattle.std.specs.Prelude.{codes, option_map}

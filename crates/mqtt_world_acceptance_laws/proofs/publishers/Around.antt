@@ -20,23 +20,24 @@ use Rattle.mqtt_world_model.proofs.own.OwnCalls.{differs}
 use Rattle.mqtt_world_model.proofs.own.Calls.{others_come}
 use Rattle.mqtt_world_model.specs.Run.{read_if}
 use Rattle.mqtt_world_acceptance_laws.specs.Fair.{IsSteady}
+use Rattle.mqtt_world_acceptance_laws.specs.LineNumbers.{HasApart, IsApartFrom}
 use Rattle.mqtt_world_acceptance_laws.specs.Spending.{spending}
 use Rattle.mqtt_world_acceptance_laws.proofs.copies.Steady.{steady_step, given_grows}
-use Rattle.mqtt_world_acceptance_laws.proofs.publishers.Ends.{all_mapped, all_turned, find_publisher, find_receiver, is_some_mapped, named_publisher, IsApartFrom, given_later}
+use Rattle.mqtt_world_acceptance_laws.proofs.publishers.Ends.{all_mapped, all_turned, find_publisher, find_receiver, is_some_mapped, named_publisher, given_later, line_later}
 
 -- ---- whose a line's number is
 
--- he never had that line
+-- the publisher never had that line
 abbrev pub IsOutOf : List ℕ → ℕ → Type 0
 IsOutOf his j = IsAmong j his → ⊥
 
--- it was given, and to another than him
+-- it was given, and to another than the publisher
 abbrev pub IsFree : List ℕ → ℕ → Option ℕ → Type 0
 IsFree his given x = IsApartFrom (IsOutOf his) given x
 
-pub record HasFree {U : Type 0} (his : List ℕ) (given : ℕ) (l : Line U) : Type 0 where
-  pub number : IsFree his given l.number
-  pub old_number : IsFree his given l.old_number
+-- so are those of another end's line
+abbrev pub HasFree : {U : Type 0} → List ℕ → ℕ → Line U → Type 0
+HasFree his given l = HasApart (IsOutOf his) given l
 
 abbrev pub OtherPublisher : List ℕ → List ℕ → ℕ → Publisher → Type 0
 OtherPublisher c his given q = (q.client ≡ c) ⊎ HasFree his given q.line
@@ -47,7 +48,7 @@ OtherReceiver his given r = HasFree his given r.line
 abbrev pub OtherStranger : List ℕ → ℕ → Stranger → Type 0
 OtherStranger his given s = IsFree his given s.number
 
--- his : the numbers of the lines that he had, and 0, which no line has
+-- his : the numbers of the lines that the publisher had, and 0, which no line has
 pub record Around (c : List ℕ) (limits : Limits) (his : List ℕ) (w : World) : Type 0 where
   pub within : AreWithin limits
   pub steady : IsSteady w.broker
@@ -59,8 +60,9 @@ pub record Around (c : List ℕ) (limits : Limits) (his : List ℕ) (w : World) 
   pub alone : is_some (publisher_named c w) ≡ true → receiver_named c w ≡ None
   pub place : is_some (publisher_named c w) ≡ true → HasPlace limits c w.broker.records
 
--- ---- where he is
+-- ---- where the publisher is
 
+-- where the publisher is, that its lines are its own, and that what it has seen is a run of its hop
 pub record Placed (his : List ℕ) (p : Publisher) (b : Broker) (accepted : List ℕ) : Type 0 where
   pub birth : Option ℕ
   pub line : ℕ
@@ -77,12 +79,12 @@ abbrev pub Him : List ℕ → Broker → List ℕ → Option Publisher → Type 
 Him his b accepted None = accepted ≡ []
 Him his b accepted (Some p) = Placed his p b accepted
 
--- all that holds of the world, with him
+-- all that holds of the world, with the publisher
 pub record Holds (c : List ℕ) (limits : Limits) (his accepted : List ℕ) (w : World) : Type 0 where
   pub around : Around c limits his w
   pub him : Him his w.broker accepted (publisher_named c w)
 
--- what a run of the world keeps, with the numbers of his lines
+-- what a run of the world keeps, with the numbers of the publisher's lines
 pub record Stays (c : List ℕ) (limits : Limits) (accepted : List ℕ) (w : World) : Type 0 where
   pub his : List ℕ
   pub holds : Holds c limits his accepted w
@@ -110,7 +112,7 @@ around_mapped c limits his new_his w b now f g ss a steady keeps known none f_sa
   place = λ h. keeps (a.place (before h));
 }
   where
-    -- he was there before
+    -- it was there before
     before : is_some (find (λ (p : Publisher). bytes_eq p.client c) (map f w.publishers)) ≡ true → is_some (publisher_named c w) ≡ true
     before h = sym (is_some_mapped f (publisher_named c w)) ∙ (sym (ap is_some (find_publisher c f f_same w.publishers)) ∙ h)
 
@@ -118,16 +120,9 @@ around_mapped c limits his new_his w b now f g ss a steady keeps known none f_sa
     each q (inl is) = inl (f_same q ∙ is)
     each q (inr free) = inr (f_free q free)
 
--- more lines are given
-pub line_later : {U : Type 0} (his : List ℕ) (given more : ℕ) (l : Line U) → given ≤ more → HasFree his given l → HasFree his more l
-line_later his given more l up h = record {
-  number = given_later (IsOutOf his) given more l.number up h.number;
-  old_number = given_later (IsOutOf his) given more l.old_number up h.old_number;
-}
-
 -- ---- a call
 
--- a call leaves the world around him as it was
+-- a call leaves the world around the publisher as it was
 pub calls_around : (c : List ℕ) (set : Setting) (his : List ℕ) (call : Call) (w : World) → Around c set.limits his w → read_if spending set (Some call) w ≡ false
     → Around c set.limits his (calls set call w)
 calls_around c set his call w a unspent =
@@ -137,41 +132,49 @@ calls_around c set his call w a unspent =
     around_mapped c set.limits his his w b w.now (publisher_told b out) (receiver_told b out) w.strangers a
     (steady_step set.limits set.choice w.now call w.broker a.within a.steady unspent) (step_place set.limits set.choice w.now call c w.broker)
     (λ j among. let le = a.known j among in omega (arith, le, up)) a.none (λ p. refl) (λ r. refl)
-    (λ p free. let f = line_later his w.broker.given b.given p.line up free in record { number = f.number; old_number = f.old_number })
-    (λ r free. let f = line_later his w.broker.given b.given r.line up free in record { number = f.number; old_number = f.old_number })
+    (λ p free. line_later (IsOutOf his) w.broker.given b.given p.line (publisher_told b out p).line up refl refl free)
+    (λ r free. line_later (IsOutOf his) w.broker.given b.given r.line (receiver_told b out r).line up refl refl free)
     (all_turned (OtherStranger his w.broker.given) (OtherStranger his b.given) w.strangers (λ s free. given_later (IsOutOf his) w.broker.given b.given s.number up free) a.strangers)
 
--- a call that is on none of his lines, and no CONNECT of his client
+-- a call that is on none of an end's lines, and no CONNECT of its client
+abbrev pub IsCallApart : (ℕ → Type 0) → List ℕ → Call → Type 0
+IsCallApart Out c NewLine = ⊤
+IsCallApart Out c (Input m packet) = Out m × IsOthers c packet
+IsCallApart Out c (BadInput m is_connect code) = Out m
+IsCallApart Out c (Lost m) = Out m
+IsCallApart Out c (Pump m) = ⊤
+IsCallApart Out c Tick = ⊤
+
+-- on none of his
 abbrev pub IsOutside : List ℕ → List ℕ → Call → Type 0
-IsOutside his c NewLine = ⊤
-IsOutside his c (Input m packet) = (IsAmong m his → ⊥) × IsOthers c packet
-IsOutside his c (BadInput m is_connect code) = IsAmong m his → ⊥
-IsOutside his c (Lost m) = IsAmong m his → ⊥
-IsOutside his c (Pump m) = ⊤
-IsOutside his c Tick = ⊤
+IsOutside his c call = IsCallApart (IsOutOf his) c call
 
-apart_from : (his : List ℕ) (m k : ℕ) → (IsAmong m his → ⊥) → IsAmong k his → nat_eq m k ≡ false
+-- a line of its is another than those that are out of its numbers
+module _ (Out : ℕ → Type 0) (c : List ℕ) (k : ℕ) (differ : (m : ℕ) → Out m → nat_eq m k ≡ false) where
+  -- so the call is far from that line
+  pub apart_far : (call : Call) → IsCallApart Out c call → IsFarCall c k call
+  apart_far NewLine q = tt
+  apart_far (Input m packet) q = (differ m q.0, q.1)
+  apart_far (BadInput m is_connect code) q = differ m q
+  apart_far (Lost m) q = differ m q
+  apart_far (Pump m) q = tt
+  apart_far Tick q = tt
+
+  apart_line : (call : Call) → IsCallApart Out c call → IsElsewhere k call
+  apart_line NewLine q = tt
+  apart_line (Input m packet) q = differ m q.0
+  apart_line (BadInput m is_connect code) q = differ m q
+  apart_line (Lost m) q = differ m q
+  apart_line (Pump m) q = tt
+  apart_line Tick q = tt
+
+-- and it is off a line of its, if there is one
+pub apart_off : (Out : ℕ → Type 0) (c : List ℕ) (x : Option ℕ) (call : Call) → ((m n : ℕ) → x ≡ Some n → Out m → nat_eq m n ≡ false) → IsCallApart Out c call → IsOff x call
+apart_off Out c None call differ q = tt
+apart_off Out c (Some n) call differ q = apart_line Out c n (λ m out. differ m n refl out) call q
+
+apart_from : (his : List ℕ) (m k : ℕ) → IsOutOf his m → IsAmong k his → nat_eq m k ≡ false
 apart_from his m k h among = differs m k (λ same. h (subst (λ (z : ℕ). IsAmong z his) (sym same) among))
-
-outside_far : (his c : List ℕ) (k : ℕ) (call : Call) → IsAmong k his → IsOutside his c call → IsFarCall c k call
-outside_far his c k NewLine among q = tt
-outside_far his c k (Input m packet) among q = (apart_from his m k q.0 among, q.1)
-outside_far his c k (BadInput m is_connect code) among q = apart_from his m k q among
-outside_far his c k (Lost m) among q = apart_from his m k q among
-outside_far his c k (Pump m) among q = tt
-outside_far his c k Tick among q = tt
-
-outside_line : (his c : List ℕ) (n : ℕ) (call : Call) → IsAmong n his → IsOutside his c call → IsElsewhere n call
-outside_line his c n NewLine among q = tt
-outside_line his c n (Input m packet) among q = apart_from his m n q.0 among
-outside_line his c n (BadInput m is_connect code) among q = apart_from his m n q among
-outside_line his c n (Lost m) among q = apart_from his m n q among
-outside_line his c n (Pump m) among q = tt
-outside_line his c n Tick among q = tt
-
-outside_off : (his c : List ℕ) (x : Option ℕ) (call : Call) → ((j : ℕ) → x ≡ Some j → IsAmong j his) → IsOutside his c call → IsOff x call
-outside_off his c None call h q = tt
-outside_off his c (Some n) call h q = outside_line his c n call (h n refl) q
 
 -- ---- he goes on
 
@@ -179,7 +182,7 @@ outside_off his c (Some n) call h q = outside_line his c n call (h n refl) q
 pub longer : (accepted more : List ℕ) (p q : Publisher) (b c : Broker) (es : List HopEvent) → IsRun accepted p b → seen more q c ≡ run es (seen accepted p b) → IsRun more q c
 longer accepted more p q b c es r e = record { events = r.events ++ es; seen_is = e ∙ (ap (run es) r.seen_is ∙ sym (run_append r.events es _)) }
 
--- a line of his is one of his numbers
+-- a line of the publisher's own is one of its numbers
 pub among_line : (his : List ℕ) (p : Publisher) (k n : ℕ) → IsAmong k his → ((j : ℕ) → p.line.number ≡ Some j → IsAmong j his) → ((j : ℕ) → p.line.old_number ≡ Some j → IsAmong j his)
     → (n ≡ k) ⊎ ((p.line.number ≡ Some n) ⊎ (p.line.old_number ≡ Some n)) → IsAmong n his
 among_line his p k n its own old (inl e) = subst (λ (z : ℕ). IsAmong z his) (sym e) its
@@ -212,7 +215,7 @@ placed_next his p q b c accepted more placed x client settled number old = recor
   run = longer accepted more p q b c x.events placed.run x.seen_is;
 }
 
--- by his own doings
+-- by its own doings
 pub placed_does : (his : List ℕ) (p q : Publisher) (b : Broker) (accepted : List ℕ) (placed : Placed his p b accepted) → Does placed.birth placed.line p q b accepted → Placed his q b accepted
 placed_does his p q b accepted placed x = record {
   birth = placed.birth;
@@ -248,8 +251,9 @@ called c set now his call b accepted (Some p) h him =
     let both = h p refl in
     let new = stepped set.limits set.choice now call b in
     let out = subst (λ (z : List ℕ). IsOutside his z call) (sym both.0) both.1 in
-    let x = others_come set.limits set.choice now call him.birth him.line p b accepted him.seat him.named (outside_far his p.client him.line call him.its_line out)
-    (outside_off his p.client p.line.number call him.number out) (outside_off his p.client p.line.old_number call him.old_number out) in
+    let x = others_come set.limits set.choice now call him.birth him.line p b accepted him.seat him.named (apart_far (IsOutOf his) p.client him.line (λ m h. apart_from his m him.line h him.its_line) call out)
+    (apart_off (IsOutOf his) p.client p.line.number call (λ m j e h. apart_from his m j h (him.number j e)) out)
+    (apart_off (IsOutOf his) p.client p.line.old_number call (λ m j e h. apart_from his m j h (him.old_number j e)) out) in
     placed_next his p (publisher_told new (told set.limits set.choice now call b) p) b new accepted accepted him x refl him.settled (inl refl) refl
 
 -- its outputs are on the lines
@@ -257,7 +261,7 @@ pub named_called : (c : List ℕ) (set : Setting) (call : Call) (w : World)
     → publisher_named c (calls set call w) ≡ option_map (publisher_told (stepped set.limits set.choice w.now call w.broker) (told set.limits set.choice w.now call w.broker)) (publisher_named c w)
 named_called c set call w = find_publisher c (publisher_told (stepped set.limits set.choice w.now call w.broker) (told set.limits set.choice w.now call w.broker)) (λ p. refl) w.publishers
 
--- a call of another's leaves him in step
+-- a call of another's leaves the publisher in step
 pub calls_hold : (c : List ℕ) (set : Setting) (his accepted : List ℕ) (call : Call) (w : World) → Holds c set.limits his accepted w → read_if spending set (Some call) w ≡ false
     → (is_some (publisher_named c w) ≡ true → IsOutside his c call) → Holds c set.limits his accepted (calls set call w)
 calls_hold c set his accepted call w h unspent out = record {
@@ -274,7 +278,7 @@ pub if_around : (c : List ℕ) (set : Setting) (his : List ℕ) (call : Option C
 if_around c set his None w a unspent = a
 if_around c set his (Some call) w a unspent = calls_around c set his call w a unspent
 
--- and of him
+-- and of the publisher
 pub if_holds : (c : List ℕ) (set : Setting) (his accepted : List ℕ) (call : Option Call) (w : World) → Holds c set.limits his accepted w → read_if spending set call w ≡ false
     → (is_some (publisher_named c w) ≡ true → (x : Call) → call ≡ Some x → IsOutside his c x) → Holds c set.limits his accepted (calls_if set call w)
 if_holds c set his accepted None w h unspent out = h

@@ -13,7 +13,8 @@ use Rattle.mqtt_world_model.proofs.own.Calls.{loses}
 use Rattle.mqtt_world_model.specs.Run.{read_first}
 use Rattle.mqtt_world_acceptance_laws.specs.Spending.{spending}
 use Rattle.mqtt_world_acceptance_laws.proofs.publishers.Ends.{IsNotHim, whose_name}
-use Rattle.mqtt_world_acceptance_laws.proofs.publishers.Around.{HasFree, Placed, Him, Holds, IsOutside, placed_next, named_called, if_around, if_holds, if_there}
+use Rattle.mqtt_world_acceptance_laws.proofs.publishers.Kept.{left_apart}
+use Rattle.mqtt_world_acceptance_laws.proofs.publishers.Around.{IsOutOf, Placed, Him, Holds, IsOutside, placed_next, named_called, if_around, if_holds, if_there}
 use Rattle.mqtt_world_acceptance_laws.proofs.publishers.Others.{foreign, lost_outside}
 use Rattle.mqtt_world_acceptance_laws.proofs.publishers.Changes.{on_line, on_back, line_others, own_holds}
 
@@ -33,10 +34,6 @@ tick_holds c set his accepted w h unspent = if_holds c set his accepted (Some Ti
 
 -- ---- another end's line is lost
 
--- a line that is left is free
-pub left_free : {U : Type 0} (his : List ℕ) (given : ℕ) (l : Line U) → HasFree his given l → HasFree his given (left l)
-left_free his given l h = record { number = λ j is. absurd cc; old_number = h.old_number }
-
 -- as the broker sees it
 pub other_lost : (c d : List ℕ) (set : Setting) (his accepted : List ℕ) (w : World) → Holds c set.limits his accepted w → IsNotHim c d w → read_first spending set (break d) w ≡ false
     → Holds c set.limits his accepted (first_step set (break d) w)
@@ -49,7 +46,7 @@ other_breaks : (c d : List ℕ) (set : Setting) (his accepted : List ℕ) (w : W
     → Holds c set.limits his accepted (asks set (break d) w)
 other_breaks c d set his accepted w h not_him unspent =
     let w1 = first_step set (break d) w in
-    line_others c d set.limits his accepted w1 left left (left_free his w1.broker.given) (left_free his w1.broker.given)
+    line_others c d set.limits his accepted w1 left left (left_apart (IsOutOf his) w1.broker.given) (left_apart (IsOutOf his) w1.broker.given)
     (λ there. not_him (sym (if_there c set (lost_on (view_of d w).number) w) ∙ there)) (other_lost c d set his accepted w h not_him unspent)
 
 -- ---- the publisher's own
@@ -70,7 +67,7 @@ placed_left his p b accepted placed = record {
   seen_is = refl;
 }
 
--- where he is after the loss, once he has left the line
+-- where the publisher is after the loss, once it has left the line
 pub lost_placed : (c : List ℕ) (set : Setting) (his accepted : List ℕ) (w : World) (p : Publisher) → publisher_named c w ≡ Some p → Placed his p w.broker accepted
     → (q : Publisher) × (publisher_named c (first_step set (break c) w) ≡ Some q) × Placed his (record q { line = left q.line }) (first_step set (break c) w).broker accepted
 lost_placed c set his accepted w p e placed = subst (λ (o : Option Publisher). Lost_ (view_by o (receiver_named c w)).number) (sym e) (by p.line.number refl)
@@ -96,7 +93,7 @@ he_breaks c set his accepted w p h e unspent =
     own_holds c set.limits his accepted (first_step set (break c) w) x.0 (on_line left) (on_back left) (λ q. refl) (λ q. refl) x.1
     (if_around c set his (lost_on (view_of c w).number) w h.around unspent) x.2
 
--- a lost line leaves him in step
+-- a lost line leaves the publisher in step
 pub break_holds : (c d : List ℕ) (set : Setting) (his accepted : List ℕ) (w : World) → Holds c set.limits his accepted w → read_first spending set (break d) w ≡ false → Holds c set.limits his accepted (asks set (break d) w)
 break_holds c d set his accepted w h unspent = elim (whose_name c d w) [
   | inr not_him ↦ other_breaks c d set his accepted w h not_him unspent

@@ -64,7 +64,7 @@ tells_moved None y from e h = subst (λ (o : Option Publisher). Tells o from) (s
 tells_moved (Some p) y from m h =
     subst (λ (o : Option Publisher). Tells o from) (sym m.1) (m.2.numbered h.0, carries_on p m.0 m.2 from h.1)
 
--- ---- whose the session is that is connected on his line
+-- ---- whose the session is that is connected on the publisher's line
 
 own_named : (client : List ℕ) (birth k : ℕ) (b : Broker) → Own client birth k b → connected_at k b.lines ≡ Some (Some birth)
     → (l : BrokerLine) (found : ℕ) (s : Session) → line_at k b ≡ Some l → l.session ≡ Some found → session_at found b.records ≡ Some s → s.client ≡ client
@@ -74,7 +74,7 @@ own_named client birth k b own there l found s line on at =
     let ours = all_among (IsOurs client birth) s b.records.sessions own.sessions (row_among birth_of found s b.records.sessions at) in
     ours.name (found_key birth_of found s b.records.sessions at ∙ same)
 
--- the number of a line on which his session is connected
+-- the number of a line on which the publisher's session is connected
 abbrev pub Mine : List ℕ → ℕ → Broker → Type 0
 Mine client n b = (l : BrokerLine) (birth : ℕ) (s : Session) → line_at n b ≡ Some l → l.session ≡ Some birth → session_at birth b.records ≡ Some s → s.client ≡ client
 
@@ -107,7 +107,7 @@ mine_old o k n m p x rest b his (lingers birth own at calm there) is e carries_ 
     let same : k ≡ n = cc in
     mine_by p.client o birth k n b his own same there
 
--- ---- the first packet of one of his lines
+-- ---- the first packet of one of the publisher's lines
 
 -- its deeds, with others that accept nothing of a client
 packet_said : (set : Setting) (now n m : ℕ) (p : Publisher) (x : Sent) (b : Broker) (more : List Deed) → Mine p.client n b → AcceptsNone more → message_in x ≡ Some m

@@ -35,6 +35,7 @@ module _ (c d : List ℕ) (limits : Limits) (his : List ℕ) (w : World) (f : Pu
   G_same : (r : Receiver) → (G r).client ≡ r.client
   G_same r = only_receiver (bytes_eq r.client d) g r (g_same r)
 
+  -- a changed end leaves the world around the publisher, if it is another still
   pub end_changed : ((p : Publisher) → OtherPublisher c his w.broker.given p → OtherPublisher c his w.broker.given (F p))
       → AllByRecursion (OtherReceiver his w.broker.given) (map G w.receivers) → Around c limits his (with_end d f g w)
   end_changed each receivers = record {
@@ -72,7 +73,7 @@ end_around c d limits his w f g f_same g_same f_free g_free a =
     receiver_other true r h = g_free r h
     receiver_other false r h = h
 
--- a change of another end leaves him in step
+-- a change of another end leaves the publisher in step
 pub end_others : (c d : List ℕ) (limits : Limits) (his accepted : List ℕ) (w : World) (f : Publisher → Publisher) (g : Receiver → Receiver) → KeepsName f → KeepsTheName g
     → ((p : Publisher) → HasFree his w.broker.given p.line → HasFree his w.broker.given (f p).line)
     → ((r : Receiver) → HasFree his w.broker.given r.line → HasFree his w.broker.given (g r).line)
@@ -96,7 +97,7 @@ pub line_others : (c d : List ℕ) (limits : Limits) (his accepted : List ℕ) (
 line_others c d limits his accepted w f g f_free g_free not_him h =
     end_others c d limits his accepted w (on_line f) (on_back g) (λ p. refl) (λ r. refl) (λ p. f_free p.line) (λ r. g_free r.line) not_him h
 
--- ---- himself, whatever becomes of his line: no receiver has his name
+-- ---- the publisher itself, whatever becomes of its line: no receiver has its name
 
 nobody_changed : (his : List ℕ) (given : ℕ) (c : List ℕ) (g : Receiver → Receiver) (rs : List Receiver) → find (λ (r : Receiver). bytes_eq r.client c) rs ≡ None
     → AllByRecursion (OtherReceiver his given) rs → AllByRecursion (OtherReceiver his given) (map (λ r. cond (bytes_eq r.client c) (g r) r) rs)
@@ -108,7 +109,7 @@ nobody_changed his given c g (r ∷ rs) none a = elim (cases_Bool (bytes_eq r.cl
       (subst (OtherReceiver his given) same a.0, nobody_changed his given c g rs (rw other at none) a.1)
 ]
 
--- a change of his own leaves the world around him
+-- a change of the publisher's own leaves the world around it
 pub own_around : (c : List ℕ) (limits : Limits) (his : List ℕ) (w : World) (p : Publisher) (f : Publisher → Publisher) (g : Receiver → Receiver) → KeepsName f → KeepsTheName g
     → publisher_named c w ≡ Some p → Around c limits his w → Around c limits his (with_end c f g w)
 own_around c limits his w p f g f_same g_same e a =
@@ -119,7 +120,7 @@ own_around c limits his w p f g f_same g_same e a =
     other true q its h = inl (f_same q ∙ (bytes_eq-Decides q.client c).0 its)
     other false q its h = h
 
--- and him in step, if he is placed behind it
+-- and the publisher in step, if it is placed behind that
 pub own_holds : (c : List ℕ) (limits : Limits) (his accepted : List ℕ) (w : World) (p : Publisher) (f : Publisher → Publisher) (g : Receiver → Receiver) → KeepsName f → KeepsTheName g
     → publisher_named c w ≡ Some p → Around c limits his w → Placed his (f p) w.broker accepted → Holds c limits his accepted (with_end c f g w)
 own_holds c limits his accepted w p f g f_same g_same e a placed = record {

@@ -16,7 +16,9 @@ use Rattle.mqtt_world_model.proofs.own.Calls.{reads_own, reads_old}
 use Rattle.mqtt_world_acceptance_laws.specs.Spending.{spending}
 use Rattle.mqtt_world_acceptance_laws.proofs.copies.Steady.{order_of, sound_of, steady_step}
 use Rattle.mqtt_world_acceptance_laws.proofs.publishers.Ends.{changed_not, changed_his, IsNotHim, named_publisher, whose_name}
-use Rattle.mqtt_world_acceptance_laws.proofs.publishers.Around.{HasFree, Around, Placed, Him, Holds, placed_next, named_called, if_around, if_holds}
+use Rattle.mqtt_world_acceptance_laws.specs.LineNumbers.{HasApart}
+use Rattle.mqtt_world_acceptance_laws.proofs.publishers.Kept.{kept_apart}
+use Rattle.mqtt_world_acceptance_laws.proofs.publishers.Around.{IsOutOf, Around, Placed, Him, Holds, placed_next, named_called, if_around, if_holds}
 use Rattle.mqtt_world_acceptance_laws.proofs.publishers.Others.{foreign, input_outside}
 use Rattle.mqtt_world_acceptance_laws.proofs.publishers.Changes.{on_line, on_back, line_others, own_around}
 
@@ -36,16 +38,13 @@ takes_up = record { number = λ l. refl; old_number = λ l. refl; link = λ l. r
 pub takes_old : {U : Type 0} → Takes (taken_old {U = U})
 takes_old = record { number = λ l. refl; old_number = λ l. refl; link = λ l. refl }
 
--- that keeps a line free
-pub takes_free : {U : Type 0} (his : List ℕ) (given : ℕ) (f : Line U → Line U) → Takes f → (l : Line U) → HasFree his given l → HasFree his given (f l)
-takes_free his given f t l h = record {
-  number = λ j is. h.number j (sym (t.number l) ∙ is);
-  old_number = λ j is. h.old_number j (sym (t.old_number l) ∙ is);
-}
+-- a line from which it is taken stays apart
+pub takes_apart : {U : Type 0} (Out : ℕ → Type 0) (given : ℕ) (f : Line U → Line U) → Takes f → (l : Line U) → HasApart Out given l → HasApart Out given (f l)
+takes_apart Out given f t l h = kept_apart Out given l (f l) (record { number = inl (t.number l); old_number = t.old_number l }) h
 
--- ---- his own
+-- ---- the publisher's own
 
--- what is asked of one of his lines: its number, what is under way there, and what reading it makes of him
+-- what is asked of one of the publisher's lines: its number, what is under way there, and what reading it makes of the publisher
 pub record Side (set : Setting) (his accepted : List ℕ) (p : Publisher) (b : Broker) (now line : ℕ) (f : Line Sent → Line Sent) (number : Option ℕ) (packets : List Sent) : Type 0 where
   pub nothing : number ≡ None → packets ≡ []
   pub empty : packets ≡ [] → f p.line ≡ p.line
@@ -64,12 +63,13 @@ module _ (c : List ℕ) (set : Setting) (his accepted : List ℕ) (w : World) (f
   abbrev Taken : World
   Taken = with_line c f g w
 
-  -- what the read packet makes of him
+  -- what the read packet makes of the publisher
   abbrev pub OwnRead : Publisher → Option ℕ → List Sent → Type 0
   OwnRead p number packets =
       let call = input_on number (map (wire p.client p.contents) packets) in
       Him his (calls_if set call Taken).broker (accepted ++ each_of (front_message packets) (read_if the_deeds set call Taken)) (publisher_named c (calls_if set call Taken))
 
+  -- a packet that is read of a line of its own leaves the publisher placed
   pub own_read : (p : Publisher) (number : Option ℕ) (packets : List Sent) → publisher_named c w ≡ Some p → (placed : Placed his p w.broker accepted)
       → Side set his accepted p w.broker w.now placed.line f number packets
       → read_if spending set (input_on number (map (wire p.client p.contents) packets)) Taken ≡ false → OwnRead p number packets
@@ -97,7 +97,7 @@ module _ (c : List ℕ) (set : Setting) (his accepted : List ℕ) (w : World) (f
           (λ live_. placed.settled (sym (takes.link p.line) ∙ live_)) (inl (takes.number p.line)) (takes.old_number p.line) in
           subst (Him his new more) (sym (named_called c set call Taken ∙ ap (option_map (publisher_told new out)) found)) next
 
--- ---- his two lines
+-- ---- the publisher's two lines
 
 none_up : (o : Option ℕ) (k : ℕ) (l : Line Sent) (b : Broker) → Present o k l b → l.number ≡ None → l.up ≡ []
 none_up o k l b (absent none up) e = up
@@ -119,7 +119,7 @@ empty_old l e = ap (λ (xs : List Sent). record l { old = xs }) (ap (drop 1) e �
 his_place : (c : List ℕ) (limits : Limits) (his : List ℕ) (w : World) (p : Publisher) → Around c limits his w → publisher_named c w ≡ Some p → HasPlace limits p.client w.broker.records
 his_place c limits his w p a e = subst (λ (x : List ℕ). HasPlace limits x w.broker.records) (sym (named_publisher c p w e)) (a.place (ap is_some e))
 
--- a packet on his line is on his side
+-- a packet on the publisher's line is on its side
 pub side_up : (c : List ℕ) (set : Setting) (his accepted : List ℕ) (w : World) (p : Publisher) → Around c set.limits his w → publisher_named c w ≡ Some p → (placed : Placed his p w.broker accepted)
     → Side set his accepted p w.broker w.now placed.line taken_up p.line.number p.line.up
 side_up c set his accepted w p a e placed = record {
@@ -157,11 +157,11 @@ asked_none c d w f none not_him = elim (cases_Bool (bytes_eq d c)) [
     by None e is = ap f e ∙ none
     by (Some p) e is = absurd (not_him (ap is_some e) is)
 
--- no message of his is accepted
+-- no message of the publisher's is accepted
 pub none_accepted : (c : List ℕ) (limits : Limits) (his accepted : List ℕ) (w : World) (o : Option ℕ) (ds : List Deed) → o ≡ None → Holds c limits his accepted w → Holds c limits his (accepted ++ each_of o ds) w
 none_accepted c limits his accepted w o ds e h = subst (λ (ns : List ℕ). Holds c limits his ns w) (sym (ap (λ (x : Option ℕ). accepted ++ each_of x ds) e ∙ append-nil accepted)) h
 
--- the broker's reading of his line leaves him in step
+-- the broker's reading of the publisher's line leaves it in step
 pub reads_hold : (c d : List ℕ) (set : Setting) (his accepted : List ℕ) (w : World) → Holds c set.limits his accepted w → read_first spending set (to_broker d) w ≡ false
     → Holds c set.limits his (accepted ++ each_of (asked_from c (to_broker d) w) (read_first the_deeds set (to_broker d) w)) (first_step set (to_broker d) w)
 reads_hold c d set his accepted w h unspent = elim (whose_name c d w) [
@@ -177,7 +177,7 @@ reads_hold c d set his accepted w h unspent = elim (whose_name c d w) [
     others not_him =
         let v = view_of d w in
         if_holds c set his accepted (call_of set (to_broker d) w) (with_line d taken_up taken_up w)
-        (line_others c d set.limits his accepted w taken_up taken_up (takes_free his w.broker.given taken_up takes_up) (takes_free his w.broker.given taken_up takes_up) not_him h) unspent
+        (line_others c d set.limits his accepted w taken_up taken_up (takes_apart (IsOutOf his) w.broker.given taken_up takes_up) (takes_apart (IsOutOf his) w.broker.given taken_up takes_up) not_him h) unspent
         (λ there call is.
         let f = foreign c d set.limits his w h.around (not_him (sym (ap is_some (changed_not c d (on_line taken_up) (with_receiver d (on_back taken_up) w) (λ p. refl) not_him)) ∙ there)) in
         input_outside his c w.broker.given v.number v.up call f.number f.up is)
@@ -213,7 +213,7 @@ reads_old_hold c d set his accepted w h unspent = elim (whose_name c d w) [
     others not_him =
         let v = view_of d w in
         if_holds c set his accepted (call_of set (old_to_broker d) w) (with_line d taken_old taken_old w)
-        (line_others c d set.limits his accepted w taken_old taken_old (takes_free his w.broker.given taken_old takes_old) (takes_free his w.broker.given taken_old takes_old) not_him h) unspent
+        (line_others c d set.limits his accepted w taken_old taken_old (takes_apart (IsOutOf his) w.broker.given taken_old takes_old) (takes_apart (IsOutOf his) w.broker.given taken_old takes_old) not_him h) unspent
         (λ there call is.
         let f = foreign c d set.limits his w h.around (not_him (sym (ap is_some (changed_not c d (on_line taken_old) (with_receiver d (on_back taken_old) w) (λ p. refl) not_him)) ∙ there)) in
         input_outside his c w.broker.given v.old_number v.old call f.old_number f.old is)

@@ -19,10 +19,10 @@ use Rattle.mqtt_world_model.specs.Hops.{MayGiveUp}
 use Rattle.mqtt_world_model.specs.Seats.{IsNamed, absent, over}
 use Rattle.mqtt_world_model.proofs.seats.Places.{no_place_asked}
 use Rattle.mqtt_world_model.proofs.seats.Doings.{publishes, hears, gives}
-use Rattle.mqtt_world_acceptance_laws.proofs.publishers.Ends.{all_mapped, all_appended, find_last, find_no_more, whose_name, changed_not, changed_his, find_publisher, find_receiver, is_some_mapped, either, no_line_is}
+use Rattle.mqtt_world_acceptance_laws.proofs.publishers.Ends.{all_mapped, all_appended, find_last, find_no_more, whose_name, changed_not, changed_his, find_publisher, find_receiver, is_some_mapped, either, unlined}
 use Rattle.mqtt_world_acceptance_laws.proofs.publishers.Around.{IsOutOf, HasFree, OtherPublisher, OtherReceiver, Around, Placed, Him, Holds, placed_does}
 use Rattle.mqtt_world_acceptance_laws.proofs.publishers.Changes.{on_line, on_back, end_others, line_others, own_holds}
-use Rattle.mqtt_world_acceptance_laws.proofs.publishers.Kept.{kept_free, published_remains, read_remains, read_there, gives_free}
+use Rattle.mqtt_world_acceptance_laws.proofs.publishers.Kept.{kept_apart, published_remains, read_remains, read_there, gives_apart}
 use Rattle.mqtt_records.specs.Session.{auto}
 
 -- nothing is there
@@ -63,13 +63,6 @@ new_placed c his b none named e = record {
   run = record { events = []; seen_is = new_seen c b e };
 }
 
--- an end without a line has none of his
-pub unlined : {U : Type 0} (his : List ℕ) (given : ℕ) (l : Line U) → l.number ≡ None → l.old_number ≡ None → HasFree his given l
-unlined his given l e f = record {
-  number = no_line_is (IsOutOf his) given l.number e;
-  old_number = no_line_is (IsOutOf his) given l.old_number f;
-}
-
 -- a new publisher leaves him in step
 pub publisher_comes : (c d : List ℕ) (set : Setting) (his accepted : List ℕ) (w : World) → Holds c set.limits his accepted w → is_bad (publisher d) w ≡ false → begins_clean (publisher d) w ≡ true
     → Holds c set.limits his accepted (happens set (publisher d) w)
@@ -93,7 +86,7 @@ publisher_comes c d set his accepted w h good clean = elim (cases_Bool (bytes_eq
             steady = h.around.steady;
             known = h.around.known;
             none = h.around.none;
-            publishers = list (inr (unlined his w.broker.given (new_publisher d).line refl refl));
+            publishers = list (inr (unlined (IsOutOf his) w.broker.given (new_publisher d).line refl refl));
             receivers = h.around.receivers;
             strangers = h.around.strangers;
             alone = λ there. h.around.alone (sym (ap is_some same) ∙ there);
@@ -144,7 +137,7 @@ receiver_comes c d window set his accepted w h good =
         known = h.around.known;
         none = h.around.none;
         publishers = h.around.publishers;
-        receivers = all_appended (OtherReceiver his w.broker.given) w.receivers new h.around.receivers (unlined his w.broker.given new.line refl refl);
+        receivers = all_appended (OtherReceiver his w.broker.given) w.receivers new h.around.receivers (unlined (IsOutOf his) w.broker.given new.line refl refl);
         strangers = h.around.strangers;
         alone = λ there. elim (cases_Bool (bytes_eq d c)) [
           | inl its ↦
@@ -170,7 +163,7 @@ may_give asked false h = refl
 -- and an end that gives up
 pub given_up_holds : (c d : List ℕ) (set : Setting) (his accepted : List ℕ) (w : World) → Holds c set.limits his accepted w → begins_clean (give_up d) w ≡ true → Holds c set.limits his accepted (happens set (give_up d) w)
 given_up_holds c d set his accepted w h carried = elim (whose_name c d w) [
-  | inr not_him ↦ line_others c d set.limits his accepted w gives_his gives_theirs (λ l. gives_free his w.broker.given l.link l) (λ l. gives_free his w.broker.given l.link l) not_him h
+  | inr not_him ↦ line_others c d set.limits his accepted w gives_his gives_theirs (λ l. gives_apart (IsOutOf his) w.broker.given l.link l) (λ l. gives_apart (IsOutOf his) w.broker.given l.link l) not_him h
   | inl own ↦ subst (λ (x : List ℕ). Holds c set.limits his accepted (happens set (give_up x) w)) (sym own.2)
       (own_gives own.0 own.1 (subst (λ (x : List ℕ). begins_clean (give_up x) w ≡ true) own.2 carried))
 ]
@@ -218,7 +211,7 @@ published_holds c d x set his accepted w h = elim (whose_name c d w) [
 
     other : (t : Bool) (p : Publisher) → OtherPublisher c his w.broker.given p → OtherPublisher c his w.broker.given (cond t (F p) p)
     other true p (inl is) = inl (keeps p ∙ is)
-    other true p (inr free) = inr (kept_free his w.broker.given p.line (F p).line (published_remains (is_open_line p.line w) x p).line free)
+    other true p (inr free) = inr (kept_apart (IsOutOf his) w.broker.given p.line (F p).line (published_remains (is_open_line p.line w) x p).line free)
     other false p k = k
 
     only : (t : Bool) (p : Publisher) → (cond t (F p) p).client ≡ p.client
@@ -268,10 +261,10 @@ read_holds c d set his accepted w h = elim (whose_name c d w) [
     keeps_there r = (read_there (is_open_line r.line w) r.line.down r).client
 
     free : (p : Publisher) → HasFree his w.broker.given p.line → HasFree his w.broker.given (F p).line
-    free p = kept_free his w.broker.given p.line (F p).line (read_remains (is_open_line p.line w) p.line.down p).line
+    free p = kept_apart (IsOutOf his) w.broker.given p.line (F p).line (read_remains (is_open_line p.line w) p.line.down p).line
 
     free_there : (r : Receiver) → HasFree his w.broker.given r.line → HasFree his w.broker.given (G r).line
-    free_there r = kept_free his w.broker.given r.line (G r).line (read_there (is_open_line r.line w) r.line.down r).line
+    free_there r = kept_apart (IsOutOf his) w.broker.given r.line (G r).line (read_there (is_open_line r.line w) r.line.down r).line
 
 -- ---- a receiver subscribes
 

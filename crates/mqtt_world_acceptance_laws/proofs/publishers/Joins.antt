@@ -16,8 +16,8 @@ use Rattle.mqtt_world_model.specs.Seats.{Comes}
 use Rattle.mqtt_world_model.proofs.seats.Places.{step_place}
 use Rattle.mqtt_world_model.proofs.seats.Doings.{joins}
 use Rattle.mqtt_world_acceptance_laws.proofs.copies.Steady.{linking_spends_none, steady_step}
-use Rattle.mqtt_world_acceptance_laws.proofs.publishers.Ends.{all_turned, IsNotHim, whose_name}
-use Rattle.mqtt_world_acceptance_laws.proofs.publishers.Around.{IsFree, HasFree, OtherStranger, Around, Placed, Him, Holds, Stays, around_mapped, longer, among_line, named_called, if_there}
+use Rattle.mqtt_world_acceptance_laws.proofs.publishers.Ends.{all_turned, IsNotHim, whose_name, line_still, still_apart}
+use Rattle.mqtt_world_acceptance_laws.proofs.publishers.Around.{IsOutOf, HasFree, OtherStranger, Around, Placed, Him, Holds, Stays, around_mapped, longer, among_line, named_called, if_there}
 use Rattle.mqtt_world_acceptance_laws.proofs.publishers.Changes.{on_line, on_back, line_others, own_holds}
 use Rattle.mqtt_world_acceptance_laws.proofs.publishers.StrangerBytes.{linked_given}
 use Rattle.mqtt_world_acceptance_laws.proofs.publishers.Strangers.{linking_holds, next_free}
@@ -46,25 +46,20 @@ module _ (c d : List ℕ) (clean : Bool) (set : Setting) (accepted : List ℕ) (
         (λ there. not_him (sym (if_there c set (Some NewLine) w) ∙ there)) (linking_holds c set his accepted w h);
   }
 
-  -- ---- the publisher itself: the new line is his
+  -- ---- the publisher itself: the new line is its own
 
-  free_more : (his : List ℕ) (x : Option ℕ) → IsFree his w.broker.given x → IsFree (next ∷ his) new.given x
-  free_more his x free = λ j is.
-      let both = free j is in
-      let le = both.1 in
+  still_out : (his : List ℕ) (n : ℕ) → IsOutOf his n → n ≤ w.broker.given → IsOutOf (next ∷ his) n × (n ≤ new.given)
+  still_out his n out le =
       let given = linked_given set w.now w.broker can in (
         (λ among. elim among [
           | inl it ↦ absurd (omega (arith, le, it))
-          | inr further ↦ both.0 further
+          | inr further ↦ out further
         ]),
         omega (arith, le, given),
       )
 
   free_line : {U : Type 0} (his : List ℕ) (l m : Line U) → m.number ≡ l.number → m.old_number ≡ l.old_number → HasFree his w.broker.given l → HasFree (next ∷ his) new.given m
-  free_line his l m e f h = record {
-    number = λ j is. free_more his l.number h.number j (sym e ∙ is);
-    old_number = λ j is. free_more his l.old_number h.old_number j (sym f ∙ is);
-  }
+  free_line his l m e f h = line_still (IsOutOf his) (IsOutOf (next ∷ his)) w.broker.given new.given l m (still_out his) e f h
 
   his_joins_around : (his : List ℕ) → Around c set.limits his w → Around c set.limits (next ∷ his) (calls set NewLine w)
   his_joins_around his a =
@@ -73,7 +68,7 @@ module _ (c d : List ℕ) (clean : Bool) (set : Setting) (accepted : List ℕ) (
       (steady_step set.limits set.choice w.now NewLine w.broker a.within a.steady (linking_spends_none set.limits set.choice w.now w.broker))
       (step_place set.limits set.choice w.now NewLine c w.broker) (λ j among. given j among) (inr a.none) (λ p. refl) (λ r. refl)
       (λ p f. free_line his p.line (publisher_told new out p).line refl refl f) (λ r f. free_line his r.line (receiver_told new out r).line refl refl f)
-      (all_turned (OtherStranger his w.broker.given) (OtherStranger (next ∷ his) new.given) w.strangers (λ s f. free_more his s.number f) a.strangers)
+      (all_turned (OtherStranger his w.broker.given) (OtherStranger (next ∷ his) new.given) w.strangers (λ s f. still_apart (IsOutOf his) (IsOutOf (next ∷ his)) w.broker.given new.given s.number s.number (still_out his) refl f) a.strangers)
     where
       given : (j : ℕ) → IsAmong j (next ∷ his) → j ≤ new.given
       given j (inl it) = let is = linked_given set w.now w.broker can in omega (arith, it, is)
@@ -123,7 +118,7 @@ so_clean true was h is = refl
 so_clean false true h is = absurd cc
 so_clean false false h is = absurd cc
 
--- an end that connects leaves him in step
+-- an end that connects leaves the publisher in step
 pub joined_stays : (c d : List ℕ) (clean : Bool) (set : Setting) (accepted : List ℕ) (w : World) → Stays c set.limits accepted w → is_bad (connect_end d clean) w ≡ false → begins_clean (connect_end d clean) w ≡ true
     → Stays c set.limits accepted (happens set (connect_end d clean) w)
 joined_stays c d clean set accepted w stay good carried = by (can_link w.broker) refl

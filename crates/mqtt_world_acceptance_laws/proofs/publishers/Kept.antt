@@ -11,26 +11,29 @@ use Rattle.mqtt_codec.specs.declared.packet.Packet.{Packet}
 use Rattle.mqtt_codec.specs.declared.packet.Packet.TheVariants as packets
 use Rattle.mqtt_flow_inbound.specs.Line.{Link, away, asked, live}
 use Rattle.mqtt_flow_inbound.specs.Publisher.{ToPublisher, CONNACK, CONNACK_REFUSED, PUBACK, PUBREC, PUBCOMP, DISCONNECT, in_flight, resent_from, on_new_session, on_puback, on_pubrec, on_pubcomp, pubrel_for}
-use Rattle.mqtt_world_model.specs.Lines.{Down, Line, gives_up}
+use Rattle.mqtt_world_model.specs.Lines.{Down, Line, gives_up, left}
 use Rattle.mqtt_world_model.specs.Ends.{Content, Draft, shake, Publisher, Receiver, goes, connected, goes_out, send_one, send_all, send_unsent, published, reads_connack, reads, reads_if, publisher_reads, reads_publish, receiver_connack, hears, receiver_reads}
-use Rattle.mqtt_world_acceptance_laws.proofs.publishers.Around.{HasFree}
+use Rattle.mqtt_world_acceptance_laws.specs.LineNumbers.{HasApart}
+use Rattle.mqtt_world_acceptance_laws.proofs.publishers.Ends.{no_line_is}
 
+-- a line's number stays, or it has none, and so does that of the line given up
 pub record IsKept {U : Type 0} (x y : Line U) : Type 0 where
   pub number : (y.number ≡ x.number) ⊎ (y.number ≡ None)
   pub old_number : y.old_number ≡ x.old_number
 
--- a line that is kept stays free
-pub kept_free : {U : Type 0} (his : List ℕ) (given : ℕ) (x y : Line U) → IsKept x y → HasFree his given x → HasFree his given y
-kept_free his given x y k h = record {
-  number = λ j is. elim k.number [
-    | inl same ↦ h.number j (sym same ∙ is)
-    | inr none ↦ let clash : None ≡ Some j = sym none ∙ is in absurd cc
+-- a line that is kept stays apart from another end's
+pub kept_apart : {U : Type 0} (Out : ℕ → Type 0) (given : ℕ) (x y : Line U) → IsKept x y → HasApart Out given x → HasApart Out given y
+kept_apart Out given x y k h = record {
+  number = λ n is. elim k.number [
+    | inl same ↦ h.number n (sym same ∙ is)
+    | inr none ↦ no_line_is Out given y.number none n is
   ];
-  old_number = λ j is. h.old_number j (sym k.old_number ∙ is);
+  old_number = λ n is. h.old_number n (sym k.old_number ∙ is);
 }
 
 -- ---- a publisher's
 
+-- a publisher keeps its name, and its lines as they may be kept
 pub record Remains (p q : Publisher) : Type 0 where
   pub client : q.client ≡ p.client
   pub line : IsKept p.line q.line
@@ -63,7 +66,7 @@ sends_unsent t away p = (refl, refl, refl)
 sends_unsent t asked p = (refl, refl, refl)
 sends_unsent t live p = sends_all t p.unsent p
 
--- a publication keeps his name and lines
+-- a publication keeps the publisher's name and lines
 pub published_remains : (t : Bool) (d : Draft) (p : Publisher) → Remains p (published t d p)
 published_remains t d p =
     let s = sends_unsent t p.line.link (record p { unsent = p.unsent ++ d ∷ [] }) in
@@ -95,13 +98,14 @@ if_remains t (Some packet) rest p =
     let r = reads_remain t packet (record p { line = record p.line { down = rest } }) in
     record { client = r.client; line = record { number = r.line.number; old_number = r.line.old_number } }
 
--- so does his reading
+-- so does its reading
 pub read_remains : (t : Bool) (ds : List Down) (p : Publisher) → Remains p (publisher_reads t ds p)
 read_remains t [] p = same p
 read_remains t (d ∷ rest) p = if_remains t _ rest p
 
 -- ---- a receiver's
 
+-- a receiver keeps its name, and its lines as they may be kept
 pub record RemainsThere (r s : Receiver) : Type 0 where
   pub client : s.client ≡ r.client
   pub line : IsKept r.line s.line
@@ -142,8 +146,12 @@ read_there t (d ∷ rest) r =
 
 -- ---- a line is given up
 
--- a line that is given up is free
-pub gives_free : {U : Type 0} (his : List ℕ) (given : ℕ) (link : Link) (l : Line U) → HasFree his given l → HasFree his given (gives_up link l)
-gives_free his given away l h = h
-gives_free his given asked l h = record { number = λ j is. absurd cc; old_number = h.number }
-gives_free his given live l h = record { number = λ j is. absurd cc; old_number = h.number }
+-- a line that is given up stays apart
+pub gives_apart : {U : Type 0} (Out : ℕ → Type 0) (given : ℕ) (link : Link) (l : Line U) → HasApart Out given l → HasApart Out given (gives_up link l)
+gives_apart Out given away l h = h
+gives_apart Out given asked l h = record { number = λ n is. absurd cc; old_number = h.number }
+gives_apart Out given live l h = record { number = λ n is. absurd cc; old_number = h.number }
+
+-- and one that is left
+pub left_apart : {U : Type 0} (Out : ℕ → Type 0) (given : ℕ) (l : Line U) → HasApart Out given l → HasApart Out given (left l)
+left_apart Out given l h = record { number = λ n is. absurd cc; old_number = h.old_number }

@@ -30,7 +30,7 @@ mapped : (F : Publisher → Publisher) → ((p : Publisher) → Moves p (F p)) �
 mapped F h None = refl
 mapped F h (Some p) = (F p, refl, h p)
 
--- where all may move, so may he
+-- if all may move, so may the publisher
 pub all_moved : (c : List ℕ) (F : Publisher → Publisher) (ps : List Publisher) → ((p : Publisher) → Moves p (F p))
     → Moved (find (λ (p : Publisher). bytes_eq p.client c) ps) (find (λ (p : Publisher). bytes_eq p.client c) (map F ps))
 all_moved c F ps h =
@@ -41,7 +41,7 @@ if_moves : (t : Bool) (F : Publisher → Publisher) (p : Publisher) → Moves p 
 if_moves true F p h = h
 if_moves false F p h = unmoved p
 
--- where one may move, so may he
+-- if one may move, so may the publisher
 pub one_moved : (c d : List ℕ) (F : Publisher → Publisher) (ps : List Publisher) → ((p : Publisher) → Moves p (F p))
     → Moved (find (λ (p : Publisher). bytes_eq p.client c) ps) (find (λ (p : Publisher). bytes_eq p.client c) (map (λ p. cond (bytes_eq p.client d) (F p) p) ps))
 one_moved c d F ps h = all_moved c (λ p. cond (bytes_eq p.client d) (F p) p) ps (λ p. if_moves (bytes_eq p.client d) F p (h p))
@@ -52,6 +52,7 @@ module _ (c : List ℕ) (set : Setting) where
   abbrev His : World → Option Publisher
   His w = publisher_named c w
 
+  -- a call moves a publisher, or leaves it
   pub if_moved : (call : Option Call) (w : World) → Moved (His w) (His (calls_if set call w))
   if_moved None w = moved_not (His w)
   if_moved (Some call) w =
@@ -64,6 +65,7 @@ module _ (c : List ℕ) (set : Setting) where
       by true = moved_not (His w)
       by false = if_moved (Some NewLine) w
 
+  -- what comes before a call moves a publisher, or leaves it
   pub before_moved : (a : Asking) (w : World) → Moved (His w) (His (before set a w))
   before_moved (to_broker d) w = one_moved c d (on_line taken_up) w.publishers up_moves
   before_moved (old_to_broker d) w = one_moved c d (on_line taken_old) w.publishers old_moves
@@ -72,6 +74,7 @@ module _ (c : List ℕ) (set : Setting) where
   before_moved tick w = moved_not (His w)
   before_moved (stranger name bytes) w = comes_moved name bytes w
 
+  -- the first step of what is asked moves a publisher, or leaves it
   pub first_moved : (a : Asking) (w : World) → Moved (His w) (His (first_step set a w))
   first_moved a w = moved_then (His w) (His (before set a w)) (His (first_step set a w)) (before_moved a w) (if_moved (call_of set a w) (before set a w))
 

@@ -22,6 +22,7 @@ IsOf n x = (k : ℕ) → message_in x ≡ Some k → k < n
 abbrev pub AreOf : ℕ → List Sent → Type 0
 AreOf n xs = AllByRecursion (IsOf n) xs
 
+-- each message that has gone out has its content, and what is under way carries such a number
 pub record IsNumbered (p : Publisher) : Type 0 where
   pub same : length p.fates ≡ length p.contents
   pub up : AreOf (length p.contents) p.line.up
@@ -49,13 +50,14 @@ of_unless n false xs a = a
 
 -- ---- what is done to a publisher keeps its name, adds contents, and keeps it numbered
 
+-- a publisher keeps its name, its contents with more behind them, and stays numbered
 pub record Moves (p q : Publisher) : Type 0 where
   pub client : q.client ≡ p.client
   pub more : List Content
   pub contents : q.contents ≡ p.contents ++ more
   pub numbered : IsNumbered p → IsNumbered q
 
--- who keeps his name, his contents and his numbers has moved
+-- who keeps its name, its contents and its numbers has moved
 pub moved : (p q : Publisher) → q.client ≡ p.client → q.contents ≡ p.contents → (IsNumbered p → IsNumbered q) → Moves p q
 moved p q client contents h = record { client = client; more = []; contents = contents ∙ sym (append-nil p.contents); numbered = h }
 

@@ -7,12 +7,12 @@ use Rattle.mqtt_flow_inbound.specs.Publisher.{CONNECT, PUBLISH_1, PUBLISH_2, PUB
 use Rattle.mqtt_flow.specs.Receiver.{connect, puback, pubrec, pubcomp}
 use Rattle.mqtt_rules.specs.declared.Limits.{Limits}
 use Rattle.mqtt_rules.specs.Step.{Call, Input, Lost}
-use Rattle.mqtt_world_model.specs.Lines.{Line}
 use Rattle.mqtt_world_model.specs.Ends.{Content, Sent, shake, plain, Publisher, Receiver, Back, answers, asks_for, wire, wire_back}
 use Rattle.mqtt_world_model.specs.World.{World, publisher_named, receiver_named, input_on, lost_on, View, view_by, view_of}
 use Rattle.mqtt_world_model.specs.Hops.{IsOthers}
 use Rattle.mqtt_world_model.proofs.others.Lists.{all_find}
-use Rattle.mqtt_world_acceptance_laws.proofs.publishers.Ends.{named_publisher, named_receiver, IsApartFrom}
+use Rattle.mqtt_world_acceptance_laws.specs.LineNumbers.{HasApart, IsApartFrom}
+use Rattle.mqtt_world_acceptance_laws.proofs.publishers.Ends.{named_publisher, named_receiver}
 use Rattle.mqtt_world_acceptance_laws.proofs.publishers.Around.{IsOutOf, IsFree, OtherPublisher, OtherReceiver, Around, IsOutside}
 
 -- ---- their packets
@@ -43,10 +43,6 @@ pub record IsForeign (c : List ℕ) (Out : ℕ → Type 0) (given : ℕ) (v : Vi
   pub old_number : IsApartFrom Out given v.old_number
   pub old : AllByRecursion (IsOthers c) v.old
 
--- both numbers of an end's line are
-abbrev pub HasApart : {U : Type 0} → (ℕ → Type 0) → ℕ → Line U → Type 0
-HasApart Out given l = IsApartFrom Out given l.number × IsApartFrom Out given l.old_number
-
 -- an end of another name, whichever it is
 pub foreign_of : (c d : List ℕ) (Out : ℕ → Type 0) (given : ℕ) (w : World) → (d ≡ c → ⊥)
     → ((p : Publisher) → publisher_named d w ≡ Some p → HasApart Out given p.line) → ((r : Receiver) → receiver_named d w ≡ Some r → HasApart Out given r.line)
@@ -58,12 +54,12 @@ foreign_of c d Out given w differ ps rs = by (publisher_named d w) (receiver_nam
         let is = named_publisher d p w e in
         let other = λ (x : Sent). wire_others c p.client p.contents x (λ same. differ (sym is ∙ same)) in
         let apart = ps p e in
-        record { number = apart.0; up = all_wired c (wire p.client p.contents) p.line.up other; old_number = apart.1; old = all_wired c (wire p.client p.contents) p.line.old other }
+        record { number = apart.number; up = all_wired c (wire p.client p.contents) p.line.up other; old_number = apart.old_number; old = all_wired c (wire p.client p.contents) p.line.old other }
     by None (Some r) e f =
         let is = named_receiver d r w f in
         let other = λ (x : Back). back_others c r.client r.window x (λ same. differ (sym is ∙ same)) in
         let apart = rs r f in
-        record { number = apart.0; up = all_wired c (wire_back r.client r.window) r.line.up other; old_number = apart.1; old = all_wired c (wire_back r.client r.window) r.line.old other }
+        record { number = apart.number; up = all_wired c (wire_back r.client r.window) r.line.up other; old_number = apart.old_number; old = all_wired c (wire_back r.client r.window) r.line.old other }
     by None None e f = record { number = λ n is. absurd cc; up = tt; old_number = λ n is. absurd cc; old = tt }
 
 -- in the eyes of the publisher
@@ -72,9 +68,9 @@ foreign c d limits his w a differ =
     foreign_of c d (IsOutOf his) w.broker.given w differ
     (λ p e. elim (all_find (OtherPublisher c his w.broker.given) (λ (z : Publisher). bytes_eq z.client d) p w.publishers a.publishers e).0 [
       | inl same ↦ absurd (differ (sym (named_publisher d p w e) ∙ same))
-      | inr free ↦ (free.number, free.old_number)
+      | inr free ↦ free
     ])
-    (λ r e. let free = (all_find (OtherReceiver his w.broker.given) (λ (z : Receiver). bytes_eq z.client d) r w.receivers a.receivers e).0 in (free.number, free.old_number))
+    (λ r e. (all_find (OtherReceiver his w.broker.given) (λ (z : Receiver). bytes_eq z.client d) r w.receivers a.receivers e).0)
 
 -- ---- so their calls are others'
 
@@ -87,11 +83,15 @@ line_outside c Out Outside given (Some n) (packet ∷ rest) call inputs free all
     let is : Input n packet ≡ call = cc in
     subst Outside is (inputs n packet (free n refl).0 all.0)
 
--- which is outside his lines
+-- which is outside the publisher's lines
 pub input_outside : (his c : List ℕ) (given : ℕ) (x : Option ℕ) (packets : List Packet) (call : Call) → IsFree his given x → AllByRecursion (IsOthers c) packets → input_on x packets ≡ Some call → IsOutside his c call
 input_outside his c given x packets call free all e = line_outside c (IsOutOf his) (IsOutside his c) given x packets call (λ n packet out other. (out, other)) free all e
 
 -- the loss of a line
+pub loss_outside : (Out : ℕ → Type 0) (Outside : Call → Type 0) (given : ℕ) (x : Option ℕ) (call : Call) → ((n : ℕ) → Out n → Outside (Lost n)) → IsApartFrom Out given x → lost_on x ≡ Some call → Outside call
+loss_outside Out Outside given None call losses free e = absurd cc
+loss_outside Out Outside given (Some n) call losses free e = let is : Lost n ≡ call = cc in subst Outside is (losses n (free n refl).0)
+
+-- which is outside his lines
 pub lost_outside : (his c : List ℕ) (given : ℕ) (x : Option ℕ) (call : Call) → IsFree his given x → lost_on x ≡ Some call → IsOutside his c call
-lost_outside his c given None call free e = absurd cc
-lost_outside his c given (Some n) call free e = let is : Lost n ≡ call = cc in subst (IsOutside his c) is (free n refl).0
+lost_outside his c given x call free e = loss_outside (IsOutOf his) (IsOutside his c) given x call (λ n out. out) free e

@@ -16,18 +16,17 @@ use Rattle.mqtt_world_model.proofs.own.Publishes.{numbers_append}
 use Rattle.mqtt_world_model.proofs.own.Calls.{restarts_come}
 use Rattle.mqtt_world_acceptance_laws.specs.Spending.{spending}
 use Rattle.mqtt_world_acceptance_laws.proofs.copies.Steady.{steady_again}
-use Rattle.mqtt_world_acceptance_laws.proofs.publishers.Ends.{all_mapped, anything, find_publisher, find_receiver, is_some_mapped, only_client, whose_name}
-use Rattle.mqtt_world_acceptance_laws.proofs.publishers.Around.{OtherPublisher, OtherReceiver, OtherStranger, Around, Placed, Him, Holds, Stays, longer, if_around}
+use Rattle.mqtt_world_acceptance_laws.proofs.publishers.Ends.{all_mapped, anything, find_publisher, find_receiver, is_some_mapped, only_client, unlined, whose_name}
+use Rattle.mqtt_world_acceptance_laws.proofs.publishers.Around.{IsOutOf, OtherPublisher, OtherReceiver, OtherStranger, Around, Placed, Him, Holds, Stays, longer, if_around}
 use Rattle.mqtt_world_acceptance_laws.proofs.publishers.Changes.{on_line, on_back, end_around}
-use Rattle.mqtt_world_acceptance_laws.proofs.publishers.FirstPackets.{Takes, takes_up, takes_old, takes_free, reads_hold, reads_old_hold}
+use Rattle.mqtt_world_acceptance_laws.proofs.publishers.FirstPackets.{Takes, takes_up, takes_old, takes_apart, reads_hold, reads_old_hold}
 use Rattle.mqtt_world_acceptance_laws.proofs.publishers.Strangers.{comes_holds, stranger_first}
 use Rattle.mqtt_world_acceptance_laws.proofs.publishers.Breaks.{pump_holds, tick_holds, other_lost, lost_placed}
-use Rattle.mqtt_world_acceptance_laws.proofs.publishers.Happenings.{unlined}
 use Rattle.mqtt_world_acceptance_laws.proofs.copies.OpeningNumbers.{opening_none}
 
--- ---- who stands so that a restart finds him
+-- ---- who stands so that a restart finds it
 
--- after a restart he is as if he had been somewhere
+-- after a restart the publisher is as if it had been somewhere
 pub record Rests (q : Publisher) (b : Broker) (accepted : List ℕ) : Type 0 where
   pub his : List ℕ
   pub before : Publisher
@@ -38,6 +37,7 @@ abbrev pub RestsAs : Broker → List ℕ → Option Publisher → Type 0
 RestsAs b accepted None = accepted ≡ []
 RestsAs b accepted (Some q) = Rests q b accepted
 
+-- what is asked of the world around a publisher for a restart
 pub record MayRestart (c : List ℕ) (limits : Limits) (accepted : List ℕ) (w : World) : Type 0 where
   pub his : List ℕ
   pub around : Around c limits his w
@@ -53,7 +53,7 @@ may_restart c limits his accepted w h = record { his = his; around = h.around; h
 
 -- ---- the restart
 
--- he has no line; the number that his session is known by is one that was given
+-- the publisher has no line; the number that its session is known by is one that was given
 pub record IsBack (p : Publisher) (new : Broker) (accepted : List ℕ) : Type 0 where
   pub line : ℕ
   pub given : line ≤ new.given
@@ -94,8 +94,8 @@ all_restarted c set his accepted w h unspent known none = record {
   steady = steady_again set.limits set.choice w.now w.broker h.around.within h.around.steady unspent;
   known = known;
   none = none;
-  publishers = all_mapped (λ (p : Publisher). ⊤) (OtherPublisher c his new.given) publisher_restarted w.publishers (λ p x. inr (unlined his new.given (publisher_restarted p).line refl refl)) (anything w.publishers);
-  receivers = all_mapped (λ (r : Receiver). ⊤) (OtherReceiver his new.given) receiver_restarted w.receivers (λ r x. unlined his new.given (receiver_restarted r).line refl refl) (anything w.receivers);
+  publishers = all_mapped (λ (p : Publisher). ⊤) (OtherPublisher c his new.given) publisher_restarted w.publishers (λ p x. inr (unlined (IsOutOf his) new.given (publisher_restarted p).line refl refl)) (anything w.publishers);
+  receivers = all_mapped (λ (r : Receiver). ⊤) (OtherReceiver his new.given) receiver_restarted w.receivers (λ r x. unlined (IsOutOf his) new.given (receiver_restarted r).line refl refl) (anything w.receivers);
   strangers = all_mapped (λ (s : Stranger). ⊤) (OtherStranger his new.given) unlinked w.strangers (λ s x. λ j is. absurd cc) (anything w.strangers);
   alone = λ there. find_receiver c receiver_restarted (λ r. refl) w.receivers
       ∙ ap (option_map receiver_restarted) (h.around.alone (before there));
@@ -108,7 +108,7 @@ all_restarted c set his accepted w h unspent known none = record {
     new : Broker
     new = opened set.limits set.choice w.now w.broker.records
 
--- a restart leaves him in step
+-- a restart leaves the publisher in step
 pub restart_stays : (c : List ℕ) (set : Setting) (accepted : List ℕ) (w : World) → MayRestart c set.limits accepted w → read_opening spending set w ≡ false → Stays c set.limits accepted (restarts set w)
 restart_stays c set accepted w h unspent = by (publisher_named c w) h.him found
   where
@@ -149,7 +149,7 @@ taken_rests : (c d : List ℕ) (limits : Limits) (his accepted : List ℕ) (w : 
     → ((p : Publisher) → publisher_restarted (on_line f p) ≡ publisher_restarted p) → Holds c limits his accepted w → MayRestart c limits accepted (with_line d f g w)
 taken_rests c d limits his accepted w f g f_takes g_takes lost h = record {
   his = his;
-  around = end_around c d limits his w (on_line f) (on_back g) (λ p. refl) (λ r. refl) (λ p. takes_free his w.broker.given f f_takes p.line) (λ r. takes_free his w.broker.given g g_takes r.line) h.around;
+  around = end_around c d limits his w (on_line f) (on_back g) (λ p. refl) (λ r. refl) (λ p. takes_apart (IsOutOf his) w.broker.given f f_takes p.line) (λ r. takes_apart (IsOutOf his) w.broker.given g g_takes r.line) h.around;
   him = subst (RestsAs w.broker accepted) (sym (find_publisher c F (λ p. only_client (bytes_eq p.client d) (on_line f) p refl) w.publishers)) (by (publisher_named c w) h.him);
 }
   where
@@ -175,7 +175,7 @@ before_rests c (stranger name bytes) set his accepted w h = may_restart c set.li
 
 -- ---- a stop after it
 
--- his line was lost, and he has not left it yet
+-- the publisher's line was lost, and it has not left that yet
 lost_rests : (c d : List ℕ) (set : Setting) (his accepted : List ℕ) (w : World) → Holds c set.limits his accepted w → read_first spending set (break d) w ≡ false → MayRestart c set.limits accepted (first_step set (break d) w)
 lost_rests c d set his accepted w h unspent = elim (whose_name c d w) [
   | inr not_him ↦ may_restart c set.limits his accepted (first_step set (break d) w) (other_lost c d set his accepted w h not_him unspent)
@@ -193,7 +193,7 @@ lost_rests c d set his accepted w h unspent = elim (whose_name c d w) [
               (record { his = his; before = record x.0 { line = left x.0.line }; placed = x.2; same = refl });
         }
 
--- the messages of his that the first step accepts
+-- the messages of the publisher's that the first step accepts
 abbrev pub first_accepted : List ℕ → Setting → Asking → World → List ℕ
 first_accepted c set a w = each_of (asked_from c a w) (read_first the_deeds set a w)
 

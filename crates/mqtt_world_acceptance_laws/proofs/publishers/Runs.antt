@@ -26,7 +26,7 @@ use Rattle.mqtt_world_acceptance_laws.proofs.publishers.Happenings.{publisher_co
 use Rattle.mqtt_world_acceptance_laws.proofs.publishers.Joins.{joined_stays}
 use Rattle.mqtt_world_acceptance_laws.proofs.publishers.Restarts.{may_restart, restart_stays, before_rests, after_rests, first_accepted, each_opened}
 
--- where neither holds, both fail
+-- if neither holds, both fail
 pub either : (a b : Bool) → (a || b) ≡ false → (a ≡ false) × (b ≡ false)
 either true b h = absurd cc
 either false b h = (refl, h)
@@ -38,7 +38,7 @@ both_true false b h = absurd cc
 
 -- ---- an event that isn't bad
 
--- none of his messages is accepted
+-- none of the publisher's messages is accepted
 quietly : (c : List ℕ) (limits : Limits) (his accepted : List ℕ) (w : World) → Holds c limits his accepted w → Stays c limits (accepted ++ []) w
 quietly c limits his accepted w h = record { his = his; holds = subst (λ (ns : List ℕ). Holds c limits his ns w) (sym (append-nil accepted)) h }
 
@@ -75,7 +75,7 @@ none_each : (o : Option ℕ) → each_of o [] ≡ []
 none_each None = refl
 none_each (Some n) = refl
 
--- every turn leaves him in step
+-- every turn leaves the publisher in step
 pub turn_stays : (t : Turn) (c : List ℕ) (limits : Limits) (accepted : List ℕ) (w : World) → Stays c limits accepted w → begins_clean t.event w ≡ true → read_at spending (setting limits t) t.event w ≡ false
     → Stays c limits (accepted ++ accepted_at c (setting limits t) t.event w) (turned limits t w)
 turn_stays t c limits accepted w s carried unspent = by (is_bad t.event w) refl unspent
@@ -101,7 +101,7 @@ run_stays (t ∷ ts) c limits accepted w s unspent carried =
 
 -- ---- from the beginning
 
--- a new world has him in step
+-- a new world has the publisher in step
 pub new_stays : (c : List ℕ) (limits : Limits) (w : World) → AreWithin limits → IsNew w → Stays c limits [] w
 new_stays c limits w within new = record {
   his = 0 ∷ [];
@@ -134,7 +134,7 @@ new_stays c limits w within new = record {
 pub fair_run_stays : (limits : Limits) (ts : List Turn) (w : World) → IsNew w → IsFair limits ts w → (c : List ℕ) → Stays c limits (accepted_over c limits ts w) (run limits ts w)
 fair_run_stays limits ts w new fair c = run_stays ts c limits [] w (new_stays c limits w fair.within new) fair.unspent fair.clean
 
--- ---- what it says of his messages
+-- ---- what it says of the publisher's messages
 
 abbrev OnceBy : ℕ → List ℕ → Option Publisher → Type 0
 OnceBy n accepted o =

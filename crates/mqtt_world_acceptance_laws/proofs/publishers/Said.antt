@@ -36,6 +36,7 @@ abbrev pub AreSaid : (Message → Type 0) → List Deed → Type 0
 AreSaid P ds = AllByRecursion (IsSaid P) ds
 
 module _ (P : Message → Type 0) where
+  -- what is accepted by deeds and by others behind them is as it was said
   pub said_append : (xs ys : List Deed) → AreSaid P xs → AreSaid P ys → AreSaid P (xs ++ ys)
   said_append [] ys p q = q
   said_append (x ∷ xs) ys p q = (p.0, said_append xs ys p.1 q)
@@ -56,11 +57,12 @@ module _ (P : Message → Type 0) where
   first_unsaid (Send m packet) ks e = (tt, e)
   first_unsaid (Gone m) ks e = (tt, e)
 
-  -- where nothing is accepted of a client
+  -- if nothing is accepted of a client
   pub unsaid : (ds : List Deed) → AcceptsNone ds → AreSaid P ds
   unsaid [] e = tt
   unsaid (d ∷ ds) e = let first = first_unsaid d (numbers ds) e in (first.0, unsaid ds first.1)
 
+  -- each message that is accepted of a client is as it was said
   pub said_messages : (ds : List Deed) → AreSaid P ds → AllByRecursion P (filter_map client_message ds)
   said_messages [] h = tt
   said_messages (Accept number FromClient m ∷ ds) h = (h.0, said_messages ds h.1)
@@ -148,6 +150,7 @@ module _ (env : Env) (l : BrokerLine) (s : Session) (d : Delivery) (c : Content)
       subst (λ (first : List Deed). AreSaid P (first ++ (publish_by (standing d s.inbound) env l s (handed d c) m (after_all first b) ++ []))) (sym (no_alias (is_empty c.topic) l.number name))
       (said_append P (publish_by (standing d s.inbound) env l s (handed d c) m b) [] is tt)
 
+  -- a PUBLISH without properties is accepted as it was said
   pub publish_said : (b : Broker) → AreSaid P (on_publish env l s (handed d c) b)
   publish_said b = meant_said (meaning (handed d c) l.aliases) b (own_topic c.topic)
 

@@ -18,8 +18,9 @@ use Rattle.mqtt_world_model.specs.Hops.{IsOthers}
 use Rattle.mqtt_world_model.proofs.others.Frame.{kept_given}
 use Rattle.mqtt_world_model.specs.Run.{read_if, read_rest}
 use Rattle.mqtt_world_model.proofs.others.Lists.{all_find}
+use Rattle.mqtt_world_acceptance_laws.specs.LineNumbers.{IsApartFrom}
 use Rattle.mqtt_world_acceptance_laws.specs.Spending.{spending}
-use Rattle.mqtt_world_acceptance_laws.proofs.publishers.Ends.{all_mapped, find_last, either, IsApartFrom}
+use Rattle.mqtt_world_acceptance_laws.proofs.publishers.Ends.{all_mapped, find_last, either}
 
 -- ---- lists of strangers
 

@@ -202,6 +202,7 @@ module _ (window n : ℕ) where
   all_take [] b q h = h
   all_take (d ∷ ds) b q h = all_take ds (after d b) q.1 (deed_takes d b.now b.lines b q.0 h)
 
+  -- a call leaves what a connected line takes, but for a CONNECT there
   pub called_take : (limits : Limits) (choice : MemberChoice) (now : ℕ) (call : Call) (b : Broker) → Suits call → Take b.lines → Take (stepped limits choice now call b).lines
   called_take limits choice now call b q h =
       let first = at_moment now b in

@@ -49,6 +49,7 @@ use Rattle.mqtt_world_acceptance_laws.proofs.copies.Walks.{Walk}
 
 -- ---- what was accepted, by its number
 
+-- a publication that was accepted, with its number
 pub record Numbered : Type 0 where
   pub number : ℕ
   pub message : Message
@@ -82,6 +83,7 @@ QueueSaid base xs s = AllByRecursion (RowSaid base xs) s.queue
 abbrev pub KeptSaid : ℕ → List Numbered → RetainedMessage → Type 0
 KeptSaid base xs k = SaidAbove base xs k.publication k.content.topic k.content.payload
 
+-- each queued copy and each retained message carries what its publication does
 pub record AllSaid (base : ℕ) (xs : List Numbered) (r : Records) : Type 0 where
   pub queues : AllByRecursion (QueueSaid base xs) r.sessions
   pub retained : AllByRecursion (KeptSaid base xs) r.retained
@@ -182,6 +184,7 @@ module _ (base : ℕ) (xs : List Numbered) where
   deeds_said [] b q h = h
   deeds_said (d ∷ ds) b q h = deeds_said ds (after d b) q.1 (deed_said d b q.0 h)
 
+  -- the moment that is stored behind the deeds leaves each copy and each retained message with its content
   pub done_said : (rows : List Change) (b : Broker) → AllSaid base xs b.records → AllSaid base xs (with_moment rows b).records
   done_said [] b h = h
   done_said (row ∷ rows) b h = record { queues = h.queues; retained = h.retained }
@@ -340,6 +343,7 @@ module _ (base : ℕ) where
   abbrev pub Keeps : List Deed → Broker → Broker → Type 0
   Keeps ds b d = (before : List Numbered) → AllSaid base before b.records → AllSaid base (before ++ accepted ds) d.records
 
+  -- that contents are what was published is a law of every run
   pub keeping : (limits : Limits) → Walk limits Keeps
   keeping limits = record {
     none = λ b before h. subst (λ (all : List Numbered). AllSaid base all b.records) (sym (append-nil before)) h;

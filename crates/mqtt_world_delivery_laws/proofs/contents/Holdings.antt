@@ -74,6 +74,7 @@ module _ (P : Entry → Type 0) where
     pub ledger : AllByRecursion P r.ledger
     pub once : AllByRecursion P r.once
 
+  -- this holds of each PUBLISH that the receiver has read, and of each under way to it
   pub record Holds (r : Receiver) : Type 0 where
     pub read : HasRead r
     pub way : AllByRecursion P (way_entries r.line.down)
@@ -314,6 +315,7 @@ module _ (P : Entry → Type 0) where
           | inr other ↦ subst EachHolds (sym (find_no_more test new w.receivers other ∙ e)) tt
         ]
 
+    -- what holds of each such PUBLISH does after any event but a turn of sending
     pub happens_hold : (set : Setting) (x : Event) (w : World) → IsNoTurn x → In w → In (happens set x w)
     happens_hold set (publisher d) w none h = h
     happens_hold set (receiver d window) w none h = receiver_holds d window set w h

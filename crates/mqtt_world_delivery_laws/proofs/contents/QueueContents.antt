@@ -96,6 +96,7 @@ module _ (number : Numbering) (lots : List Lot) (numbered : AreNumbered number (
   carries_all : (row : CopyRow) (es : List Entry) → HasPlace lots (kind_in row) → AllByRecursion (IsOf number lots) es → AllByRecursion (CarriesCopy row.copy) es
   carries_all row es h all = all_more (IsOf number lots) (CarriesCopy row.copy) es (λ e x. carries_row row e h x) all
 
+  -- what the receiver has read of the copies in its queue carries what they do
   pub carry_queued : (o : Option Session) (b : Broker) (es : List Entry) → AreQueued lots o b → AllByRecursion (IsOf number lots) es → CarryQueued o es
   carry_queued None b es queued all = tt
   carry_queued (Some s) b es queued all =

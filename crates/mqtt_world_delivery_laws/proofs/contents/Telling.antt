@@ -84,6 +84,7 @@ module _ (largest : ℕ) (ids : List CopyId) (ns : List ℕ) (c : List ℕ) (r :
           let is_queue : queued_by (session_named c b.records) ≡ standing_in s = ap (λ (name : List ℕ). queued_by (session_named name b.records)) (sym client) ∙ ap queued_by named in
           subst (λ (all : List CopyId). is_among all x ≡ true) (sym is_queue) (by_line s found (line_at k b) there e)
 
+  -- a copy of which the receiver is told stands in its queue then
   pub copy_stands : (n id : ℕ) (x : CopyId) → r.line.number ≡ Some n → copy_of n id b ≡ Some x → is_among (queued_by (session_named c b.records)) x ≡ true
   copy_stands n id x number e = by placed.seat.present
     where
@@ -120,6 +121,7 @@ module _ (come : List CopyId) where
   abbrev pub AreOne : List Down → Type 0
   AreOne ds = AllByRecursion (λ (d : Down). IsOne d.copy) ds
 
+  -- what is under way to the receiver, and what it was handed, is of these copies
   pub record AreTold (r : Receiver) : Type 0 where
     pub down : AreOne r.line.down
     pub ledger : AllByRecursion (λ (e : Entry). IsOne e.copy) r.ledger
@@ -152,6 +154,7 @@ module _ (come : List CopyId) where
   told_packet t copy (packet.Disconnect a) r one k = record { down = tt; ledger = k.ledger }
   told_packet t copy x r one k = k
 
+  -- reading hands over none but copies that it was told of
   pub told_reading : (t : Bool) (ds : List Down) (r : Receiver) → AreOne ds → AreTold r → AreTold (receiver_reads t ds r)
   told_reading t [] r h k = k
   told_reading t (d ∷ rest) r h k = told_packet t d.copy d.packet (record r { line = record r.line { down = rest } }) h.0 (record { down = h.1; ledger = k.ledger })
@@ -178,6 +181,7 @@ module _ (come : List CopyId) where
     | inr other ↦ rw other (sent_one n b outputs h)
   ]
 
+  -- what the broker sends is of these copies, if those that have identifiers are
   pub sent_ones : (o : Option ℕ) (b : Broker) (outputs : List (ℕ × Packet)) → ((n id : ℕ) (x : CopyId) → o ≡ Some n → copy_of n id b ≡ Some x → is_among come x ≡ true) → AreOne (sent_to o b outputs)
   sent_ones None b outputs h = tt
   sent_ones (Some n) b outputs h = sent_one n b outputs (λ id x e. h n id x refl e)

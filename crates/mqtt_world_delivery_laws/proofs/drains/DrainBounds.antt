@@ -26,8 +26,10 @@ module _ (limits : Limits) (ts : List Turn) (choice : MemberChoice) (c : List �
       let around = (run_kept [] c limits ts w (untouched_kept c limits w fair.within u) fair.unspent fair.clean).stands.standing.around in
       queue_grows c limits (round_turns limits choice c v) v around.within around.steady unspent
 
+  -- a drain takes no more rounds than are enough for the copies that stand and that enter in its first round
   pub few_rounds : (most : ℕ) → rounds_taken limits choice c most (run limits ts w) ≤ enough_rounds (copies_left c (run limits ts w) + length (entered_from limits (round_turns limits choice c (run limits ts w)) (run limits ts w)))
   few_rounds most = let some = bounded in let within = drain_within limits ts choice c most w u fair unspent in omega (arith, some, within)
 
+  -- after so many rounds a drain is over
   pub over_then : (most : ℕ) → enough_rounds (copies_left c (run limits ts w) + length (entered_from limits (round_turns limits choice c (run limits ts w)) (run limits ts w))) ≤ most → is_over c (drained limits choice c most (run limits ts w)) ≡ true
   over_then most enough = let some = bounded in drain_over limits ts choice c most w u fair unspent (omega (arith, some, enough))

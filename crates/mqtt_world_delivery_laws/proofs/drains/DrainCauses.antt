@@ -130,6 +130,7 @@ module _ (c : List ℕ) (limits : Limits) (choice : MemberChoice) (clean : Bool)
       ap (λ (es : List Turn). run_spends limits (es ++ all_to_broker choice c (run limits es sent)) sent) none
       ∙ ap (λ (ts : List Turn). run_spends limits ts sent) one
 
+  -- if a round spends no number, the CONNECT that is read in it doesn't
   pub connect_unspent : run_spends limits (round_turns limits choice c v) v ≡ false → is_step_spent limits choice v.now call v.broker ≡ false
   connect_unspent unspent =
       let sends = turn_of choice (ask (pump c)) in
@@ -299,7 +300,7 @@ module _ (c : List ℕ) (limits : Limits) (choice : MemberChoice) (v : World) (k
             | inr h ↦ ends_joining clean h.1.line up (calm.quiet clean up) h.1.awaits over unspent
           ]
 
--- ---- where answers alone may be under way from it
+-- ---- if answers alone may be under way from it
 
 -- a copy of a drained session ends as the definition says
 pub ends_later : (c : List ℕ) (limits : Limits) (choice : MemberChoice) (most : ℕ) (u : World) → MayBeDrained c any_size u → EndSo c (EndsAs answering (moment_of u)) u (drained limits choice c most u)
@@ -317,10 +318,12 @@ ends_later c limits choice most u m =
 
 module _ (limits : Limits) (ts : List Turn) (choice : MemberChoice) (c : List ℕ) (most : ℕ) (w : World) (u : IsUntouched limits w) (fair : IsFair limits ts w)
     (unspent : run_spends limits (round_turns limits choice c (run limits ts w)) (run limits ts w) ≡ false) where
+  -- the copies that stand when a drain begins end in it by what is under way from the receiver
   pub run_ends : (r : Receiver) → receiver_named c (run limits ts w) ≡ Some r → IsCalm r → is_over c (run limits ts w) ≡ false
       → EndSo c (EndsAs (course_of r.line.up) (moment_of (run limits ts w))) (run limits ts w) (drained limits choice c (suc most) (run limits ts w))
   run_ends r e calm over = ends_as c limits choice (run limits ts w) (fair_run_kept limits ts w u fair c) r e most calm over unspent
 
+  -- after its first round a drain is over, or the copies end in it as for a connected receiver
   pub run_ends_later : (is_over c (after_round limits choice c (run limits ts w)) ≡ true)
       ⊎ EndSo c (EndsAs answering (moment_of (after_round limits choice c (run limits ts w)))) (after_round limits choice c (run limits ts w)) (drained limits choice c most (after_round limits choice c (run limits ts w)))
   run_ends_later = elim (over_or_drained limits choice c (run limits ts w) (fair_run_kept limits ts w u fair c) unspent) [

@@ -115,6 +115,7 @@ module _ (c : List ℕ) (limits : Limits) (choice : MemberChoice) where
 
   -- ---- a round
 
+  -- after a round nothing is under way from the receiver
   pub none_after : (w : World) → HasUp c 0 (after_round limits choice c w)
   none_after w =
       let sent = turned limits (turn_of choice (ask (pump c))) w in
@@ -135,6 +136,7 @@ module _ (c : List ℕ) (limits : Limits) (choice : MemberChoice) where
       let both = both_true (begins_clean t.event w) (are_beginnings_clean limits xs (turned limits t w)) h in
       rw both.0 (carried_append xs ys (turned limits t w) both.1 k)
 
+  -- a round carries Clean Starts through
   pub round_carried : (w : World) → are_beginnings_clean limits (round_turns limits choice c w) w ≡ true
   round_carried w =
       let sent = turned limits (turn_of choice (ask (pump c))) w in
@@ -142,7 +144,7 @@ module _ (c : List ℕ) (limits : Limits) (choice : MemberChoice) where
       let read_ = run limits reads sent in
       carried_append reads (all_to_broker choice c read_) sent (carried_times (downs_by (receiver_named c sent)) (to_end c) sent (λ v. refl)) (carried_times (ups_by (receiver_named c read_)) (ask (to_broker c)) read_ (λ v. refl))
 
--- ---- where nothing is under way from it
+-- ---- if nothing is under way from it
 
 -- it may be drained, through some Receive Maximum, with the copies that have entered
 pub record MayBeDrained (c : List ℕ) (largest : ℕ) (v : World) : Type 0 where
@@ -164,7 +166,7 @@ pub over_if : (a b : Bool) → b ≡ false → (a || not b) ≡ true
 over_if true b h = refl
 over_if false b h = ap not h
 
--- where its session is connected on its line, through some Receive Maximum
+-- if its session is connected on its line, through some Receive Maximum
 pub record Connection (largest : ℕ) (ids : List CopyId) (birth : ℕ) (ns : List ℕ) (r : Receiver) (b : Broker) : Type 0 where
   pub window : ℕ
   pub room : 1 ≤ window
@@ -255,6 +257,7 @@ module _ (c : List ℕ) (limits : Limits) (choice : MemberChoice) where
   few true n none = omega arith
   few false n none = let is : count_by_end false n ≡ suc n = refl in omega (arith, is, none)
 
+  -- a drain takes no more rounds than are enough for the copies left after its first
   pub ends_within : (largest most : ℕ) (w : World) → (is_over c (after_round limits choice c w) ≡ true) ⊎ MayBeDrained c largest (after_round limits choice c w)
       → rounds_taken limits choice c most w ≤ enough_rounds (copies_left c (after_round limits choice c w))
   ends_within largest most w (inr x) = drain_within_later largest x.window x.ids x.birth x.ns limits choice c most x.receiver w x.room x.differ x.may
@@ -265,6 +268,7 @@ module _ (c : List ℕ) (limits : Limits) (choice : MemberChoice) where
       let is : rounds_taken limits choice c (suc more) w ≡ count_by_end (is_over c w) (rounds_taken limits choice c more (after_round limits choice c w)) = refl in
       omega (arith, one, enough, is)
 
+  -- a drain is over after as many rounds as are enough for those
   pub ends_over : (largest most : ℕ) (w : World) → (is_over c (after_round limits choice c w) ≡ true) ⊎ MayBeDrained c largest (after_round limits choice c w)
       → enough_rounds (copies_left c (after_round limits choice c w)) ≤ most → is_over c (drained limits choice c most w) ≡ true
   ends_over largest most w (inr x) enough = drain_over_later largest x.window x.ids x.birth x.ns limits choice c most x.receiver w x.room x.differ x.may enough

@@ -161,7 +161,7 @@ all_come come (x ∷ xs) = elim (cases_Bool (is_among come x)) [
     come_so : {new : List CopyId} → new ≡ others_of come (x ∷ xs) → AllByRecursion (λ (y : CopyId). is_among (come ++ new) y ≡ true) (x ∷ xs) → AllByRecursion (λ (y : CopyId). is_among (come ++ others_of come (x ∷ xs)) y ≡ true) (x ∷ xs)
     come_so is h = subst (λ (ids : List CopyId). AllByRecursion (λ (y : CopyId). is_among (come ++ ids) y ≡ true) (x ∷ xs)) is h
 
--- ---- where no two are the same
+-- ---- if no two are the same
 
 not_one : (y : CopyId) (ids : List CopyId) → AllByRecursion (λ (x : CopyId). y ≢ x) ids → is_among ids y ≡ false
 not_one y [] h = refl

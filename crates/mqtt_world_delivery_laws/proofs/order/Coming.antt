@@ -56,6 +56,7 @@ module _ (x : CopyId) where
   abbrev pub Counts : List Deed → Broker → Broker → Type 0
   Counts ds b d = AreKept (kinds b.records) → Counted x ds (kinds b.records) (kinds d.records)
 
+  -- that no copy enters twice is counted off over every run
   pub counts : (limits : Limits) → Walk limits Counts
   counts limits = record {
     none = λ b k. let zero : E x [] ≡ 0 = refl in record { counted = omega (arith, zero); kept = k };
@@ -115,6 +116,7 @@ module _ (c : List ℕ) (limits : Limits) where
     pub in_order : stand_among come stands.ids ≡ true
     pub now : AllByRecursion (λ (x : CopyId). is_among come x ≡ true) (queue_at c v)
 
+  -- at first the copies that have come are those that stand in the queue
   pub begins_so : (v : World) (k : IsKept [] c limits v) (q : Receiver) → receiver_named c v ≡ Some q → HaveCome (queue_at c v) (queue_at c v) v
   begins_so v k q e =
       let now = queue_at c v in
@@ -150,6 +152,7 @@ module _ (c : List ℕ) (limits : Limits) where
       | inr not_old ↦ not_old
     ]) (stand_each new brought new_entered)
 
+    -- copies that enter by deeds come behind those that came before
     pub come_on : (p : Receiver) → receiver_named c u ≡ Some p → HaveCome (base ++ filter_map entered_in deeds) (come_with come (queue_at c u)) u
     come_on p f =
         let more = goes_on.grown.0 in
@@ -166,10 +169,12 @@ module _ (c : List ℕ) (limits : Limits) where
 
   -- ---- an event, and some
 
+  -- after a turn what is asked of the receiver is kept, with the copies that had entered
   pub turn_on : (t : Turn) (v : World) (base come : List CopyId) (h : HaveCome base come v) → IsFit c v → read_at spending (setting limits t) t.event v ≡ false → begins_clean t.event v ≡ true → IsKept h.stands.ids c limits (turned limits t v)
   turn_on t v base come h fit unspent carried =
       turn_kept h.stands.ids c limits t v (record { stands = record { ids = h.stands.ids; grown = begin_same h.stands.ids; ns = h.stands.ns; standing = h.stands.standing }; fit = fit }) carried unspent
 
+  -- the copies that stand after a turn came before, or entered in it behind
   pub turn_comes : (t : Turn) (v : World) (base come : List CopyId) (h : HaveCome base come v) (q p : Receiver) → receiver_named c v ≡ Some q → receiver_named c (turned limits t v) ≡ Some p → IsFit c v → read_at spending (setting limits t) t.event v ≡ false → begins_clean t.event v ≡ true
       → HaveCome (base ++ filter_map entered_in (deeds_at (setting limits t) t.event v)) (come_with come (queue_at c (turned limits t v))) (turned limits t v)
   turn_comes t v base come h q p e f fit unspent carried =
@@ -211,9 +216,11 @@ module _ (limits : Limits) (xs ys : List Turn) (w : World) (untouched : IsUntouc
       let now = queue_at c v in
       all_come_on c limits ys v now now (begins_so c limits v k q e) k.fit q e costs.1 clean.1
 
+  -- the copies that came over a run are among those that stood and entered, in that order
   pub run_enters : stand_among (come_over c limits ys (run limits xs w)) (queue_at c (run limits xs w) ++ entered_from limits ys (run limits xs w)) ≡ true
   run_enters = have_come.entered
 
+  -- copies were handed over in the order in which they came
   pub run_hands_as_come : (r : Receiver) → receiver_named c (run limits (xs ++ ys) w) ≡ Some r → AreHandedInOrder (come_over c limits ys (run limits xs w)) r
   run_hands_as_come r f =
       let h = have_come in
@@ -225,6 +232,7 @@ module _ (limits : Limits) (xs ys : List Turn) (w : World) (untouched : IsUntouc
       let picked = part_stands (is_among come) (copies_in r.ledger) s.ids (handed_in_order c any_size limits s.ids s.ns r last s.standing found) in
       subst (λ (ids : List CopyId). stand_among (filter (is_among come) (copies_in r.ledger)) ids ≡ true) (picks_same come s.ids placed.told.differ h.in_order) picked
 
+  -- of the copies that came, those that were handed over were so in the order in which they stood and entered
   pub run_hands_as_entered : (r : Receiver) → receiver_named c (run limits (xs ++ ys) w) ≡ Some r
       → stand_among (filter (is_among (come_over c limits ys (run limits xs w))) (copies_in r.ledger)) (queue_at c (run limits xs w) ++ entered_from limits ys (run limits xs w)) ≡ true
   run_hands_as_entered r f =

@@ -225,6 +225,7 @@ module _ (c : List ℕ) where
   abbrev pub Enters : List Deed → Broker → Broker → Type 0
   Enters ds b d = (base : List CopyId) → AreIn base b.records.sessions → AreIn (base ++ filter_map entered_in ds) d.records.sessions
 
+  -- that a queue has what stood there, and behind it what entered, is a law of every run
   pub enters_walk : (limits : Limits) → Walk limits Enters
   enters_walk limits = record {
     none = λ b base h. none_more base b.records.sessions h;
@@ -263,5 +264,6 @@ module _ (c : List ℕ) where
           let both = all_find (IsIn base) (λ (y : Session). bytes_eq y.client c) s r.sessions h e in
           both.0 ((bytes_eq-Decides s.client c).0 both.1)
 
+  -- what stands in a client's queue after deeds stood there, or entered behind, in that order
   pub queue_enters : (ds : List Deed) (b d : Broker) → IsCoherent b.records → Enters ds b d → stand_among (queued_by (session_named c d.records)) (queued_by (session_named c b.records) ++ filter_map entered_in ds) ≡ true
   queue_enters ds b d coherent h = at_end (queued_by (session_named c b.records) ++ filter_map entered_in ds) d.records (h (queued_by (session_named c b.records)) (at_start b.records coherent))

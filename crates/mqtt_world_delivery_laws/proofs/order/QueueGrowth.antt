@@ -235,6 +235,7 @@ module _ (c : List ℕ) where
           let both = all_find (IsShort most) (λ (y : Session). bytes_eq y.client c) s r.sessions h e in
           both.0 ((bytes_eq-Decides s.client c).0 both.1)
 
+  -- over a run a queue grows by no more than the copies that enter
   pub queue_grows : (limits : Limits) (ts : List Turn) (w : World) → AreWithin limits → IsSteady w.broker → run_spends limits ts w ≡ false
       → copies_left c (run limits ts w) ≤ copies_left c w + length (filter_map entered_in (deeds_over limits ts w))
   queue_grows limits ts w within s unspent =

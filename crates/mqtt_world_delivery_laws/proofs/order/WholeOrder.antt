@@ -206,6 +206,7 @@ module _ (K : List CopyId) (c : List ℕ) where
       one_mapped (AreTold K) (AreTold K) d (λ r. receiver_reads (stands r.line.number w.broker) r.line.down r) w v (λ r. (moves_reading (stands r.line.number w.broker) r.line.down r).client) same
       (λ r k. told_reading K (stands r.line.number w.broker) r.line.down r k.down k) (λ r k. k) h
 
+  -- after an event of one call at most a receiver was told of these copies alone, if its line tells of no others
   pub happens_told : (set : Setting) (e : Event) (w : World) (q : Receiver) → receiver_named c w ≡ Some q → TellsOf (happens set e w) → IsSingle e → Told w → Told (happens set e w)
   happens_told set (publisher d) w q f tells one h = h
   happens_told set (receiver d window) w q f tells one h = λ r e.
@@ -412,13 +413,14 @@ all_picked : (come xs : List CopyId) → AllByRecursion (λ (x : CopyId). is_amo
 all_picked come [] h = refl
 all_picked come (x ∷ xs) h = let its = h.0 in rw its (ap (λ (ids : List CopyId). x ∷ ids) (all_picked come xs h.1))
 
--- where both stand among all in order, and each of these is one of those
+-- if both stand among all in order, and each of these is one of those
 ordered_so : (xs come ids : List CopyId) → AllDiffer ids → stand_among come ids ≡ true → stand_among xs ids ≡ true → AllByRecursion (λ (x : CopyId). is_among come x ≡ true) xs → stand_among xs come ≡ true
 ordered_so xs come ids differ h k each =
     let picked : stand_among (filter (is_among come) xs) (filter (is_among come) ids) ≡ true = part_stands (is_among come) xs ids k in
     subst (λ (zs : List CopyId). stand_among zs come ≡ true) (all_picked come xs each) (subst (λ (zs : List CopyId). stand_among (filter (is_among come) xs) zs ≡ true) (picks_same come ids differ h) picked)
 
 module _ (limits : Limits) (xs ys : List Turn) (w : World) (untouched : IsUntouched limits w) (fair : IsFair limits (xs ++ ys) w) (c : List ℕ) (q r : Receiver) (e : receiver_named c (run limits xs w) ≡ Some q) (f : receiver_named c (run limits (xs ++ ys) w) ≡ Some r) where
+  -- all that a new receiver was handed stood in its queue or entered, in that order
   pub run_hands_whole : q.ledger ≡ [] → q.line.down ≡ [] → stand_among (copies_in r.ledger) (queue_at c (run limits xs w) ++ entered_from limits ys (run limits xs w)) ≡ true
   run_hands_whole no_ledger no_down =
       let v = run limits xs w in

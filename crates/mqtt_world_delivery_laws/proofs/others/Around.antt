@@ -1,5 +1,5 @@
 -- What holds of all others, as ends and strangers come and change: their lines are not the receiver's.
-use Rattle.std.proofs.Common.{◌≡◌, ℕ, ◌≤◌, Bool, true, false, cond, ◌⊎◌, List, [], ◌∷◌, map, Option, Some, None, bytes_eq, refl, sym, ap, subst, ◌∙◌, arith, inl, inr}
+use Rattle.std.proofs.Common.{◌≡◌, ℕ, ◌≤◌, Bool, true, false, cond, ◌⊎◌, List, [], ◌∷◌, map, Some, None, bytes_eq, refl, sym, ap, subst, ◌∙◌, inl, inr}
 use Rattle.std.specs.Prelude.{find, is_some, option_map}
 use Rattle.std.specs.List.{AllByRecursion}
 use Rattle.std.proofs.lemmas.Bool.{cases_Bool}
@@ -13,38 +13,9 @@ use Rattle.mqtt_world_model.specs.World.{Stranger, World, publisher_named, recei
 use Rattle.mqtt_rules.specs.State.{Broker}
 use Rattle.mqtt_rules.specs.declared.Limits.{Limits}
 use Rattle.mqtt_world_acceptance_laws.specs.Fair.{IsSteady}
-use Rattle.mqtt_world_acceptance_laws.proofs.publishers.Ends.{all_mapped, find_publisher, find_receiver, is_some_mapped, named_receiver, only_client, only_receiver}
+use Rattle.mqtt_world_acceptance_laws.proofs.publishers.Ends.{all_mapped, find_publisher, find_receiver, found_its, found_not, is_some_mapped, named_receiver, only_client, only_receiver, whose}
 use Rattle.mqtt_world_acceptance_laws.proofs.publishers.Changes.{with_end, KeepsName, KeepsTheName}
-use Rattle.mqtt_world_acceptance_laws.proofs.publishers.Kept.{IsKept}
-use Rattle.mqtt_world_delivery_laws.specs.Standing.{HasOthers, IsAnothers, IsAround, IsOtherPublisher, IsOtherReceiver, IsOtherStranger, IsPlaced, IsSeen, StandsWith}
-
--- ---- lines of others
-
--- no line is another's
-pub no_line_is : (ns : List ℕ) (given : ℕ) (x : Option ℕ) → x ≡ None → IsAnothers ns given x
-no_line_is ns given x none = λ n is. let clash : None ≡ Some n = sym none ∙ is in absurd cc
-
--- so it is with an end without lines
-pub unlined : {U : Type 0} (ns : List ℕ) (given : ℕ) (l : Line U) → l.number ≡ None → l.old_number ≡ None → HasOthers ns given l
-unlined ns given l e f = record { number = no_line_is ns given l.number e; old_number = no_line_is ns given l.old_number f }
-
--- lines that are kept stay another's
-pub others_kept : {U : Type 0} (ns : List ℕ) (given : ℕ) (x y : Line U) → IsKept x y → HasOthers ns given x → HasOthers ns given y
-others_kept ns given x y k h = record {
-  number = λ n is. elim k.number [
-    | inl same ↦ h.number n (sym same ∙ is)
-    | inr none ↦ no_line_is ns given y.number none n is
-  ];
-  old_number = λ n is. h.old_number n (sym k.old_number ∙ is);
-}
-
--- also behind more lines
-pub given_later : (ns : List ℕ) (given more : ℕ) (x : Option ℕ) → given ≤ more → IsAnothers ns given x → IsAnothers ns more x
-given_later ns given more x up h = λ n is. let both = h n is in (both.0, let le = both.1 in omega (arith, le, up))
-
--- for both lines of an end
-pub others_later : {U : Type 0} (ns : List ℕ) (given more : ℕ) (l : Line U) → given ≤ more → HasOthers ns given l → HasOthers ns more l
-others_later ns given more l up h = record { number = given_later ns given more l.number up h.number; old_number = given_later ns given more l.old_number up h.old_number }
+use Rattle.mqtt_world_delivery_laws.specs.Standing.{HasOthers, IsAround, IsOtherPublisher, IsOtherReceiver, IsOtherStranger, IsPlaced, IsSeen, StandsWith}
 
 -- ---- one receiver is changed
 
@@ -54,36 +25,15 @@ IsNotIts c d w = is_some (receiver_named c w) ≡ true → d ≡ c → ⊥
 
 -- a name is its own, or not
 pub whose_name : (c d : List ℕ) (w : World) → ((r : Receiver) × (receiver_named c w ≡ Some r) × (d ≡ c)) ⊎ IsNotIts c d w
-whose_name c d w = by (receiver_named c w) refl
-  where
-    by : (o : Option Receiver) → receiver_named c w ≡ o → ((r : Receiver) × (receiver_named c w ≡ Some r) × (d ≡ c)) ⊎ IsNotIts c d w
-    by None e = inr (λ there is. let clash : true ≡ false = sym there ∙ ap is_some e in absurd cc)
-    by (Some r) e = elim (cases_Bool (bytes_eq d c)) [
-      | inl its ↦ inl (r, e, (bytes_eq-Decides d c).0 its)
-      | inr other ↦ inr (λ there is. let yes_ = (bytes_eq-Decides d c).1 is in let clash : true ≡ false = sym yes_ ∙ other in absurd cc)
-    ]
+whose_name c d w = whose c d (receiver_named c w)
 
 -- a change of another end leaves the receiver
 pub changed_not : (c d : List ℕ) (g : Receiver → Receiver) (w : World) → ((r : Receiver) → (g r).client ≡ r.client) → IsNotIts c d w → receiver_named c (with_receiver d g w) ≡ receiver_named c w
-changed_not c d g w same not_its =
-    find_receiver c (λ r. cond (bytes_eq r.client d) (g r) r) (λ r. only_receiver (bytes_eq r.client d) g r (same r)) w.receivers ∙ by (receiver_named c w) refl
-  where
-    other : (r : Receiver) → r.client ≡ c → (d ≡ c → ⊥) → cond (bytes_eq r.client d) (g r) r ≡ r
-    other r is differ = elim (cases_Bool (bytes_eq r.client d)) [
-      | inl its ↦ absurd (differ (sym ((bytes_eq-Decides r.client d).0 its) ∙ is))
-      | inr no_ ↦ ap (λ (t : Bool). cond t (g r) r) no_
-    ]
-
-    by : (o : Option Receiver) → receiver_named c w ≡ o → option_map (λ r. cond (bytes_eq r.client d) (g r) r) o ≡ o
-    by None e = refl
-    by (Some r) e = ap Some (other r (named_receiver c r w e) (not_its (ap is_some e)))
+changed_not c d g w same not_its = found_not (λ (r : Receiver). r.client) c d g same w.receivers not_its
 
 -- a change of its own is found
 pub changed_its : (c : List ℕ) (g : Receiver → Receiver) (w : World) (r : Receiver) → ((q : Receiver) → (g q).client ≡ q.client) → receiver_named c w ≡ Some r → receiver_named c (with_receiver c g w) ≡ Some (g r)
-changed_its c g w r same e =
-    let its : bytes_eq r.client c ≡ true = (bytes_eq-Decides r.client c).1 (named_receiver c r w e) in
-    find_receiver c (λ q. cond (bytes_eq q.client c) (g q) q) (λ q. only_receiver (bytes_eq q.client c) g q (same q)) w.receivers
-    ∙ (ap (option_map (λ q. cond (bytes_eq q.client c) (g q) q)) e ∙ ap (λ (t : Bool). Some (cond t (g r) r)) its)
+changed_its c g w r same e = found_its (λ (q : Receiver). q.client) c c g same w.receivers refl r e
 
 -- ---- all ends are changed, at whatever broker
 
@@ -155,7 +105,7 @@ end_others c d largest limits ids ns w f g f_same g_same f_others g_others not_i
   seen = subst (IsSeen largest ids ns w.broker) (sym (changed_not c d g w g_same not_its)) h.seen;
 }
 
--- where a receiver has the name, no publisher is changed, and what becomes of its own lines is its own
+-- if a receiver has the name, no publisher is changed, and what becomes of its own lines is its own
 none_changed : (P : Publisher → Type 0) (c : List ℕ) (f : Publisher → Publisher) (ps : List Publisher) → find (λ (p : Publisher). bytes_eq p.client c) ps ≡ None → AllByRecursion P ps
     → AllByRecursion P (map (λ p. cond (bytes_eq p.client c) (f p) p) ps)
 none_changed P c f [] none a = tt

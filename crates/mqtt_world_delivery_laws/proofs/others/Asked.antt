@@ -43,6 +43,7 @@ module _ (first : List CopyId) (c : List ℕ) (largest : ℕ) (set : Setting) (r
   its_place : IsPlaced largest s.ids s.ns r w.broker
   its_place = subst (IsSeen largest s.ids s.ns w.broker) e s.standing.seen
 
+  -- if nothing is under way on its line the receiver stands as before
   pub none_read : r.line.up ≡ [] → Stands first c largest set.limits (asks set (to_broker c) w)
   none_read none =
       let none_asked : input_on (view_of c w).number (view_of c w).up ≡ None = ap (λ (v : View). input_on v.number v.up) its_view ∙ (ap (λ (xs : List Back). input_on r.line.number (map (wire_back r.client r.window) xs)) none ∙ none_on r.line.number) in
@@ -54,6 +55,7 @@ module _ (first : List CopyId) (c : List ℕ) (largest : ℕ) (set : Setting) (r
       with_up : World
       with_up = with_end c (on_line taken_up) (on_back taken_up) w
 
+  -- if nothing is under way on the line that it gave up the receiver stands as before
   pub none_read_old : r.line.old ≡ [] → Stands first c largest set.limits (asks set (old_to_broker c) w)
   none_read_old none =
       let none_asked : input_on (view_of c w).old_number (view_of c w).old ≡ None = ap (λ (v : View). input_on v.old_number v.old) its_view ∙ (ap (λ (xs : List Back). input_on r.line.old_number (map (wire_back r.client r.window) xs)) none ∙ none_on r.line.old_number) in
@@ -67,6 +69,7 @@ module _ (first : List CopyId) (c : List ℕ) (largest : ℕ) (set : Setting) (r
 
 -- ---- what the laws of its own packets ask of the world, besides that it stands
 
+-- what is asked of a world beside the receiver's place: what went out, identifiers, retained messages, what its line takes
 pub record IsFit (c : List ℕ) (w : World) : Type 0 where
   pub unused : HaveSentNothing w.broker
   pub distinct : HasDistinctIdentifiers w.broker.records
@@ -116,6 +119,7 @@ module _ (first : List CopyId) (c : List ℕ) (set : Setting) (w : World) (s : S
     | inl own ↦ subst (λ (x : List ℕ). Stands first c any_size set.limits (asks set (pump x) w)) (sym own.2) (sent_stands first c any_size set own.0 w s own.1 fit.distinct (λ n l birth is at on. (takes_there c own.0 n birth l w fit.takes own.1 is at on).1) (subst (λ (x : List ℕ). read_first spending set (pump x) w ≡ false) own.2 unspent))
   ]
 
+  -- whatever the broker is asked for, the receiver stands after it
   pub asked_stands : (a : Asking) → is_bad_asking a w ≡ false → read_asked spending set a w ≡ false → Stands first c any_size set.limits (asks set a w)
   asked_stands (to_broker d) good unspent = reads_stands d unspent
   asked_stands (old_to_broker d) good unspent = reads_old_stands d unspent
@@ -134,5 +138,6 @@ module _ (first : List CopyId) (c : List ℕ) (set : Setting) (w : World) (s : S
   rests_after tick good unspent = after_rests first c tick any_size set w s tt good unspent
   rests_after (stranger name bytes) good unspent = after_rests first c (stranger name bytes) any_size set w s tt good unspent
 
+  -- a stop after the commit leaves the receiver standing
   pub stops_stand : (a : Asking) → is_bad_asking a w ≡ false → read_first spending set a w ≡ false → read_opening spending set (first_step set a w) ≡ false → Stands first c any_size set.limits (happens set (stop_after a) w)
   stops_stand a good unspent opens = restart_stands first c any_size set (first_step set a w) (rests_after a good unspent) opens

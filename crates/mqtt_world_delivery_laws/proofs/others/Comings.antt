@@ -17,13 +17,13 @@ use Rattle.mqtt_world_model.proofs.seats.Places.{no_place_asked}
 use Rattle.mqtt_world_model.proofs.seats.Seats.{idle_linked}
 use Rattle.mqtt_records_rows.specs.Distinct.{AllDiffer}
 use Rattle.mqtt_rules.specs.State.{Broker, session_named}
-use Rattle.mqtt_world_acceptance_laws.proofs.publishers.Ends.{all_appended, all_mapped, find_last, find_no_more, find_publisher, find_receiver, is_some_mapped, only_client, only_receiver, either}
+use Rattle.mqtt_world_acceptance_laws.proofs.publishers.Ends.{all_appended, all_mapped, find_last, find_no_more, find_publisher, find_receiver, is_some_mapped, only_client, only_receiver, either, unlined}
 use Rattle.mqtt_world_acceptance_laws.proofs.publishers.Happenings.{not_some, is_nothing, named_so, may_give}
-use Rattle.mqtt_world_acceptance_laws.proofs.publishers.Kept.{published_remains, read_remains, read_there}
+use Rattle.mqtt_world_acceptance_laws.proofs.publishers.Kept.{gives_apart, kept_apart, published_remains, read_remains, read_there}
 use Rattle.mqtt_world_receiver_laws.specs.Handing.{IsRun}
 use Rattle.mqtt_world_receiver_laws.proofs.own.OwnDoings.{asks_awaiting, asks_in_step, comes_awaiting, gives_up_awaiting, gives_up_in_step, reads_awaiting, reads_in_step}
-use Rattle.mqtt_world_delivery_laws.specs.Standing.{GoesAlong, HasOthers, IsOtherPublisher, IsOtherReceiver, IsPlaced, IsSeen, StandsWith, line_like, publisher_like}
-use Rattle.mqtt_world_delivery_laws.proofs.others.Around.{changed_its, changed_not, end_others, on_back, on_line, others_kept, own_stands, unlined, whose_name}
+use Rattle.mqtt_world_delivery_laws.specs.Standing.{GoesAlong, HasOthers, IsOtherPublisher, IsOtherReceiver, IsOutOf, IsPlaced, IsSeen, StandsWith, line_like, publisher_like}
+use Rattle.mqtt_world_delivery_laws.proofs.others.Around.{changed_its, changed_not, end_others, on_back, on_line, own_stands, whose_name}
 use Rattle.mqtt_world_delivery_laws.proofs.others.Like.{calm_up, closed_stands, connected_linked, joined_stands, moves_reading, none_stands, quiet_down, same_reading, seat_asked, seat_given, seat_read}
 use Rattle.mqtt_world_receiver_laws.proofs.queue.Numbers.{place_of, places_number}
 
@@ -48,7 +48,7 @@ publisher_comes c d largest set ids ns w h good =
         steady = h.around.steady;
         tidy = h.around.tidy;
         known = h.around.known;
-        publishers = all_appended (IsOtherPublisher ns w.broker.given) w.publishers (new_publisher d) h.around.publishers (unlined ns w.broker.given (new_publisher d).line refl refl);
+        publishers = all_appended (IsOtherPublisher ns w.broker.given) w.publishers (new_publisher d) h.around.publishers (unlined (IsOutOf ns) w.broker.given (new_publisher d).line refl refl);
         receivers = h.around.receivers;
         strangers = h.around.strangers;
         alone = λ there. elim (cases_Bool (bytes_eq d c)) [
@@ -87,7 +87,7 @@ receiver_comes c d largest window set ids ns w h good clean = record {
     tidy = h.around.tidy;
     known = h.around.known;
     publishers = h.around.publishers;
-    receivers = all_appended (IsOtherReceiver c ns w.broker.given) w.receivers new h.around.receivers (inr (unlined ns w.broker.given new.line refl refl));
+    receivers = all_appended (IsOtherReceiver c ns w.broker.given) w.receivers new h.around.receivers (inr (unlined (IsOutOf ns) w.broker.given new.line refl refl));
     strangers = h.around.strangers;
     alone = λ there. elim (cases_Bool (bytes_eq d c)) [
       | inl its ↦ ap (λ (x : List ℕ). publisher_named x w) (sym ((bytes_eq-Decides d c).0 its)) ∙ not_some (publisher_named d w) ends.0
@@ -139,11 +139,6 @@ placed_does largest ids ns r q b placed client along seat apart = record {
 
 -- ---- an end gives its line up
 
-gives_others : {U : Type 0} (ns : List ℕ) (given : ℕ) (link : Link) (l : Line U) → HasOthers ns given l → HasOthers ns given (gives_up link l)
-gives_others ns given away l h = h
-gives_others ns given asked l h = record { number = λ n e. absurd cc; old_number = h.number }
-gives_others ns given live l h = record { number = λ n e. absurd cc; old_number = h.number }
-
 given_along : (o : Option ℕ) (largest : ℕ) (ids : List CopyId) (ns : List ℕ) (r : Receiver) (b : Broker) → GoesAlong o largest ids ns r b → MayGiveUp r.line.link r.line.clean
     → GoesAlong o largest ids ns (record r { line = gives_up r.line.link r.line }) b
 given_along None largest ids ns r b k may = gives_up_awaiting largest ids ns r b k may
@@ -158,7 +153,7 @@ given_apart live r h n e f = absurd cc
 pub given_up_stands : (c d : List ℕ) (largest : ℕ) (set : Setting) (ids : List CopyId) (ns : List ℕ) (w : World) → StandsWith c largest set.limits ids ns w → begins_clean (give_up d) w ≡ true
     → StandsWith c largest set.limits ids ns (happens set (give_up d) w)
 given_up_stands c d largest set ids ns w h carried = elim (whose_name c d w) [
-  | inr not_its ↦ end_others c d largest set.limits ids ns w (on_line gives) (on_back gives_back) (λ p. refl) (λ r. refl) (λ p. gives_others ns w.broker.given p.line.link p.line) (λ r. gives_others ns w.broker.given r.line.link r.line) not_its h
+  | inr not_its ↦ end_others c d largest set.limits ids ns w (on_line gives) (on_back gives_back) (λ p. refl) (λ r. refl) (λ p. gives_apart (IsOutOf ns) w.broker.given p.line.link p.line) (λ r. gives_apart (IsOutOf ns) w.broker.given r.line.link r.line) not_its h
   | inl own ↦ subst (λ (x : List ℕ). StandsWith c largest set.limits ids ns (happens set (give_up x) w)) (sym own.2)
       (own_gives own.0 own.1 (subst (λ (x : List ℕ). begins_clean (give_up x) w ≡ true) own.2 carried))
 ]
@@ -207,7 +202,7 @@ published_stands c d x largest set ids ns w h = record {
     F p = published (is_open_line p.line w) x p
 
     other : (t : Bool) (p : Publisher) → HasOthers ns w.broker.given p.line → HasOthers ns w.broker.given (cond t (F p) p).line
-    other true p k = others_kept ns w.broker.given p.line (F p).line (published_remains (is_open_line p.line w) x p).line k
+    other true p k = kept_apart (IsOutOf ns) w.broker.given p.line (F p).line (published_remains (is_open_line p.line w) x p).line k
     other false p k = k
 
 -- ---- a receiver asks for a subscription
@@ -317,10 +312,10 @@ read_stands c d largest set ids ns w h = elim (whose_name c d w) [
     keeps_there r = (read_there (is_open_line r.line w) r.line.down r).client
 
     others : (p : Publisher) → HasOthers ns w.broker.given p.line → HasOthers ns w.broker.given (F p).line
-    others p = others_kept ns w.broker.given p.line (F p).line (read_remains (is_open_line p.line w) p.line.down p).line
+    others p = kept_apart (IsOutOf ns) w.broker.given p.line (F p).line (read_remains (is_open_line p.line w) p.line.down p).line
 
     others_there : (r : Receiver) → HasOthers ns w.broker.given r.line → HasOthers ns w.broker.given (G r).line
-    others_there r = others_kept ns w.broker.given r.line (G r).line (read_there (is_open_line r.line w) r.line.down r).line
+    others_there r = kept_apart (IsOutOf ns) w.broker.given r.line (G r).line (read_there (is_open_line r.line w) r.line.down r).line
 
 -- ---- time passes
 

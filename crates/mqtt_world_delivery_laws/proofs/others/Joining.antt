@@ -14,14 +14,14 @@ use Rattle.mqtt_world_model.proofs.seats.Places.{step_place}
 use Rattle.mqtt_rules.proofs.numbers.NumberSteps.{step_fell}
 use Rattle.mqtt_rules.specs.State.{Broker}
 use Rattle.mqtt_rules.specs.Step.{NewLine, can_link, stepped, told}
-use Rattle.mqtt_world_acceptance_laws.proofs.publishers.Ends.{all_turned}
+use Rattle.mqtt_world_acceptance_laws.proofs.publishers.Ends.{all_turned, line_still, still_apart}
 use Rattle.mqtt_world_acceptance_laws.proofs.copies.Steady.{linking_spends_none, steady_step}
 use Rattle.mqtt_world_acceptance_laws.proofs.publishers.StrangerBytes.{linked_given}
 use Rattle.mqtt_world_receiver_laws.specs.Handing.{MayComeBack, receiver_joined}
 use Rattle.mqtt_world_receiver_laws.proofs.queue.Apart.{apart_still}
 use Rattle.mqtt_world_receiver_laws.proofs.own.OwnDoings.{joins_awaiting, joins_in_step}
 use Rattle.mqtt_world_receiver_laws.proofs.connects.Stopping.{step_tidy}
-use Rattle.mqtt_world_delivery_laws.specs.Standing.{GoesAlong, HasOthers, IsAnothers, IsAround, IsOtherStranger, IsPlaced, IsSeen, Stands, StandsWith, BeginWith}
+use Rattle.mqtt_world_delivery_laws.specs.Standing.{GoesAlong, HasOthers, IsAround, IsOtherStranger, IsOutOf, IsPlaced, IsSeen, Stands, StandsWith, BeginWith}
 use Rattle.mqtt_world_delivery_laws.proofs.others.Around.{IsNotIts, around_mapped, end_others, on_back, on_line, own_stands, whose_name}
 use Rattle.mqtt_world_delivery_laws.proofs.others.Like.{seat_joined}
 use Rattle.mqtt_world_delivery_laws.proofs.others.Outside.{if_there, lines_of, named_called}
@@ -98,18 +98,11 @@ module _ (first : List CopyId) (c d : List ℕ) (clean : Bool) (largest : ℕ) (
       }
 
   -- the receiver itself: the new line is its own
-  still_others : (ns : List ℕ) (x : Option ℕ) → IsAnothers ns w.broker.given x → IsAnothers (next ∷ ns) new.given x
-  still_others ns x h = λ n is.
-      let both = h n is in
-      let le = both.1 in
-      let given = linked_given set w.now w.broker can in
-      (others_off n w.broker.given ns le both.0, omega (arith, le, given))
+  still_out : (ns : List ℕ) (n : ℕ) → IsOutOf ns n → n ≤ w.broker.given → IsOutOf (next ∷ ns) n × (n ≤ new.given)
+  still_out ns n out le = let given = linked_given set w.now w.broker can in (others_off n w.broker.given ns le out, omega (arith, le, given))
 
   lines_of_others : {U : Type 0} (ns : List ℕ) (l m : Line U) → m.number ≡ l.number → m.old_number ≡ l.old_number → HasOthers ns w.broker.given l → HasOthers (next ∷ ns) new.given m
-  lines_of_others ns l m e f h = record {
-    number = λ n is. still_others ns l.number h.number n (sym e ∙ is);
-    old_number = λ n is. still_others ns l.old_number h.old_number n (sym f ∙ is);
-  }
+  lines_of_others ns l m e f h = line_still (IsOutOf ns) (IsOutOf (next ∷ ns)) w.broker.given new.given l m (still_out ns) e f h
 
   its_around : (ns : List ℕ) → IsAround c set.limits ns w → IsAround c set.limits (next ∷ ns) (calls set NewLine w)
   its_around ns a =
@@ -120,7 +113,7 @@ module _ (first : List CopyId) (c d : List ℕ) (clean : Bool) (largest : ℕ) (
       known (λ p. refl) (λ r. refl)
       (λ p h. lines_of_others ns p.line (publisher_told new out p).line refl refl h)
       (λ r h. each r h)
-      (all_turned (IsOtherStranger ns w.broker.given) (IsOtherStranger (next ∷ ns) new.given) w.strangers (λ s h. still_others ns s.number h) a.strangers)
+      (all_turned (IsOtherStranger ns w.broker.given) (IsOtherStranger (next ∷ ns) new.given) w.strangers (λ s h. still_apart (IsOutOf ns) (IsOutOf (next ∷ ns)) w.broker.given new.given s.number s.number (still_out ns) refl h) a.strangers)
     where
       each : (r : Receiver) → (r.client ≡ c) ⊎ HasOthers ns w.broker.given r.line → (r.client ≡ c) ⊎ HasOthers (next ∷ ns) new.given (receiver_told new (told set.limits set.choice w.now NewLine w.broker) r).line
       each r (inl is) = inl is

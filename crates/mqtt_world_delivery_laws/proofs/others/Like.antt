@@ -99,7 +99,7 @@ pub quiet_down : (number : Numbering) (largest : ℕ) (copies : List Lot) (r : R
 quiet_down number largest copies r b clean h up =
     none_down (seen number copies r b) clean [] (good_seen number largest copies r b h) (ap (filter_map answered) (connect_like clean r.line.up up))
 
--- ---- the line that it gave up, where that stayed
+-- ---- the line that it gave up, if that stayed
 
 -- what was on an old line may be looked at in another line like it
 pub former_as : (o : Option ℕ) (k : ℕ) (x y : Line Sent) (b : Broker) → y.old_number ≡ x.old_number → y.old ≡ x.old → Former o k x b → Former o k y b
@@ -107,7 +107,7 @@ former_as o k x y b e f (over none) = over (f ∙ none)
 former_as o k x y b e f (late m is old idle there) = late m (e ∙ is) (f ∙ old) idle there
 former_as o k x y b e f (lingers birth own is calm there) = lingers birth own (e ∙ is) (subst (λ (xs : List Sent). AllByRecursion IsNoConnect xs) (sym f) calm) there
 
--- what is his is the same for an equal name
+-- what is an end's own is the same for an equal name
 pub his_as : (client other : List ℕ) (o : Option ℕ) (k : ℕ) (b : Broker) → other ≡ client → IsHis client o k b → IsHis other o k b
 his_as client other o k b e h = subst (λ (c : List ℕ). IsHis c o k b) (sym e) h
 
@@ -247,7 +247,7 @@ passes_packet number t u copy (packet.Pubrel a) rest r e = absurd cc
 passes_packet number t u copy (packet.Disconnect a) rest r e = absurd cc
 passes_packet number t u copy x rest r e = record { same = refl; line = refl; client = refl }
 
--- where nothing is heard it does not matter whether the line stands
+-- if nothing is heard it does not matter whether the line stands
 pub same_reading : (number : Numbering) (t u : Bool) (ds : List Down) (r : Receiver) → filter_map (heard_in number) ds ≡ [] → receiver_reads t ds r ≡ receiver_reads u ds r
 same_reading number t u [] r e = refl
 same_reading number t u (d ∷ rest) r e = (passes_packet number t u d.copy d.packet rest r (none_first (heard number d.copy d.packet) (filter_map (heard_in number) rest) e).0).same

@@ -89,7 +89,7 @@ left_placed largest ids ns r b placed = record {
   told = placed.told;
 }
 
--- ---- whose session it is, where it is in step or awaits one
+-- ---- whose session it is, if it is in step or awaits one
 
 -- a session of its name that is not found by its birth is none
 pub none_named : (client : List ℕ) (birth : ℕ) (s : Session) (ss : List Session) → find (λ (x : Session). nat_eq x.birth birth) ss ≡ Some s → s.client ≡ client → find (λ (x : Session). bytes_eq x.client client) ss ≡ None → ⊥

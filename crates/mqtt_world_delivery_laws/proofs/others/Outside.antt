@@ -5,10 +5,10 @@ use Rattle.std.specs.List.{AllByRecursion}
 use Rattle.std.proofs.lemmas.Bool.{cases_Bool, eqb-true}
 use Rattle.mqtt_base.specs.declared.session.CopyId.{CopyId}
 use Rattle.mqtt_world_model.specs.Ends.{Receiver}
-use Rattle.mqtt_world_model.specs.Hops.{IsFarCall, IsOthers}
+use Rattle.mqtt_world_model.specs.Hops.{IsOthers}
 use Rattle.mqtt_world_model.specs.Lines.{is_one_of}
 use Rattle.mqtt_world_model.specs.Run.{read_if}
-use Rattle.mqtt_world_model.specs.Seats.{IsElsewhere, IsHis, IsNamed, IsOff, Seat}
+use Rattle.mqtt_world_model.specs.Seats.{IsHis, IsNamed, Seat}
 use Rattle.mqtt_world_model.specs.World.{Setting, World, calls, calls_if, publisher_told, receiver_named, receiver_told}
 use Rattle.mqtt_records_rows.specs.Distinct.{AllDiffer}
 use Rattle.mqtt_world_model.proofs.seats.Places.{step_place}
@@ -18,7 +18,8 @@ use Rattle.mqtt_rules.specs.State.{Broker, MemberChoice}
 use Rattle.mqtt_rules.specs.Step.{BadInput, Call, Input, Lost, NewLine, Pump, Tick, at_moment, stepped, told}
 use Rattle.mqtt_rules.specs.declared.Limits.{Limits}
 use Rattle.mqtt_world_acceptance_laws.specs.Spending.{spending}
-use Rattle.mqtt_world_acceptance_laws.proofs.publishers.Ends.{all_turned, find_receiver, is_some_mapped, named_receiver, either}
+use Rattle.mqtt_world_acceptance_laws.proofs.publishers.Ends.{all_turned, find_receiver, given_later, is_some_mapped, line_later, named_receiver, either}
+use Rattle.mqtt_world_acceptance_laws.proofs.publishers.Around.{IsCallApart, apart_far, apart_off}
 use Rattle.mqtt_world_acceptance_laws.proofs.copies.Steady.{given_grows, steady_step}
 use Rattle.mqtt_world_receiver_laws.specs.Calls.{receiver_called}
 use Rattle.mqtt_world_receiver_laws.specs.Own.{IsAwaiting, StepsOn}
@@ -27,16 +28,10 @@ use Rattle.mqtt_world_receiver_laws.proofs.queue.Apart.{apart_entered}
 use Rattle.mqtt_world_receiver_laws.proofs.others.AwaitingOthers.{others_awaiting}
 use Rattle.mqtt_world_receiver_laws.proofs.own.OwnOthers.{others_in_step}
 use Rattle.mqtt_world_receiver_laws.proofs.connects.Stopping.{step_tidy}
-use Rattle.mqtt_world_delivery_laws.specs.Standing.{GoesAlong, HasOthers, IsAround, IsOtherStranger, IsPlaced, IsSeen, Stands, StandsWith, publisher_like, BeginWith}
-use Rattle.mqtt_world_delivery_laws.proofs.others.Around.{around_mapped, given_later, others_later}
+use Rattle.mqtt_world_delivery_laws.specs.Standing.{GoesAlong, HasOthers, IsAround, IsOtherStranger, IsOutOf, IsPlaced, IsSeen, Stands, StandsWith, publisher_like, BeginWith}
+use Rattle.mqtt_world_delivery_laws.proofs.others.Around.{around_mapped}
 use Rattle.mqtt_world_delivery_laws.proofs.others.Like.{seat_of_others}
 use Rattle.mqtt_world_delivery_laws.proofs.order.Growing.{begin_on, begin_same, begin_then}
-
--- ---- another's line
-
--- no line of this number was ever its own, and 0 is the number of none
-abbrev pub IsOutOf : List ℕ → ℕ → Type 0
-IsOutOf ns n = is_one_of (Some n) (0 ∷ ns) ≡ false
 
 -- ---- on none of its lines, and no CONNECT of its client; whether a tick is one is seen at the broker
 
@@ -79,25 +74,14 @@ outside_others c ns (Lost m) b q = unlisted m ns q
 outside_others c ns (Pump m) b q = unlisted m ns q
 outside_others c ns Tick b q = absurd q
 
-outside_far : (c ns : List ℕ) (k : ℕ) (call : Call) → is_one_of (Some k) (0 ∷ ns) ≡ true → IsOutside c ns call → IsFarCall c k call
-outside_far c ns k NewLine among q = tt
-outside_far c ns k (Input m packet) among q = (apart_from m k (0 ∷ ns) q.0 among, q.1)
-outside_far c ns k (BadInput m is_connect code) among q = apart_from m k (0 ∷ ns) q among
-outside_far c ns k (Lost m) among q = apart_from m k (0 ∷ ns) q among
-outside_far c ns k (Pump m) among q = tt
-outside_far c ns k Tick among q = absurd q
-
-outside_line : (c ns : List ℕ) (n : ℕ) (call : Call) → is_one_of (Some n) (0 ∷ ns) ≡ true → IsOutside c ns call → IsElsewhere n call
-outside_line c ns n NewLine among q = tt
-outside_line c ns n (Input m packet) among q = apart_from m n (0 ∷ ns) q.0 among
-outside_line c ns n (BadInput m is_connect code) among q = apart_from m n (0 ∷ ns) q among
-outside_line c ns n (Lost m) among q = apart_from m n (0 ∷ ns) q among
-outside_line c ns n (Pump m) among q = tt
-outside_line c ns n Tick among q = absurd q
-
-outside_off : (c ns : List ℕ) (x : Option ℕ) (call : Call) → ((n : ℕ) → x ≡ Some n → is_one_of (Some n) ns ≡ true) → IsOutside c ns call → IsOff x call
-outside_off c ns None call h q = tt
-outside_off c ns (Some n) call h q = outside_line c ns n call (listed n ns (h n refl)) q
+-- and apart from what is on its lines
+outside_apart : (c ns : List ℕ) (call : Call) → IsOutside c ns call → IsCallApart (IsOutOf ns) c call
+outside_apart c ns NewLine q = tt
+outside_apart c ns (Input m packet) q = q
+outside_apart c ns (BadInput m is_connect code) q = q
+outside_apart c ns (Lost m) q = q
+outside_apart c ns (Pump m) q = tt
+outside_apart c ns Tick q = absurd q
 
 -- a receiver that goes along has its lines
 pub lines_of : (o : Option ℕ) (largest : ℕ) (ids : List CopyId) (ns : List ℕ) (r : Receiver) (b : Broker) → GoesAlong o largest ids ns r b → HasLines ns r
@@ -166,9 +150,11 @@ pub placed_called : (largest : ℕ) (ids : List CopyId) (ns : List ℕ) (limits 
     → GoesFurther largest ids ns (receiver_called limits choice now call r b) (stepped limits choice now call b)
 placed_called largest ids ns limits choice now call r b placed tidy out =
     let has = lines_of placed.birth largest ids ns r b placed.along in
+    let off = outside_apart r.client ns call out in
     placed_others largest ids ns limits choice now call r b placed tidy (outside_others r.client ns call (at_moment now b) out)
-    (seat_of_others limits choice now call placed.birth placed.line r b placed.seat placed.named (outside_far r.client ns placed.line call placed.its_line out)
-    (outside_off r.client ns r.line.number call has.own out) (outside_off r.client ns r.line.old_number call has.old out))
+    (seat_of_others limits choice now call placed.birth placed.line r b placed.seat placed.named (apart_far (IsOutOf ns) r.client placed.line (λ m h. apart_from m placed.line (0 ∷ ns) h placed.its_line) call off)
+    (apart_off (IsOutOf ns) r.client r.line.number call (λ m n e h. apart_from m n (0 ∷ ns) h (listed n ns (has.own n e))) off)
+    (apart_off (IsOutOf ns) r.client r.line.old_number call (λ m n e h. apart_from m n (0 ∷ ns) h (listed n ns (has.old n e))) off))
 
 -- ---- what it makes of the world
 
@@ -186,14 +172,14 @@ calls_around c set ns call w a unspent =
     around_mapped c set.limits ns ns w b w.now (publisher_told b out) (receiver_told b out) w.strangers a
     (steady_step set.limits set.choice w.now call w.broker a.within a.steady unspent) (step_place set.limits set.choice w.now call c w.broker) (step_tidy set.limits set.choice w.now call w.broker a.tidy)
     (λ n inside. let le = a.known n inside in omega (arith, le, up)) (λ p. refl) (λ r. refl)
-    (λ p h. let f = others_later ns w.broker.given b.given p.line up h in record { number = f.number; old_number = f.old_number })
+    (λ p h. line_later (IsOutOf ns) w.broker.given b.given p.line (publisher_told b out p).line up refl refl h)
     (λ r h. each b.given up r h)
-    (all_turned (IsOtherStranger ns w.broker.given) (IsOtherStranger ns b.given) w.strangers (λ s h. given_later ns w.broker.given b.given s.number up h) a.strangers)
+    (all_turned (IsOtherStranger ns w.broker.given) (IsOtherStranger ns b.given) w.strangers (λ s h. given_later (IsOutOf ns) w.broker.given b.given s.number up h) a.strangers)
   where
     each : (given : ℕ) → w.broker.given ≤ given → (r : Receiver) → (r.client ≡ c) ⊎ HasOthers ns w.broker.given r.line
         → (r.client ≡ c) ⊎ HasOthers ns given (receiver_told (stepped set.limits set.choice w.now call w.broker) (told set.limits set.choice w.now call w.broker) r).line
     each given up r (inl is) = inl is
-    each given up r (inr h) = let f = others_later ns w.broker.given given r.line up h in inr (record { number = f.number; old_number = f.old_number })
+    each given up r (inr h) = inr (line_later (IsOutOf ns) w.broker.given given r.line (receiver_told (stepped set.limits set.choice w.now call w.broker) (told set.limits set.choice w.now call w.broker) r).line up refl refl h)
 
 -- by what becomes of the receiver
 pub calls_with : (c : List ℕ) (largest : ℕ) (set : Setting) (call : Call) (ids : List CopyId) (ns : List ℕ) (w : World) → StandsWith c largest set.limits ids ns w → read_if spending set (Some call) w ≡ false

@@ -18,17 +18,16 @@ use Rattle.mqtt_rules.specs.Numbers.{NoneFell}
 use Rattle.mqtt_rules.specs.State.{Line as BrokerLine, Broker, MemberChoice, session_named}
 use Rattle.mqtt_rules.specs.declared.Limits.{Limits}
 use Rattle.mqtt_world_acceptance_laws.specs.Spending.{spending}
-use Rattle.mqtt_world_acceptance_laws.proofs.publishers.Ends.{all_mapped, anything, find_receiver, only_receiver}
-use Rattle.mqtt_world_acceptance_laws.proofs.publishers.FirstPackets.{Takes, takes_old, takes_up}
+use Rattle.mqtt_world_acceptance_laws.proofs.publishers.Ends.{all_mapped, anything, find_receiver, only_receiver, unlined}
+use Rattle.mqtt_world_acceptance_laws.proofs.publishers.FirstPackets.{Takes, takes_apart, takes_old, takes_up}
 use Rattle.mqtt_world_acceptance_laws.proofs.copies.Steady.{steady_again}
 use Rattle.mqtt_world_receiver_laws.specs.Own.{IsAwaiting, IsFreeLine, IsInStep}
 use Rattle.mqtt_world_receiver_laws.specs.Restarts.{reopened}
 use Rattle.mqtt_world_receiver_laws.specs.Served.{IsTidy}
 use Rattle.mqtt_world_receiver_laws.proofs.connects.Restarting.{lost_lines, restart_goes_on, restart_without}
 use Rattle.mqtt_world_receiver_laws.proofs.connects.Stopping.{opening_tidy}
-use Rattle.mqtt_world_delivery_laws.specs.Standing.{GoesAlong, IsAround, IsOtherStranger, IsPlaced, IsSeen, Stands, publisher_like, BeginWith}
-use Rattle.mqtt_world_delivery_laws.proofs.others.Around.{around_mapped, end_around, on_back, on_line, unlined}
-use Rattle.mqtt_world_delivery_laws.proofs.others.Asking.{takes_others}
+use Rattle.mqtt_world_delivery_laws.specs.Standing.{GoesAlong, IsAround, IsOtherStranger, IsOutOf, IsPlaced, IsSeen, Stands, publisher_like, BeginWith}
+use Rattle.mqtt_world_delivery_laws.proofs.others.Around.{around_mapped, end_around, on_back, on_line}
 use Rattle.mqtt_world_delivery_laws.proofs.others.Comings.{run_of}
 use Rattle.mqtt_world_delivery_laws.proofs.others.Outside.{GoesFurther, placed_on}
 use Rattle.mqtt_world_delivery_laws.proofs.others.Strangers.{comes_stands}
@@ -87,7 +86,7 @@ placed_restarted largest ids ns limits choice now r b placed tidy = by placed.bi
               (record { his = (owns, stands); present = absent refl refl; former = over refl }) refl (λ n e f. absurd cc);
         }
 
--- ---- who stands so that a restart finds him
+-- ---- who stands so that a restart finds it
 
 -- after a restart it is as if it had been somewhere
 pub record Rests (largest : ℕ) (ids : List CopyId) (ns : List ℕ) (q : Receiver) (b : Broker) : Type 0 where
@@ -99,6 +98,7 @@ abbrev pub RestsAs : ℕ → List CopyId → List ℕ → Broker → Option Rece
 RestsAs largest ids ns b None = (ids ≡ []) × (ns ≡ [])
 RestsAs largest ids ns b (Some q) = Rests largest ids ns q b
 
+-- what is asked of the world around a receiver for a restart
 pub record MayRestart (first : List CopyId) (c : List ℕ) (largest : ℕ) (limits : Limits) (w : World) : Type 0 where
   pub ids : List CopyId
   pub grown : BeginWith first ids
@@ -136,7 +136,7 @@ restart_stands first c largest set w h unspent = by (receiver_named c w) h.seen 
     around = around_mapped c set.limits h.ns [] w new w.now publisher_restarted receiver_restarted (map unlinked w.strangers) h.around
         (steady_again set.limits set.choice w.now w.broker h.around.within h.around.steady unspent) (opening_place set.limits set.choice w.now c w.broker.records) (opening_tidy set.limits set.choice w.now w.broker h.around.tidy)
         (λ n inside. absurd cc) (λ p. refl) (λ r. refl)
-        (λ p x. unlined [] new.given (publisher_restarted p).line refl refl) (λ r x. inr (unlined [] new.given (receiver_restarted r).line refl refl))
+        (λ p x. unlined (IsOutOf []) new.given (publisher_restarted p).line refl refl) (λ r x. inr (unlined (IsOutOf []) new.given (receiver_restarted r).line refl refl))
         (all_mapped (λ (s : Stranger). ⊤) (IsOtherStranger [] new.given) unlinked w.strangers (λ s x. λ n is. absurd cc) (anything w.strangers))
 
     by : (o : Option Receiver) → RestsAs largest h.ids h.ns w.broker o → receiver_named c (restarts set w) ≡ option_map receiver_restarted o → Stands first c largest set.limits (restarts set w)
@@ -166,7 +166,7 @@ taken_rests first c d largest limits w f g f_takes g_takes lost s = record {
   ids = s.ids;
   grown = s.grown;
   ns = s.ns;
-  around = end_around c d limits s.ns w (on_line f) (on_back g) (λ p. refl) (λ r. refl) (λ p. takes_others s.ns w.broker.given f f_takes p.line) (λ r. takes_others s.ns w.broker.given g g_takes r.line) s.standing.around;
+  around = end_around c d limits s.ns w (on_line f) (on_back g) (λ p. refl) (λ r. refl) (λ p. takes_apart (IsOutOf s.ns) w.broker.given f f_takes p.line) (λ r. takes_apart (IsOutOf s.ns) w.broker.given g g_takes r.line) s.standing.around;
   seen = subst (RestsAs largest s.ids s.ns w.broker) (sym (find_receiver c G (λ r. only_receiver (bytes_eq r.client d) (on_back g) r refl) w.receivers)) (by (receiver_named c w) s.standing.seen);
 }
   where

@@ -1,4 +1,4 @@
--- In a new world each receiver stands, since nobody has come; and where one stands, the law of its hop holds of what it has
+-- In a new world each receiver stands, since nobody has come; and if one stands, the law of its hop holds of what it has
 -- read (MQTT 5.0, 4.3.2, 4.3.3, 4.6).
 use Rattle.std.proofs.Common.{◌≡◌, ℕ, ◌≤◌, true, List, [], Option, Some, None, bytes_eq, refl, sym, ap, subst, false, ◌∙◌}
 use Rattle.std.specs.Prelude.{All, find, is_some}
@@ -57,14 +57,18 @@ runs_alone None largest ids ns r b k differ = k.runs (place_of ids) (places_numb
 runs_alone (Some birth) largest ids ns r b k differ = let x = k.runs (place_of ids) (places_number ids differ) in record { after = x.after; same = x.same; run_is = x.run_is }
 
 module _ (c : List ℕ) (largest : ℕ) (limits : Limits) (ids : List CopyId) (ns : List ℕ) (r : Receiver) (w : World) (h : StandsWith c largest limits ids ns w) (e : receiver_named c w ≡ Some r) where
+  -- what a receiver that stands sees is a run of its hop
   pub runs_so : RunsAlone (place_of ids) largest ids r w.broker
   runs_so = let placed = subst (IsSeen largest ids ns w.broker) e h.seen in runs_alone placed.birth largest ids ns r w.broker placed.along placed.told.differ
 
+  -- a receiver was handed a copy at most once
   pub handed_once : (copy : CopyId) → handed_count copy r ≤ 1
   handed_once copy = let x = runs_so in at_most_once (place_of ids) largest x.after r w.broker x.run_is copy
 
+  -- copies were handed over in the order in which they entered
   pub handed_in_order : stand_among (copies_in r.ledger) ids ≡ true
   handed_in_order = let x = runs_so in subst (λ (all : List CopyId). stand_among (copies_in r.ledger) all ≡ true) x.same (in_order (place_of ids) largest x.after r w.broker x.run_is)
 
+  -- a copy that stands released was handed over once
   pub handed_released : All (λ (copy : CopyId). handed_count copy r ≡ 1) (released_in (session_named r.client w.broker.records))
   handed_released = let x = runs_so in released_once (place_of ids) largest x.after r w.broker x.run_is

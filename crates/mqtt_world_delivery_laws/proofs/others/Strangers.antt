@@ -12,8 +12,8 @@ use Rattle.mqtt_world_acceptance_laws.specs.Spending.{spending}
 use Rattle.mqtt_world_acceptance_laws.proofs.copies.Steady.{linking_spends_none}
 use Rattle.mqtt_world_acceptance_laws.proofs.publishers.Ends.{all_appended}
 use Rattle.mqtt_world_acceptance_laws.proofs.publishers.StrangerBytes.{changed, all_changed, linked_given, comes_held, packet_outside, same_cost, rest_keeps, good_then, first_good}
-use Rattle.mqtt_world_delivery_laws.specs.Standing.{IsAnothers, IsOtherStranger, Stands, StandsWith, BeginWith}
-use Rattle.mqtt_world_delivery_laws.proofs.others.Outside.{IsOutOf, IsOutside, called_copies, fresh_unlisted, if_stands, if_there}
+use Rattle.mqtt_world_delivery_laws.specs.Standing.{IsAnothers, IsOtherStranger, IsOutOf, Stands, StandsWith, BeginWith}
+use Rattle.mqtt_world_delivery_laws.proofs.others.Outside.{IsOutside, called_copies, fresh_unlisted, if_stands, if_there}
 use Rattle.mqtt_world_delivery_laws.proofs.order.Growing.{begin_then}
 
 -- ---- its bytes change nothing of the broker and of the ends

@@ -1,4 +1,4 @@
--- What is under way first on a receiver's line: its CONNECT, where the line waits for that, and any other packet where its session is
+-- What is under way first on a receiver's line: its CONNECT, if the line waits for that, and any other packet if its session is
 -- connected; and so on the line that it gave up (MQTT 5.0, 3.1, 3.1.4).
 use Rattle.std.proofs.Common.{◌≡◌, ℕ, Bool, false, ◌⊎◌, List, [], ◌∷◌, map, Option, Some, None, sym, ap, subst, ◌∙◌, inl, inr}
 use Rattle.std.specs.List.{AllByRecursion}
@@ -55,7 +55,7 @@ front o k x rest r b (closed n is none idle nothing) up = absurd (some_up x rest
 front o k x rest r b (waiting n clean is link_is clean_is connects_ down idle there) up = inr (clean, connects_at clean x rest r.line.up r.line.number n b up (connect_like clean r.line.up connects_) is idle there)
 front o k x rest r b (joined birth own is there) up = inl (record { birth = birth; own = own; at = is; there = there })
 
--- of the line that it gave up; where its session is connected no CONNECT is under way there
+-- of the line that it gave up; if its session is connected no CONNECT is under way there
 pub front_there : (o : Option ℕ) (k : ℕ) (x : Back) (rest : List Back) (r : Receiver) (b : Broker) → Former o k (line_like r.line) b → r.line.old ≡ x ∷ rest
     → (IsJoined o k r.line.old_number b × AllByRecursion IsNoConnect (map packet_like r.line.old)) ⊎ Connects false x rest r.line.old_number b
 front_there o k x rest r b (over none) old = absurd (some_up x rest r.line.old old none)
@@ -69,6 +69,6 @@ no_connect (puback i code) clean none e = absurd cc
 no_connect (pubrec i code) clean none e = absurd cc
 no_connect (pubcomp i code) clean none e = absurd cc
 
--- and where a session is connected none is under way
+-- and if a session is connected none is under way
 pub calm_front : (clean : Bool) (rest xs : List Back) → xs ≡ answers (connect clean) ∷ rest → AllByRecursion IsNoConnect (map packet_like xs) → ⊥
 calm_front clean rest xs up h = let all = subst (λ (zs : List Back). AllByRecursion IsNoConnect (map packet_like zs)) up h in all.0

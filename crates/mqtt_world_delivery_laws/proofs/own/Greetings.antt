@@ -112,7 +112,7 @@ alone_left client birth k b own = by (line_of birth b) refl
         all_more (IsOurLine birth k) (IsOnlyAt (x.number ∷ []) birth) b.lines
         (λ l its on. let same : nat_eq x.number l.number ≡ true = ap (nat_eq x.number) (its.alone on ∙ sym number) ∙ nat_eq_equiv.refl x.number in rw same refl) own.lines
 
--- its own line is linked exactly where the session would be taken from it
+-- its own line is linked exactly if the session would be taken from it
 pub linked_left : (client : List ℕ) (birth k : ℕ) (r : Receiver) (b : Broker) → Own client birth k b → Present (Some birth) k (line_like r.line) b → is_linked r.line.number b ≡ is_one_of r.line.number (lines_left (line_of birth b))
 linked_left client birth k r b own (absent none up) =
     ap (λ (x : Option ℕ). is_linked x b) none ∙ sym (ap (λ (x : Option ℕ). is_one_of x (lines_left (line_of birth b))) none)
@@ -143,7 +143,7 @@ closed_none : (t : Bool) → filter_map answered (unless_closed t []) ≡ []
 closed_none true = refl
 closed_none false = refl
 
--- a CONNECT is spared, and nothing else, where the session is taken from its line
+-- a CONNECT is spared, and nothing else, if the session is taken from its line
 pub spared_left : (client : List ℕ) (birth k : ℕ) (r : Receiver) (b : Broker) → Own client birth k b → Former (Some birth) k (line_like r.line) b
     → filter_map answered (unless_closed (is_one_of r.line.old_number (lines_left (line_of birth b))) r.line.old) ≡ spared (filter_map answered r.line.old)
 spared_left client birth k r b own (over none) =

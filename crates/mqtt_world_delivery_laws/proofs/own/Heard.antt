@@ -93,6 +93,7 @@ module _ (largest : ℕ) (ids : List CopyId) (ns : List ℕ) (limits : Limits) (
   seat_here : Seat (Some birth) placed.line (publisher_like r) b
   seat_here = subst (λ (z : Option ℕ). Seat z placed.line (publisher_like r) b) own placed.seat
 
+  -- a receiver whose session is connected on its line hears there
   pub hears : IsSteady b → r.line.number ≡ Some placed.line → Hears largest ids ns birth placed.line r r b
   hears steady at =
       let y = line_of_on placed.line (Some birth) b there in
@@ -104,6 +105,7 @@ module _ (largest : ℕ) (ids : List CopyId) (ns : List ℕ) (limits : Limits) (
         listens = listens_in_step largest ids birth ns placed.line birth r y.0 b step_here steady.lines steady.coherent.ordered at y.1 y.2 (not_among r.line.old_number placed.line (λ e. placed.apart placed.line at e));
       }
 
+  -- a receiver whose session is connected on the line that it gave up hears there
   pub hears_there : IsSteady b → r.line.old_number ≡ Some placed.line → Hears largest ids ns birth placed.line r (turned_back r) b
   hears_there steady at =
       let y = line_of_on placed.line (Some birth) b there in
@@ -124,6 +126,7 @@ module _ (largest : ℕ) (ids : List CopyId) (ns : List ℕ) (limits : Limits) (
     his_after : (q : Receiver) → q.client ≡ r.client → IsInStep largest all birth ns q (stepped limits choice now (Input n packet) b) → IsHis r.client (Some birth) placed.line (stepped limits choice now (Input n packet) b)
     his_after q same step = (owns, subst (λ (c : List ℕ). is_some (session_named c new.records) ≡ true) same (named_there largest all birth ns q new step apart.differ))
 
+    -- a packet that was read of its line leaves the receiver placed
     pub placed_after : r.line.number ≡ Some placed.line → IsInStep largest all birth ns (receiver_after limits choice now (Input n packet) r b) new → IsPlaced largest all ns (receiver_after limits choice now (Input n packet) r b) new
     placed_after at step =
         let call = Input n packet in
@@ -134,6 +137,7 @@ module _ (largest : ℕ) (ids : List CopyId) (ns : List ℕ) (limits : Limits) (
         (former_as (Some birth) placed.line (line_like r.line) line b refl refl seat_here.former) in
         placed_with largest ids all ns limits choice now call (Some birth) placed.line (drop 1 r.line.up) r.line.old r b placed apart (his_after (receiver_after limits choice now call r b) refl step) present former step placed.its_line
 
+    -- a packet that was read of the line that it gave up leaves the receiver placed
     pub placed_after_there : r.line.old_number ≡ Some placed.line → AllByRecursion IsNoConnect (map packet_like r.line.old)
         → IsInStep largest all birth ns (receiver_called limits choice now (Input n packet) (record r { line = taken_old r.line }) b) new
         → IsPlaced largest all ns (receiver_called limits choice now (Input n packet) (record r { line = taken_old r.line }) b) new

@@ -142,6 +142,7 @@ module _ (largest : ℕ) (ids : List CopyId) (ns : List ℕ) (limits : Limits) (
       in
       put (Some s.birth) l.number step (owns, named_there largest ids s.birth ns q new step placed.told.differ) (own_line (Some s.birth) (Some s.birth) k l.number there present) its_line
 
+  -- a CONNECT that is read of the line that it gave up leaves the receiver placed
   pub late_placed : IsPlaced largest ids ns q new
   late_placed = by placed.birth placed.along placed.seat.his placed.seat.present
     where

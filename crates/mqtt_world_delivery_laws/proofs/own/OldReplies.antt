@@ -1,4 +1,4 @@
--- The broker reads a receiver's answer on the line that it gave up, where its session is connected still (MQTT 5.0, 4.3.2,
+-- The broker reads a receiver's answer on the line that it gave up, while its session is connected still (MQTT 5.0, 4.3.2,
 -- 4.3.3, 4.4, 4.13).
 use Rattle.std.proofs.Common.{◌≡◌, ℕ, false, List, [], ◌∷◌, map, Some, subst, inl, inr}
 use Rattle.std.specs.List.{AllByRecursion}

@@ -75,7 +75,7 @@ module _ (largest : ℕ) (ids : List CopyId) (ns : List ℕ) (limits : Limits) (
   abbrev Goal : Type 0
   Goal = IsPlaced largest ids ns (reads_answer limits choice now l.number (connect clean) r b) (after_answer limits choice now l.number (connect clean) r b)
 
-  -- what becomes of the line that it gave up, by what does where the session was connected there
+  -- what becomes of the line that it gave up, by what does if the session was connected there
   left_behind : (o p : Option ℕ) (j : ℕ) → Former o placed.line (line_like r.line) b
       → ((birth : ℕ) → o ≡ Some birth → r.line.old_number ≡ Some placed.line → session_on placed.line b.lines ≡ Some (Some birth) → is_one_of r.line.old_number (filter_map closing (deeds limits choice now call b)) ≡ true)
       → Former p j (told_by new out (line_like taken.line)) new

@@ -71,6 +71,7 @@ module _ (client : List ℕ) (birth n : ℕ) where
       let o : Own client birth n first = record { sessions = own.sessions; lines = own.lines; births = own.births; given = own.given } in
       own_done client birth n (rows_of_all ds first.records) (after_all ds first) (mine_owns client birth n ds first all o)
 
+  -- an answer leaves session and line the receiver's own
   pub answer_owns : (limits : Limits) (choice : MemberChoice) (now : ℕ) (packet : Packet) (x : rules.Answer) (r : Receiver) (l : BrokerLine) (s : Session) (b : Broker) → IsListening r l s b
       → next_packet (env_of limits choice b) l packet s (heard_of now l.number b) ≡ on_answer x (env_of limits choice b) l s (heard_of now l.number b)
       → Own client birth n b → Own client birth n (stepped limits choice now (Input l.number packet) b)

@@ -1,4 +1,4 @@
--- The broker reads a receiver's SUBSCRIBE, on its line or on the one that it gave up, where its session is connected (MQTT
+-- The broker reads a receiver's SUBSCRIBE, on its line or on the one that it gave up, while its session is connected (MQTT
 -- 5.0, 3.3.1.3, 3.8.4, 4.4).
 use Rattle.std.proofs.Common.{◌≡◌, ℕ, ◌≤◌, Bool, true, false, cond, List, [], ◌∷◌, ◌++◌, filter, map, Option, Some, None, subst, inl, inr}
 use Rattle.std.specs.Prelude.{flat_map, nat_le}
@@ -153,6 +153,7 @@ module _ (first : List CopyId) (c : List ℕ) (wish : Wish) (rest : List Back) (
   placed_here : IsPlaced largest s.ids s.ns r w.broker
   placed_here = subst (IsSeen largest s.ids s.ns w.broker) e s.standing.seen
 
+  -- a SUBSCRIBE that is read of its line leaves the receiver standing
   pub wished_stands : r.line.up ≡ asks_for wish ∷ rest → AreRetainedOnce w.broker.records → read_first spending set (to_broker c) w ≡ false → Stands first c largest set.limits (asks set (to_broker c) w)
   wished_stands up once unspent = elim (front placed_here.birth placed_here.line (asks_for wish) rest r w.broker placed_here.seat.present up) [
     | inl j ↦ first_read first c (asks_for wish) rest largest set r w s e placed_here.line j.at up
@@ -160,6 +161,7 @@ module _ (first : List CopyId) (c : List ℕ) (wish : Wish) (rest : List Back) (
     | inr h ↦ let clash = h.1.packet in absurd cc
   ]
 
+  -- a SUBSCRIBE that is read of the line that it gave up leaves the receiver standing
   pub old_wished_stands : r.line.old ≡ asks_for wish ∷ rest → AreRetainedOnce w.broker.records → read_first spending set (old_to_broker c) w ≡ false → Stands first c largest set.limits (asks set (old_to_broker c) w)
   old_wished_stands old once unspent = elim (front_there placed_here.birth placed_here.line (asks_for wish) rest r w.broker placed_here.seat.former old) [
     | inl j ↦ first_read_there first c (asks_for wish) rest largest set r w s e placed_here.line j.0.at old

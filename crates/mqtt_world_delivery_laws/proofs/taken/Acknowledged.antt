@@ -1,4 +1,4 @@
--- So it is in the world: where the broker reads a receiver's answer, on its line or on the one that it gave up, the copy that ends as
+-- So it is in the world: if the broker reads a receiver's answer, on its line or on the one that it gave up, the copy that ends as
 -- taken was read (MQTT 5.0, 4.3.2, 4.3.3, 4.4).
 use Rattle.std.proofs.Common.{◌≡◌, ℕ, false, List, [], ◌∷◌, map, Option, Some, None, sym, ap, subst, ◌∙◌, inl, inr}
 use Rattle.std.specs.Prelude.{filter_map, is_some}
@@ -36,6 +36,7 @@ module _ (first : List CopyId) (c : List ℕ) (largest : ℕ) (a : Answer) (none
   abbrev call : ℕ → Call
   call n = Input n (wire_back r.client r.window (answers a))
 
+  -- a copy that ends as taken by an answer on its line had been read by the receiver
   pub answer_taken : r.line.up ≡ answers a ∷ rest → its_ends (read_first the_deeds set (to_broker c) w)
   answer_taken up = elim (front placed.birth placed.line (answers a) rest r w.broker placed.seat.present up) [
     | inl j ↦
@@ -52,6 +53,7 @@ module _ (first : List CopyId) (c : List ℕ) (largest : ℕ) (a : Answer) (none
     | inr h ↦ absurd (no_connect a h.0 none h.1.packet)
   ]
 
+  -- a copy that ends as taken by an answer on the line that it gave up had been read by the receiver
   pub answer_taken_there : r.line.old ≡ answers a ∷ rest → its_ends (read_first the_deeds set (old_to_broker c) w)
   answer_taken_there old = elim (front_there placed.birth placed.line (answers a) rest r w.broker placed.seat.former old) [
     | inl joined ↦
@@ -78,8 +80,10 @@ was_read : (r : Receiver) (xs : List End) → AllByRecursion (WasGot r) xs → A
 was_read r xs h = all_more (WasGot r) (WasRead r) xs (λ x got taken qos. subst (λ (q : Qos). WasTaken q x.copy r) qos (got taken)) h
 
 module _ (first : List CopyId) (c : List ℕ) (largest i code : ℕ) (rest : List Back) (set : Setting) (r : Receiver) (w : World) (s : Stands first c largest set.limits w) (e : receiver_named c w ≡ Some r) where
+  -- a copy that a PUBACK on its line ends as taken had been read by the receiver
   pub acknowledged_read : r.line.up ≡ answers (puback i code) ∷ rest → AreRead r set (to_broker c) w
   acknowledged_read up = was_read r (ends set (to_broker c) w) (answer_taken first c largest (puback i code) tt rest set r w s e up)
 
+  -- a copy that a PUBACK on the line that it gave up ends as taken had been read by the receiver
   pub acknowledged_read_there : r.line.old ≡ answers (puback i code) ∷ rest → AreRead r set (old_to_broker c) w
   acknowledged_read_there old = was_read r (ends set (old_to_broker c) w) (answer_taken_there first c largest (puback i code) tt rest set r w s e old)

@@ -1,4 +1,4 @@
--- A receiver's answer ends a copy as taken only where the receiver has read it: of QoS 1 at least once, of QoS 2 once; by what its hop
+-- A receiver's answer ends a copy as taken only if the receiver has read it: of QoS 1 at least once, of QoS 2 once; by what its hop
 -- makes of the answer (MQTT 5.0, 4.3.2, 4.3.3).
 use Rattle.std.proofs.Common.{◌≡◌, ℕ, suc, ◌+◌, ◌≤◌, Bool, true, false, cond, List, [], ◌∷◌, ◌++◌, map, Option, Some, None, nat_eq, slice_get, refl, sym, ap, subst, ◌∙◌, append-nil, arith, inl, inr}
 use Rattle.std.specs.Prelude.{⊤, Err, Ok, filter_map, option_map}
@@ -99,12 +99,14 @@ module _ (largest : ℕ) (events : List HopEvent) (v : Hop) (v_is : v ≡ run la
 
   module _ (a : Answer) (place n : ℕ) (rest : List Answer) (e : FlowEntry) (m : TopicAndPayload) (none : HasNoConnect (a ∷ [])) (takes : reply_to a (queue_of v.copies) ≡ Ok (Some (turns.Leave place Taken)))
       (at : slice_get v.copies n ≡ Some (standing e m)) (is : e.place ≡ place) where
+    -- a copy that an answer on the hop's line ends as taken had been read, of QoS 2 once
     pub got_up : v.up ≡ a ∷ rest → Got e.copy.qos n v.reads v.ledger
     got_up up =
         let next = record v { up = rest; copies = lots_after (turns.Leave place Taken) v.copies } in
         let after_is : step largest v (to_broker false) ≡ next = ap (λ (xs : List Answer). up_comes false xs v) up ∙ up_is a rest place v none takes in
         got_by next n e m e.copy.qos (subst AreGot after_is (next_got (to_broker false))) (ended_at place n e m v.copies at is) refl
 
+    -- a copy that an answer on the line given up ends as taken had been read, of QoS 2 once
     pub got_old : v.old ≡ a ∷ rest → Got e.copy.qos n v.reads v.ledger
     got_old old =
         let next = record v { old = rest; copies = lots_after (turns.Leave place Taken) v.copies } in
@@ -222,6 +224,7 @@ module _ (number : Numbering) (largest : ℕ) (copies : List Lot) (limits : Limi
   answer_got env c (Ok (Some t)) e at = turn_got c.now t e
   answer_got env c (Err fault) e at = subst ends_got (sym (drop_is env protocol_error l s c at on.connected on.no_will on.no_end)) tt
 
+  -- a copy that ends as taken by a receiver's answer had been read by the receiver
   pub answered_got : ends_got (deeds limits choice now (Input l.number (wire_back q.client q.window (answers a))) b)
   answered_got =
       let env = env_of limits choice b in

@@ -1,4 +1,4 @@
--- A copy of a receiver ends as taken by the receiver's own answer alone, and so only where it was handed over: in each event (MQTT 5.0,
+-- A copy of a receiver ends as taken by the receiver's own answer alone, and so only if it was handed over: in each event (MQTT 5.0,
 -- 4.3.2, 4.3.3, 4.4).
 use Rattle.std.proofs.Common.{◌≡◌, ◌⊎◌, ℕ, zero, suc, Bool, true, false, cond, List, [], ◌∷◌, ◌++◌, find, map, Option, Some, None, bytes_eq, nat_eq, refl, sym, ap, subst, ◌∙◌, inl, inr}
 use Rattle.std.specs.Prelude.{⊤, Err, Ok, filter_map, is_some}
@@ -58,6 +58,7 @@ abbrev ends_in : List Deed → List End
 ends_in ds = filter_map ended_in ds
 
 module _ (P : End → Type 0) where
+  -- what holds of the ends of deeds, and of others behind them, holds of all
   pub ends_append : (xs ys : List Deed) → AllByRecursion P (ends_in xs) → AllByRecursion P (ends_in ys) → AllByRecursion P (ends_in (xs ++ ys))
   ends_append xs ys p q = subst (AllByRecursion P) (sym (filter_map-append ended_in xs ys)) (each_append P (ends_in xs) (ends_in ys) p q)
 
@@ -196,7 +197,7 @@ module _ (c : List ℕ) where
           let clash : true ≡ false = sym inside ∙ (ap (λ (k : ℕ). is_one_of (Some k) ns) (eqb-true l.number n line.1) ∙ out) in
           absurd cc
 
-  -- ---- in the world, where the receiver has come
+  -- ---- in the world, if the receiver has come
 
   module _ (set : Setting) (r : Receiver) where
     -- a call on none of its lines
@@ -345,6 +346,7 @@ module _ (c : List ℕ) where
           let v = first_step set a w in
           ends_append (IsGot r) (read_first the_deeds set a w) (read_opening the_deeds set v) (first_got a good) (none_got r (read_opening the_deeds set v) (opening_none set v))
 
+      -- whatever event happens, a copy of the client that ends as taken in it had been read by the receiver
       pub event_got : (x : Event) → read_at spending set x w ≡ false → AreGot r (read_at the_deeds set x w)
       event_got x unspent = by (is_bad x w) refl unspent
         where

@@ -333,6 +333,7 @@ module _ (env : Env) where
   closing : (keeps_will : Bool) (l : Line) → Plainly (close env keeps_will l)
   closing keeps_will l b = plain_series (always (Gone l.number ∷ []) ∷ close_connected env keeps_will l.session ∷ []) ((λ a. (tt, tt)), (closing_connected keeps_will l.session, tt)) b
 
+  -- a line that is dropped ends no copy as taken, and sends none
   pub dropping : (code : ℕ) (l : Line) → Plainly (drop_line env code l)
   dropping code l b = plain_series (always (Send l.number (disconnect code) ∷ []) ∷ close env true l ∷ []) ((λ a. (tt, tt)), (closing true l, tt)) b
 

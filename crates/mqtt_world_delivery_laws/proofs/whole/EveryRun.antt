@@ -160,7 +160,7 @@ pub run_acknowledges : (limits : Limits) (ts : List Turn) (choice : MemberChoice
     → r.line.up ≡ answers (puback i code) ∷ rest → AreRead r (record { limits = limits; choice = choice }) (to_broker c) (run limits ts w)
 run_acknowledges limits ts choice w u fair c i code rest r e up = acknowledged_read [] c any_size i code rest (record { limits = limits; choice = choice }) r (run limits ts w) (fair_run_kept limits ts w u fair c).stands e up
 
--- also where the PUBACK comes on the old line
+-- also if the PUBACK comes on the old line
 pub run_acknowledges_there : (limits : Limits) (ts : List Turn) (choice : MemberChoice) (w : World) → IsUntouched limits w → IsFair limits ts w → (c : List ℕ) (i code : ℕ) (rest : List Back) (r : Receiver) → receiver_named c (run limits ts w) ≡ Some r
     → r.line.old ≡ answers (puback i code) ∷ rest → AreRead r (record { limits = limits; choice = choice }) (old_to_broker c) (run limits ts w)
 run_acknowledges_there limits ts choice w u fair c i code rest r e old = acknowledged_read_there [] c any_size i code rest (record { limits = limits; choice = choice }) r (run limits ts w) (fair_run_kept limits ts w u fair c).stands e old

@@ -189,6 +189,7 @@ module _ (c : List ℕ) where
   happens_remains set (stop_before a) w = then_remains w (before set a w) (happens set (stop_before a) w) (before_remains set a w) (restarts_remain set (before set a w))
   happens_remains set (stop_after a) w = then_remains w (first_step set a w) (happens set (stop_after a) w) (first_remains set a w) (restarts_remain set (first_step set a w))
 
+  -- in a run what a receiver has read stays read
   pub run_remains : (limits : Limits) (ts : List Turn) (w : World) → Remains c w (run limits ts w)
   run_remains limits [] w = same_remains w w refl
   run_remains limits (t ∷ ts) w = then_remains w (turned limits t w) (run limits ts (turned limits t w)) (by (is_bad t.event w)) (run_remains limits ts (turned limits t w))

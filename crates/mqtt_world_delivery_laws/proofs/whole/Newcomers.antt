@@ -26,7 +26,7 @@ use Rattle.mqtt_world_delivery_laws.proofs.order.Coming.{none_at_first}
 use Rattle.mqtt_world_delivery_laws.proofs.others.Like.{moves_reading}
 use Rattle.mqtt_world_delivery_laws.proofs.order.WholeOrder.{run_hands_whole}
 
--- ---- nobody of a name is there later, where none was
+-- ---- nobody of a name is there later, if none was
 
 module _ (c : List ℕ) where
   abbrev Stays : World → World → Type 0
@@ -139,12 +139,14 @@ module _ (c : List ℕ) where
 
     -- ---- the run, before and after it comes
 
+    -- a run cut where the receiver has just come
     pub record Parts (ts : List Turn) (w : World) : Type 0 where
       pub first : List Turn
       pub later : List Turn
       pub are : first ++ later ≡ ts
       pub new : IsNewcomer (run limits first w)
 
+    -- a run in which a receiver comes is cut there
     pub parts : (ts : List Turn) (w : World) (r : Receiver) → are_beginnings_clean limits ts w ≡ true → receiver_named c w ≡ None → receiver_named c (run limits ts w) ≡ Some r → Parts ts w
     parts [] w r clean none e = let clash : None ≡ Some r = sym none ∙ e in absurd cc
     parts (t ∷ ts) w r clean none e = elim (turn_comes t w (both_true (begins_clean t.event w) (are_beginnings_clean limits ts (turned limits t w)) clean).0 none) [

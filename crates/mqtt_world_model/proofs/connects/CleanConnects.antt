@@ -231,7 +231,7 @@ prepare_is o env client s n b e t k =
 abbrev next_birth : List Deed → Broker → ℕ
 next_birth ds b = suc (after_all ds b).records.births
 
--- where there is a place a new session begins
+-- if there is a place a new session begins
 pub begins_by_room : (t e : Bool) (ds : List Deed) (l : BrokerLine) (c : Greeting) (r : Records) → t ≡ true → e ≡ false
     → cond t (ds ++ begin_named e l c r) (refused l c quota_exceeded) ≡ ds ++ begin l c false c.client_identifier (suc r.births)
 begins_by_room false e ds l c r room is = absurd cc

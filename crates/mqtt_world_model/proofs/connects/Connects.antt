@@ -48,6 +48,7 @@ use Rattle.mqtt_world_model.proofs.seats.Owned.{ArePatient, patient_append, pati
 
 -- ---- what a list of deeds leaves, with the lines that it closes
 
+-- what deeds leave of a session and its line, what they tell there, and which lines they close
 pub record Leaves (birth n : ℕ) (ds : List Deed) (b : Broker) (f : Face) (on : Option (Option ℕ)) (ps : List ToPublisher) (closings : List ℕ) : Type 0 where
   pub face_is : face_at birth (after_all ds b).records ≡ Some f
   pub line_is : session_on n (after_all ds b).lines ≡ on

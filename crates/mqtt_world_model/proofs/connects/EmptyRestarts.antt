@@ -93,6 +93,7 @@ module _ (env : Env) (client : List ℕ) (birth : ℕ) where
       let c = after (At (whose x) (Close b.now)) b in
       (tt, begin_append client birth (settle env x.birth c) [] (begin_settle x.birth c) tt)
 
+  -- an opening begins no session
   pub begin_opening : (xs : List Session) (b : Broker) → BeginsNobody (series (map (λ x. close_if (is_connected x) env x) xs) b)
   begin_opening [] b = tt
   begin_opening (x ∷ xs) b =

@@ -1,4 +1,4 @@
--- The broker reads a publisher's CONNECT where no session of its client stands: a new one begins, or the table is full (MQTT
+-- The broker reads a publisher's CONNECT while no session of its client stands: a new one begins, or the table is full (MQTT
 -- 5.0, 3.1.2.4, 3.2.2.2). It is the step of the hop.
 use Rattle.std.proofs.Common.{◌≡◌, ℕ, suc, ◌<◌, Bool, true, false, cond, ◌||◌, List, [], ◌∷◌, ◌++◌, length, drop, Option, Some, None, nat_eq, nat_lt, bytes_eq, refl, sym, ap, subst, ◌∙◌, arith, inl, inr}
 use Rattle.std.specs.Prelude.{option_map, find, filter_map, is_some}
@@ -94,7 +94,7 @@ call_is limits choice now clean p l b a =
 
 -- ---- the new session
 
--- where no session has the name none is another's
+-- if no session has the name none is another's
 pub only_none : (client : List ℕ) (birth : ℕ) (ss : List Session) → find (λ (x : Session). bytes_eq x.client client) ss ≡ None → AllByRecursion (IsIts client birth) ss
 only_none client birth [] e = tt
 only_none client birth (x ∷ xs) e = elim (cases_Bool (bytes_eq x.client client)) [
@@ -125,6 +125,7 @@ fresh_face row ss new less =
 
 -- ---- what is left by deeds that begin a session and close these lines
 
+-- deeds begin a session that is new and empty, alone of its name, on this line
 pub record Renews (client : List ℕ) (n : ℕ) (ds : List Deed) (b : Broker) (closings : List ℕ) : Type 0 where
   pub birth : ℕ
   pub shown : Face
@@ -165,7 +166,7 @@ begins l clean client b none births room on =
       patient = (tt, (refl, (tt, tt)));
     }
 
--- nor does it where the line was heard of first
+-- nor does it if the line was heard of first
 pub heard_first : (client : List ℕ) (n now : ℕ) (ds : List Deed) (b : Broker) (closings : List ℕ) → Renews client n ds (heard_of now n b) closings → Renews client n (On n Hear ∷ ds) (at_moment now b) closings
 heard_first client n now ds b closings g = record {
   birth = g.birth;
@@ -276,7 +277,7 @@ first_is_hop limits choice now clean p l b accepted up a = elim (cases_Bool (nat
   | inr full ↦ (to_broker refuses, refused_seen limits choice now clean p l b accepted up a full)
 ]
 
--- where one begins, it and the line are the publisher's own
+-- if one begins, it and the line are the publisher's own
 pub first_owns : (limits : Limits) (choice : MemberChoice) (now : ℕ) (clean : Bool) (p : Publisher) (l : BrokerLine) (b : Broker) → IsFirst limits p l b → nat_lt (length b.records.sessions) limits.sessions ≡ true
     → l.keep_alive ≡ 0 → IsInOrder b → IsInOrder (stepped limits choice now (Input l.number (connect_packet clean p)) b)
     → Own p.client (suc b.records.births) l.number (stepped limits choice now (Input l.number (connect_packet clean p)) b)

@@ -41,6 +41,7 @@ abbrev pub late_on : Bool → Option (Option ℕ) → Option (Option ℕ)
 late_on true on = None
 late_on false on = on
 
+-- what becomes of another line than the one that the CONNECT came on
 pub record IsThere (m : ℕ) (ds : List Deed) (b : Broker) (t : Bool) : Type 0 where
   pub told_is : told_to m ds ≡ late_told t
   pub line_is : session_on m (after_all ds b).lines ≡ late_on t (session_on m b.lines)

@@ -123,7 +123,7 @@ pub stopped_hands_once : option_map (λ (r : Receiver). map (λ (e : Entry). e.c
 unfolding varint
 stopped_hands_once = refl
 
--- what is told where the broker stops
+-- what is told if the broker stops
 pub stopped_tells : reports_of stopped ≡ Accepted 1 ∷ Entered (record { publication = 1; birth = 1; cause = Direct }) r1 ∷ Ended (record { publication = 1; birth = 1; cause = Direct }) r1 Taken ∷ []
 unfolding varint
 stopped_tells = refl

@@ -26,7 +26,7 @@ use Rattle.mqtt_world_model.proofs.examples.Scripts.{p1, r1, first_copy, joins, 
 abbrev one_out : Telling
 one_out = sends_out 1
 
--- what is told where a pump is lost
+-- what is told if a pump is lost
 pub a_lost_pump_is_told : tellings stopped
     ≡ silent ∷ silent ∷ silent ∷ one_out ∷ silent ∷ silent ∷ one_out ∷ silent ∷ silent ∷ one_out ∷ silent ∷ silent
     ∷ record { reports = Accepted 1 ∷ Entered first_copy r1 ∷ []; out = 1 } ∷ silent ∷ silent ∷ one_out ∷ silent ∷ one_out ∷ silent ∷ one_out ∷ silent

@@ -104,6 +104,7 @@ module _ (client : List ℕ) (birth n : ℕ) (l : Line) (s : Session) (another :
   far_next env (Pubrel a) b q at on w e = far_release (answer_to_release a.identifier s.inbound) a.identifier
   far_next env packet b q at on w e = absurd q
 
+  -- a session's own PUBLISH and PUBREL are far from every other session and line
   pub far_elsewhere : (limits : Limits) (choice : MemberChoice) (now : ℕ) (packet : Packet) (b : Broker) → IsOwnPacket packet
       → line_at l.number b ≡ Some l → l.session ≡ Some s.birth → session_at s.birth b.records ≡ Some s → s.will ≡ None → s.expiry ≡ never
       → Far (deeds limits choice now (Input l.number packet) b)

@@ -135,7 +135,7 @@ pub record Apart (birth n : ℕ) (ds : List Deed) (b : Broker) : Type 0 where
   pub told_is : told_to n ds ≡ []
   pub closes_is : closes n ds ≡ false
 
--- deeds far from him leave what is his apart
+-- deeds far from the publisher leave what is its own apart
 pub apart_by : (client : List ℕ) (birth n : ℕ) (ds : List Deed) (b : Broker) → AreFar client birth n ds → Apart birth n ds b
 apart_by client birth n [] b q = record { face_is = refl; line_is = refl; told_is = refl; closes_is = refl }
 apart_by client birth n (d ∷ ds) b q =
@@ -165,6 +165,7 @@ foreign client birth its b expiry will q named = record {
 }
 
 module _ (client : List ℕ) (birth : ℕ) where
+  -- a changed session leaves whose the sessions are, if it is as before whose it is
   pub all_keyed : (k : ℕ) (f : Session → Session) (ss : List Session) → ((x : Session) → x.birth ≡ k → IsOurs client birth x → IsOurs client birth (f x))
       → AllByRecursion (IsOurs client birth) ss → AllByRecursion (IsOurs client birth) (change_row birth_of k f ss)
   all_keyed k f [] g h = tt
@@ -240,6 +241,7 @@ module _ (client : List ℕ) (birth : ℕ) where
       let put = ours_put row r.sessions q (λ e. absurd (other e)) h in
       all_keyed row.birth _ (put_session row r.sessions) (λ x e p. foreign client birth x.client x.birth x.expiry (Some will) (ap (λ (m : ℕ). nat_eq m birth) e ∙ q) p.named) put
 
+  -- deeds far from a publisher leave whose the sessions are
   pub far_ours : (n : ℕ) (d : Deed) (r : Records) → IsFar client birth n d → Ours r → Ours (stored_after d r)
   far_ours n (Accept number origin m) r q h = h
   far_ours n (Begin row will) r (inl q) h = absurd q
@@ -288,6 +290,7 @@ module _ (birth n : ℕ) where
     | inr other ↦ rw other (h.0, on_ours now m part ls g h.1)
   ]
 
+  -- a line that goes leaves whose the lines are
   pub gone_ours : (m : ℕ) (ls : List Line) → OurLines ls → OurLines (filter (λ (l : Line). not (nat_eq l.number m)) ls)
   gone_ours m [] h = tt
   gone_ours m (l ∷ ls) h = elim (cases_Bool (nat_eq l.number m)) [
@@ -302,6 +305,7 @@ module _ (birth n : ℕ) where
     | inr other ↦ rw other (h.0, without_ours k place ls h.1)
   ]
 
+  -- a part of a session leaves whose the lines are
   pub at_lines : (k : ℕ) (part : Part) (ls : List Line) → OurLines ls → OurLines (lines_at k part ls)
   at_lines k (Resume expiry will) ls h = h
   at_lines k (Close moment) ls h = h
@@ -323,6 +327,7 @@ module _ (birth n : ℕ) where
     alone = λ e. let same : other ≡ birth = cc in absurd (not_same other birth p same);
   }
 
+  -- deeds far from a publisher leave whose the lines are
   pub far_lines : (client : List ℕ) (now : ℕ) (d : Deed) (ls : List Line) → IsFar client birth n d → OurLines ls → OurLines (lines_after now d ls)
   far_lines client now (Accept number origin m) ls q h = h
   far_lines client now (Begin row will) ls q h = h
@@ -404,7 +409,7 @@ far_given client birth n (On m part) given q h = h
 far_given client birth n (Send m packet) given q h = h
 far_given client birth n (Gone m) given q h = h
 
--- a deed far from him leaves him what is his
+-- a deed far from the publisher leaves it what is its own
 pub own_deed : (client : List ℕ) (birth n : ℕ) (d : Deed) (b : Broker) → IsFar client birth n d → Own client birth n b → Own client birth n (after d b)
 own_deed client birth n d b q o = record {
   sessions = far_ours client birth n d b.records q o.sessions;

@@ -40,10 +40,12 @@ module _ (client : List ℕ) (birth n : ℕ) where
   abbrev pub Far : List Deed → Type 0
   Far ds = AreFar client birth n ds
 
+  -- quiet deeds are far
   pub far_quiet : (ds : List Deed) → AreQuiet birth n ds → Far ds
   far_quiet [] q = tt
   far_quiet (d ∷ ds) q = (inl q.0, far_quiet ds q.1)
 
+  -- far deeds, and others behind them, are far
   pub far_append : (xs ys : List Deed) → Far xs → Far ys → Far (xs ++ ys)
   far_append [] ys p q = q
   far_append (x ∷ xs) ys p q = (p.0, far_append xs ys p.1 q)
@@ -61,6 +63,7 @@ module _ (client : List ℕ) (birth n : ℕ) where
   abbrev pub IsForeign : Session → Type 0
   IsForeign s = nat_eq s.birth birth ≡ false
 
+  -- a line is another, and has another session
   pub record IsOther (l : Line) : Type 0 where
     pub number : nat_eq l.number n ≡ false
     pub session : (k : ℕ) → l.session ≡ Some k → nat_eq k birth ≡ false
@@ -209,6 +212,7 @@ module _ (client : List ℕ) (birth n : ℕ) where
   good_of [] b q = tt
   good_of (d ∷ ds) b q = (q.0, good_of ds (deeds.after d b) q.1)
 
+  -- deeds of which each is far are far
   pub far_of : (ds : List Deed) (b : Broker) → AreGood IsFarDeed ds b → Far ds
   far_of [] b q = tt
   far_of (d ∷ ds) b q = (q.0, far_of ds (deeds.after d b) q.1)
@@ -216,6 +220,7 @@ module _ (client : List ℕ) (birth n : ℕ) where
   led : (ds : List Deed) (b : Broker) → Own client birth n b → Far ds → Leads (Own client birth n) IsFarDeed ds b
   led ds b o q = (good_of ds b q, own_deeds client birth n ds b q o)
 
+  -- that each deed of others is far is a law of the one induction
   pub far_law : (env : Env) → starts_with nat_eq client auto ≡ false → Law env others (Own client birth n) IsFarDeed
   far_law env plain = record {
     finds = record {
@@ -267,6 +272,7 @@ module _ (client : List ℕ) (birth n : ℕ) where
       found None = tt
       found (Some s) = far_turns b.now l.number s (pump_turns l b.now s)
 
+  -- a call on another line, for another client, does far deeds
   pub far_call : (env : Env) (call : Call) (b : Broker) → Own client birth n b → starts_with nat_eq client auto ≡ false → IsFarCall client n call → Far (deeds_of env call b)
   far_call env NewLine b o plain q = by_law env NewLine b o plain tt
   far_call env (Input m packet) b o plain q = by_law env (Input m packet) b o plain (λ l e. line_at_other m l b o q.0 e, q.1)

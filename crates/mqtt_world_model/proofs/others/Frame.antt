@@ -91,7 +91,7 @@ pub kept_given : (rows : List Change) (b : Broker) → (with_moment rows b).give
 kept_given [] b = refl
 kept_given (row ∷ rows) b = refl
 
--- the stored moment leaves what is his
+-- the stored moment leaves what is the publisher's
 pub own_done : (client : List ℕ) (birth n : ℕ) (rows : List Change) (b : Broker) → Own client birth n b → Own client birth n (with_moment rows b)
 own_done client birth n rows b o = record {
   sessions = subst (λ (ss : List Session). AllByRecursion (IsOurs client birth) ss) (sym (done_sessions rows b)) o.sessions;
@@ -100,7 +100,7 @@ own_done client birth n rows b o = record {
   given = subst (λ (k : ℕ). n ≤ k) (sym (kept_given rows b)) o.given;
 }
 
--- a call of another's leaves what is his
+-- a call of another's leaves what is the publisher's
 pub own_stays : (limits : Limits) (choice : MemberChoice) (now : ℕ) (call : Call) (client : List ℕ) (birth n : ℕ) (b : Broker)
     → Own client birth n b → starts_with nat_eq client auto ≡ false → IsFarCall client n call → Own client birth n (stepped limits choice now call b)
 own_stays limits choice now call client birth n b own plain far =

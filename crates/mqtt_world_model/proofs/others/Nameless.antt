@@ -145,6 +145,7 @@ module _ (client : List ℕ) where
   its_call (Pump m) b q = λ l e. tt
   its_call Tick b q = record { silent = λ l e. tt; wills = λ s e. tt; ends = λ s e. tt }
 
+  -- a call that is no CONNECT of this client begins no session of it
   pub strangers_call : (env : Env) (call : Call) (b : Broker) → starts_with nat_eq client auto ≡ false → IsOfOthers call → AreStrangers client (deeds_of env call b)
   strangers_call env call b plain q =
       strangers_of (deeds_of env call b) b (leads_call env others Any IsGood (the_law env plain) call b tt (its_call call b q)).0

@@ -23,6 +23,7 @@ use Rattle.mqtt_rules.specs.Deeds.{whose, Message, Origin, FromClient, FromWill,
 use Rattle.mqtt_rules.specs.Outbound.{of_entry, leave_deeds, since, queue_limits, enter_deeds}
 use Rattle.mqtt_rules.specs.Routing.{CopyTo, is_queued, deliver_by, deliver, retained_of, forgets, retain_by, next_publication, publish}
 use Rattle.mqtt_rules.specs.Numbers.{birth_given}
+use Rattle.mqtt_rules.proofs.acts.Offers.{of_offer}
 use Rattle.mqtt_rules.proofs.flight.FlightRows.{found_key}
 use Rattle.mqtt_world_model.specs.Ends.{heard}
 use Rattle.mqtt_world_model.specs.Run.{client_number}
@@ -369,11 +370,6 @@ pub quiet_flat : {X : Type 0} (birth n : ℕ) (f : X → List Deed) → ((x : X)
 quiet_flat birth n f h [] = tt
 quiet_flat birth n f h (x ∷ xs) = quiet_append birth n (f x) (flat_map f xs) (h x) (quiet_flat birth n f h xs)
 
--- a choice between quiet lists is quiet
-pub quiet_cond : (birth n : ℕ) (t : Bool) (xs ys : List Deed) → AreQuiet birth n xs → AreQuiet birth n ys → AreQuiet birth n (cond t xs ys)
-quiet_cond birth n true xs ys p q = p
-quiet_cond birth n false xs ys p q = q
-
 -- ---- a publication
 
 -- a copy's leaving is quiet
@@ -396,9 +392,8 @@ quiet_enter birth n env copy s =
     quiet_append birth n (flat_map (leave_deeds s) ts) (At (whose s) (Enter copy) ∷ []) (quiet_flat birth n (leave_deeds s) (quiet_leave birth n s) ts) (inr tt, tt)
 
 -- a copy of QoS 0 is a PUBLISH, which a publisher passes over
-pub quiet_offer : (birth n now : ℕ) (l : Option Line) (copy : MessageCopy) → AreQuiet birth n (offer l (publish_of now false 0 copy))
-quiet_offer birth n now None copy = tt
-quiet_offer birth n now (Some l) copy = quiet_cond birth n _ (Send l.number (publish_of now false 0 copy) ∷ []) [] (inr refl, tt) tt
+pub quiet_offer : (birth n now : ℕ) (o : Option Line) (copy : MessageCopy) → AreQuiet birth n (offer o (publish_of now false 0 copy))
+quiet_offer birth n now o copy = of_offer (AreQuiet birth n) o (publish_of now false 0 copy) tt (λ l there. (inr refl, tt))
 
 quiet_with : (birth n : ℕ) (o : Option Session) (f : Session → Act) (b : Broker) → ((s : Session) → AreQuiet birth n (f s b)) → AreQuiet birth n (with_session o f b)
 quiet_with birth n None f b h = tt

@@ -33,7 +33,7 @@ face s = record { birth = s.birth; client = s.client; expiry = s.expiry; closed 
 abbrev pub face_at : ℕ → Records → Option Face
 face_at birth r = option_map face (session_at birth r)
 
--- ---- rows changed, whichever they are, where what is looked at stays
+-- ---- rows changed, whichever they are, if what is looked at stays
 
 module _ {X F : Type 0} (key : X → ℕ) (view : X → F) where
   view_first : (mine : Bool) (f : X → X) (y : X) (xs : List X) → view (f y) ≡ view y → (o : Option X)
@@ -46,6 +46,7 @@ module _ {X F : Type 0} (key : X → ℕ) (view : X → F) where
   view_rest true y a b h = refl
   view_rest false y a b h = h
 
+  -- what is seen of a row by its key stays, if the change leaves it in each
   pub view-change_row : (birth k : ℕ) (f : X → X) (xs : List X) → ((x : X) → key (f x) ≡ key x) → ((x : X) → view (f x) ≡ view x)
       → option_map view (row_at key birth (change_row key k f xs)) ≡ option_map view (row_at key birth xs)
   view-change_row birth k f [] e h = refl

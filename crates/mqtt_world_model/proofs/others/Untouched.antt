@@ -304,6 +304,7 @@ module _ (n : ℕ) where
   abbrev Away : List Deed → Type 0
   Away ds = AreAway n ds
 
+  -- deeds away from a line, and others behind them, are away from it
   pub away_append : (xs ys : List Deed) → Away xs → Away ys → Away (xs ++ ys)
   away_append [] ys p q = q
   away_append (x ∷ xs) ys p q = (p.0, away_append xs ys p.1 q)

@@ -46,7 +46,7 @@ of_others client k (Lost m) q = tt
 of_others client k (Pump m) q = tt
 of_others client k Tick q = tt
 
--- the moment leaves what is his
+-- the moment leaves what is the publisher's
 pub moved : (client : List ℕ) (o : Option ℕ) (k now : ℕ) (b : Broker) → IsHis client o k b → IsHis client o k (at_moment now b)
 moved client None k now b h = h
 moved client (Some birth) k now b h = (record { sessions = h.0.sessions; lines = h.0.lines; births = h.0.births; given = h.0.given }, h.1)
@@ -57,12 +57,12 @@ pub others_of : (limits : Limits) (choice : MemberChoice) (now : ℕ) (call : Ca
 others_of limits choice now call client None k b his proper far = strangers_call client (env_of limits choice b) call (at_moment now b) proper (of_others client k call far)
 others_of limits choice now call client (Some birth) k b his proper far = far_call client birth k (env_of limits choice b) call (at_moment now b) (moved client (Some birth) k now b his).0 proper far
 
--- a call on another line stays off his
+-- a call on another line stays off the publisher's
 pub off_line : (limits : Limits) (choice : MemberChoice) (now : ℕ) (call : Call) (x : Option ℕ) (b : Broker) → IsOff x call → AreElsewhere x (deeds limits choice now call b) (at_moment now b)
 off_line limits choice now call None b q = tt
 off_line limits choice now call (Some n) b q = λ idle. elsewhere n (env_of limits choice b) call (at_moment now b) idle q
 
--- a call of another's leaves him seated
+-- a call of another's leaves the publisher seated
 pub others_come : (limits : Limits) (choice : MemberChoice) (now : ℕ) (call : Call) (o : Option ℕ) (k : ℕ) (p : Publisher) (b : Broker) (accepted : List ℕ)
     → Seat o k p b → IsNamed p.client → IsFarCall p.client k call → IsOff p.line.number call → IsOff p.line.old_number call
     → Comes k p (publisher_told (stepped limits choice now call b) (told limits choice now call b) p) b (stepped limits choice now call b) accepted accepted
@@ -76,7 +76,7 @@ others_come limits choice now call o k p b accepted seat named far own old =
 
 -- ---- a packet of its own line
 
--- no CONNECT is under way where its session is connected
+-- no CONNECT is under way if its session is connected
 no_connect : (accepted : List ℕ) (p : Publisher) (b : Broker) (packet : Sent) (rest : List Sent) → IsRun accepted p b → p.line.up ≡ packet ∷ rest → is_linked p.line.number b ≡ true → IsNoConnect packet
 no_connect accepted p b packet rest r up linked = by packet (subst Heard (sym r.seen_is) (heard_run r.events)) up
   where
@@ -119,7 +119,7 @@ connects limits choice now n o k clean p b accepted named sound order apart his 
         kept_connect limits choice now clean p l s.0 k b accepted named sound order_after up here apart at waits quiet free s.2
         (subst (λ (z : ℕ). IsHis p.client (Some z) k b) (sym s.1) h) (subst (λ (z : ℕ). Former (Some z) k p.line b) (sym s.1) f)
 
--- a call on his line is steps of the hop
+-- a call on the publisher's line is steps of the hop
 pub reads_own : (limits : Limits) (choice : MemberChoice) (now : ℕ) (n : ℕ) (o : Option ℕ) (k : ℕ) (packet : Sent) (rest : List Sent) (p : Publisher) (b : Broker) (accepted : List ℕ)
     → Seat o k p b → IsNamed p.client → IsSound limits p.client b → IsInOrder (stepped limits choice now (Input n (wire p.client p.contents packet)) b) → IsApart p.line.number p.line.old_number → IsRun accepted p b
     → p.line.number ≡ Some n → p.line.up ≡ packet ∷ rest → Reads limits choice now n k p packet b accepted
@@ -175,7 +175,7 @@ late_connects limits choice now n o k p b accepted named sound order apart his p
         late_comes limits choice now p l s.0 k b accepted sound.order order_after up here apart at waits quiet free s.2
         (subst (λ (z : ℕ). IsHis p.client (Some z) k b) (sym s.1) h) (subst (λ (z : ℕ). Present (Some z) k p.line b) (sym s.1) f)
 
--- so is a call on his old line
+-- so is a call on its old line
 pub reads_old : (limits : Limits) (choice : MemberChoice) (now : ℕ) (n : ℕ) (o : Option ℕ) (k : ℕ) (packet : Sent) (rest : List Sent) (p : Publisher) (b : Broker) (accepted : List ℕ)
     → Seat o k p b → IsNamed p.client → IsSound limits p.client b → IsInOrder (stepped limits choice now (Input n (wire p.client p.contents packet)) b) → IsApart p.line.number p.line.old_number
     → p.line.old_number ≡ Some n → p.line.old ≡ packet ∷ rest → ReadsOld limits choice now n k p packet b accepted
@@ -280,7 +280,7 @@ lost_off : (limits : Limits) (choice : MemberChoice) (now n : ℕ) (x : Option �
 lost_off limits choice now n None b h = tt
 lost_off limits choice now n (Some m) b h = off_line limits choice now (Lost n) (Some m) b (differs n m (h m refl))
 
--- so is the loss of his line
+-- so is the loss of its line
 pub loses : (limits : Limits) (choice : MemberChoice) (now : ℕ) (n : ℕ) (o : Option ℕ) (k : ℕ) (p : Publisher) (b : Broker) (accepted : List ℕ)
     → Seat o k p b → IsNamed p.client → IsApart p.line.number p.line.old_number → p.line.number ≡ Some n → Loses limits choice now n k p b accepted
 loses limits choice now n o k p b accepted seat named apart is = by seat.present

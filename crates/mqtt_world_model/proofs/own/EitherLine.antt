@@ -29,6 +29,7 @@ use Rattle.mqtt_world_model.proofs.own.OldLine.{old_with, old_before, old_sees, 
 
 -- ---- which of a publisher's lines
 
+-- the two lines of a publisher
 pub data Which : Type 0 where
   its_own : Which
   given_up : Which

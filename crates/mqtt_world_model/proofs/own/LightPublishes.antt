@@ -112,6 +112,7 @@ by_standing Over d env l s p m b is light at on there no_will no_end = drop_give
 abbrev pub handed : Handing → Content → Publication
 handed d c = record { delivery = d; retain = c.retain; topic = c.topic; properties = []; payload = c.payload }
 
+-- what a PUBLISH comes to: a verdict by the rules' choice, or the line is dropped with a code
 pub data Effect : Type 0 where
   chooses : (choice : Choice) → Effect
   drops : (code : ℕ) → Effect
@@ -140,7 +141,7 @@ meant_does (Means name) env l s d c b light at on there no_will no_end =
       subst (λ (ds : List Deed). Does (chooses (choice_of (accepted_copies env m b) (is_wanted env m b.records))) d l s ds b) (sym same) g,
     )
 
--- a PUBLISH of QoS 0 or 1 leaves his session as it was, but for its answer
+-- a PUBLISH of QoS 0 or 1 leaves the publisher's session as it was, but for its answer
 pub light_does : (env : Env) (l : BrokerLine) (s : Session) (d : Handing) (c : Content) (b : Broker)
     → opens s d ≡ [] → session_at s.birth b.records ≡ Some s → l.session ≡ Some s.birth → session_on l.number b.lines ≡ Some (Some s.birth) → s.will ≡ None → s.expiry ≡ never
     → (e : Effect) × Does e d l s (on_publish env l s (handed d c) b) b

@@ -1,4 +1,4 @@
--- The broker reads what a publisher left on the line that it gave up, where its session is connected still: nobody reads the
+-- The broker reads what a publisher left on the line that it gave up, while its session is connected still: nobody reads the
 -- answer. It is that event of its hop (MQTT 5.0, 4.3.2, 4.3.3, 4.4).
 use Rattle.std.proofs.Common.{◌≡◌, ℕ, suc, Bool, true, false, List, [], ◌∷◌, ◌++◌, drop, Option, Some, None, nat_eq, refl, sym, ap, ◌∙◌, append-nil, arith}
 use Rattle.std.specs.Prelude.{⊤, option_map, filter_map, is_some}

@@ -50,7 +50,7 @@ former_taken o k l b (lingers birth own is calm there) = lingers birth own is ca
 
 -- ---- a packet of its session
 
--- a packet on his line is steps of the hop
+-- a packet on the publisher's line is steps of the hop
 pub packet_comes : (limits : Limits) (choice : MemberChoice) (now : ℕ) (p : Publisher) (rest : List Sent) (packet : Sent) (l : BrokerLine) (s : Session) (b : Broker) (accepted : List ℕ)
     → p.line.up ≡ packet ∷ rest → IsNoConnect packet → IsConnected p l s b → IsApart p.line.number p.line.old_number → IsHis p.client (Some s.birth) l.number b → Former (Some s.birth) l.number p.line b
     → Comes l.number p (after_step limits choice now (Input l.number (wire p.client p.contents packet)) p b) b (stepped limits choice now (Input l.number (wire p.client p.contents packet)) b)
@@ -116,7 +116,7 @@ own_found birth k l (x ∷ xs) h e = elim (cases_Bool (is_of x.session birth)) [
   | inr other ↦ own_found birth k l xs h.1 (rw other at e)
 ]
 
--- the line that his session stood on is not the one of his CONNECT
+-- the line that the publisher's session stood on is not the one of its CONNECT
 pub taken_of : (client : List ℕ) (birth k n : ℕ) (b : Broker) → Own client birth k b → IsIdle n b → IsTaken (line_of birth b) birth n
 taken_of client birth k n b own idle = record {
   connected = λ l e. (own_found birth k l b.lines own.lines e).0;
@@ -255,7 +255,7 @@ asking_of p l s k b is at waits idle kept own former = record {
   old = spared_of p.client s.birth k p.line b own former;
 }
 
--- a CONNECT to his session is a step of the hop
+-- a CONNECT to the publisher's session is a step of the hop
 pub kept_connect : (limits : Limits) (choice : MemberChoice) (now : ℕ) (clean : Bool) (p : Publisher) (l : BrokerLine) (s : Session) (k : ℕ) (b : Broker) (accepted : List ℕ)
     → IsNamed p.client → IsSound limits p.client b → IsInOrder (stepped limits choice now (Input l.number (connect_packet clean p)) b)
     → p.line.up ≡ shake (CONNECT clean) ∷ [] → p.line.number ≡ Some l.number → IsApart p.line.number p.line.old_number → line_at l.number b ≡ Some l → l.session ≡ None → l.keep_alive ≡ 0 → IsIdle l.number b
@@ -272,14 +272,14 @@ kept_connect limits choice now true p l s k b accepted named sound order up is a
     connect_seat limits choice now true p l s.birth k own.0 b accepted up is apart his.0 former (call_renews limits choice now p l s b a m).closings_is his.1 own.1
     (clean_is_hop limits choice now p [] l s b accepted up a m)
 
--- ---- where no session of its name stands
+-- ---- if no session of its name stands
 
 -- what is not some is none
 pub not_some : (o : Option Session) → is_some o ≡ false → o ≡ None
 not_some None e = refl
 not_some (Some s) e = absurd cc
 
--- a CONNECT without a session of his is a step of the hop
+-- a CONNECT without a session of the publisher's is a step of the hop
 pub first_connect : (limits : Limits) (choice : MemberChoice) (now : ℕ) (clean : Bool) (p : Publisher) (l : BrokerLine) (k : ℕ) (b : Broker) (accepted : List ℕ)
     → IsNamed p.client → IsSound limits p.client b → IsInOrder (stepped limits choice now (Input l.number (connect_packet clean p)) b)
     → p.line.up ≡ shake (CONNECT clean) ∷ [] → p.line.number ≡ Some l.number → IsApart p.line.number p.line.old_number → line_at l.number b ≡ Some l → l.session ≡ None → l.keep_alive ≡ 0 → IsIdle l.number b

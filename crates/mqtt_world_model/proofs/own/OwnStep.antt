@@ -28,7 +28,7 @@ use Rattle.mqtt_world_model.proofs.seats.Seeing.{among_closed, linked_of, linked
 abbrev pub heard_of : ℕ → ℕ → Broker → Broker
 heard_of now n b = after (On n Hear) (at_moment now b)
 
--- a packet on his line is heard and answered
+-- a packet on the publisher's line is heard and answered
 pub input_is : (limits : Limits) (choice : MemberChoice) (now : ℕ) (packet : Packet) (l : BrokerLine) (s : Session) (b : Broker)
     → line_at l.number b ≡ Some l → l.session ≡ Some s.birth → session_at s.birth b.records ≡ Some s
     → deeds limits choice now (Input l.number packet) b

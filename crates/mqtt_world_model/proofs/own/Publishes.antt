@@ -194,7 +194,7 @@ session_closes env s b at no_will no_end =
 abbrev pub dropped : ℕ → Line → Session → ℕ → List Deed
 dropped code l s now = Send l.number (disconnect code) ∷ Gone l.number ∷ At (whose s) (Close now) ∷ []
 
--- dropping his line tells him, and closes his session
+-- dropping the publisher's line tells it, and closes its session
 pub drop_is : (env : Env) (code : ℕ) (l : Line) (s : Session) (b : Broker) → session_at s.birth b.records ≡ Some s → l.session ≡ Some s.birth → s.will ≡ None → s.expiry ≡ never
     → drop_line env code l b ≡ dropped code l s b.now
 drop_is env code l s b at on no_will no_end =

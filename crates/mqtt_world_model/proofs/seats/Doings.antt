@@ -142,7 +142,7 @@ published_events accepted b t d p settled agrees = by (qos_of_draft d) refl
     by None is = ([], plain_seen accepted b t d p is settled agrees)
     by (Some q) is = (publish q ∷ [], publish_seen accepted b t d q p is agrees)
 
--- its line stands exactly where its session is connected there, or it waits for CONNECT
+-- its line stands exactly if its session is connected there, or it waits for CONNECT
 no_line_there : (n : ℕ) (b : Broker) → glance_at n b.lines ≡ None → stands (Some n) b ≡ false
 no_line_there n b h = by (line_at n b) h
   where
@@ -157,7 +157,7 @@ some_line_there k x b h = by (line_at k b) h
     by None e = absurd cc
     by (Some l) e = refl
 
--- the publisher sees his line as the broker has it, or waits for his CONNACK
+-- the publisher sees its line as the broker has it, or waits for its CONNACK
 pub agrees_or_waits : (o : Option ℕ) (k : ℕ) (l : Line Sent) (b : Broker) → Present o k l b → (is_linked l.number b ≡ stands l.number b) ⊎ ((l.link ≡ asked) × (filter_map heard_in l.down ≡ []))
 agrees_or_waits o k l b (absent none up) = inl (ap (λ (x : Option ℕ). is_linked x b) none ∙ sym (ap (λ (x : Option ℕ). stands x b) none))
 agrees_or_waits o k l b (waiting n clean is link_is clean_is up down idle there) = inr (link_is, down)

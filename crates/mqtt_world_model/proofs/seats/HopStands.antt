@@ -87,7 +87,7 @@ stands_stays (close code) w h = h
 stands_stays close_old w h = h
 stands_stays restart w h = h
 
--- so he does in every run
+-- so it does in every run
 pub stands_run : (es : List HopEvent) (w : Hop) → w.stands ≡ true → (run es w).stands ≡ true
 stands_run [] w h = h
 stands_run (e ∷ es) w h = stands_run es (step w e) (stands_stays e w h)

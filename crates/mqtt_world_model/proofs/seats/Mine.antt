@@ -68,6 +68,7 @@ module _ (client : List ℕ) (birth n : ℕ) where
   AreMine [] = ⊤
   AreMine (d ∷ ds) = IsMine d × AreMine ds
 
+  -- deeds that keep session and line the publisher's, and others behind them, do so together
   pub mine_append : (xs ys : List Deed) → AreMine xs → AreMine ys → AreMine (xs ++ ys)
   mine_append [] ys p q = q
   mine_append (x ∷ xs) ys p q = (p.0, mine_append xs ys p.1 q)
@@ -124,6 +125,7 @@ module _ (client : List ℕ) (birth n : ℕ) where
   mine_own d b (inl far) o = own_deed client birth n d b far o
   mine_own d b (inr keeping) o = keeping_own d b keeping o
 
+  -- such deeds leave session and line the publisher's own
   pub mine_owns : (ds : List Deed) (b : Broker) → AreMine ds → Own client birth n b → Own client birth n (after_all ds b)
   mine_owns [] b q o = o
   mine_owns (d ∷ ds) b q o = mine_owns ds (after d b) q.1 (mine_own d b q.0 o)
@@ -207,6 +209,7 @@ module _ (client : List ℕ) (birth n : ℕ) where
   mine_next env l (Pubrel a) s b q at on w e = mine_release (answer_to_release a.identifier s.inbound) l s a.identifier
   mine_next env l packet s b q at on w e = absurd q
 
+  -- a PUBLISH or PUBREL of its own keeps session and line the publisher's
   pub mine_call : (limits : Limits) (choice : MemberChoice) (now : ℕ) (packet : Packet) (l : Line) (s : Session) (b : Broker) → IsOwnPacket packet
       → line_at l.number b ≡ Some l → l.session ≡ Some s.birth → session_at s.birth b.records ≡ Some s → s.will ≡ None → s.expiry ≡ never
       → AreMine (deeds limits choice now (Input l.number packet) b)

@@ -109,7 +109,7 @@ stays_open n (d ∷ ds) b q h =
 
 -- ---- on its own line is its session, or nobody
 
--- the publisher's line has nobody on it, or his session
+-- the publisher's line has nobody on it, or its session
 pub own_on : (birth k : ℕ) (ls : List BrokerLine) → AllByRecursion (IsOurLine birth k) ls → (session_on k ls ≡ None) ⊎ (session_on k ls ≡ Some (Some birth))
 own_on birth k [] h = inl refl
 own_on birth k (l ∷ ls) h = elim (cases_Bool (nat_eq l.number k)) [
@@ -178,7 +178,7 @@ module _ (limits : Limits) (choice : MemberChoice) (now : ℕ) (call : Call) (b 
   still_there : (n : ℕ) (x : Option ℕ) → session_on n b.lines ≡ Some x → closes n ds ≡ false → session_on n new.lines ≡ None → ⊥
   still_there n x on open_ none = stands_not (session_on n last.lines) (sym (on_new n) ∙ none) (stays_open n ds start open_ (ap is_some on))
 
-  -- its line, where the session was connected
+  -- its line, if the session was connected
   pub joined_after : (client : List ℕ) (birth k : ℕ) (l : Line Sent) → Own client birth k new → l.number ≡ Some k → session_on k b.lines ≡ Some (Some birth)
       → Present (Some birth) k (told_by new out l) new
   joined_after client birth k l own is there = elim (own_on birth k new.lines own.lines) [
@@ -192,7 +192,7 @@ module _ (limits : Limits) (choice : MemberChoice) (now : ℕ) (call : Call) (b 
         ]
   ]
 
-  -- the line that it gave up, where the session was connected
+  -- the line that it gave up, if the session was connected
   pub lingers_after : (client : List ℕ) (birth k : ℕ) (l : Line Sent) → Own client birth k new → l.old_number ≡ Some k → AllByRecursion IsNoConnect l.old → session_on k b.lines ≡ Some (Some birth)
       → Former (Some birth) k (told_by new out l) new
   lingers_after client birth k l own is calm there = elim (own_on birth k new.lines own.lines) [
@@ -209,7 +209,7 @@ module _ (limits : Limits) (choice : MemberChoice) (now : ℕ) (call : Call) (b 
   elsewhere_at : (x : Option ℕ) (n : ℕ) → x ≡ Some n → AreElsewhere x ds start → IsIdle n start → AreAway n ds ⊎ (ds ≡ Gone n ∷ [])
   elsewhere_at x n is q h = subst (λ (y : Option ℕ). AreElsewhere y ds start) is q h
 
-  -- its line, where its session was not connected
+  -- its line, if its session was not connected
   pub present_after : (o p : Option ℕ) (k j : ℕ) (l : Line Sent) → AreElsewhere l.number ds start
       → ((birth : ℕ) → o ≡ Some birth → l.number ≡ Some k → session_on k b.lines ≡ Some (Some birth) → Present p j (told_by new out l) new)
       → Present o k l b → Present p j (told_by new out l) new
@@ -238,7 +238,7 @@ module _ (limits : Limits) (choice : MemberChoice) (now : ℕ) (call : Call) (b 
       ]
   present_after o p k j l q h (joined birth own is there) = h birth own is there
 
-  -- the line that it gave up, where its session was not connected
+  -- the line that it gave up, if its session was not connected
   pub former_after : (o p : Option ℕ) (k j : ℕ) (l : Line Sent) → AreElsewhere l.old_number ds start
       → ((birth : ℕ) → o ≡ Some birth → l.old_number ≡ Some k → AllByRecursion IsNoConnect l.old → session_on k b.lines ≡ Some (Some birth) → Former p j (told_by new out l) new)
       → Former o k l b → Former p j (told_by new out l) new
@@ -282,7 +282,7 @@ not_among (Some m) n h = elim (cases_Bool (nat_eq n m)) [
   | inr other ↦ rw other refl
 ]
 
--- a publisher on whose line his session stands is connected
+-- a publisher on whose line its session stands is connected
 pub connected_of : (p : Publisher) (birth k : ℕ) (b : Broker) → IsNamed p.client → IsHis p.client (Some birth) k b → p.line.number ≡ Some k → IsApart p.line.number p.line.old_number → session_on k b.lines ≡ Some (Some birth)
     → (l : BrokerLine) × (s : Session) × IsConnected p l s b × (l.number ≡ k) × (s.birth ≡ birth)
 connected_of p birth k b named his is apart on =

@@ -106,6 +106,7 @@ module _ (n : ℕ) where
   patient_line now (RefuseWill who) ls q h = h
   patient_line now (Send m packet) ls q h = h
 
+  -- deeds that set no Keep Alive leave the line without one
   pub patient_lines : (ds : List Deed) (b : Broker) → ArePatient ds → NoneKeptAlive b.lines → NoneKeptAlive (after_all ds b).lines
   patient_lines [] b q h = h
   patient_lines (d ∷ ds) b q h = patient_lines ds (after d b) q.1 (patient_line b.now d b.lines q.0 h)
@@ -160,7 +161,7 @@ all_two P Q R (x ∷ xs) f p q = (f x p.0 q.0, all_two P Q R xs f p.1 q.1)
 
 -- ---- whose the session and the line are, from what is found
 
--- a session with the publisher's name, line and no Will is his own
+-- a session with the publisher's name, line and no Will is its own
 pub owned : (client : List ℕ) (birth n : ℕ) (f : Face) (b : Broker) → IsInOrder b → IsOnly client birth b.records → face_at birth b.records ≡ Some f → f.client ≡ client → f.will ≡ None → f.expiry ≡ never
     → session_on n b.lines ≡ Some (Some birth) → NoneKeptAlive n b.lines → Own client birth n b
 owned client birth n f b order only at client_is no_will no_end on quiet =

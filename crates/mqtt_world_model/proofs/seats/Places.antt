@@ -1,4 +1,4 @@
--- Where a session of this client stands, the table of sessions is within its limit: a session begins only where there is a
+-- If a session of this client stands, the table of sessions is within its limit: a session begins only if there is a
 -- place, and from then on the table isn't above its limit (MQTT 5.0, 3.1.4).
 use Rattle.std.proofs.Common.{◌≡◌, ℕ, ◌≤◌, true, false, List, [], ◌∷◌, length, Option, Some, None, bytes_eq, refl, sym, ap, ◌∙◌, arith, inl, inr}
 use Rattle.std.specs.Prelude.{⊤, find, is_some}
@@ -53,7 +53,7 @@ steady_none : (client : List ℕ) (birth : ℕ) (d : Deed) → IsSteady d → Be
 steady_none client birth (Begin row will) q = absurd q
 steady_none client birth d q = tt
 
--- where all sessions of a client had two births, there is none
+-- if all sessions of a client had two births, there is none
 nobody : (client : List ℕ) (ss : List Session) → AllByRecursion (IsIts client 0) ss → AllByRecursion (IsIts client 1) ss → is_some (find (λ (x : Session). bytes_eq x.client client) ss) ≡ false
 nobody client [] h g = refl
 nobody client (x ∷ xs) h g = elim (cases_Bool (bytes_eq x.client client)) [
@@ -65,7 +65,7 @@ nobody client (x ∷ xs) h g = elim (cases_Bool (bytes_eq x.client client)) [
   | inr other ↦ rw other (nobody client xs h.1 g.1)
 ]
 
--- where no session of this client stands, none does after it
+-- if no session of this client stands, none does after it
 none_after : (client : List ℕ) (d : Deed) (r : Records) → IsSteady d → session_named client r ≡ None → is_some (session_named client (stored_after d r)) ≡ false
 none_after client d r q none =
     let only = λ (birth : ℕ). only_deed client birth d r (steady_none client birth d q) (only_none client birth r.sessions none) in
@@ -100,6 +100,6 @@ pub opening_place : (limits : Limits) (choice : MemberChoice) (now : ℕ) (clien
 opening_place limits choice now client r h =
     opening_keeps limits choice now r (HasPlace limits client) (λ d c. ⊤) (place_keeping (env_of limits choice (unopened now r)) client) h
 
--- where no session of its name stands, nothing is asked of the table
+-- if no session of its name stands, nothing is asked of the table
 pub no_place_asked : (limits : Limits) (client : List ℕ) (r : Records) → session_named client r ≡ None → HasPlace limits client r
 no_place_asked limits client r none stands = let clash : true ≡ false = sym stands ∙ ap is_some none in absurd cc

@@ -33,7 +33,7 @@ use Rattle.mqtt_world_model.proofs.others.Nameless.{AreStrangers, still_none}
 
 -- ---- what is found by the name is what is found by the birth
 
--- the session of the publisher's name is that of his birth
+-- the session of the publisher's name is that of its birth
 pub named_at : (client : List ℕ) (birth : ℕ) (ss : List Session) → AllByRecursion (IsOurs client birth) ss → find (λ (x : Session). bytes_eq x.client client) ss ≡ row_at birth_of birth ss
 named_at client birth [] h = refl
 named_at client birth (x ∷ xs) h = elim (cases_Bool (bytes_eq x.client client)) [
@@ -113,6 +113,7 @@ abbrev pub AreElsewhere : Option ℕ → List Deed → Broker → Type 0
 AreElsewhere None ds b = ⊤
 AreElsewhere (Some n) ds b = IsIdle n b → AreAway n ds ⊎ (ds ≡ Gone n ∷ [])
 
+-- deeds are of others, and leave the publisher's two lines as lines of its own may be left
 pub record AreFarFrom (client : List ℕ) (o : Option ℕ) (k : ℕ) (l : Line Sent) (ds : List Deed) (b : Broker) : Type 0 where
   pub its : AreOthers client o k ds
   pub own : AreElsewhere l.number ds b
@@ -124,7 +125,7 @@ pub record Remains (client : List ℕ) (o : Option ℕ) (k : ℕ) (b c : Broker)
   pub stands : is_some (session_named client c.records) ≡ is_some (session_named client b.records)
   pub ids : open_in (session_named client c.records) ≡ open_in (session_named client b.records)
 
--- what others do leaves what is his
+-- what others do leaves what is the publisher's
 pub remains : (client : List ℕ) (o : Option ℕ) (k : ℕ) (ds : List Deed) (b : Broker) → IsHis client o k b → AreOthers client o k ds → Remains client o k b (after_all ds b)
 remains client None k ds b none q =
     let still = still_none client ds b q none in
@@ -280,13 +281,15 @@ module _ (limits : Limits) (choice : MemberChoice) (now : ℕ) (call : Call) (cl
   unclosed true xs e = refl
   unclosed false xs e = e
 
-  -- where its session is connected, the deeds are far from it
+  -- if its session is connected, the deeds are far from it
   abbrev pub AreFarIf : Type 0
   AreFarIf = (birth : ℕ) → o ≡ Some birth → AreFar client birth k ds
 
+  -- deeds of others are far from a session that is connected
   pub far_if : AreOthers client o k ds → AreFarIf
   far_if its birth is = subst (λ (x : Option ℕ). AreOthers client x k ds) is its
 
+  -- what a step of others makes of the publisher's session and line
   pub behold : AreElsewhere l.number ds start → AreFarIf → Present o k l b → Beholds o k l b new out
   behold q its (absent none up) = record {
     present = absent none (unclosed (is_one_of l.number out.closed) l.up up);
@@ -332,6 +335,7 @@ module _ (limits : Limits) (choice : MemberChoice) (now : ℕ) (call : Call) (cl
   all_unless true xs h = tt
   all_unless false xs h = h
 
+  -- a step of others leaves the line that was given up what it may be
   pub former_stays : AreElsewhere l.old_number ds start → AreOthers client o k ds → Former o k l b → Former o k (told_by new out l) new
   former_stays q its (over none) = over (unclosed (is_one_of l.old_number out.closed) l.old none)
   former_stays q its (late m is old h there) =
@@ -352,7 +356,7 @@ module _ (limits : Limits) (choice : MemberChoice) (now : ℕ) (call : Call) (cl
 
 -- ---- together: a step of others is unseen, but that lines close
 
--- the end of his line drops what was on its way
+-- the end of the publisher's line drops what was on its way
 pub closes_own : (t : Bool) (up : List Sent) (w : Hop) → w.up ≡ filter_map shaken up → (t ≡ true → w.linked ≡ false) → record w { up = filter_map shaken (unless_closed t up) } ≡ run (own_events t) w
 closes_own false up w e h = λ i. record w { up = sym e i }
 closes_own true up w e h =
@@ -360,7 +364,7 @@ closes_own true up w e h =
     let downs = ap (λ (z : Bool). sent_on z w.down (DISCONNECT 0 ∷ [])) (sym none) in
     λ i. record w { up = []; linked = none i; down = downs i }
 
--- the end of his old line drops what was on its way there
+-- the end of the publisher's old line drops what was on its way there
 pub closes_old : (t : Bool) (old : List Sent) (w : Hop) → w.old ≡ filter_map shaken old → record w { old = filter_map shaken (unless_closed t old) } ≡ run (old_events t) w
 closes_old true old w e = refl
 closes_old false old w e = λ i. record w { old = sym e i }
@@ -370,7 +374,7 @@ pub run_append : (xs ys : List HopEvent) (w : Hop) → run (xs ++ ys) w ≡ run 
 run_append [] ys w = refl
 run_append (x ∷ xs) ys w = run_append xs ys (step w x)
 
--- what happens on his line leaves the old one
+-- what happens on the publisher's line leaves the old one
 pub old_after : (t : Bool) (w : Hop) → (run (own_events t) w).old ≡ w.old
 old_after true w = refl
 old_after false w = refl

@@ -51,7 +51,7 @@ sent_one : (t : Bool) (n : ℕ) (b : Broker) (packet : Packet) (rest : List Down
 sent_one true n b packet rest = refl
 sent_one false n b packet rest = refl
 
--- what goes down his line is what he was told
+-- what goes down the publisher's line is what it was told
 pub told_down : (n : ℕ) (b : Broker) (ds : List Deed) → filter_map heard_in (sent_to (Some n) b (filter_map output ds)) ≡ told_to n ds
 told_down n b [] = refl
 told_down n b (d ∷ ds) = first (output d) (told_down n b ds)
@@ -85,7 +85,7 @@ pub some_face : (f : Face) (o : Option Session) → option_map face o ≡ Some f
 some_face f None h = absurd cc
 some_face f (Some s) h = (s, refl, cc)
 
--- the session of his name shows what it has
+-- the session of the publisher's name shows what it has
 pub named_face : (client : List ℕ) (birth : ℕ) (r : Records) (f : Face) → IsOnly client birth r → face_at birth r ≡ Some f → f.client ≡ client
     → (is_some (session_named client r) ≡ true) × (open_in (session_named client r) ≡ f.inbound)
 named_face client birth r f only at is =

@@ -36,7 +36,7 @@ sent_plain false up c = refl
 -- ---- messages go out
 
 module _ (accepted : List ℕ) (b : Broker) (t : Bool) where
-  -- the line stands exactly where the session is connected on it
+  -- the line stands exactly if the session is connected on it
   abbrev pub Agrees : Publisher → Type 0
   Agrees p = is_linked p.line.number b ≡ t
 
@@ -74,12 +74,14 @@ module _ (accepted : List ℕ) (b : Broker) (t : Bool) where
       let unsents = sym e in
       λ i. record (sees p) { unsent = unsents i; up = ups i }
 
+  -- a publisher with 20 in flight sends nothing more
   pub blocked : (ds : List Draft) (p : Publisher) → room p ≡ false → send_all t ds p ≡ p
   blocked [] p h = refl
   blocked (d ∷ rest) p h =
       let same : send_one t d rest p ≡ p = ap (λ (z : Bool). if z then goes_out t d.qos d.content rest p else p) h in
       ap (send_all t rest) same ∙ blocked rest p h
 
+  -- so does the publisher of its hop
   pub hop_blocked : (qs : List Qos) (w : Hop) → nat_lt (length (in_flight w.fates)) OPEN_LIMIT ≡ false → hop.send_all qs w ≡ w
   hop_blocked [] w h = refl
   hop_blocked (q ∷ rest) w h =
@@ -119,6 +121,7 @@ module _ (accepted : List ℕ) (b : Broker) (t : Bool) where
     | inr full ↦ ap sees (blocked (d ∷ rest) p full) ∙ sym (hop_blocked (filter_map qos_of_draft (d ∷ rest)) (sees p) full)
   ]
 
+  -- what a publisher sends of what waits, the publisher of its hop sends
   pub send_unsent_seen : (link : Link) (p : Publisher) → Agrees p → sees (send_unsent t link p) ≡ hop.send_unsent link (sees p)
   send_unsent_seen away p e = refl
   send_unsent_seen asked p e = refl
@@ -126,6 +129,7 @@ module _ (accepted : List ℕ) (b : Broker) (t : Bool) where
 
   -- ---- a message is published
 
+  -- a message of QoS 1 or 2 that it publishes is that event of its hop
   pub publish_seen : (d : Draft) (q : Qos) (p : Publisher) → qos_of_draft d ≡ Some q → Agrees p → sees (published t d p) ≡ step (sees p) (publish q)
   publish_seen d q p is e =
       let more : Publisher = record p { unsent = p.unsent ++ d ∷ [] } in
@@ -141,6 +145,7 @@ module _ (accepted : List ℕ) (b : Broker) (t : Bool) where
   give_up_by asked false p may = refl
   give_up_by live clean p may = refl
 
+  -- giving up its line is that event of its hop
   pub give_up_seen : (p : Publisher) → MayGiveUp p.line.link p.line.clean → sees (record p { line = gives_up p.line.link p.line }) ≡ step (sees p) give_up
   give_up_seen p may = give_up_by p.line.link p.line.clean p may
 
@@ -181,5 +186,6 @@ module _ (accepted : List ℕ) (b : Broker) (t : Bool) where
   reads_from [] p e h = ([], refl)
   reads_from (d ∷ rest) p e h = read_seen (heard d.packet) rest p e (ap (filter_map heard_in) h)
 
+  -- what it reads is events of its hop, or none
   pub to_end_seen : (p : Publisher) → Agrees p → (es : List HopEvent) × (sees (publisher_reads t p.line.down p) ≡ run es (sees p))
   to_end_seen p e = reads_from p.line.down p e refl

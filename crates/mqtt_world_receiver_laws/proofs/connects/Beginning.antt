@@ -193,6 +193,7 @@ module _ (number : Numbering) (largest : ℕ) (copies : List Lot) (limits : Limi
       closes_old = ap (λ (ds : List Deed). is_one_of r.line.old_number (filter_map closing ds)) c.deeds_are ∙ ap (is_one_of r.line.old_number) closes_are;
     }
 
+    -- a session that begins on its line may receive
     pub begins_receives : Receives (reads_answer limits choice now l.number (connect clean) r b) (after_answer limits choice now l.number (connect clean) r b)
     begins_receives =
         let m = makes in
@@ -236,6 +237,7 @@ module _ (number : Numbering) (largest : ℕ) (copies : List Lot) (limits : Limi
               (record { down = h.tagged.down; ledger = h.tagged.ledger; once = h.tagged.once }));
         }
 
+    -- a CONNECT by which a new session begins is that event of the hop
     pub begins_run : IsRun number largest copies r b → r.line.up ≡ answers (connect clean) ∷ rest → step largest w (to_broker false) ≡ made_new (filter_map answered rest) w
         → RunsOn number largest copies (reads_answer limits choice now l.number (connect clean) r b) (after_answer limits choice now l.number (connect clean) r b)
     begins_run h up hop = record { after = copies2; same = cut_ids copies; run_is = begins_is h up hop }

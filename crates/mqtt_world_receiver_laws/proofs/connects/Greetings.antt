@@ -36,6 +36,7 @@ pub record IsGreeted (n birth window : ℕ) (l : BrokerLine) : Type 0 where
   pub window_is : l.window ≡ window
   pub largest_is : l.largest ≡ any_size
 
+-- a line of this number stands, on which the session is connected as the CONNECT asked
 pub record HasGreeted (n birth window : ℕ) (b : Broker) : Type 0 where
   pub line : BrokerLine
   pub at : line_at n b ≡ Some line
@@ -63,7 +64,7 @@ repeats_lines now n s (x ∷ xs) id b = repeats_lines now n s xs id b
 waits_on : (l : BrokerLine) (b : Broker) → line_at l.number b ≡ Some l → l.session ≡ None → session_on l.number b.lines ≡ Some None
 waits_on l b at waits = ap (option_map (λ (x : BrokerLine). x.session)) at ∙ ap Some waits
 
--- where the session is resumed
+-- if the session is resumed
 pub resumed_line : (limits : Limits) (choice : MemberChoice) (now : ℕ) (r : Receiver) (l : BrokerLine) (s : Session) (b : Broker) → IsResuming r l s b
     → HasGreeted l.number s.birth r.window (after_answer limits choice now l.number (connect false) r b)
 resumed_line limits choice now r l s b a =
@@ -95,7 +96,7 @@ resumed_line limits choice now r l s b a =
     ∙ (ap (λ (z : Broker). z.lines) (after_append front resumes c) ∙ repeats_lines c.now n x dues (λ d. d.identifier) _)) in
     subst (λ (k : ℕ). HasGreeted n k r.window (after_answer limits choice now n (connect false) r b)) same (greeted_by left.now n x.birth r.window left.lines _ still lines)
 
--- where one begins
+-- if one begins
 begun_line : (limits : Limits) (choice : MemberChoice) (now : ℕ) (clean : Bool) (r : Receiver) (l : BrokerLine) (b : Broker) (front : List Deed) (ns : List ℕ) → Clears limits choice now clean r l b front ns
     → HasGreeted l.number (suc (after_all front (heard_of now l.number b)).records.births) r.window (after_answer limits choice now l.number (connect clean) r b)
 begun_line limits choice now clean r l b front ns c =

@@ -1,4 +1,4 @@
--- The broker reads a receiver's CONNECT on the line that it gave up, where no session of its name stands, or with Clean Start: a
+-- The broker reads a receiver's CONNECT on the line that it gave up, while no session of its name stands, or with Clean Start: a
 -- session begins there, with which the two are in step; or there is no place for one, and the receiver awaits it as before.
 use Rattle.std.proofs.Common.{◌≡◌, ℕ, suc, ◌≤◌, Bool, true, false, cond, List, [], ◌∷◌, ◌++◌, drop, length, map, Option, Some, None, nat_lt, refl, sym, ap, subst, ◌∙◌, append-nil}
 use Rattle.std.specs.Prelude.{filter_map, is_some}

@@ -34,7 +34,7 @@ not_on : (t : Bool) (on : Option (Option ℕ)) → linked_of on ≡ t → linked
 not_on true on h = refl
 not_on false on h = h
 
--- its own line, if it has one, is closed where the session was connected on it
+-- its own line, if it has one, is closed if the session was connected on it
 pub closes_own : (t : Bool) (w : Hop) (ups : List Back) (left : List Answer) (copies2 : List Lot) → w.linked ≡ t → w.up ≡ filter_map answered ups → w.stands ≡ true
     → record w { copies = copies2; stands = true; linked = false; up = filter_map answered (unless_closed t ups); down = w.down ++ cond t (disconnect ∷ []) []; old = left }
     ≡ record w { old = left; copies = copies2; down = sent_on w.linked w.down (disconnect ∷ []); up = if w.linked then [] else w.up; linked = false }
@@ -126,6 +126,7 @@ module _ (number : Numbering) (largest : ℕ) (copies copies2 : List Lot) (limit
       ap (λ (t : Bool). filter_map answered (unless_closed t (drop 1 r.line.old))) closed ∙ ap (λ (xs : List Back). filter_map answered (drop 1 xs)) old in
       λ i. record w { copies = copies2; stands = stands i; linked = linked i; up = ups i; down = downs i; old = olds i }
 
+  -- a CONNECT on the line that was given up is that event of the hop
   pub late_runs : IsRun number largest copies r b → step largest (seen number copies r b) (old_to_broker false) ≡ hop_after
       → RunsOn number largest copies (reads_old_answer limits choice now n (connect clean) r b) (after_answer limits choice now n (connect clean) r b)
   late_runs h hop_is =
@@ -146,5 +147,6 @@ module _ (number : Numbering) (largest : ℕ) (copies copies2 : List Lot) (limit
         };
       }
 
+  -- after a CONNECT on the line that was given up the session may receive more
   pub late_receives : Receives (reads_old_answer limits choice now n (connect clean) r b) (after_answer limits choice now n (connect clean) r b)
   late_receives = receives_after q birth limits choice now call b takes.session takes.found takes.client takes.birth_is takes.only takes.known

@@ -54,6 +54,7 @@ module _ (client : List ℕ) (birth : ℕ) (ns : List ℕ) where
   resume_safe : (l : BrokerLine) (name : List ℕ) (window now : ℕ) (x : Session) → x.birth ≡ birth → is_one_of (Some l.number) ns ≡ true → AreSafe client birth ns (resume l (greeting false name window) now x)
   resume_safe l name window now x e inside = ((refl, refl), ((e, inside), (tt, safe_turns client birth ns now l.number x (resumed_with (queue_on [] x)))))
 
+  -- a session that is resumed on a line of the receiver's own is the receiver's still
   pub resume_served : (limits : Limits) (choice : MemberChoice) (now : ℕ) (r : Receiver) (l : BrokerLine) (s : Session) (b : Broker) → IsResuming r l s b → s.birth ≡ birth → is_one_of (Some l.number) ns ≡ true
       → IsServed client birth ns b → IsServed client birth ns (after_answer limits choice now l.number (connect false) r b)
   resume_served limits choice now r l s b a e inside v =

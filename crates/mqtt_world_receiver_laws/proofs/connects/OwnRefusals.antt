@@ -91,20 +91,25 @@ module _ (limits : Limits) (choice : MemberChoice) (now : ℕ) (clean : Bool) (r
   abbrev pub refusing : List Deed
   refusing = On n Hear ∷ Send n (packets_of.connack false quota_exceeded []) ∷ Gone n ∷ []
 
+  -- a CONNECT for which there is no place is heard and refused, and its line goes
   pub deeds_are : ds ≡ refusing
   deeds_are =
       call_is limits choice now clean r.client r.window l b a.line a.waits
       ∙ ap (λ (xs : List Deed). On n Hear ∷ (xs ++ [])) (connect_refused (env_of limits choice b) l clean r.client r.window (heard_of now n b) a.none a.short a.plain full)
 
+  -- a refused CONNECT leaves the sessions as they are
   pub sessions_are : new.records.sessions ≡ b.records.sessions
   sessions_are = done_sessions (rows_of_all ds first.records) (after_all ds first) ∙ ap (λ (xs : List Deed). (after_all xs first).records.sessions) deeds_are
 
+  -- a refused CONNECT takes its line away and leaves the others
   pub lines_are : new.lines ≡ (after_all refusing first).lines
   lines_are = done_lines (rows_of_all ds first.records) (after_all ds first) ∙ ap (λ (xs : List Deed). (after_all xs first).lines) deeds_are
 
+  -- a refused CONNECT gives no line a number
   pub given_is : new.given ≡ b.given
   given_is = moment_given (rows_of_all ds first.records) (after_all ds first) ∙ ap (λ (xs : List Deed). (after_all xs first).given) deeds_are
 
+  -- after a refused CONNECT no session has the receiver's name
   pub named_none : session_named r.client new.records ≡ None
   named_none = ap (λ (ss : List Session). find (λ (x : Session). bytes_eq x.client r.client) ss) sessions_are ∙ a.none
 

@@ -41,6 +41,7 @@ behind away ps = ps
 behind asked ps = tail ps
 behind live ps = ps
 
+-- a live line waits for no Clean Start, and nothing behind the CONNACK that is awaited refuses
 pub record Tame (w : Hop) : Type 0 where
   pub greeted : w.link ≡ live → w.clean ≡ false
   pub plain : AreNoRefusals (behind w.link w.down)
@@ -154,7 +155,7 @@ old_keeps r (puback i code ∷ rest) w = replied_old_keeps (rules.puback i code 
 old_keeps r (pubrec i code ∷ rest) w = replied_old_keeps (rules.pubrec i code (queue_of w.copies)) rest w
 old_keeps r (pubcomp i code ∷ rest) w = replied_old_keeps (rules.pubcomp i (queue_of w.copies)) rest w
 
--- a CONNECT is under way only where its CONNACK is awaited, and nothing is told before that
+-- a CONNECT is under way only if its CONNACK is awaited, and nothing is told before that
 record IsAwaited (w : Hop) : Type 0 where
   pub link : w.link ≡ asked
   pub none : w.down ≡ []

@@ -171,6 +171,7 @@ ended_closes o s now ds none =
 
 -- ---- the step
 
+-- what a Clean Start prepares: the line that the session stood on is dropped, its copies end, and its place is free
 pub record Renews (limits : Limits) (choice : MemberChoice) (now : ℕ) (r : Receiver) (l : BrokerLine) (s : Session) (b : Broker) : Type 0 where
   pub its : Option BrokerLine  -- the line that the session is connected on, as it stands when the line has been heard of
   pub taken : IsTaken its s.birth l.number

@@ -171,6 +171,7 @@ module _ (largest : ℕ) (env : Env) (small : env.limits.queue ≤ QUEUE_LIMIT) 
     | inr other ↦ other_closed x b other k
   ]
 
+  -- closing the sessions that stood connected, one after the other, leaves all as the receiver needs it
   pub sessions_closed : (xs : List Session) (b : Broker) → Stays b → Stays (after_all (series (map (λ x. close_if (is_connected x) env x) xs) b) b)
   sessions_closed [] b k = k
   sessions_closed (x ∷ xs) b k =
@@ -210,7 +211,7 @@ restart_goes_on largest ids limits choice now birth ns r b f v tidy plain =
       served = moment_served q.client birth [] rows c last.served;
     }
 
--- ---- where no session of its name stands, none does after it
+-- ---- if no session of its name stands, none does after it
 
 no_session : (o : Option Session) → is_some o ≡ false → o ≡ None
 no_session None h = refl
@@ -221,7 +222,7 @@ none_opened limits choice now client b none =
     let same = ap (λ (w : InboundHop). w.stands) (empty_restart_is_hop limits choice now (new_publisher client) b [] none) in
     no_session (session_named client (opened limits choice now b.records).records) (same ∙ ap is_some none)
 
--- also where the receiver has no session
+-- also if the receiver has no session
 pub restart_without : (number : Numbering) (largest : ℕ) (copies : List Lot) (limits : Limits) (choice : MemberChoice) (now : ℕ) (r : Receiver) (b : Broker)
     → IsRun number largest copies r b → session_named r.client b.records ≡ None
     → RunsOn number largest copies (receiver_restarted r) (reopened limits choice now b) × (session_named r.client (reopened limits choice now b).records ≡ None)

@@ -264,7 +264,7 @@ taken_queue : (o : Option BrokerLine) (now : ℕ) (s : Session) → (taken_from 
 taken_queue None now s = refl
 taken_queue (Some l) now s = refl
 
--- ---- what is told and closed where the session was taken over
+-- ---- what is told and closed if the session was taken over
 
 -- what a takeover tells goes to the old line
 pub left_untold : (o : Option BrokerLine) (s : Session) (now n : ℕ) (new : Broker) (ds : List Deed) → IsTaken o s.birth n
@@ -293,8 +293,9 @@ session_resumed x r at =
     ap (λ (o : Option Session). session_at x.birth (changed_all (part_rows_of (Resume never None) o) r)) at
     ∙ change_row-here birth_of x.birth (with_will None) (with_columns (resumed_row x) x) set (λ y. refl) first
 
--- ---- another line, which is told and closed where it is the one that the session was taken from
+-- ---- another line, which is told and closed if it is the one that the session was taken from
 
+-- what a CONNECT makes of another line: it is closed with DISCONNECT, or left alone, and no copy goes out there
 pub record Beside (number : Numbering) (ids : List CopyId) (limits : Limits) (choice : MemberChoice) (now : ℕ) (call : Call) (m : ℕ) (b : Broker) (shut : Bool) : Type 0 where
   pub told : filter_map (heard_in number) (sent_to (Some m) (stepped limits choice now call b) (filter_map output (deeds limits choice now call b))) ≡ cond shut (disconnect ∷ []) []
   pub tagged : AllByRecursion (IsTagged number ids) (sent_to (Some m) (stepped limits choice now call b) (filter_map output (deeds limits choice now call b)))
@@ -323,7 +324,7 @@ left_on (Some x) s m b = elim (cases_Bool (nat_eq x.number m)) [
   | inr other ↦ rw other (line_gone m x.number b.lines other)
 ]
 
--- it is so where the session is taken over first, and nothing else is about that line
+-- it is so if the session is taken over first, and nothing else is about that line
 pub left_beside : (number : Numbering) (ids : List CopyId) (limits : Limits) (choice : MemberChoice) (now : ℕ) (call : Call) (n : ℕ) (o : Option BrokerLine) (s : Session) (rest : List Deed) (m : ℕ) (b : Broker) (shut : Bool)
     → deeds limits choice now call b ≡ On n Hear ∷ (left_by o s (heard_of now n b).now ++ rest) → AllByRecursion (IsAsideOf m) rest → is_one_of (Some m) (lines_left o) ≡ shut
     → Beside number ids limits choice now call m b shut
@@ -571,6 +572,7 @@ module _ (number : Numbering) (largest : ℕ) (copies : List Lot) (limits : Limi
           beside = beside;
         }
 
+  -- what a CONNECT makes of a session that stands: it is resumed on this line, with PUBREL for what was released
   pub connect_makes : Takes number copies2 ids limits choice now (Input n packet) r.client n s.birth (lines_left (line_of s.birth b)) b
   connect_makes =
       let heard_line = heard_line_of s.birth n now b (line_of s.birth b) refl a.taken in

@@ -156,7 +156,7 @@ alike_before set a w =
     let stored = before_records set a w in
     record { broker = λ i. opened set.limits set.choice (moment i) (stored i); receivers = before_receivers set a w }
 
--- ---- what a receiver sees where the call was for itself
+-- ---- what a receiver sees if the call was for itself
 
 -- a stop in a step on its own line leaves the hop going on
 pub own_stop_goes_on : (largest : ℕ) (ids : List CopyId) (limits : Limits) (choice : MemberChoice) (now : ℕ) (call : Call) (birth : ℕ) (ns : List ℕ) (q : Receiver) (b : Broker)

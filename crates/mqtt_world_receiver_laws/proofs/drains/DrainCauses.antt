@@ -416,7 +416,7 @@ passes_trans largest moments (Some (past x e m)) (Some (past y f k)) None a b = 
 passes_trans largest moments (Some (past x e m)) (Some (past y f k)) (Some (standing z l)) a b = absurd b
 passes_trans largest moments (Some (past x e m)) (Some (past y f k)) (Some (past v z l)) a b = b ∙ a
 
--- by a run of the hop, and where a copy enters
+-- by a run of the hop, and if a copy enters
 pub drops_none : (largest : ℕ) (moments : List ℕ) (o p : Option Lot) → EndsBy largest moments o p → EndsOrDrops largest moments o p
 drops_none largest moments None p a = tt
 drops_none largest moments (Some (standing e m)) None a = a

@@ -68,7 +68,7 @@ no_more_left (l ∷ ls) (k ∷ ks) e h =
     let rest = no_more_left ls ks (omega arith) (λ n. h (suc n)) in
     omega arith
 
--- and no more copies stand than before, where none that has ended stands again
+-- and no more copies stand than before, if none that has ended stands again
 abbrev pub Rests : Option Lot → Option Lot → Type 0
 Rests (Some (past x e m)) (Some (standing f k)) = ⊥
 Rests o p = ⊤
@@ -265,7 +265,7 @@ up_further largest (pubcomp i code ∷ rest) w u some h heard inv s =
     (agree_pubcomp i w largest s one)
     (falls i 0 came.number on_pubcomp (map life w.copies) (released came.here came.taken) came.body came.holds (pubcomp_falls came.here came.taken came.body))
 
--- an answer is under way only where the session is connected
+-- an answer is under way only if the session is connected
 pub heard_up : (largest : ℕ) (w : World) → Reached largest w → IsHeard w.linked w.up
 heard_up largest w r = heard_of w (good_at largest w r)
 

@@ -68,7 +68,7 @@ turns_busy (t ∷ ts) w h = turns_busy ts (take_turn t w) (turn_busy t w h)
 says_busy : (p : Output) (w : World) → is_packet p ≡ true → w.linked ≡ true → Busy (told (p ∷ []) w)
 says_busy p w e h = inl (subst (λ b. Has is_packet (sent_on b w.down (p ∷ []))) (sym h) (has_right is_packet w.down (p ∷ []) (inl e)))
 
--- ---- where nothing is under way, no copy fills the window
+-- ---- if nothing is under way, no copy fills the window
 
 told_packet : (i : ℕ) (ps : List Output) → Has (is_told i) ps → Has is_packet ps
 told_packet i [] h = h
@@ -120,7 +120,7 @@ first (past x e m ∷ ls) h =
 due_at : (i : ℕ) (xs : List Lot) (e : Entry) (m : TopicAndPayload) (ys : List Lot) → is_due_by i e.here e.phase ≡ true → Has (is_due i) (xs ++ standing e m ∷ ys)
 due_at i xs e m ys h = has_right (is_due i) xs (standing e m ∷ ys) (inl h)
 
--- what the pump does at it, where the window has room
+-- what the pump does at it, if the window has room
 data Does (way : Way) (p : Pacing) (e : Entry) : Type 0 where
   ends : (ending : Ending) → pump_step way p e ≡ rules.in_room 1 (Leave e.place ending) → Does way p e
   begins_it : (i : ℕ) → pump_step way p e ≡ rules.in_room 1 (Send e.place i) → Does way p e
@@ -278,7 +278,7 @@ round_onto largest window now w r h room some =
 
 -- ---- a drain
 
--- where neither holds, both fail
+-- if neither holds, both fail
 pub either_false : (a b : Bool) → (a || not b) ≡ false → (a ≡ false) × (b ≡ true)
 either_false false true h = (refl, refl)
 either_false false false h = absurd (cc)

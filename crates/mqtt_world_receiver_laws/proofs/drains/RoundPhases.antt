@@ -190,6 +190,6 @@ brokers_walk largest (a ∷ rest) w q r h x =
     brokers_onto largest (length rest) w (step largest w (to_broker false)) (reached_on largest w r (to_broker false ∷ []))
     (an_answer_further largest w r h (subst (Has any) (sym q) x))
 
--- where something is under way back, this takes a copy further
+-- if something is under way back, this takes a copy further
 pub brokers_further : (largest : ℕ) (w : World) → Reached largest w → w.linked ≡ true → Has any w.up → Onto w (run largest (times (length w.up) (to_broker false)) w)
 brokers_further largest w r h x = brokers_walk largest w.up w refl r h x

@@ -127,7 +127,7 @@ module _ (limits : Limits) (choice : MemberChoice) (clean : Bool) (client : List
   abbrev came : World
   came = calls s call (taken_off limits choice client sent)
 
-  -- the broker's state after the CONNECT, and the receiver's, where it was read in this one
+  -- the broker's state after the CONNECT, and the receiver's, if it was read in this one
   abbrev heard : Broker → Broker × Receiver
   heard x = (stepped limits choice w.now call x, receiver_told (stepped limits choice w.now call x) (told limits choice w.now call x) q)
 

@@ -143,6 +143,7 @@ step_now limits choice now call b =
 
 -- ---- turns of a session leave the retained messages, and count no SUBSCRIBE
 
+-- retained messages and granted filters are as before
 pub record HasSame (b d : Broker) : Type 0 where
   pub retained : d.records.retained ≡ b.records.retained
   pub subscribes : d.records.subscribes ≡ b.records.subscribes

@@ -178,12 +178,14 @@ module _ (number : Numbering) (largest window : ℕ) (ids : List CopyId) (birth 
   none_heard [] h = refl
   none_heard (d ∷ ds) h = absurd (omega arith)
 
+  -- reading all that is under way to the receiver is reading it in the hop
   pub reads_all : (k m : ℕ) (hop : Hop) (r : Receiver) → Reading hop r → length r.line.down ≤ k → length hop.down ≤ m → Reading (run largest (times m to_end) hop) (all_read k r)
   reads_all zero m hop r x few fewer = subst (λ (w : Hop). Reading w r) (sym (ends_idle m hop (downs_are hop r x ∙ none_heard r.line.down few))) x
   reads_all (suc k) m hop r x few fewer = reads_more k hop r x few (reads_all k) m r.line.down refl fewer
 
 -- ---- and is connected still
 
+-- after its reading the receiver is at the state that the hop has come to
 pub record HasRead (number : Numbering) (largest window : ℕ) (ids : List CopyId) (birth : ℕ) (ns : List ℕ) (P : List Back → Type 0) (hop : Hop) (r q : Receiver) (b : Broker) : Type 0 where
   pub at : At number largest window ids birth ns hop q b
   pub answering : P r.line.up → P q.line.up

@@ -71,6 +71,7 @@ none_of (Some n) = refl
 
 -- ---- receiver and broker, with the hop that is seen
 
+-- the receiver is connected and in step, and what it sees is this state of its hop
 pub record At (number : Numbering) (largest window : ℕ) (ids : List CopyId) (birth : ℕ) (ns : List ℕ) (hop : Hop) (r : Receiver) (b : Broker) : Type 0 where
   pub connected : IsConnected largest window ids birth ns r b
   pub copies : List Lot
@@ -79,15 +80,19 @@ pub record At (number : Numbering) (largest window : ℕ) (ids : List CopyId) (b
   pub seen_is : seen number copies r b ≡ hop
 
 module _ (number : Numbering) (largest window : ℕ) (ids : List CopyId) (birth : ℕ) (ns : List ℕ) where
+  -- the state of the hop that a connected receiver sees is one that a run reaches
   pub reached : (hop : Hop) (r : Receiver) (b : Broker) → At number largest window ids birth ns hop r b → Reached largest hop
   reached hop r b x = (x.run_is.events, sym x.run_is.seen_is ∙ x.seen_is)
 
+  -- the line of a connected receiver stands
   pub is_linked_now : (r : Receiver) (b : Broker) → IsConnected largest window ids birth ns r b → is_linked r.line.number b ≡ true
   is_linked_now r b c = ap (λ (o : Option ℕ). is_linked o b) c.number ∙ (ap has_session c.there ∙ ap is_some c.connected)
 
+  -- in the hop of a connected receiver the session is connected
   pub hop_linked : (hop : Hop) (r : Receiver) (b : Broker) → At number largest window ids birth ns hop r b → hop.linked ≡ true
   hop_linked hop r b x = sym (ap (λ (w : Hop). w.linked) x.seen_is) ∙ is_linked_now r b x.connected
 
+  -- the session of a connected receiver listens on its line
   pub listens_now : (r : Receiver) (b : Broker) (c : IsConnected largest window ids birth ns r b) → Listens r c.line birth b
   listens_now r b c = listens_in_step largest ids birth ns c.line.number birth r c.line b c.in_step c.unique c.ordered c.number c.there c.connected c.apart
 
@@ -126,9 +131,11 @@ module _ (number : Numbering) (largest window : ℕ) (ids : List CopyId) (birth 
   -- ---- a call that closes no line and connects nobody
 
   module _ (limits : Limits) (choice : MemberChoice) (now : ℕ) (call : Call) (r : Receiver) (b : Broker) (quiet : AreGood IsQuiet (deeds limits choice now call b) (at_moment now b)) where
+    -- quiet deeds leave what is under way from the receiver
     pub stays_up : (ups : List Back) → unless_closed (is_one_of r.line.number (filter_map closing (deeds limits choice now call b))) ups ≡ ups
     stays_up ups = ap (λ (z : Bool). unless_closed z ups) (ap (is_one_of r.line.number) (none_closed (deeds limits choice now call b) (at_moment now b) quiet) ∙ none_of r.line.number)
 
+    -- after a quiet call a connected receiver in step is connected again
     pub called_again : (later : List CopyId) (q : Receiver) (c : IsConnected largest window ids birth ns r b) → IsInStep largest later birth ns q (stepped limits choice now call b) → q.line.number ≡ r.line.number → q.line.old_number ≡ r.line.old_number
         → is_linked q.line.number (stepped limits choice now call b) ≡ true → IsConnected largest window later birth ns q (stepped limits choice now call b)
     called_again later q c k same old linked =
@@ -144,6 +151,7 @@ module _ (number : Numbering) (largest window : ℕ) (ids : List CopyId) (birth 
       let first = at_moment now b in
       subst (λ (ds : List Deed). AreGood IsQuiet ds first) (sym (pump_is limits choice now c.line s b a.listening.line a.listening.connected a.listening.session)) (quiet_pump c.line first.now s first)
 
+  -- a turn of sending leaves retained messages and granted filters as they are
   pub pump_same : (limits : Limits) (choice : MemberChoice) (now : ℕ) (r : Receiver) (b : Broker) (c : IsConnected largest window ids birth ns r b) → HasSame b (stepped limits choice now (Pump c.line.number) b)
   pump_same limits choice now r b c =
       let a = listens_now r b c in
@@ -156,6 +164,7 @@ module _ (number : Numbering) (largest window : ℕ) (ids : List CopyId) (birth 
   pub pump_up : (limits : Limits) (choice : MemberChoice) (now : ℕ) (r : Receiver) (b : Broker) (c : IsConnected largest window ids birth ns r b) → (receiver_called limits choice now (Pump c.line.number) r b).line.up ≡ r.line.up
   pump_up limits choice now r b c = stays_up limits choice now (Pump c.line.number) r b (quiet_sending limits choice now r b c) r.line.up
 
+  -- a turn of sending takes a connected receiver to the state of its hop's pump
   pub pump_at : (limits : Limits) (choice : MemberChoice) (now : ℕ) (hop : Hop) (r : Receiver) (b : Broker) (x : At number largest window ids birth ns hop r b)
       → At number largest window ids birth ns (step largest hop (pump window (at_moment now b).now)) (receiver_called limits choice now (Pump x.connected.line.number) r b) (stepped limits choice now (Pump x.connected.line.number) b)
   pump_at limits choice now hop r b x =

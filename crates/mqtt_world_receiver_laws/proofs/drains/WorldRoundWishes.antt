@@ -114,6 +114,7 @@ module _ (number : Numbering) (largest window : ℕ) (ids : List CopyId) (birth 
     pub connected : IsConnected largest window (ids ++ more) birth ns (receiver_after limits choice now (asking r n w) r b) (stepped limits choice now (asking r n w) b)
     pub up : (receiver_after limits choice now (asking r n w) r b).line.up ≡ rest
 
+  -- a SUBSCRIBE of a connected receiver leaves it connected, with the copies that it brings
   pub wish_at : (limits : Limits) (choice : MemberChoice) (now : ℕ) (w : Wish) (rest : List Back) (r : Receiver) (b : Broker) (c : IsConnected largest window ids birth ns r b) → IsTidy limits b → AreTold ids b
       → r.line.up ≡ asks_for w ∷ rest → HasWished limits choice now w rest c.line.number r b
   wish_at limits choice now w rest r b c tidy told up =

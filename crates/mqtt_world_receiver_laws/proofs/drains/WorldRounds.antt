@@ -49,9 +49,9 @@ use Rattle.mqtt_world_receiver_laws.proofs.drains.WorldRoundWishes.{wish_at}
 use Rattle.mqtt_world_receiver_laws.proofs.drains.WorldRoundReads.{Grows, all_read, reads_at}
 use Rattle.mqtt_world_receiver_laws.proofs.drains.WorldRoundSteps.{At, answer_at, hop_linked, listens_now, pump_at, pump_same, pump_up, reached}
 
--- ---- who is found by the name, where one is changed
+-- ---- who is found by the name, if one is changed
 
--- where nobody is found nobody is changed
+-- if nobody is found nobody is changed
 pub none_changed : {X : Type 0} (test : X → Bool) (f : X → X) (xs : List X) → find test xs ≡ None → find test (map (λ (x : X). cond (test x) (f x) x) xs) ≡ None
 none_changed test f [] e = refl
 none_changed test f (x ∷ xs) e = elim (cases_Bool (test x)) [
@@ -76,9 +76,11 @@ module _ (client : List ℕ) (set : Setting) (call : Call) (w : World) where
   abbrev out : Outcome
   out = told set.limits set.choice w.now call w.broker
 
+  -- after a call the receiver is the one that was told of it
   pub receiver_called_is : (r : Receiver) → receiver_named client w ≡ Some r → receiver_named client (calls set call w) ≡ Some (receiver_told new out r)
   receiver_called_is r e = find_receiver client (receiver_told new out) (λ q. refl) w.receivers ∙ ap (option_map (receiver_told new out)) e
 
+  -- a call brings no publisher
   pub publisher_called_is : publisher_named client w ≡ None → publisher_named client (calls set call w) ≡ None
   publisher_called_is e = find_publisher client (publisher_told new out) (λ p. refl) w.publishers ∙ ap (option_map (publisher_told new out)) e
 
@@ -89,6 +91,7 @@ answers_grow = record { none = tt; more = λ up a all. each_append IsAnswer up (
 
 -- ---- the receiver of the name, with the hop that is seen and what is under way from it
 
+-- the receiver of this name is at this state of its hop, with this under way from it
 pub record Here (number : Numbering) (largest window : ℕ) (ids : List CopyId) (birth : ℕ) (ns : List ℕ) (client : List ℕ) (ups : List Back) (h : Hop) (w : World) : Type 0 where
   pub receiver : Receiver
   pub named : receiver_named client w ≡ Some receiver
@@ -102,6 +105,7 @@ module _ (limits : Limits) (choice : MemberChoice) (client : List ℕ) where
   abbrev set : Setting
   set = record { limits = limits; choice = choice }
 
+  -- to ask for a turn of sending is the broker's call on the receiver's line
   pub pump_is : (w : World) (r : Receiver) (n : ℕ) → receiver_named client w ≡ Some r → publisher_named client w ≡ None → r.line.number ≡ Some n → turned limits (turn_of choice (ask (pump client))) w ≡ calls set (Pump n) w
   pump_is w r n named alone number = rw (named, alone, number) refl
 
@@ -111,6 +115,7 @@ module _ (limits : Limits) (choice : MemberChoice) (client : List ℕ) where
   abbrev pub taken_off : World → World
   taken_off w = with_line client taken_up taken_up w
 
+  -- to have the first packet of the receiver's line read is the broker's call on it
   pub back_is : (w : World) (r : Receiver) (n : ℕ) (u : Back) (rest : List Back) → receiver_named client w ≡ Some r → publisher_named client w ≡ None → r.line.number ≡ Some n → r.line.up ≡ u ∷ rest
       → turned limits (turn_of choice (ask (to_broker client))) w ≡ calls set (Input n (wire_back r.client r.window u)) (taken_off w)
   back_is w r n u rest named alone number up = rw (named, alone, number, up) refl
@@ -125,6 +130,7 @@ module _ (limits : Limits) (choice : MemberChoice) (client : List ℕ) where
     abbrev at_of : (h : Hop) (w : World) (x : Comes h w) → At number largest window ids birth ns h x.receiver w.broker
     at_of h w x = record { connected = x.may.connected; copies = x.copies; same = x.same; run_is = x.run_is; seen_is = x.seen_is }
 
+    -- a turn of sending in the world is a pump of the hop
     pub pumps : (ups : List Back) (h : Hop) (w : World) → Sees ups h w → Sees ups (step largest h (hop.pump window (moment_of w))) (turned limits (turn_of choice (ask (pump client))) w)
     pumps ups h w x =
         let n = x.at.connected.line.number in
@@ -171,6 +177,7 @@ module _ (limits : Limits) (choice : MemberChoice) (client : List ℕ) where
       pub sees : Sees ups h w
       pub answering : P before → P ups
 
+    -- the receiver's reading in the world is that of the hop
     pub reads : (P : List Back → Type 0) (grows : Grows P) (ups : List Back) (h : Hop) (w : World) → Sees ups h w → Answered P ups (hop.run largest (rounds.all_to_end h) h) (run limits (all_to_end choice client w) w)
     reads P grows ups h w x =
         let r = x.receiver in
@@ -189,6 +196,7 @@ module _ (limits : Limits) (choice : MemberChoice) (client : List ℕ) where
 
     -- ---- the broker reads
 
+    -- an answer that the broker reads in the world is read in the hop
     pub answers_one : (a : Answer) (rest : List Back) (h : Hop) (w : World) → Sees (answers a ∷ rest) h w → Sees rest (step largest h (hop.to_broker false)) (turned limits (turn_of choice (ask (to_broker client))) w)
     answers_one a rest h w x =
         let r = x.receiver in
@@ -209,6 +217,7 @@ module _ (limits : Limits) (choice : MemberChoice) (client : List ℕ) where
         } in
         subst (Sees rest (step largest h (hop.to_broker false))) (sym (back_is w r n (answers a) rest x.named x.alone x.at.connected.number x.up)) z
 
+    -- all answers that the broker reads in the world are read in the hop
     pub brokers_from : (ups : List Back) (h : Hop) (w : World) → Sees ups h w → AllByRecursion IsAnswer ups → Sees [] (hop.run largest (times (length ups) (hop.to_broker false)) h) (run limits (times (length ups) (turn_of choice (ask (to_broker client)))) w)
     brokers_from [] h w x a = x
     brokers_from (asks_for wish ∷ rest) h w x a = absurd a.0
@@ -247,6 +256,7 @@ module _ (limits : Limits) (choice : MemberChoice) (client : List ℕ) where
 
     -- ---- a round
 
+    -- a round in the world is a round of the hop
     pub rounds_on : (h : Hop) (w : World) → Comes h w → Comes (rounds.after_round largest window (moment_of w) h) (after_round limits choice client w)
     rounds_on h w x =
         let sends = turn_of choice (ask (pump client)) ∷ [] in
@@ -278,6 +288,7 @@ module _ (limits : Limits) (choice : MemberChoice) (client : List ℕ) where
       pub left : copies_left client w ≡ length session.queue
       pub many : length session.queue ≡ length (queue_of h.copies)
 
+    -- the receiver's session stands, with as many rows as copies stand in the hop
     pub holds : (ups : List Back) (h : Hop) (w : World) → Sees ups h w → Holds h w
     holds ups h w x =
         let r = x.receiver in
@@ -294,6 +305,7 @@ module _ (limits : Limits) (choice : MemberChoice) (client : List ℕ) where
               ∙ (ap length (same_entries x.at.copies l.went s.queue (standing_by x.at.copies r l s w.broker x.at.run_is.queue_is li.listening)) ∙ lengths _ s.queue));
         }
 
+    -- as many copies are left in the world as stand in the hop
     pub left_is : (h : Hop) (w : World) → Comes h w → copies_left client w ≡ length (queue_of h.copies)
     left_is h w x =
         let y = holds x.receiver.line.up h w (record { receiver = x.receiver; named = x.may.named; alone = x.may.alone; at = at_of h w x; up = refl }) in
@@ -307,6 +319,7 @@ module _ (limits : Limits) (choice : MemberChoice) (client : List ℕ) where
         let linked = hop_linked number largest window ids birth ns h x.receiver w.broker (at_of h w x) in
         (λ i. is_none_left (left_is h w x i) || not (standing i)) ∙ ap (λ (z : Bool). is_none_left (length (queue_of h.copies)) || not z) (sym linked)
 
+    -- a drain of the world is a drain of the hop
     pub drains_on : (most : ℕ) (h : Hop) (w : World) → Comes h w → Comes (rounds.drained largest window (moments_of limits choice client most w) h) (drained limits choice client most w)
     drains_on zero h w x = x
     drains_on (suc more) h w x = ⊎_elim
@@ -319,6 +332,7 @@ module _ (limits : Limits) (choice : MemberChoice) (client : List ℕ) where
         rw (o, p) (subst (Comes (rounds.drained largest window (moments_of limits choice client more v) g)) (sym (run_append limits (round_turns limits choice client w) (drain_turns limits choice client more v) w)) y))
         (test_cases (is_over client w))
 
+    -- a drain of the world takes as many rounds as that of the hop
     pub count_is : (most : ℕ) (h : Hop) (w : World) → Comes h w → rounds_taken limits choice client most w ≡ rounds.rounds_taken largest window (moments_of limits choice client most w) h
     count_is zero h w x = refl
     count_is (suc more) h w x = ⊎_elim
@@ -328,6 +342,7 @@ module _ (limits : Limits) (choice : MemberChoice) (client : List ℕ) where
         rw (o, p) (ap suc (count_is more (rounds.after_round largest window (moment_of w) h) (after_round limits choice client w) (rounds_on h w x))))
         (test_cases (is_over client w))
 
+    -- a drain of so many rounds has as many moments
     pub moments_length : (most : ℕ) (w : World) → length (moments_of limits choice client most w) ≡ most
     moments_length zero w = refl
     moments_length (suc more) w = ap suc (moments_length more (after_round limits choice client w))
@@ -364,6 +379,7 @@ module _ (limits : Limits) (choice : MemberChoice) (client : List ℕ) where
   times_moment e keeps zero w = refl
   times_moment e keeps (suc k) w = times_moment e keeps k (turned limits (turn_of choice e) w) ∙ keeps w
 
+  -- a round leaves the moment as it is
   pub round_moment : (w : World) → moment_of (after_round limits choice client w) ≡ moment_of w
   round_moment w =
       let sent = run limits (turn_of choice (ask (pump client)) ∷ []) w in
@@ -393,7 +409,7 @@ answers_fewer : (largest k : ℕ) (h : Hop) → Reached largest h → length (qu
 answers_fewer largest k h r =
     no_more_stand h.copies (hop.run largest (times k (hop.to_broker false)) h).copies (brokers_length largest k h) (goes_on largest h r (times k (hop.to_broker false)))
 
--- ---- the first round, where a SUBSCRIBE is under way
+-- ---- the first round, if a SUBSCRIBE is under way
 
 -- tables are in order, and copies differ; so many filters were granted
 record Orderly (limits : Limits) (ids : List CopyId) (granted : ℕ) (w : World) : Type 0 where
@@ -612,6 +628,7 @@ first_round largest window ids birth ns limits choice client r w may =
 
 module _ (number : Numbering) (largest window : ℕ) (ids : List CopyId) (birth : ℕ) (ns : List ℕ) (limits : Limits) (choice : MemberChoice) (client : List ℕ) (copies : List Lot) (r : Receiver) (w : World)
     (may : MayDrain largest window ids birth ns client r w) (same : map id_of copies ≡ ids) (k : IsRun number largest copies r w.broker) where
+  -- a round of the drain in the world is a round of the hop
   pub round_is : ComesTo number largest window ids birth ns client (rounds.after_round largest window (moment_of w) (seen number copies r w.broker)) (after_round limits choice client w)
   round_is = rounds_on limits choice client number largest window ids birth ns (seen number copies r w.broker) w (record { receiver = r; may = may; copies = copies; same = same; run_is = k; seen_is = refl })
 
@@ -621,6 +638,7 @@ module _ (number : Numbering) (largest window : ℕ) (ids : List CopyId) (birth 
   begun : ComesTo number largest window ids birth ns client from w
   begun = record { receiver = r; may = may; copies = copies; same = same; run_is = k; seen_is = k.seen_is }
 
+  -- a drain takes no more than two rounds for each copy that is left
   pub drain_within : (most : ℕ) → 1 ≤ window → rounds_taken limits choice client most w ≤ 2 * copies_left client w
   drain_within most room =
       let moments = moments_of limits choice client most w in
@@ -630,6 +648,7 @@ module _ (number : Numbering) (largest window : ℕ) (ids : List CopyId) (birth 
       let left = left_is limits choice client number largest window ids birth ns from w begun in
       omega (arith, count, few, two, left)
 
+  -- after two rounds for each copy none is left
   pub drain_empty : (most : ℕ) → 1 ≤ window → 2 * copies_left client w ≤ most → copies_left client (drained limits choice client most w) ≡ 0
   drain_empty most room enough =
       let moments = moments_of limits choice client most w in
@@ -641,6 +660,7 @@ module _ (number : Numbering) (largest window : ℕ) (ids : List CopyId) (birth 
       left_is limits choice client number largest window ids birth ns (rounds.drained largest window moments from) (drained limits choice client most w) (drains_on limits choice client number largest window ids birth ns most from w begun)
       ∙ ap length last.1
 
+  -- after a drain it may be drained still, and each copy that ended in it was taken, had expired by then, or was too large
   pub drain_is : (most : ℕ) → 1 ≤ window → IsDrained number largest window ids birth ns client (moment_of w) copies (drained limits choice client most w)
   drain_is most room =
       let moments = moments_of limits choice client most w in
@@ -662,17 +682,19 @@ module _ (number : Numbering) (largest window : ℕ) (ids : List CopyId) (birth 
 
 -- however the copies are numbered
 module _ (largest window : ℕ) (ids : List CopyId) (birth : ℕ) (ns : List ℕ) (limits : Limits) (choice : MemberChoice) (client : List ℕ) (most : ℕ) (r : Receiver) (w : World) where
+  -- a drain of a receiver that may be drained takes no more than two rounds for each copy
   pub drain_is_within : 1 ≤ window → AllDiffer ids → MayDrain largest window ids birth ns client r w → rounds_taken limits choice client most w ≤ 2 * copies_left client w
   drain_is_within room differ may =
       let x = may.connected.in_step.runs (place_of ids) (places_number ids differ) in
       drain_within (place_of ids) largest window ids birth ns limits choice client x.after r w may x.same x.run_is most room
 
+  -- a drain of a receiver that may be drained leaves no copy after two rounds for each
   pub drain_is_empty : 1 ≤ window → AllDiffer ids → MayDrain largest window ids birth ns client r w → 2 * copies_left client w ≤ most → copies_left client (drained limits choice client most w) ≡ 0
   drain_is_empty room differ may enough =
       let x = may.connected.in_step.runs (place_of ids) (places_number ids differ) in
       drain_empty (place_of ids) largest window ids birth ns limits choice client x.after r w may x.same x.run_is most room enough
 
-  -- where it may be drained only after a round
+  -- if it may be drained only after a round
   pub drain_within_later : 1 ≤ window → AllDiffer ids → MayDrain largest window ids birth ns client r (after_round limits choice client w) → rounds_taken limits choice client most w ≤ enough_rounds (copies_left client (after_round limits choice client w))
   drain_within_later room differ may = by most
     where
@@ -688,6 +710,7 @@ module _ (largest window : ℕ) (ids : List CopyId) (birth : ℕ) (ns : List ℕ
           rw o (omega (arith, few)))
           (test_cases (is_over client w))
 
+  -- a drain of a receiver that may be drained after a round is over after enough rounds
   pub drain_over_later : 1 ≤ window → AllDiffer ids → MayDrain largest window ids birth ns client r (after_round limits choice client w) → enough_rounds (copies_left client (after_round limits choice client w)) ≤ most
       → is_over client (drained limits choice client most w) ≡ true
   drain_over_later room differ may enough = by most enough
@@ -706,7 +729,7 @@ module _ (largest window : ℕ) (ids : List CopyId) (birth : ℕ) (ns : List ℕ
           (ap (λ (j : ℕ). is_none_left j || not (line_stands (receiver_named client (drained limits choice client more v)) (drained limits choice client more v))) none)))
           (test_cases (is_over client w))
 
--- one round more, where it is not over
+-- one round more, if it is not over
 pub more_rounds : (limits : Limits) (choice : MemberChoice) (client : List ℕ) (most : ℕ) (w : World) → is_over client w ≡ false → drained limits choice client (suc most) w ≡ drained limits choice client most (after_round limits choice client w)
 more_rounds limits choice client most w o =
     let v = after_round limits choice client w in
@@ -718,7 +741,7 @@ pub left_of : (number : Numbering) (largest window : ℕ) (ids : List CopyId) (b
 left_of number largest window ids birth ns limits choice client copies r w may same run_is =
     left_is limits choice client number largest window ids birth ns (seen number copies r w.broker) w (record { receiver = r; may = may; copies = copies; same = same; run_is = run_is; seen_is = refl })
 
--- ---- the whole drain, where a SUBSCRIBE is under way
+-- ---- the whole drain, if a SUBSCRIBE is under way
 
 -- a subscription under way does not hinder a drain
 pub subscribe_is_drained : (number : Numbering) (largest window : ℕ) (ids : List CopyId) (birth : ℕ) (ns : List ℕ) (limits : Limits) (choice : MemberChoice) (client : List ℕ) (copies : List Lot) (most : ℕ) (r : Receiver) (w : World)

@@ -79,6 +79,7 @@ module _ (ns : List ℕ) where
   abbrev Free : List BrokerLine → Type 0
   Free ls = AllByRecursion (IsFreeLine ns) ls
 
+  -- nobody is connected on the receiver's lines, and their numbers were given
   pub record IsFree (b : Broker) : Type 0 where
     pub free : AllByRecursion (IsFreeLine ns) b.lines
     pub given : (n : ℕ) → is_one_of (Some n) ns ≡ true → n ≤ b.given
@@ -122,6 +123,7 @@ module _ (ns : List ℕ) where
   free_given (Link m) given q h = λ n inside. let less = q n inside in omega (arith, less)
   free_given d given q h = h
 
+  -- deeds apart from the receiver's lines leave them free
   pub free_deeds : (ds : List Deed) (b : Broker) → Apart ds → IsFree b → IsFree (after_all ds b)
   free_deeds [] b q h = h
   free_deeds (d ∷ ds) b q h = free_deeds ds (after d b) q.1 (record { free = free_lines b.now d b.lines q.0 h.free; given = free_given d b.given q.0 h.given })
@@ -239,6 +241,7 @@ module _ (ns : List ℕ) where
         | inr outside ↦ outside
       ]
 
+  -- that each deed of others is apart from them is a law of the one induction
   pub apart_law : (env : Env) → Law env others IsFree IsApartHere
   apart_law env = record {
     finds = record {
@@ -279,6 +282,7 @@ module _ (ns : List ℕ) where
   mute_deeds [] b q = tt
   mute_deeds (d ∷ ds) b q = (mute_deed d q.0, mute_deeds ds (after d b) q.1)
 
+  -- a line that is found by another number is another
   pub outside_at : (m : ℕ) (l : BrokerLine) (b : Broker) → IsOutside m → find (λ (x : BrokerLine). nat_eq x.number m) b.lines ≡ Some l → IsOutside l.number
   outside_at m l b out e = ap (λ (k : ℕ). is_one_of (Some k) ns) (found_number m l b.lines e) ∙ out
 
@@ -303,6 +307,7 @@ module _ (ns : List ℕ) where
     | inr further ↦ rw further (unlinked m ls inside h.1)
   ]
 
+  -- a free line of its own is not one on which a session is connected
   pub free_unlinked : (o : Option ℕ) (b : Broker) → ((m : ℕ) → o ≡ Some m → is_one_of (Some m) ns ≡ true) → Free b.lines → is_linked o b ≡ false
   free_unlinked None b inside h = refl
   free_unlinked (Some m) b inside h = linked_is m b ∙ unlinked m b.lines (inside m refl) h

@@ -194,6 +194,7 @@ module _ (number : Numbering) (copies2 : List Lot) (ids : List CopyId) (limits :
       ap (λ (ss : List Session). find (λ (y : Session). bytes_eq y.client q.client) ss) sessions_are
       ∙ named_is q.client birth (after_all done_deeds at_first).records x.session x.only x.found x.client
 
+  -- what the receiver sees after a call is the hop's state after what the deeds made
   pub called_seen : (ps : List Output) (shut shut_old : Bool) → Makes ps shut shut_old
       → seen number copies2 (receiver_called limits choice now call q b) (stepped limits choice now call b) ≡ hop_called ps shut shut_old
   called_seen ps shut shut_old x =
@@ -223,6 +224,7 @@ module _ (number : Numbering) (copies2 : List Lot) (ids : List CopyId) (limits :
         reads = map (handed_in number) q.once;
       }
 
+  -- the copies of the hop that stand are those of the session's queue after the call
   pub called_queue : (ps : List Output) (shut shut_old : Bool) → Makes ps shut shut_old
       → AreQueued copies2 (session_named q.client (stepped limits choice now call b).records) (stepped limits choice now call b)
   called_queue ps shut shut_old x =
@@ -230,6 +232,7 @@ module _ (number : Numbering) (copies2 : List Lot) (ids : List CopyId) (limits :
       ap (λ (k : ℕ). went_in k new) x.birth_is ∙ ap (its_went birth) lines_are in
       subst (λ (o : Option Session). AreQueued copies2 o new) (sym (named_after ps shut shut_old x)) (subst (λ (o : Option (List ℕ)). StandOn copies2 x.session.queue o) (sym went) x.queued)
 
+  -- what is under way to the receiver after the call is tagged with copies that entered
   pub called_tags : (ps : List Output) (shut shut_old : Bool) → Makes ps shut shut_old → AreTagged number ids q → AreTagged number ids (receiver_called limits choice now call q b)
   called_tags ps shut shut_old x h = record {
     down = subst (λ (o : Option ℕ). AllByRecursion (IsTagged number ids) (q.line.down ++ sent_to o new (filter_map output done_deeds))) (sym x.number_is)

@@ -78,6 +78,7 @@ module _ (largest : ℕ) (env : Env) (small : env.limits.queue ≤ QUEUE_LIMIT) 
     | inr outside ↦ outside
   ]
 
+  -- that what others do leaves the receiver served is a law of the one induction
   pub served_law : starts_with nat_eq r.client auto ≡ false → Law env (others r.client birth ns) Stays (IsMuteHere ns)
   served_law plain =
       let q = short_law in
@@ -184,7 +185,7 @@ spared_on number ids ns (Some m) new ds b inside q =
 
 -- ---- the moment of a step
 
--- where lines are the same, so is which are linked
+-- if lines are the same, so is which are linked
 pub linked_on : (o : Option ℕ) (b c : Broker) → c.lines ≡ b.lines → is_linked o c ≡ is_linked o b
 linked_on o b c lines = linked_same o b c (λ m. ap (session_on m) lines)
 

@@ -1,4 +1,4 @@
--- A tick closes a line on which CONNECT didn't come in time: where it is the receiver's, that is an event of its hop, or two.
+-- A tick closes a line on which CONNECT didn't come in time: if it is the receiver's, that is an event of its hop, or two.
 use Rattle.std.proofs.Common.{◌≡◌, ℕ, Bool, true, false, cond, not, List, [], ◌∷◌, ◌++◌, filter, map, Option, Some, None, nat_eq, refl, sym, ap, subst, ◌∙◌, append-nil, inl, inr}
 use Rattle.std.specs.List.{AllByRecursion}
 use Rattle.std.specs.Prelude.{filter_map, find, is_some, option_map}

@@ -90,6 +90,7 @@ module _ (client : List ℕ) (birth : ℕ) (ns : List ℕ) where
     | inr further ↦ rw further (h.0, on_own now m part ls outside q h.1)
   ]
 
+  -- a line that goes leaves whose the lines are
   pub gone_own : (m : ℕ) (ls : List BrokerLine) → OwnLines ls → OwnLines (filter (λ (l : BrokerLine). not (nat_eq l.number m)) ls)
   gone_own m [] h = tt
   gone_own m (l ∷ ls) h = elim (cases_Bool (nat_eq l.number m)) [
@@ -108,6 +109,7 @@ module _ (client : List ℕ) (birth : ℕ) (ns : List ℕ) where
     | inr other ↦ rw other (h.0, place_own k place ls h.1)
   ]
 
+  -- a part of a session leaves whose the lines are
   pub at_own : (k : ℕ) (part : Part) (ls : List BrokerLine) → OwnLines ls → OwnLines (lines_at k part ls)
   at_own k (Leave e ending) ls h = place_own k e.place ls h
   at_own k part ls h = h
@@ -130,6 +132,7 @@ module _ (client : List ℕ) (birth : ℕ) (ns : List ℕ) where
 
   -- ---- together
 
+  -- a deed of others leaves the receiver's session and lines its own
   pub served_deed : (d : Deed) (b : Broker) → IsTheirs d → IsServed client birth ns b → IsServed client birth ns (after d b)
   served_deed d b q h = record {
     sessions = theirs_ours d b.records q h.sessions;
@@ -138,6 +141,7 @@ module _ (client : List ℕ) (birth : ℕ) (ns : List ℕ) where
     given = given_own d b.given q h.given;
   }
 
+  -- deeds of others leave the receiver's session and lines its own
   pub served_deeds : (ds : List Deed) (b : Broker) → AreTheirs ds → IsServed client birth ns b → IsServed client birth ns (after_all ds b)
   served_deeds [] b q h = h
   served_deeds (d ∷ ds) b q h = served_deeds ds (after d b) q.1 (served_deed d b q.0 h)
@@ -160,6 +164,7 @@ module _ (client : List ℕ) (birth : ℕ) (ns : List ℕ) where
       let kept = mine_owns client birth 0 ds bare (inr q, tt) own in
       record { sessions = kept.sessions; lines = at_own who.birth part b.lines h.lines; births = kept.births; given = h.given }
 
+  -- deeds of queues leave the receiver's session and lines its own
   pub served_parts : (ds : List Deed) (b : Broker) → AreOfQueue ds → IsServed client birth ns b → IsServed client birth ns (after_all ds b)
   served_parts [] b q h = h
   served_parts (At who part ∷ ds) b q h = served_parts ds (after (At who part) b) q.1 (served_part who part b q.0 h)
@@ -171,6 +176,7 @@ module _ (client : List ℕ) (birth : ℕ) (ns : List ℕ) where
   none_accepted (Accept number origin m) c q = absurd q.1
   none_accepted d c q = refl
 
+  -- deeds of others, publications left out, accept nothing
   pub publications_stay : (ds : List Deed) (b : Broker) → AreTheirs ds → (after_all ds b).records.publications ≡ b.records.publications
   publications_stay [] b q = refl
   publications_stay (d ∷ ds) b q =

@@ -34,10 +34,12 @@ module _ (client : List ℕ) (birth : ℕ) (ns : List ℕ) where
   abbrev pub Theirs : List Deed → Type 0
   Theirs ds = AreTheirs client birth ns ds
 
+  -- deeds of others, and more behind them, are of others
   pub theirs_append : (xs ys : List Deed) → Theirs xs → Theirs ys → Theirs (xs ++ ys)
   theirs_append [] ys p q = q
   theirs_append (x ∷ xs) ys p q = (p.0, theirs_append xs ys p.1 q)
 
+  -- lists of deeds made of items are of others if each is
   pub theirs_flat : {X : Type 0} (f : X → List Deed) → ((x : X) → Theirs (f x)) → (xs : List X) → Theirs (flat_map f xs)
   theirs_flat f h [] = tt
   theirs_flat f h (x ∷ xs) = theirs_append (f x) (flat_map f xs) (h x) (theirs_flat f h xs)
@@ -54,10 +56,12 @@ module _ (client : List ℕ) (birth : ℕ) (ns : List ℕ) where
   abbrev pub IsOutside : ℕ → Type 0
   IsOutside m = is_one_of (Some m) ns ≡ false
 
+  -- a line is none of the receiver's, and has another session
   pub record IsAnother (l : BrokerLine) : Type 0 where
     pub number : IsOutside l.number
     pub session : (k : ℕ) → l.session ≡ Some k → IsForeign k
 
+  -- another birth is another session's
   pub differs : (k : ℕ) → (k ≡ birth → ⊥) → IsForeign k
   differs k h = elim (cases_Bool (nat_eq k birth)) [ inl same ↦ absurd (h (eqb-true k birth same)) | inr other ↦ other ]
 
@@ -105,12 +109,14 @@ module _ (client : List ℕ) (birth : ℕ) (ns : List ℕ) where
       let never_is : true ≡ false = sym yes ∙ no in
       absurd cc
 
+  -- a session with a Will that is due is another
   pub no_will : (now : ℕ) (s : Session) → IsOurs client birth s → has_due_will now s ≡ true → IsForeign s.birth
   no_will now s p h = differs s.birth (λ same.
       let none : has_due_will now s ≡ false = ap (λ (w : Option Will). is_due now (will_due s.closed s.expiry w)) (p.no_will same) ∙ no_will_due s.closed s.expiry now in
       let both : true ≡ false = sym h ∙ none in
       absurd cc)
 
+  -- a session whose end is due is another
   pub no_end : (now : ℕ) (s : Session) → IsOurs client birth s → has_due_end now s ≡ true → IsForeign s.birth
   no_end now s p h = differs s.birth (λ same.
       let none : has_due_end now s ≡ false = ap (λ (k : ℕ). is_due now (end_due s.closed k)) (p.no_end same) ∙ no_end_due s.closed now in
@@ -123,6 +129,7 @@ module _ (client : List ℕ) (birth : ℕ) (ns : List ℕ) where
   theirs_of_entry None f h = tt
   theirs_of_entry (Some e) f h = h e
 
+  -- a copy's leaving another queue is of others
   pub theirs_leave : (s : Session) (t : Turn) → IsForeign s.birth → Theirs (leave_deeds s t)
   theirs_leave s (turns.Leave place ending) q = theirs_of_entry (row_at copy_place place s.queue) (λ e. At (whose s) (Leave e ending) ∷ []) (λ e. ((q, tt), tt))
   theirs_leave s (turns.Send place id) q = tt
@@ -132,6 +139,7 @@ module _ (client : List ℕ) (birth : ℕ) (ns : List ℕ) where
   theirs_leave s (turns.Repeat id) q = tt
   theirs_leave s (turns.Unknown id) q = tt
 
+  -- a turn of another queue on another line is of others
   pub theirs_turn : (now line : ℕ) (s : Session) (t : Turn) → IsOutside line → IsForeign s.birth → Theirs (turn_deeds now line s t)
   theirs_turn now line s (turns.Send place id) out q = theirs_of_entry (row_at copy_place place s.queue) _ (λ e. ((q, tt), (((out, tt), tt), ((out, tt), tt))))
   theirs_turn now line s (turns.Resend place id) out q = theirs_of_entry (row_at copy_place place s.queue) _ (λ e. (((out, tt), tt), ((out, tt), tt)))
@@ -146,6 +154,7 @@ module _ (client : List ℕ) (birth : ℕ) (ns : List ℕ) where
   theirs_closed true now (Some s) h = ((h s refl, tt), tt)
   theirs_closed false now (Some s) h = ((h s refl, tt), ((h s refl, tt), tt))
 
+  -- the closing of another line, and its session with it, is of others
   pub theirs_closing : (keeps_will : Bool) (l : BrokerLine) (session : Option ℕ) (b : Broker) → IsAnother l → l.session ≡ session → Theirs (Gone l.number ∷ closing_on keeps_will b.now session b.records)
   theirs_closing keeps_will l None b q e = ((q.number, tt), tt)
   theirs_closing keeps_will l (Some k) b q e = (
@@ -154,10 +163,12 @@ module _ (client : List ℕ) (birth : ℕ) (ns : List ℕ) where
         (λ s there. ap (λ (m : ℕ). nat_eq m birth) (found_key birth_of k s b.records.sessions there) ∙ q.session k e),
   )
 
+  -- another session's end is of others
   pub theirs_end : (s : Session) → IsForeign s.birth → Theirs (end_session s)
   theirs_end s q =
       theirs_append (map (λ (e : CopyRow). At (whose s) (Leave e SessionEnded)) s.queue) (Finish (whose s) ∷ []) (theirs_map (λ (e : CopyRow). At (whose s) (Leave e SessionEnded)) (λ e. (q, tt)) s.queue) ((q, tt), tt)
 
+  -- another session that is connected on another line is of others
   pub theirs_greet : (l : BrokerLine) (c : Greeting) (k : ℕ) → IsAnother l → IsForeign k → IsTheirs client birth ns (greet l c k)
   theirs_greet l c k q f = ((q.number, f), tt)
 
@@ -167,6 +178,7 @@ module _ (client : List ℕ) (birth : ℕ) (ns : List ℕ) where
       let other = less_differs birth (suc r.births) less in
       (((other, h), less), (theirs_greet l c (suc r.births) q other, ((q.number, tt), tt)))
 
+  -- a session that begins under another name on another line is of others
   pub theirs_begin_named : (t : Bool) (l : BrokerLine) (c : Greeting) (r : Records) → IsAnother l → (c.client_identifier ≡ client → ⊥) → starts_with nat_eq client auto ≡ false → birth ≤ r.births
       → Theirs (begin_named t l c r)
   theirs_begin_named false l c r q h a le = theirs_begin l c false c.client_identifier r q h le

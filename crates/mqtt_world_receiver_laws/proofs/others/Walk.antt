@@ -191,6 +191,7 @@ module _ (largest : ℕ) (env : Env) (small : env.limits.queue ≤ QUEUE_LIMIT) 
   abbrev Short : Broker → Type 0
   Short b = ShortQueues QUEUE_LIMIT b.records
 
+  -- the receiver is served, queues are short, and what it sees of the copies that entered is a run of its hop
   pub record Kept (b : Broker) : Type 0 where
     pub served : IsServed r.client birth ns b
     pub queues : Short b
@@ -209,6 +210,7 @@ module _ (largest : ℕ) (env : Env) (small : env.limits.queue ≤ QUEUE_LIMIT) 
   its_birth : (t : Session) (b : Broker) → IsServed r.client birth ns b → IsReceiving r t b → t.birth ≡ birth
   its_birth t b v x = (all_at birth_of (IsOurs r.client birth) t.birth t b.records.sessions v.sessions x.session).named x.client
 
+  -- copies that are new stay new when more publications are accepted
   pub new_still : (b c : Broker) (more : List CopyId) → b.records.publications ≤ c.records.publications → AllByRecursion (IsNew b) more → AllByRecursion (IsNew c) more
   new_still b c more le h = all_more (IsNew b) (IsNew c) more (λ id x. record { birth_is = x.birth_is; above = x.above; within = let w = x.within in omega (arith, w, le); cause_is = x.cause_is }) h
 
@@ -236,6 +238,7 @@ module _ (largest : ℕ) (env : Env) (small : env.limits.queue ≤ QUEUE_LIMIT) 
         };
   }
 
+  -- deeds of others tell nothing of copies on the receiver's lines
   pub theirs_good : (ds : List Deed) (b : Broker) → AreTheirs r.client birth ns ds → AreGood (IsMuteHere ns) ds b
   theirs_good [] b q = tt
   theirs_good (d ∷ ds) b q = (mute_theirs r.client birth ns d q.0, theirs_good ds (after d b) q.1)
@@ -243,6 +246,7 @@ module _ (largest : ℕ) (env : Env) (small : env.limits.queue ≤ QUEUE_LIMIT) 
   abbrev pub Led : List Deed → Broker → Type 0
   Led ds b = Leads Kept (IsMuteHere ns) ds b
 
+  -- deeds of others lead
   pub theirs_led : (ds : List Deed) (b : Broker) → AreTheirs r.client birth ns ds → Short (after_all ds b) → Kept b → Led ds b
   theirs_led ds b q queues k =
       let same = publications_stay r.client birth ns ds b q in
@@ -316,6 +320,7 @@ module _ (largest : ℕ) (env : Env) (small : env.limits.queue ≤ QUEUE_LIMIT) 
       } in
       entering_runs number largest lots env copy r s b run_is receiving may (subst (λ (cs : List CopyId). AreNumbered number (cs ++ copy.id ∷ [])) (sym same) n)
 
+  -- a copy for the receiver's session that enters goes on with its hop
   pub entered_runs : (copy : MessageCopy) (s : Session) (b : Broker) (more : List CopyId) → is_queued_at copy.qos ≡ true → own_stay env s < env.limits.queue → s.birth ≡ birth → session_at s.birth b.records ≡ Some s
       → IsServed r.client birth ns (after_all (enter_deeds env copy s) b) → RunsFor largest (ids ++ more) birth r b → RunsFor largest (ids ++ (more ++ copy.id ∷ [])) birth r (after_all (enter_deeds env copy s) b)
   entered_runs copy s b more granted free is at served runs number n =
@@ -475,6 +480,7 @@ module _ (largest : ℕ) (env : Env) (small : env.limits.queue ≤ QUEUE_LIMIT) 
           by more true = ((λ e. let number = h.0.0 in let same = ap (λ (i : CopyId). i.publication) e in omega (arith, number, same, le, is)), more)
           by more false = more
 
+  -- an accepted publication leads, with the copies that enter for the receiver
   pub publishes_led : (origin : Origin) (m : Message) (ds : List CopyTo) (b : Broker) → Kept b → accepted_copies env m b ≡ Some ds → Led (publish env origin m ds b) b
   unfolding theirs_led others_kept
   publishes_led origin m ds b k e =
@@ -536,6 +542,7 @@ module _ (largest : ℕ) (env : Env) (small : env.limits.queue ≤ QUEUE_LIMIT) 
             };
       }
 
+  -- copies of a session that expire lead
   pub lapses_led : (s : Session) (b : Broker) → Kept b → IsAmong s b.records.sessions → Short (after_all (lapse_deeds b.now s) b) → Led (lapse_deeds b.now s) b
   lapses_led s b k among queues = elim (cases_Bool (nat_eq s.birth birth)) [
     | inl same ↦ (mute_queue ns (lapse_deeds b.now s) b (queue_leaves s (lapses b.now s)), own_lapses s b (eqb-true s.birth birth same) among queues k)
@@ -578,6 +585,7 @@ module _ (largest : ℕ) (env : Env) (small : env.limits.queue ≤ QUEUE_LIMIT) 
       let first = deliver env d b in
       theirs_append r.client birth ns first (series (map (deliver env) ds) (after_all first b)) (delivered_theirs (is_queued d) d k b h.0.1 q h.0.0) (deliveries_theirs ds k (after_all first b) q h.1)
 
+  -- a filter that is granted to another session is of others
   pub grants_theirs : (w : sub.Wish) (s : Session) (b : Broker) → IsForeign r.client birth ns s.birth → AreTheirs r.client birth ns (sub.granted_filter env (sub.next_number b.records) s w (brought_to w s b) b).deeds
   grants_theirs w s b q =
       let n = sub.next_number b.records in

@@ -539,6 +539,7 @@ module _ (number : Numbering) (largest : ℕ) (copies : List Lot) (limits : Limi
       let copies2 = lots_after (turns.Leave place ending) copies in
       subst (λ (ds : List Deed). Becomes ds copies2 [] false) (sym e) (leave_by place ending (row_at copy_place place s.queue) refl)
 
+  -- what the session's rules say to an answer is what its deeds make of session and line
   pub answer_becomes : (x : rules.Answer) → IsReply x → next_packet (env_of limits choice b) l packet s once_heard ≡ on_answer x (env_of limits choice b) l s once_heard
       → Becomes done_deeds (copies_by x copies) (told_by x) (shut_by x)
   answer_becomes (Ok None) ok e = subst (λ (ds : List Deed). Becomes ds copies [] false) (sym (deeds_are (Ok None) e)) (nothing_becomes copies standing_now)
@@ -569,6 +570,7 @@ module _ (number : Numbering) (largest : ℕ) (copies : List Lot) (limits : Limi
       → step largest w (to_broker false) ≡ replied x left_up w → Result_of
   answer_follows tags x ok e hop = becomes_follows tags (copies_by x copies) (told_by x) (shut_by x) (answer_becomes x ok e) (ids_by x copies) (answer_replied x ok ∙ sym hop)
 
+  -- after an answer the session may receive more
   pub answer_receives : (q : Receiver) → r.client ≡ q.client → AreKnown s.queue (went_in s.birth b) → (x : rules.Answer) → IsReply x → next_packet (env_of limits choice b) l packet s once_heard ≡ on_answer x (env_of limits choice b) l s once_heard
       → Receives q (after_answer limits choice now n a r b)
   answer_receives q same known x ok e =
@@ -611,6 +613,7 @@ hop_answers (puback i code) rest w none = refl
 hop_answers (pubrec i code) rest w none = refl
 hop_answers (pubcomp i code) rest w none = refl
 
+-- the hop reads an answer of the line that was given up by the session's rules
 pub hop_answers_old : (a : Answer) (rest : List Answer) (w : Hop) → HasNoConnect (a ∷ []) → old_comes false (a ∷ rest) w ≡ replied_old (reply_to a (queue_of w.copies)) rest w
 hop_answers_old (connect clean) rest w none = absurd none
 hop_answers_old (puback i code) rest w none = refl

@@ -56,7 +56,7 @@ handed_if : (number : Numbering) (z : Bool) (xs : List Entry) (x : Entry) → ma
 handed_if number true xs x = refl
 handed_if number false xs x = handed_push number xs x
 
--- a CONNACK that refuses comes only where one is awaited
+-- a CONNACK that refuses comes only if one is awaited
 abbrev MayRefuse : Link → ℕ → Type 0
 MayRefuse away code = nat_lt 0 code ≡ false
 MayRefuse asked code = ⊤
@@ -296,9 +296,11 @@ module _ (number : Numbering) (largest : ℕ) (copies : List Lot) (t : Bool) (r 
   read_is : Reads number copies largest b t (first_reads number r.line.down) (seen number copies r b) r (receiver_reads t r.line.down r)
   read_is = reads_from number copies largest b t r.line.down r refl e (may_read number r.line.link r.line.down (tame number largest copies r b h).plain) h.tagged
 
+  -- what the receiver reads, its hop's receiver reads, if it is about copies
   pub reads_seen : seen number copies (receiver_reads t r.line.down r) b ≡ run largest (first_reads number r.line.down) (seen number copies r b)
   reads_seen = read_is.seen_is
 
+  -- reading goes on with the hop
   pub doing_reads : IsRun number largest copies (receiver_reads t r.line.down r) b
   doing_reads = runs_on number largest copies r (receiver_reads t r.line.down r) b h (first_reads number r.line.down) read_is.client read_is.seen_is read_is.tagged
 
@@ -329,7 +331,7 @@ doing_asks number largest copies t w r b h =
     runs_on number largest copies r (asks_wish t w r) b h [] refl (λ j. record (seen number copies r b) { up = ups j })
     (record { down = h.tagged.down; ledger = h.tagged.ledger; once = h.tagged.once })
 
--- ---- it comes, where no session of its name stands
+-- ---- it comes, if no session of its name stands
 
 -- and a new receiver
 pub doing_comes : (number : Numbering) (largest : ℕ) (client : List ℕ) (window since : ℕ) (b : Broker) → session_named client b.records ≡ None → IsRun number largest [] (new_receiver client window since) b

@@ -1,4 +1,4 @@
--- A receiver that is in step is listening where its line, or the one that it gave up, is connected at the broker.
+-- A receiver that is in step is listening if its line, or the one that it gave up, is connected at the broker.
 use Rattle.std.proofs.Common.{◌≡◌, ℕ, true, false, List, [], ◌∷◌, Option, Some, None, nat_eq, refl, sym, ap, subst, ◌∙◌, inl, inr}
 use Rattle.std.specs.Prelude.{find, option_map}
 use Rattle.std.specs.List.{AllByRecursion}

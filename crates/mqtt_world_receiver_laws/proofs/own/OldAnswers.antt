@@ -192,6 +192,7 @@ module _ (number : Numbering) (largest : ℕ) (copies : List Lot) (limits : Limi
         };
       }
 
+  -- after an answer on the line that was given up the session may receive more
   pub old_answer_receives : AreKnown s.queue (went_in s.birth b) → (x : rules.Answer) → IsReply x → next_packet (env_of limits choice b) l packet s (heard_of now n b) ≡ on_answer x (env_of limits choice b) l s (heard_of now n b)
       → Receives (reads_old_answer limits choice now n a r b) (after_answer limits choice now n a r b)
   old_answer_receives known x ok e =

@@ -148,10 +148,12 @@ module _ (client : List ℕ) (birth : ℕ) (ns : List ℕ) where
     given = safe_given d b q h;
   }
 
+  -- deeds of its own calls leave session and lines the receiver's own
   pub safe_served : (ds : List Deed) (b : Broker) → AreSafe ds → IsServed client birth ns b → IsServed client birth ns (after_all ds b)
   safe_served [] b q h = h
   safe_served (d ∷ ds) b q h = safe_served ds (after d b) q.1 (safe_deed d b q.0 h)
 
+  -- a call of such deeds leaves session and lines the receiver's own
   pub call_served : (limits : Limits) (choice : MemberChoice) (now : ℕ) (call : Call) (b : Broker) → AreSafe (deeds limits choice now call b) → IsServed client birth ns b
       → IsServed client birth ns (stepped limits choice now call b)
   call_served limits choice now call b q v =
@@ -166,6 +168,7 @@ module _ (client : List ℕ) (birth : ℕ) (ns : List ℕ) where
   safe_entry None f h = tt
   safe_entry (Some e) f h = h e
 
+  -- a turn of a queue is such a deed
   pub safe_turn : (now line : ℕ) (s : Session) (t : Turn) → AreSafe (turn_deeds now line s t)
   safe_turn now line s (turns.Send place id) = safe_entry (row_at copy_place place s.queue) _ (λ e. (tt, (tt, (tt, tt))))
   safe_turn now line s (turns.Resend place id) = safe_entry (row_at copy_place place s.queue) _ (λ e. (tt, (tt, tt)))
@@ -175,6 +178,7 @@ module _ (client : List ℕ) (birth : ℕ) (ns : List ℕ) where
   safe_turn now line s (turns.Unknown id) = (tt, tt)
   safe_turn now line s (turns.Leave place ending) = safe_entry (row_at copy_place place s.queue) _ (λ e. (tt, tt))
 
+  -- turns of a queue are such deeds
   pub safe_turns : (now line : ℕ) (s : Session) (ts : List Turn) → AreSafe (all_turn_deeds now line s ts)
   safe_turns now line s [] = tt
   safe_turns now line s (t ∷ ts) = each_append IsSafe (turn_deeds now line s t) (all_turn_deeds now line s ts) (safe_turn now line s t) (safe_turns now line s ts)

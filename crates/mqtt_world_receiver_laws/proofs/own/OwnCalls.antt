@@ -35,6 +35,7 @@ module _ (client : List ℕ) (birth : ℕ) (ns : List ℕ) (r : Receiver) (l : B
   answer_safe env (Ok (Some t)) c at = safe_turn client birth ns c.now l.number s t
   answer_safe env (Err fault) c at = subst (AreSafe client birth ns) (sym (drop_is env protocol_error l s c at a.connected a.no_will a.no_end)) (tt, (tt, (tt, tt)))
 
+  -- an answer leaves session and lines the receiver's own
   pub answer_served : (limits : Limits) (choice : MemberChoice) (now : ℕ) (packet : Packet) (x : rules.Answer)
       → next_packet (env_of limits choice b) l packet s (heard_of now l.number b) ≡ on_answer x (env_of limits choice b) l s (heard_of now l.number b)
       → IsServed client birth ns b → IsServed client birth ns (stepped limits choice now (Input l.number packet) b)

@@ -34,6 +34,7 @@ use Rattle.mqtt_world_receiver_laws.proofs.own.Joins.{doing_joins, fresh_of_none
 
 -- ---- what it does leaves its name, and its lines but those that it leaves
 
+-- the receiver keeps its name, and its lines are those that it had, or fewer
 pub record Keeps (r q : Receiver) : Type 0 where
   pub client : q.client ≡ r.client
   pub number : (n : ℕ) → q.line.number ≡ Some n → r.line.number ≡ Some n

@@ -692,7 +692,7 @@ brings largest ids limits choice now birth ns w r there l s b k name a tidy =
           moment_apart does.more rows last there;
     }
 
--- the two are in step, with copies that differ, where no two retained messages are of one publication
+-- the two are in step, with copies that differ, if no two retained messages are of one publication
 pub record Wished (largest : ℕ) (ids : List CopyId) (limits : Limits) (choice : MemberChoice) (now birth : ℕ) (ns : List ℕ) (w : Wish) (r : Receiver) (n : ℕ) (b : Broker) : Type 0 where
   pub after : Subscribed largest ids birth ns (suc b.records.subscribes) (receiver_after limits choice now (Input n (wire_back r.client r.window (asks_for w))) r b) (stepped limits choice now (Input n (wire_back r.client r.window (asks_for w))) b)
   pub longer : (most : ℕ) → IsUpTo birth most b → IsUpTo birth (most + length after.more) (stepped limits choice now (Input n (wire_back r.client r.window (asks_for w))) b)

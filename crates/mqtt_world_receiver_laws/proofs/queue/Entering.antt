@@ -246,6 +246,7 @@ module _ (number : Numbering) (ids more : List CopyId) where
   entries_more [] h = tt
   entries_more (e ∷ es) h = (names_more e.copy h.0, entries_more es h.1)
 
+  -- what is under way is tagged still when more copies enter
   pub tags_more : (r : Receiver) → AreTagged number ids r → AreTagged number (ids ++ more) r
   tags_more r h = record { down = downs_more r.line.down h.down; ledger = entries_more r.ledger h.ledger; once = entries_more r.once h.once }
 
@@ -400,7 +401,7 @@ way_behind (Some (past y e m)) (l ∷ ls) x (suc n) h = way_behind (Some (past y
 
 -- ---- what the receiver sees of it
 
--- where the same stand on lines, the same are linked
+-- if the same stand on lines, the same are linked
 pub linked_same : (o : Option ℕ) (b c : Broker) → ((m : ℕ) → session_on m c.lines ≡ session_on m b.lines) → is_linked o c ≡ is_linked o b
 linked_same None b c h = refl
 linked_same (Some m) b c h = linked_is m c ∙ (ap linked_of (h m) ∙ sym (linked_is m b))

@@ -145,12 +145,14 @@ module _ (number : Numbering) (largest : ℕ) (copies : List Lot) (r : Receiver)
   carry : (P : Hop → Type 0) → P (run largest h.events start) → P (seen number copies r b)
   carry P law = subst P (sym h.seen_is) law
 
+  -- a receiver was handed a copy at most once
   pub at_most_once : (c : CopyId) → handed_count c r ≤ 1
   at_most_once c =
       let law = carry (λ w. handed (number c) w.ledger ≤ 1) (once_of (run largest h.events start) (good_run largest h.events) (number c)) in
       let less = at_most number c r.ledger in
       omega (arith, law, less)
 
+  -- what a receiver was handed is a copy that entered
   pub all_tagged : All (λ (e : Entry). is_some e.copy ≡ true) r.ledger
   all_tagged = All-from_recursion (λ (e : Entry). is_some e.copy ≡ true) r.ledger (each r.ledger h.tagged.ledger)
     where
@@ -175,21 +177,25 @@ module _ (number : Numbering) (largest : ℕ) (copies : List Lot) (r : Receiver)
       let is = counted number (map id_of copies) (id_of l) r.once x.1 h.tagged.once ∙ ap (λ (k : ℕ). handed k (map (handed_in number) r.once)) x.0 in
       subst P (sym is) it
 
+  -- a copy of QoS 2 that ended as taken was handed over once
   pub taken_is : (n : ℕ) (e : FlowEntry) (m : TopicAndPayload) → slice_get copies n ≡ Some (past Taken e m) → e.copy.qos ≡ ExactlyOnce → handed_count e.copy.id r ≡ 1
   taken_is n e m at qos =
       let law = carry (λ w. slice_get w.copies n ≡ Some (past Taken e m) → handed n w.ledger ≡ 1) (λ it. taken_of (run largest h.events start) (good_run largest h.events) n e m it qos) in
       of_number (λ k. k ≡ 1) n (past Taken e m) at (law at)
 
+  -- a copy of QoS 1 that ended as taken was read at least once
   pub read_is : (n : ℕ) (e : FlowEntry) (m : TopicAndPayload) → slice_get copies n ≡ Some (past Taken e m) → e.copy.qos ≡ AtLeastOnce → 1 ≤ read_count e.copy.id r
   read_is n e m at qos =
       let law = carry (λ w. slice_get w.copies n ≡ Some (past Taken e m) → 1 ≤ handed n w.reads) (λ it. read_of (run largest h.events start) (good_run largest h.events) n e m it qos) in
       of_number_once (λ k. 1 ≤ k) n (past Taken e m) at (law at)
 
+  -- a copy that expired was not handed over
   pub expired_is : (n : ℕ) (e : FlowEntry) (m : TopicAndPayload) → slice_get copies n ≡ Some (past Expired e m) → handed_count e.copy.id r ≡ 0
   expired_is n e m at =
       let law = carry (λ w. slice_get w.copies n ≡ Some (past Expired e m) → handed n w.ledger ≡ 0) (λ it. expired_of (run largest h.events start) (good_run largest h.events) n e m it) in
       of_number (λ k. k ≡ 0) n (past Expired e m) at (law at)
 
+  -- a copy that made way was not handed over
   pub dropped_is : (n : ℕ) (e : FlowEntry) (m : TopicAndPayload) → slice_get copies n ≡ Some (past Dropped e m) → handed_count e.copy.id r ≡ 0
   dropped_is n e m at =
       let law = carry (λ w. slice_get w.copies n ≡ Some (past Dropped e m) → handed n w.ledger ≡ 0) (λ it. dropped_of (run largest h.events start) (good_run largest h.events) n e m it) in
@@ -232,6 +238,7 @@ module _ (number : Numbering) (largest : ℕ) (copies : List Lot) (r : Receiver)
   renewed_all (standing e m ∷ ls) t = (t.0, renewed_all ls t.1)
   renewed_all (past ending e m ∷ ls) t = (tt, renewed_all ls t.1)
 
+  -- a copy that stands released was handed over once
   pub released_once : All IsHanded (released_in (session_named r.client b.records))
   released_once = All-from_recursion IsHanded (released_in (session_named r.client b.records)) (by (session_named r.client b.records) h.queue_is)
     where
@@ -311,6 +318,7 @@ module _ (number : Numbering) (largest : ℕ) (copies : List Lot) (r : Receiver)
           ap (λ (o : Option CopyId). stand_among (cons_option o (copies_in es)) (y ∷ ids)) is
           ∙ go rest all c (is_copy c y) refl is (omega (arith, n)) (λ other. omega (arith, n))
 
+  -- copies were handed over in the order in which they entered
   pub in_order : stand_among (copies_in r.ledger) (map id_of copies) ≡ true
   in_order = in_order_from 0 r.ledger (map id_of copies) (behind_all r.ledger h.tagged.ledger) (carry (λ w. Rising w.ledger) (in_order_of (run largest h.events start) (good_run largest h.events)))
 
@@ -324,6 +332,7 @@ module _ (number : Numbering) (largest : ℕ) (copies : List Lot) (r : Receiver)
       by None is none it = absurd none
       by (Some d) is its it = (d, is, ap (λ (x : Option CopyId). option_map carried_by (slice_get copies (number_of number x))) (sym is) ∙ it)
 
+  -- what a receiver was handed, and what it has read of QoS 1, carries what the copies do
   pub carried_all : AllByRecursion (IsOf number copies) r.ledger × AllByRecursion (IsOf number copies) r.once
   carried_all =
       let law = carry (λ w. Carries w.copies w.ledger × Carries w.copies w.reads) (carried_run largest h.events) in

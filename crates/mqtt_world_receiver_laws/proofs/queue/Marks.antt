@@ -137,6 +137,7 @@ outgrown_lots lots went place i order queue up h =
 
 -- ---- which PUBLISH a copy's is: it has the number of the copy's place among all
 
+-- the copy is found among all, and its PUBLISH is the one packet that goes out for its place
 pub record IsSentAs (dup : Bool) (i place k : ℕ) (went : List ℕ) (lots : List Lot) (e : CopyRow) : Type 0 where
   pub at : ℕ
   pub found : slice_get lots at ≡ Some (lot_on went e)

@@ -200,6 +200,7 @@ module _ (number : Numbering) (n now : ℕ) (s : Session) (went_then : List ℕ)
     pub told : (new : Broker) → Finds n new last → filter_map (heard_in number) (sent_to (Some n) new (filter_map output ds)) ≡ outputs_of ts lots
     pub tagged : (new : Broker) → Finds n new last → AllByRecursion (IsTagged number ids) (sent_to (Some n) new (filter_map output ds))
 
+  -- no turns leave all as it is
   pub goes_nowhere : (k : ℕ) (queue : List CopyRow) (went : List ℕ) (lots : List Lot) (b : Broker) → Tracks queue went lots b → Goes [] [] k queue lots b
   goes_nowhere k queue went lots b h = record { last = queue; went = went; tracks = h; settled = λ p less. refl; told = λ new f. refl; tagged = λ new f. tt }
 
@@ -447,6 +448,7 @@ module _ (number : Numbering) (n now : ℕ) (s : Session) (went_then : List ℕ)
     takes_by zero v e es queue went lots b k p rest fit at next = goes_nowhere k queue went lots b at.tracks
     takes_by (suc left) v e es queue went lots b k p rest fit at next = takes v e es queue went lots b k p rest fit at next
 
+    -- a pump's turns, from a place on, do in the session what they do in the hop
     pub pump_goes : (k : ℕ) (es : List CopyRow) → IsAscending copy_place es → Ahead s.queue es → AllByRecursion IsRowGranted es → AllByRecursion (λ (e : CopyRow). k ≤ e.place) es
         → Follows k es (pump_from way (map (entry_on first) es))
     pump_goes k [] up was granted from p queue went lots b ahead h = goes_nowhere k queue went lots b h

@@ -90,6 +90,7 @@ module _ (birth : ℕ) where
   leaving_turns s [] = tt
   leaving_turns s (t ∷ ts) = each_append IsLeaving (leave_deeds s t) (flat_map (leave_deeds s) ts) (leaving_turn s t) (leaving_turns s ts)
 
+  -- a copy that enters makes its queue at most one longer
   pub entered_upto : (most : ℕ) (env : Env) (copy : MessageCopy) (s : Session) (b : Broker) → IsUpTo most b → IsUpTo (suc most) (after_all (enter_deeds env copy s) b)
   entered_upto most env copy s b h =
       let ts = way_made (queue_limits env) (since env s) (queue_on [] s) in

@@ -180,6 +180,7 @@ module _ (number : Numbering) (largest : ℕ) (copies : List Lot) (limits : Limi
       (λ i. record w { copies = lots_by ts copies; stands = stands i; linked = linked i; down = w.down ++ outputs_of ts copies })
       ∙ (sym (turns_made ts w (sym linked)) ∙ ap (λ (us : List Turn). take_turns us w) turns_are)
 
+  -- what the receiver and its session see of a turn of sending is a pump of their hop
   pub pump_follows : Follows number largest copies (pump l.window first.now) r b (receiver_called limits choice now (Pump l.number) r b) (stepped limits choice now (Pump l.number) b)
   pump_follows =
       let copies2 = lots_by ts copies in
@@ -191,9 +192,11 @@ module _ (number : Numbering) (largest : ℕ) (copies : List Lot) (limits : Limi
         tagged = called_tags number copies2 ids limits choice now (Pump n) r n s.birth b (outputs_of ts copies) false false makes h.tagged;
       }
 
+  -- after a turn of sending what they see is a run of the hop again
   pub pump_runs : RunsOn number largest copies (receiver_called limits choice now (Pump l.number) r b) (stepped limits choice now (Pump l.number) b)
   pump_runs = runs_follow number largest copies (pump l.window first.now) r b (receiver_called limits choice now (Pump l.number) r b) (stepped limits choice now (Pump l.number) b) h pump_follows
 
+  -- after a turn of sending the session may receive more
   pub pump_receives : AreKnown s.queue (went_in s.birth b) → Receives (receiver_called limits choice now (Pump l.number) r b) (stepped limits choice now (Pump l.number) b)
   pump_receives known_here =
       let x = makes in

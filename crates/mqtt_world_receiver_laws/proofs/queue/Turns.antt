@@ -103,7 +103,7 @@ pub left_lots : (copies : List Lot) (went : List ℕ) (place : ℕ) (ending : En
 left_lots copies went place ending queue h =
     still_after (Leave place ending) copies ∙ (ap (λ (ls : List Lot). still_standing (lots_after (Leave place ending) ls)) h ∙ leave_queue went place ending queue)
 
--- where none stands at that place, nothing changes
+-- if none stands at that place, nothing changes
 none_leaves : (went : List ℕ) (place : ℕ) (ending : Ending) (queue : List CopyRow) → row_at copy_place place queue ≡ None
     → still_standing (lots_after (Leave place ending) (map (lot_on went) queue)) ≡ map (lot_on went) queue
 none_leaves went place ending [] none = refl

@@ -56,24 +56,29 @@ Sendless (Unknown i) = Unit {0}
 Sendless (Leave p ending) = Unit {0}
 
 module _ (largest : ℕ) where
+  -- a change that leaves each waiting copy unsent leaves all so
   pub all_map : (f : Lot → Lot) → ((l : Lot) → Unsent largest l → Unsent largest (f l)) → (ls : List Lot) → AllUnsent largest ls → AllUnsent largest (map f ls)
   all_map f h [] u = tt
   all_map f h (l ∷ ls) u = (h l u.0, all_map f h ls u.1)
 
+  -- all waiting copies are unsent with one more of which that holds
   pub all_push : (ls : List Lot) (l : Lot) → AllUnsent largest ls → Unsent largest l → AllUnsent largest (ls ++ l ∷ [])
   all_push [] l u x = (x, tt)
   all_push (k ∷ ls) l u x = (u.0, all_push ls l u.1 x)
 
+  -- all waiting copies are unsent with one changed, if the change leaves it so
   pub all_change : (xs : List Lot) (l k : Lot) (ys : List Lot) → (Unsent largest l → Unsent largest k) → AllUnsent largest (xs ++ l ∷ ys) → AllUnsent largest (xs ++ k ∷ ys)
   all_change [] l k ys f u = (f u.0, u.1)
   all_change (x ∷ xs) l k ys f u = (u.0, all_change xs l k ys f u.1)
 
   -- ---- turns that send no PUBLISH
 
+  -- a copy that goes on in its handshake, or stays as it was, leaves what waits unsent
   pub on_release : (b : Bool) (e : Entry) (p : Phase) → UnsentBy largest e.copy p e.here → UnsentBy largest e.copy e.phase e.here → UnsentBy largest (cond b (record e { phase = p }) e).copy (cond b (record e { phase = p }) e).phase (cond b (record e { phase = p }) e).here
   on_release true e p h u = h
   on_release false e p h u = u
 
+  -- a copy that leaves, or stays, leaves what waits unsent
   pub on_leave : (b : Bool) (ending : Ending) (e : Entry) (m : TopicAndPayload) → UnsentBy largest e.copy e.phase e.here → Unsent largest (ended_by b ending e m)
   on_leave true ending e m u = tt
   on_leave false ending e m u = u
@@ -91,6 +96,7 @@ module _ (largest : ℕ) where
   sendless_lots : (t : Turn) (ls : List Lot) → Sendless t → AllUnsent largest ls → AllUnsent largest (lots_after t ls)
   sendless_lots t ls h u = all_map (lot_after t) (sendless_lot t h) ls u
 
+  -- a turn that sends no PUBLISH leaves copies that wait unsent
   pub sendless_turn : (t : Turn) (w : World) → Sendless t → AllUnsent largest w.copies → AllUnsent largest (take_turn t w).copies
   sendless_turn t w h u = subst (AllUnsent largest) (sym (turn_copies t w)) (sendless_lots t w.copies h u)
 
@@ -98,6 +104,7 @@ module _ (largest : ℕ) where
   AllSendless [] = Unit {0}
   AllSendless (t ∷ ts) = Sendless t × AllSendless ts
 
+  -- turns that send no PUBLISH leave copies that wait unsent
   pub sendless_turns : (ts : List Turn) (w : World) → AllSendless ts → AllUnsent largest w.copies → AllUnsent largest (take_turns ts w).copies
   sendless_turns [] w h u = u
   sendless_turns (t ∷ ts) w h u = sendless_turns ts (take_turn t w) h.1 (sendless_turn t w h.0 u)
@@ -106,6 +113,7 @@ module _ (largest : ℕ) where
   expired_at_sendless true e ts h = (tt, h)
   expired_at_sendless false e ts h = h
 
+  -- copies that expire send no PUBLISH
   pub expired_sendless : (now : ℕ) (es : List Entry) → AllSendless (expired now es)
   expired_sendless now [] = tt
   expired_sendless now (e ∷ es) = expired_at_sendless (is_waiting e.phase && is_late now e.copy) e (expired now es) (expired_sendless now es)
@@ -114,6 +122,7 @@ module _ (largest : ℕ) where
   dropped_at_sendless true e fewer as_many f h = (tt, f)
   dropped_at_sendless false e fewer as_many f h = h
 
+  -- copies that make way send no PUBLISH
   pub dropped_sendless : (k since : ℕ) (es : List Entry) → AllSendless (dropped k since es)
   dropped_sendless k since [] = tt
   dropped_sendless zero since (e ∷ es) = tt
@@ -180,6 +189,7 @@ module _ (largest : ℕ) where
   by_phase copy (Released i order) here u = tt
   by_phase copy (Oversize i order) here u = u
 
+  -- a new connection leaves copies that wait unsent
   pub renewed_unsent : (l : Lot) → Unsent largest l → Unsent largest (renewed l)
   renewed_unsent (standing e m) u = by_phase e.copy e.phase e.here u
   renewed_unsent (past x e m) u = tt
@@ -200,6 +210,7 @@ module _ (largest : ℕ) where
   connects_old_unsent true true r rest w u = all_map cut cut_unsent w.copies u
   connects_old_unsent true false r rest w u = all_map renewed renewed_unsent w.copies u
 
+  -- a packet that the broker reads of the receiver's line leaves copies that wait unsent
   pub up_unsent : (r : Bool) (up : List Answer) (w : World) → AllUnsent largest w.copies → AllUnsent largest (up_comes r up w).copies
   up_unsent r [] w u = u
   up_unsent r (connect c ∷ rest) w u = connects_unsent w.stands c r rest w u
@@ -207,6 +218,7 @@ module _ (largest : ℕ) where
   up_unsent r (pubrec i code ∷ rest) w u = replied_unsent (rules.pubrec i code (queue_of w.copies)) rest w (pubrec_sendless i code (next_order (queue_of w.copies)) (holder i (queue_of w.copies))) u
   up_unsent r (pubcomp i code ∷ rest) w u = replied_unsent (rules.pubcomp i (queue_of w.copies)) rest w (pubcomp_sendless (holder i (queue_of w.copies))) u
 
+  -- a packet that the broker reads of the line that was given up leaves copies that wait unsent
   pub old_unsent : (r : Bool) (old : List Answer) (w : World) → AllUnsent largest w.copies → AllUnsent largest (old_comes r old w).copies
   old_unsent r [] w u = u
   old_unsent r (connect c ∷ rest) w u = connects_old_unsent w.stands c r rest w u
@@ -226,6 +238,7 @@ Caused way copy (Repeat i) = ⊤
 Caused way copy (Unknown i) = ⊤
 Caused way copy (Leave p ending) = IsDrainCause way.largest (way.now ∷ []) copy ending
 
+-- a turn at this copy: what it ends has a cause of a drain, and what it leaves waiting is unsent
 pub record Turns (way : Way) (e : Entry) (m : TopicAndPayload) (t : Turn) : Type 0 where
   pub at : IsAt e.place t
   pub caused : Caused way e.copy t
