@@ -10,6 +10,7 @@ use Rattle.mqtt_base.specs.Values.{two_bytes, blob, is_text, FitsText, IsBinary,
 use Rattle.mqtt_base.specs.Reading.{Reads, u8_at, number_at, blob_at, text_at}
 use Rattle.mqtt_base.proofs.Steps.{IsBytes, IsBytes-drop, IsBytes-take, IsBytes-rest, bind_ok, unless_ok, when_ok, ok_is, Takes, Takes-then, front_is}
 
+-- numbers below the limit go into so many bytes and back, and so many bytes into a number and back
 pub record IsWide (w : Width) (limit : ℕ) : Type 0 where
   pub len : (n : ℕ) → length (to_be_bytes w n) ≡ byte_len w
   pub back : (bytes : List ℕ) → length bytes ≡ byte_len w → IsBytes bytes → to_be_bytes w (from_be_bytes w bytes) ≡ bytes

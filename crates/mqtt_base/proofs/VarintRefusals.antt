@@ -28,7 +28,7 @@ go_on n a bytes rest le g = record {
 zero_next : (a : ℕ) (rest : List ℕ) → eqb a 0 ≡ true → GoOn 0 (a ∷ rest) (0 ∷ rest)
 zero_next a rest t = record { front = []; parts = ap (λ (k : ℕ). k ∷ rest) (zero_is a t); count = refl; high = tt }
 
--- why no groups stand behind a byte that has the high bit, where k of them may have it too
+-- why no groups stand behind a byte that has the high bit, if k of them may have it too
 abbrev BehindRefused : ℕ → ReadFault → List ℕ → Type 0
 BehindRefused k Short bytes = (n : ℕ) × (n < suc k) × GoOn n bytes []
 BehindRefused k Overlong bytes = ((n : ℕ) × (rest : List ℕ) × (n < suc k) × GoOn n bytes (0 ∷ rest)) ⊎ ((rest : List ℕ) × GoOn (suc k) bytes rest)

@@ -41,6 +41,7 @@ same_copy : (birth : ℕ) (q1 q2 : ℕ) (r1 r2 : Bool) (d1 d2 : List ℕ) → q1
     → (let x : Copy = record { birth = birth; qos = q1; retain = r1; identifiers = d1 } in x) ≡ record { birth = birth; qos = q2; retain = r2; identifiers = d2 }
 same_copy birth q1 q2 r1 r2 d1 d2 q r d = λ i. record { birth = birth; qos = q i; retain = r i; identifiers = d i }
 
+-- a copy that serves more subscriptions serves the first, and then the others
 pub with_all-cons : (p : Publication) (c : Copy) (s : Subscription) (ss : List Subscription) → with_all p c (s ∷ ss) ≡ with_all p (add_to p c s) ss
 with_all-cons p c s ss =
     same_copy c.birth _ _ _ _ _ _
@@ -48,9 +49,11 @@ with_all-cons p c s ss =
     (retain_one c.retain p.retain s.options.retain_as_published (list_any (λ (x : Subscription). x.options.retain_as_published) ss))
     (ap (λ xs. c.identifiers ++ xs) (cons_is s.identifier (filter_map (λ (x : Subscription). x.identifier) ss)) ∙ sym (append_assoc c.identifiers (option_to_list s.identifier) (filter_map (λ (x : Subscription). x.identifier) ss)))
 
+-- a copy of nothing that serves these subscriptions is the copy for them
 pub with_all-empty : (p : Publication) (birth : ℕ) (subs : List Subscription) → with_all p (empty_copy birth) subs ≡ copy_for p birth subs
 with_all-empty p birth subs = same_copy birth _ _ _ _ _ _ (max_none (greatest (map (granted_qos p) subs))) refl refl
 
+-- a copy that serves no more is as it was
 pub with_all-nil : (p : Publication) (c : Copy) → with_all p c [] ≡ c
 with_all-nil p c = same_copy c.birth _ _ _ _ _ _ (max_last c.qos) (or_and_false c.retain p.retain) (append-nil c.identifiers)
 

@@ -12,6 +12,7 @@ not_by : (t : Bool) (a b : ℕ) → nat_eq a b ≡ t → (a ≡ b → ⊥) → t
 not_by true a b e h = absurd (h (eqb-true a b e))
 not_by false a b e h = refl
 
+-- unequal numbers compare as unequal
 pub eq-not : (a b : ℕ) → (a ≡ b → ⊥) → nat_eq a b ≡ false
 eq-not a b h = not_by (nat_eq a b) a b refl h
 

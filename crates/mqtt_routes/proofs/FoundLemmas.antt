@@ -113,10 +113,12 @@ module _ (p : Publication) where
   of_by true b zs h = (refl, h)
   of_by false b zs h = h
 
+  -- where a session's subscriptions to the topic stand is of that session
   pub spots_are_of : (b : ℕ) (subs : List Subscription) → AreOf b (spots_of p b subs)
   spots_are_of b [] = tt
   spots_are_of b (s ∷ ss) = of_by (matches_topic p s) b (map next_spot (spots_of p b ss)) (of_next b (spots_of p b ss) (spots_are_of b ss))
 
+  -- where subscriptions of sessions born later stand is of sessions born later
   pub spots_are_beyond : (b : ℕ) (xs : List Subscriber) → AreAfter b xs → AreBeyond b (spots_in p xs)
   spots_are_beyond b [] h = tt
   spots_are_beyond b (x ∷ xs) h =

@@ -18,6 +18,7 @@ first_at t [] j h l = absurd (omega (arith, l))
 first_at t (u ∷ ts) zero h l = h.0
 first_at t (u ∷ ts) (suc j) h l = first_at t ts j h.1 (omega (arith, l))
 
+-- texts none of which comes after one behind it are in the order of their levels
 pub ordered_from : (ts : List (List ℕ)) → AreRising ts → AreOrdered ts
 ordered_from [] h i j l lt = absurd (omega (arith, lt))
 ordered_from (t ∷ ts) h zero zero l lt = order_itself (levels t)
@@ -29,6 +30,7 @@ first_from : (t : List ℕ) (ts : List (List ℕ)) → ((j : ℕ) → j < length
 first_from t [] h = tt
 first_from t (u ∷ ts) h = (h 0 (omega arith), first_from t ts (λ j l. h (suc j) (omega (arith, l))))
 
+-- of texts in the order of their levels none comes after one behind it
 pub rising_from : (ts : List (List ℕ)) → AreOrdered ts → AreRising ts
 rising_from [] o = tt
 rising_from (t ∷ ts) o = (first_from t ts (λ j l. o 0 (suc j) (omega arith) (omega (arith, l))), rising_from ts (λ i j l lt. o (suc i) (suc j) (omega (arith, l)) (omega (arith, lt))))
@@ -38,9 +40,11 @@ rising_from (t ∷ ts) o = (first_from t ts (λ j l. o 0 (suc j) (omega arith) (
 abbrev pub nowhere : Spot
 nowhere = record { birth = 0; at = 0 }
 
+-- how many spots pass a test: the first, if it does, and those of the others
 pub one_more : (test : Spot → Bool) (x : Spot) (xs : List Spot) → count_by test (x ∷ xs) ≡ once (test x) + count_by test xs
 one_more test x xs = sum_by-cons (λ y. once (test y)) x xs
 
+-- if the spot at a place passes a test, at least one does
 pub count_at : (test : Spot → Bool) (xs : List Spot) (k : ℕ) → k < length xs → test (get_or xs k nowhere) ≡ true → 1 ≤ count_by test xs
 count_at test [] k l h = absurd (omega (arith, l))
 count_at test (x ∷ xs) zero l h = let all = one_more test x xs in let one : once (test x) ≡ 1 = ap once h in omega (arith, all, one)
@@ -50,6 +54,7 @@ some_by : (t : Bool) (n : ℕ) (rest : Bool) → 1 ≤ once t + n → (1 ≤ n �
 some_by true n rest l more = refl
 some_by false n rest l more = more (omega (arith, l))
 
+-- if at least one spot passes a test, some spot passes it
 pub count_some : (test : Spot → Bool) (xs : List Spot) → 1 ≤ count_by test xs → list_any test xs ≡ true
 count_some test [] l = absurd (omega (arith, l))
 count_some test (x ∷ xs) l = some_by (test x) (count_by test xs) (list_any test xs) (let all = one_more test x xs in omega (arith, all, l)) (count_some test xs)

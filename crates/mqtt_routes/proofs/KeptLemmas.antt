@@ -14,11 +14,12 @@ below_by : (b : Bool) (n limit : ℕ) → nat_lt n limit ≡ b → (not b && not
 below_by true n limit e h = grind (arith, nat_tests)
 below_by false n limit e h = cc
 
--- where not all is full and the topic is new, one more fits
+-- if not all is full and the topic is new, one more fits
 pub fits-new : (n limit : ℕ) (has : Bool) → (not (nat_lt n limit) && not has) ≡ false → has ≡ false → n < limit
 fits-new n limit true h e = cc
 fits-new n limit false h e = below_by (nat_lt n limit) n limit refl h
 
+-- if a message finds a place, there are no more than the limit once it is retained
 pub fits : (n limit : ℕ) (has : Bool) → (not (nat_lt n limit) && not has) ≡ false → n ≤ limit → n + (if has then 0 else 1) ≤ limit
 fits n limit true h l = omega (arith, l)
 fits n limit false h l = let below = fits-new n limit false h refl in omega (arith, below)
@@ -27,6 +28,7 @@ module _ {M : Type 0} where
   abbrev pub kept : List ℕ → M → Kept M
   kept topic message = record { topic = topic; message = message }
 
+  -- to remove a topic's key from the set is to forget the message of that topic
   pub forget-remove_key : (text : List ℕ) (ks : List (Kept M)) → remove_key (is_of text) ks ≡ forget text ks
   forget-remove_key text [] = refl
   forget-remove_key text (k ∷ ks) = ap (λ (xs : List (Kept M)). cond (is_of text k) ks (k ∷ xs)) (forget-remove_key text ks)
@@ -61,6 +63,7 @@ module _ {M : Type 0} where
   has_by true text k ks more = refl
   has_by false text k ks more = more
 
+  -- a message of a topic is found exactly if one is retained
   pub find-has : (text : List ℕ) (ks : List (Kept M)) → is_some (find (is_of text) ks) ≡ has_topic text ks
   find-has text [] = refl
   find-has text (k ∷ ks) = has_by (is_of text k) text k ks (find-has text ks)
@@ -75,6 +78,7 @@ module _ {M : Type 0} where
   kept_by true text k ks is = rw is refl
   kept_by false text k ks is = rw is refl
 
+  -- a message that matches goes behind those found, and the others are looked at next
   pub one_found : (text : List ℕ) (ks found : List (Kept M)) (i : ℕ) (k : Kept M) → i < length ks → k ≡ get_or ks i k → is_match text k.topic ≡ true →
       (found ++ k ∷ []) ++ kept_for text (drop (i + 1) ks) ≡ found ++ kept_for text (drop i ks)
   one_found text ks found i k within is matches =
@@ -82,6 +86,7 @@ module _ {M : Type 0} where
       ∙ ap (λ (xs : List (Kept M)). found ++ xs) (sym (kept_by true text k (drop (i + 1) ks) matches))
       ∙ ap (λ (xs : List (Kept M)). found ++ kept_for text xs) (sym (drops i ks k within is))
 
+  -- a message that doesn't match is passed over
   pub one_passed : (text : List ℕ) (ks found : List (Kept M)) (i : ℕ) (k : Kept M) → i < length ks → k ≡ get_or ks i k → is_match text k.topic ≡ false →
       found ++ kept_for text (drop (i + 1) ks) ≡ found ++ kept_for text (drop i ks)
   one_passed text ks found i k within is apart =

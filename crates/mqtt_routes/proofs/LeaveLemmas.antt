@@ -128,6 +128,7 @@ module _ (b a : ℕ) (old new : List Subscriber)
       shift n m = grind (arith, nat_tests)
   long_by false l c n d k = ap (λ (ss : List Subscription). once (nat_lt n (length ss))) (sym (others c d))
 
+  -- without the spot of a subscription that left, the order of filters is that of what is left
   pub left_index : (spots : List Spot) → IsIndex old spots → IsIndex new (without_spot b a spots)
   left_index spots index = record {
     rising = rising_left spots index.rising;
@@ -140,6 +141,7 @@ left_by true true b a s rest d e = refl
 left_by true false b a s rest d e = refl
 left_by false e b a s rest d k = refl
 
+-- to take out a spot and then move down those behind it is to remove the subscription from the order
 pub left_and_moved : (b a : ℕ) (ss : List Spot) → map (moved_down b a) (filter (λ s. not (is_spot b a s)) ss) ≡ without_spot b a ss
 left_and_moved b a [] = refl
 left_and_moved b a (s ∷ ss) =

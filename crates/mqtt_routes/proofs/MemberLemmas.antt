@@ -15,6 +15,7 @@ most_by : (lt : Bool) (p n : ℕ) → p ≤ n → cond lt 0 (suc p) ≤ suc n
 most_by true p n l = omega arith
 most_by false p n l = omega arith
 
+-- a member's place is one of the group, or the one behind all
 pub insertion_spot-most : (place : ℕ) (xs : List Member) → insertion_spot place xs ≤ length xs
 insertion_spot-most place [] = omega arith
 insertion_spot-most place (x ∷ xs) = most_by (nat_lt place x.sub.place) (insertion_spot place xs) (length xs) (insertion_spot-most place xs)

@@ -3,6 +3,7 @@ use Rattle.std.proofs.Common.{◌≡◌, ℕ, zero, suc, ◌+◌, ◌<◌, List,
 use Rattle.mqtt_routes.specs.declared.spot.Spot.{Spot}
 
 module _ (f : Spot → Spot) where
+  -- once the place at i has moved too, all up to it have
   pub moved_next : (old : List Spot) (i : ℕ) (d : Spot) → i < length old → set (map f (take i old) ++ drop i old) i (f (get_or (map f (take i old) ++ drop i old) i d)) ≡ map f (take (i + 1) old) ++ drop (i + 1) old
   moved_next [] i d l = absurd (omega (arith, l))
   moved_next (x ∷ xs) zero d l = refl

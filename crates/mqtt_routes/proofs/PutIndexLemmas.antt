@@ -17,10 +17,12 @@ stood_by : (e : Bool) (b c : ℕ) (xs : List Subscriber) → nat_eq c b ≡ e �
 stood_by true b c xs h = ap (λ n. subs_of n xs) (sym (eqb-true c b h))
 stood_by false b c xs h = refl
 
+-- that a session stands in the list changes nobody's subscriptions
 pub subs_of-standing : (b c : ℕ) (filters : List (List ℕ)) (xs : List Subscriber) → AreInOrder xs → subs_of c (standing b filters xs) ≡ subs_of c xs
 subs_of-standing b c [] xs o = refl
 subs_of-standing b c (f ∷ fs) xs o = subs_of-with_subs b c (subs_of b xs) xs o ∙ stood_by (nat_eq c b) b c xs refl
 
+-- that a session stands in the list leaves the order of filters what it has to be
 pub stood_index : (b : ℕ) (filters : List (List ℕ)) (old : List Subscriber) (spots : List Spot) → AreInOrder old → IsIndex old spots → IsIndex (standing b filters old) spots
 stood_index b filters old spots o index =
     same_index old (standing b filters old) spots index
@@ -43,6 +45,7 @@ module _ (b : ℕ) (s : Subscription) (old : List Subscriber) (spots : List Spot
     matched_by true c n h = put_matched s (subs_of b old) n has ∙ ap (λ m. matched_at (subs_of m old) n) (sym (eqb-true c b h))
     matched_by false c n h = refl
 
+    -- a subscription in place of another leaves the order of filters as it is
     pub replaced_index : IsIndex (subscribed b s old) spots
     replaced_index = same_index old (subscribed b s old) spots index
         (λ c. ap length (subs_after c) ∙ long_by (nat_eq c b) c refl)
@@ -70,6 +73,7 @@ module _ (b : ℕ) (s : Subscription) (old : List Subscriber) (spots : List Spot
         ap (λ (ss : List Subscription). matched_at ss (length (subs_of b old))) (subs_after b ∙ ap (λ t. cond t (put s (subs_of b old)) (subs_of b old)) itself ∙ put-push s (subs_of b old) none)
         ∙ push_matched_last s (subs_of b old)
 
+    -- a new subscription stands at the place that was found for its filter
     pub put_index : IsIndex (subscribed b s old) (insert spots place (record { birth = b; at = length (subs_of b old) }))
     put_index = added_index old (subscribed b s old) spots index b (matching_part_of s.filter) place
         (λ c. ap length (subs_after c) ∙ more_by (nat_eq c b) c refl)

@@ -78,6 +78,7 @@ left_by : (e : Bool) (b : ℕ) (s : Spot) (ss rest : List Spot) → nat_eq s.bir
 left_by true b s ss rest e = let is : nat_eq b s.birth ≡ true = grind (arith, nat_tests) in sym (ap (λ t. cond t rest (s ∷ rest)) is)
 left_by false b s ss rest e = let is : nat_eq b s.birth ≡ false = grind (arith, nat_tests) in sym (ap (λ t. cond t rest (s ∷ rest)) is)
 
+-- to keep the spots of other births is to take out a session's subscriptions
 pub filter_birth : (b : ℕ) (ss : List Spot) → filter (λ s. not (nat_eq s.birth b)) ss ≡ without_birth b ss
 filter_birth b [] = refl
 filter_birth b (s ∷ ss) = ap (λ (rest : List Spot). cond (not (nat_eq s.birth b)) (s ∷ rest) rest) (filter_birth b ss) ∙ left_by (nat_eq s.birth b) b s ss (without_birth b ss) refl

@@ -1,4 +1,4 @@
--- Lemmas on spots in order: where the same ones stand, the lists are the same (MQTT 5.0, 4.7).
+-- Lemmas on spots in order: if the same ones stand, the lists are the same (MQTT 5.0, 4.7).
 use Rattle.std.proofs.Common.{◌≡◌, ℕ, zero, suc, ◌+◌, ◌<◌, ◌≤◌, Bool, true, false, cond, ◌&&◌, List, [], ◌∷◌, ◌++◌, length, map, get_or, refl, sym, ap, subst, ◌∙◌, nat_eq, nat_lt, arith, eqb-true}
 use Rattle.std.specs.Prelude.{⊤}
 use Rattle.std.specs.List.{count_by}
@@ -83,6 +83,7 @@ rises s (t ∷ ts) h =
     sym (ap (λ n. is_lt (spot_cmp (get_or (s ∷ t ∷ ts) n d) (get_or (t ∷ ts) k d))) next) ∙ h (suc k) d (omega arith) (omega (arith, l))) in
     ((first, from_earlier s t ts first more.0), more)
 
+-- sorted spots rise by births, and in one session by numbers
 pub sorted_rises : (ss : List Spot) → IsSorted spot_cmp ss → AreRisingSpots ss
 sorted_rises [] h = tt
 sorted_rises (s ∷ ss) h = rises s ss h
@@ -184,6 +185,7 @@ module _ (p : Publication) where
   rising_of b [] = tt
   rising_of b (s ∷ ss) = rising_by (matches_topic p s) b (spots_of p b ss) (spots_are_of p b ss) (rising_of b ss)
 
+  -- where the subscriptions of sessions in order stand rises
   pub rising_in : (xs : List Subscriber) → AreInOrder xs → AreRisingSpots (spots_in p xs)
   rising_in [] o = tt
   rising_in (x ∷ xs) o =
@@ -236,6 +238,7 @@ module _ (p : Publication) where
   is_wanted_at (s ∷ ss) zero = matches_topic p s
   is_wanted_at (s ∷ ss) (suc n) = is_wanted_at ss n
 
+  -- the number of a subscription whose filter matches is that of one to the topic
   pub wanted_is : (subs : List Subscription) (n : ℕ) → once (nat_lt n (length subs) && is_match (matched_at subs n) p.topic) ≡ once (is_wanted_at subs n)
   wanted_is [] n = ap (λ t. once (t && is_match [] p.topic)) (lt-no n 0 (omega arith))
   wanted_is (s ∷ ss) zero = ap (λ t. once (t && matches_topic p s)) (lt-yes 0 (suc (length ss)) (omega arith))

@@ -44,15 +44,19 @@ some_room n room h = grind (arith, nat_tests)
 pub room_left : (n before after : ℕ) → before ≤ after + 1 → nat_le (suc n) before ≡ true → nat_le n after ≡ true
 room_left n before after l h = grind (arith, nat_tests)
 
+-- no more than the room has room
 pub room_made : (n room : ℕ) → n ≤ room → nat_le n room ≡ true
 room_made n room l = grind (arith, nat_tests)
 
+-- more than the room has none
 pub room_lacks : (n room : ℕ) → room < n → nat_le n room ≡ false
 room_lacks n room l = grind (arith, nat_tests)
 
+-- without room not one more has room
 pub no_room : (n room : ℕ) → room ≡ 0 → nat_le (suc n) room ≡ true → ⊥
 no_room n room none h = let some = some_room n room h in omega (arith, some, none)
 
+-- subscriptions have as many filters as they are
 pub length-filters_of : (new : List Subscription) → length (filters_of new) ≡ length new
 length-filters_of [] = refl
 length-filters_of (s ∷ ss) = ap suc (length-filters_of ss)
@@ -62,14 +66,17 @@ pub standing-none : (b : ℕ) (new : List Subscription) (xs : List Subscriber) �
 standing-none b [] xs e = refl
 standing-none b (s ∷ ss) xs e = absurd (grind (arith, nat_tests))
 
+-- if there is something to subscribe to, the session stands in the list with what it has
 pub standing-some : (b : ℕ) (new : List Subscription) (xs : List Subscriber) → eqb (length new) 0 ≡ false → standing b (filters_of new) xs ≡ with_subs b (subs_of b xs) xs
 standing-some b [] xs e = absurd (grind (arith, nat_tests))
 standing-some b (s ∷ ss) xs e = refl
 
+-- nothing to subscribe to has room always
 pub room_for_none : (new : List Subscription) (room : ℕ) → eqb (length new) 0 ≡ true → nat_le (length (filters_of new)) room ≡ true
 room_for_none [] room e = room_made 0 room (omega arith)
 room_for_none (s ∷ ss) room e = absurd (grind (arith, nat_tests))
 
+-- what is not nothing is at least one
 pub some_length : (new : List Subscription) → eqb (length new) 0 ≡ false → 0 < length new
 some_length [] e = absurd (grind (arith, nat_tests))
 some_length (s ∷ ss) e = omega arith

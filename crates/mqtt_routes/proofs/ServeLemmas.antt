@@ -15,6 +15,7 @@ eligible_by : (same lacks : Bool) (at : Answers) (p : Publication) (direct : Lis
 eligible_by true lacks at p direct served m group e = ap (λ b. cond b (m ∷ filter (is_eligible at p direct served) group) (filter (is_eligible at p direct served) group)) e
 eligible_by false lacks at p direct served m group e = refl
 
+-- one member more is eligible exactly if it is a candidate
 pub eligible_of-cons : (at : Answers) (p : Publication) (direct : List Copy) (served : List Served) (text : List ℕ) (m : Member) (ms : List Member) → eligible_of at p direct served text (m ∷ ms)
     ≡ cond (is_candidate at p direct served text m) (m ∷ eligible_of at p direct served text ms) (eligible_of at p direct served text ms)
 eligible_of-cons at p direct served text m ms = eligible_by (bytes_eq m.sub.filter text) (is_eligible at p direct served m) at p direct served m (in_group text ms) refl
@@ -24,6 +25,7 @@ number_by : (b : Bool) (x : Member) (es : List Member) (m d : Member) → ((n : 
 number_by true x es m d h = (suc h.0, omega (arith, h.1), h.2)
 number_by false x es m d h = h
 
+-- a candidate has a number among the eligible members of its group
 pub number_of : (at : Answers) (p : Publication) (direct : List Copy) (served : List Served) (text : List ℕ) (ms : List Member) (i : ℕ) (d : Member) → i < length ms → is_candidate at p direct served text (get_or ms i d) ≡ true
     → (n : ℕ) × (n < length (eligible_of at p direct served text ms)) × (get_or (eligible_of at p direct served text ms) n d ≡ get_or ms i d)
 number_of at p direct served text [] i d l e = absurd (omega arith)
@@ -56,15 +58,17 @@ serve_one-none at p direct served text all b e h =
 
 -- ---- one group after another
 
+-- a group that was served by this number stands behind those before, and the others come next
 pub serve-next : (at : Answers) (p : Publication) (all : List Member) (direct : List Copy) (n : ℕ) (rest : List ℕ) (f : List ℕ) (fs : List (List ℕ)) (served : List Served) (s : Served) → serve_one at p direct served n f all ≡ Some s
     → serve at p all direct (n ∷ rest) (f ∷ fs) served ≡ serve at p all direct rest fs (served ++ s ∷ [])
 serve-next at p all direct n rest f fs served s e = ap (option_and_then (λ (x : Served). serve at p all direct rest fs (served ++ x ∷ []))) e
 
+-- if a group can't be served, none of the groups are
 pub serve-stop : (at : Answers) (p : Publication) (all : List Member) (direct : List Copy) (n : ℕ) (rest : List ℕ) (f : List ℕ) (fs : List (List ℕ)) (served : List Served) → serve_one at p direct served n f all ≡ None
     → serve at p all direct (n ∷ rest) (f ∷ fs) served ≡ None
 serve-stop at p all direct n rest f fs served e = ap (option_and_then (λ (x : Served). serve at p all direct rest fs (served ++ x ∷ []))) e
 
--- what follows of each value follows where there is one
+-- what follows of each value follows if there is one
 pub if_ok_more : {X E : Type 0} (P Q : X → Type 0) (r : Result X E) → ((x : X) → P x → Q x) → IfOk r P → IfOk r Q
 if_ok_more P Q (Ok x) more h = more x h
 if_ok_more P Q (Err e) more h = tt
@@ -80,6 +84,7 @@ drop_past (m ∷ ms) (suc i) l = drop_past ms i (omega arith)
 cut_at : (ms : List Member) (i : ℕ) (m : Member) → i < length ms → m ≡ get_or ms i m → drop i ms ≡ m ∷ drop (i + 1) ms
 cut_at ms i m l e = let cut : drop i ms ≡ get_or ms i m ∷ drop (i + 1) ms = rw (add-one, drop-cons ms i m) in cut ∙ ap (λ x. x ∷ drop (i + 1) ms) (sym e)
 
+-- a member that is no candidate leaves the eligible ones among the rest as they are
 pub eligible_of-drop : (at : Answers) (p : Publication) (direct : List Copy) (served : List Served) (text : List ℕ) (ms : List Member) (i : ℕ) (m : Member) → i < length ms → m ≡ get_or ms i m → is_candidate at p direct served text m ≡ false
     → eligible_of at p direct served text (drop (i + 1) ms) ≡ eligible_of at p direct served text (drop i ms)
 eligible_of-drop at p direct served text ms i m l e not_it =
@@ -91,6 +96,7 @@ abbrev pub SoFar : Answers → Publication → List Member → List Copy → ℕ
 SoFar at p ms direct i served =
     (ns : List ℕ) × ((rest : List ℕ) → serve at p ms direct (ns ++ rest) (groups ms) [] ≡ serve at p ms direct rest (groups_after (take i ms) (drop i ms)) served)
 
+-- before the first member no group is served
 pub so_far_start : (at : Answers) (p : Publication) (ms : List Member) (direct : List Copy) → SoFar at p ms direct 0 []
 so_far_start at p ms direct = ([], λ rest. refl)
 
@@ -102,6 +108,7 @@ left_at ms i m l e =
     let rest = drop (i + 1) ms in
     ap (groups_after (take i ms)) (cut_at ms i m l e) ∙ ap (λ front. cond (has_filter_among m.sub.filter (take i ms)) (groups_after front rest) (m.sub.filter ∷ groups_after front rest)) (sym more)
 
+-- a member of a group that was served already changes nothing
 pub so_far_known : (at : Answers) (p : Publication) (ms : List Member) (direct : List Copy) (i : ℕ) (served : List Served) (m : Member) → i < length ms → m ≡ get_or ms i m → has_filter_among m.sub.filter (take i ms) ≡ true
     → SoFar at p ms direct i served → SoFar at p ms direct (i + 1) served
 so_far_known at p ms direct i served m l e known h =
@@ -109,6 +116,7 @@ so_far_known at p ms direct i served m l e known h =
     let left = left_at ms i m l e ∙ ap (λ b. cond b rest (m.sub.filter ∷ rest)) known in
     (h.0, λ choices. h.1 choices ∙ ap (λ gs. serve at p ms direct choices gs served) left)
 
+-- the first member of a new group adds what that group was served
 pub so_far_new : (at : Answers) (p : Publication) (ms : List Member) (direct : List Copy) (i : ℕ) (served : List Served) (m : Member) (s : Served) → i < length ms → m ≡ get_or ms i m → has_filter_among m.sub.filter (take i ms) ≡ false
     → SoFar at p ms direct i served → ((n : ℕ) × (serve_one at p direct served n m.sub.filter ms ≡ Some s)) → SoFar at p ms direct (i + 1) (served ++ s ∷ [])
 so_far_new at p ms direct i served m s l e new h one =
@@ -119,6 +127,7 @@ so_far_new at p ms direct i served m s l e new h one =
           ∙ serve-next at p ms direct one.0 choices m.sub.filter rest served s one.1,
     )
 
+-- if a new group can't be served, by some choice the publication isn't
 pub so_far_full : (at : Answers) (p : Publication) (ms : List Member) (direct : List Copy) (i : ℕ) (served : List Served) (m : Member) → i < length ms → m ≡ get_or ms i m → has_filter_among m.sub.filter (take i ms) ≡ false
     → SoFar at p ms direct i served → ((n : ℕ) × (serve_one at p direct served n m.sub.filter ms ≡ None)) → IsUnserved at p ms direct
 so_far_full at p ms direct i served m l e new h one =
@@ -126,6 +135,7 @@ so_far_full at p ms direct i served m l e new h one =
     let left = left_at ms i m l e ∙ ap (λ b. cond b rest (m.sub.filter ∷ rest)) new in
     (h.0 ++ one.0 ∷ [], h.1 (one.0 ∷ []) ∙ ap (λ gs. serve at p ms direct (one.0 ∷ []) gs served) left ∙ serve-stop at p ms direct one.0 [] m.sub.filter rest served one.1)
 
+-- behind the last member all groups are served, by some choice
 pub so_far_end : (at : Answers) (p : Publication) (ms : List Member) (direct : List Copy) (i : ℕ) (served : List Served) → length ms ≤ i → SoFar at p ms direct i served → IsServing at p ms direct served
 so_far_end at p ms direct i served l h = (h.0 ++ [], h.1 [] ∙ ap (λ rest. serve at p ms direct [] (groups_after (take i ms) rest) served) (drop_past ms i l))
 

@@ -72,6 +72,7 @@ dropped_by false false b (s ∷ ss) x xs l e is h more =
     ap (λ subs. beside subs x (with_some xs)) is ∙ sym (ap (λ t. cond t (x ∷ rest) (cond (nat_eq x.birth b) (with_some xs) (x ∷ with_some xs))) l
     ∙ ap (λ t. cond t (with_some xs) (x ∷ with_some xs)) e)
 
+-- to remove a session is the same before and after those without subscriptions are left out
 pub some_dropped : (b : ℕ) (xs : List Subscriber) → AreInOrder xs → with_some (without_session b xs) ≡ without_session b (with_some xs)
 some_dropped b [] o = refl
 some_dropped b (x ∷ xs) o = dropped_by (nat_lt x.birth b) (nat_eq x.birth b) b x.subs x xs refl refl refl o.0 (some_dropped b xs o.1)
@@ -92,6 +93,7 @@ stands : (b : ℕ) (xs : List Subscriber) → with_some (with_subs b (subs_of b 
 stands b [] = refl
 stands b (x ∷ xs) = stands_by (nat_lt x.birth b) (nat_eq x.birth b) b x xs refl (stands b xs)
 
+-- a session that stands only for what is to come has no subscriptions yet, and so changes nothing
 pub some_standing : (b : ℕ) (filters : List (List ℕ)) (xs : List Subscriber) → with_some (standing b filters xs) ≡ with_some xs
 some_standing b [] xs = refl
 some_standing b (f ∷ fs) xs = stands b xs

@@ -17,10 +17,12 @@ Entries = List (ℕ × Held)
 
 -- ---- births rise
 
+-- sessions born after another were born after those before it
 pub after_later : (b c : ℕ) (xs : List Subscriber) → b < c → AreAfter c xs → AreAfter b xs
 after_later b c [] l h = tt
 after_later b c (x ∷ xs) l h = (omega (arith, l, h.0), after_later b c xs l h.1)
 
+-- sessions born after one birth were born after an equal one
 pub after_same : (b c : ℕ) (xs : List Subscriber) → c ≡ b → AreAfter c xs → AreAfter b xs
 after_same b c [] e h = tt
 after_same b c (x ∷ xs) e h = (omega (arith, e, h.0), after_same b c xs e h.1)
@@ -59,6 +61,7 @@ order-unsubscribed_by true eq b text x xs e h more = (after-unsubscribed x.birth
 order-unsubscribed_by false true b text x xs e h more = (subst (λ c. AreAfter c xs) (eqb-true x.birth b e) h.0, h.1)
 order-unsubscribed_by false false b text x xs e h more = h
 
+-- sessions stay in order whatever one unsubscribes from
 pub order-unsubscribed : (b : ℕ) (text : List ℕ) (xs : List Subscriber) → AreInOrder xs → AreInOrder (unsubscribed b text xs)
 order-unsubscribed b text [] h = tt
 order-unsubscribed b text (x ∷ xs) h = order-unsubscribed_by (nat_lt x.birth b) (nat_eq x.birth b) b text x xs refl h (order-unsubscribed b text xs h.1)
@@ -77,6 +80,7 @@ order-without_by true eq b x xs h more = (after-without x.birth b xs h.0, more)
 order-without_by false true b x xs h more = h.1
 order-without_by false false b x xs h more = h
 
+-- sessions stay in order without one of them
 pub order-without_session : (b : ℕ) (xs : List Subscriber) → AreInOrder xs → AreInOrder (without_session b xs)
 order-without_session b [] h = tt
 order-without_session b (x ∷ xs) h = order-without_by (nat_lt x.birth b) (nat_eq x.birth b) b x xs h (order-without_session b xs h.1)
@@ -87,18 +91,23 @@ order-without_session b (x ∷ xs) h = order-without_by (nat_lt x.birth b) (nat_
 pub split : {P : Type 0} (k b : ℕ) → (k < b → P) → (k ≡ b → P) → (b < k → P) → P
 split k b before here after = ⊎_elim before (λ from. ⊎_elim after (λ to. here (omega arith)) (cases_lt b k)) (cases_lt k b)
 
+-- a lower birth compares as lower
 pub lt-yes : (k b : ℕ) → k < b → nat_lt k b ≡ true
 lt-yes k b l = grind (arith, nat_tests)
 
+-- one that isn't lower doesn't
 pub lt-no : (k b : ℕ) → b ≤ k → nat_lt k b ≡ false
 lt-no k b l = grind (arith, nat_tests)
 
+-- equal births compare as equal
 pub eq-yes : (k b : ℕ) → k ≡ b → nat_eq k b ≡ true
 eq-yes k b e = grind (arith, nat_tests)
 
+-- a lower birth doesn't compare as equal
 pub eq-below : (k b : ℕ) → k < b → nat_eq k b ≡ false
 eq-below k b l = grind (arith, nat_tests)
 
+-- a higher birth doesn't compare as equal
 pub eq-above : (k b : ℕ) → b < k → nat_eq k b ≡ false
 eq-above k b l = grind (arith, nat_tests)
 
@@ -124,6 +133,7 @@ module _ (b : ℕ) where
     same : (e : ℕ × Held) (es : Entries) → Some old ≡ lookup (nat_eq b) (e ∷ es) → e.0 ≡ b → old ≡ e.1
     same e es h s = let is : Some old ≡ Some e.1 = h ∙ ap (λ t. cond t (Some e.1) (lookup (nat_eq b) es)) (eq-yes b e.0 (sym s)) in cc
 
+    -- the entry that the map finds has the session's subscriptions
     pub subs_of-found : (es : Entries) → AreInOrder (subscribers es) → Some old ≡ lookup (nat_eq b) es → subs_of b (subscribers es) ≡ old.subs
     subs_of-found [] o h = cc
     subs_of-found (e ∷ es) o h = split e.0 b
@@ -131,6 +141,7 @@ module _ (b : ℕ) where
         (λ s. rw (lt-no e.0 b (omega (arith, s)), eq-yes e.0 b s) (ap (λ (h : Held). h.subs) (sym (same e es h s))))
         (λ l. absurd (not_after e es o h l))
 
+    -- to set the entry that the map finds is to give the session other subscriptions
     pub with_subs-found : (w : Held) (es : Entries) → AreInOrder (subscribers es) → Some old ≡ lookup (nat_eq b) es → subscribers (set_value (nat_eq b) es w) ≡ with_subs b w.subs (subscribers es)
     with_subs-found w [] o h = cc
     with_subs-found w (e ∷ es) o h = split e.0 b
@@ -142,6 +153,7 @@ module _ (b : ℕ) where
     same_by true e es h more = let is : old ≡ e.1 = cc in ap (λ (x : Held). (e.0, x) ∷ es) is
     same_by false e es h more = ap (λ (xs : Entries). e ∷ xs) (more h)
 
+    -- to set the entry that the map finds as it was changes nothing
     pub set_value-same : (es : Entries) → Some old ≡ lookup (nat_eq b) es → set_value (nat_eq b) es old ≡ es
     set_value-same [] h = refl
     set_value-same (e ∷ es) h = same_by (nat_eq b e.0) e es h (set_value-same es)
@@ -156,6 +168,7 @@ module _ (b : ℕ) where
     set_value-held w [] kept h = refl
     set_value-held w (e ∷ es) kept h = held_by (nat_eq b e.0) w e es kept h (set_value-held w es kept)
 
+    -- to set the entry without a filter is to take the session's subscription to it away
     pub unsubscribed-found : (text : List ℕ) (w : Held) (es : Entries) → w.subs ≡ without text old.subs → AreInOrder (subscribers es) → Some old ≡ lookup (nat_eq b) es → subscribers (set_value (nat_eq b) es w) ≡ unsubscribed b text (subscribers es)
     unsubscribed-found text w [] made o h = cc
     unsubscribed-found text w (e ∷ es) made o h = split e.0 b
@@ -163,6 +176,7 @@ module _ (b : ℕ) where
         (λ s. rw (lt-no e.0 b (omega (arith, s)), eq-yes e.0 b s, eq-yes b e.0 (sym s)) (ap (λ n. subscriber n w.subs ∷ subscribers es) s ∙ ap (λ x. subscriber b x ∷ subscribers es) (made ∙ ap (λ (h : Held). without text h.subs) (same e es h s))))
         (λ l. absurd (not_after e es o h l))
 
+  -- to remove a session's entry from the map is to take the session away
   pub without_session-remove_entry : (es : Entries) → AreInOrder (subscribers es) → subscribers (remove_entry (nat_eq b) es) ≡ without_session b (subscribers es)
   without_session-remove_entry [] o = refl
   without_session-remove_entry (e ∷ es) o = split e.0 b
@@ -178,6 +192,7 @@ module _ (b : ℕ) where
   none_later : (e : ℕ × Held) (es : Entries) → lookup (nat_eq b) (e ∷ es) ≡ None → e.0 < b → lookup (nat_eq b) es ≡ None
   none_later e es h l = sym (ap (λ t. cond t (Some e.1) (lookup (nat_eq b) es)) (eq-above b e.0 l)) ∙ h
 
+  -- a session that the map doesn't find has no subscriptions
   pub subs_of-none : (es : Entries) → lookup (nat_eq b) es ≡ None → subs_of b (subscribers es) ≡ []
   subs_of-none [] h = refl
   subs_of-none (e ∷ es) h = split e.0 b
@@ -185,6 +200,7 @@ module _ (b : ℕ) where
       (λ s. absurd (not_here e es h s))
       (λ l. rw (lt-no e.0 b (omega (arith, l)), eq-above e.0 b l) refl)
 
+  -- a session that the map doesn't find loses none
   pub unsubscribed-none : (text : List ℕ) (es : Entries) → lookup (nat_eq b) es ≡ None → unsubscribed b text (subscribers es) ≡ subscribers es
   unsubscribed-none text [] h = refl
   unsubscribed-none text (e ∷ es) h = split e.0 b
@@ -206,6 +222,7 @@ module _ (b : ℕ) where
       (λ s. absurd (not_here e es h s))
       (λ l. rw (eq-below b e.0 l) (let more = last-none es (sym (ap (λ t. cond t (Some e.1) (lookup (nat_eq b) es)) (eq-below b e.0 l)) ∙ h) in omega (arith, more)))
 
+  -- a session's place is one of the map, or the one behind all
   pub spot_of-most : (es : Entries) → spot_of b (subscribers es) ≤ length es
   spot_of-most [] = omega arith
   spot_of-most (e ∷ es) = split e.0 b
@@ -256,10 +273,12 @@ spot_of-point b (suc i) (e ∷ es) le h =
 
 -- ---- places
 
+-- there are as many sessions as entries of the map
 pub length-subscribers : (es : Entries) → length (subscribers es) ≡ length es
 length-subscribers [] = refl
 length-subscribers (e ∷ es) = ap suc (length-subscribers es)
 
+-- the session at a place is that of the map's entry there
 pub slice_get-subscribers : (i : ℕ) (es : Entries) (e : ℕ × Held) → slice_get es i ≡ Some e → slice_get (subscribers es) i ≡ Some (subscriber e.0 e.1.subs)
 slice_get-subscribers i [] e h = cc
 slice_get-subscribers zero (x ∷ es) e h = let same : x ≡ e = cc in ap (λ (y : ℕ × Held). Some (subscriber y.0 y.1.subs)) same
@@ -271,6 +290,7 @@ drop-next i [] x h = cc
 drop-next zero (y ∷ xs) x h = let same : y ≡ x = cc in ap (λ (z : Subscriber). z ∷ xs) same
 drop-next (suc i) (y ∷ xs) x h = drop-next i xs x h ∙ ap (λ n. x ∷ drop n (y ∷ xs)) (let e : suc (i + 1) ≡ suc i + 1 = omega arith in e)
 
+-- behind all sessions none is left
 pub drop-all : (i : ℕ) (xs : List Subscriber) → length xs ≤ i → drop i xs ≡ []
 drop-all zero [] h = refl
 drop-all (suc i) [] h = refl

@@ -83,6 +83,7 @@ put_length_by : (t : Bool) (new s : Subscription) (ss : List Subscription) → (
 put_length_by true new s ss h more = refl
 put_length_by false new s ss h more = ap suc (more h)
 
+-- a subscription that replaces one leaves as many as before
 pub put_length : (new : Subscription) (ss : List Subscription) → has_filter new.filter ss ≡ true → length (put new ss) ≡ length ss
 put_length new [] h = cc
 put_length new (s ∷ ss) h = put_length_by (is_to new.filter s) new s ss h (put_length new ss)
@@ -94,32 +95,38 @@ put_matched_by true new s ss (suc n) is h more = refl
 put_matched_by false new s ss zero is h more = refl
 put_matched_by false new s ss (suc n) is h more = more n h
 
+-- a subscription that replaces one is matched by the same filter at the same number
 pub put_matched : (new : Subscription) (ss : List Subscription) (n : ℕ) → has_filter new.filter ss ≡ true → matched_at (put new ss) n ≡ matched_at ss n
 put_matched new [] n h = cc
 put_matched new (s ∷ ss) n h = put_matched_by (is_to new.filter s) new s ss n refl h (λ m k. put_matched new ss m k)
 
 -- ---- one is added
 
+-- a subscription that comes last leaves those before it at their numbers
 pub push_matched : (new : Subscription) (ss : List Subscription) (n : ℕ) → n < length ss → matched_at (ss ++ new ∷ []) n ≡ matched_at ss n
 push_matched new [] n l = absurd (omega (arith, l))
 push_matched new (s ∷ ss) zero l = refl
 push_matched new (s ∷ ss) (suc n) l = push_matched new ss n (omega (arith, l))
 
+-- a subscription that comes last has the last number
 pub push_matched_last : (new : Subscription) (ss : List Subscription) → matched_at (ss ++ new ∷ []) (length ss) ≡ matching_part_of new.filter
 push_matched_last new [] = refl
 push_matched_last new (s ∷ ss) = push_matched_last new ss
 
+-- a subscription that comes last makes one more
 pub length_push : (new : Subscription) (ss : List Subscription) → length (ss ++ new ∷ []) ≡ suc (length ss)
 length_push new [] = refl
 length_push new (s ∷ ss) = ap suc (length_push new ss)
 
 -- ---- one is looked up
 
+-- a subscription is matched, at its number, by the matching part of its filter
 pub matched_get : (ss : List Subscription) (n : ℕ) (s : Subscription) → slice_get ss n ≡ Some s → matched_at ss n ≡ matching_part_of s.filter
 matched_get [] n s h = cc
 matched_get (x ∷ ss) zero s h = let same : x ≡ s = cc in ap (λ (y : Subscription). matching_part_of y.filter) same
 matched_get (x ∷ ss) (suc n) s h = matched_get ss n s h
 
+-- at a number that no subscription has there is no text
 pub matched_none : (ss : List Subscription) (n : ℕ) → slice_get ss n ≡ None → matched_at ss n ≡ []
 matched_none [] n h = refl
 matched_none (x ∷ ss) zero h = cc
@@ -136,7 +143,7 @@ module _ (text : List ℕ) where
   without_none [] h = refl
   without_none (s ∷ ss) h = without_none_by (is_to text s) s ss h (without_none ss)
 
-  -- none where there is none
+  -- none if there is none
   pub unsubscribed_none : (b : ℕ) (xs : List Subscriber) → has_filter text (subs_of b xs) ≡ false → unsubscribed b text xs ≡ xs
   unsubscribed_none b [] h = refl
   unsubscribed_none b (x ∷ xs) h = split x.birth b
@@ -163,6 +170,7 @@ module _ (text : List ℕ) where
   below_by false s ss zero l more = refl
   below_by false s ss (suc n) l more = more n (omega (arith, l))
 
+  -- subscriptions before the one that leaves keep their numbers
   pub without_below : (ss : List Subscription) (n : ℕ) → n < position_or_len (is_to text) ss → matched_at (without text ss) n ≡ matched_at ss n
   without_below [] n l = refl
   without_below (s ∷ ss) n l = below_by (is_to text s) s ss n l (without_below ss)
@@ -173,6 +181,7 @@ module _ (text : List ℕ) where
   above_by false s ss zero l more = absurd (omega (arith, l))
   above_by false s ss (suc n) l more = more n (omega (arith, l))
 
+  -- subscriptions behind the one that leaves have the number before
   pub without_above : (ss : List Subscription) (n : ℕ) → position_or_len (is_to text) ss ≤ n → matched_at (without text ss) n ≡ matched_at ss (suc n)
   without_above [] n l = refl
   without_above (s ∷ ss) n l = above_by (is_to text s) s ss n l (without_above ss)
@@ -182,6 +191,7 @@ module _ (text : List ℕ) where
   long_by true s ss l more = refl
   long_by false s ss l more = ap suc (more (omega (arith, l)))
 
+  -- one that leaves was one of them
   pub without_long : (ss : List Subscription) → position_or_len (is_to text) ss < length ss → suc (length (without text ss)) ≡ length ss
   without_long [] l = absurd (omega (arith, l))
   without_long (s ∷ ss) l = long_by (is_to text s) s ss l (without_long ss)

@@ -48,7 +48,7 @@ wanted_beside false at p all direct choices r e = absurd cc
 wanted_beside true at p all direct choices r e =
     wanted_of all direct r (serve at p all direct choices (groups all) []) (λ out h. served_all at p all direct choices out h) e
 
--- somebody is there exactly where a routing has a direct copy or a group
+-- somebody is there exactly if a routing has a direct copy or a group
 pub routed_wanted : (at : Answers) (p : Publication) (choices : List ℕ) (xs : List Subscriber) (r : Routed) → TellsTakers at p choices xs r
 routed_wanted at p choices xs r e =
     wanted_beside (list_all (has_room at) (directs at p xs)) at p (members p xs) (directs at p xs) choices r e

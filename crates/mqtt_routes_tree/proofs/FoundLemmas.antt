@@ -127,6 +127,7 @@ module _ (texts : List (List ℕ)) (run : Run) (i : ℕ) where
   within_by true b = refl
   within_by false b = refl
 
+  -- a number is found in a narrowed run if it is in the run and passes the test
   pub all_found : (new : Run) (b : Bool) → is_within i new ≡ (is_within i run && b) → once (is_within i new) ≡ cond (is_within i run) (once b) 0
   all_found new b which = ap (λ t. once t) which ∙ within_by (is_within i run) b
 
@@ -184,10 +185,12 @@ module _ (texts : List (List ℕ)) (run : Run) (i : ℕ) where
 -- ---- several runs
 
 module _ (texts : List (List ℕ)) (ls : List (List ℕ)) (i : ℕ) where
+  -- one run more is searched after the others
   pub found_push : (runs : List Run) (r : Run) → found_in_all texts ls i (runs ++ r ∷ []) ≡ found_in_all texts ls i runs + found_in texts ls i r
   found_push [] r = omega arith
   found_push (x ∷ xs) r = let more = found_push xs r in omega (arith, more)
 
+  -- what is found in the runs from a place on is what is found in the run there, and in those behind it
   pub found_next : (runs : List Run) (k : ℕ) (d : Run) → k < length runs → found_in_all texts ls i (drop k runs) ≡ found_in texts ls i (get_or runs k d) + found_in_all texts ls i (drop (k + 1) runs)
   found_next runs k d l = ap (found_in_all texts ls i) (drop_more runs k d l)
 
@@ -202,5 +205,6 @@ module _ (texts : List (List ℕ)) (ls : List (List ℕ)) (i : ℕ) where
       and_no true = refl
       and_no false = refl
 
+  -- nothing is found in an empty run
   pub empty_found : (run : Run) → run.to ≤ run.from → found_in texts ls i run ≡ 0
   empty_found run l = ap (λ b. once (b && matches_levels (rest_of texts run i) ls)) (empty_by run l)

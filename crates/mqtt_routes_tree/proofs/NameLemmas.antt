@@ -29,7 +29,7 @@ pub plain_levels : (text : List ℕ) → has_wildcard text ≡ false → ArePlai
 plain_levels [] free = (refl, tt)
 plain_levels (c ∷ cs) free = let parts = or_parts (is_wildcard c) (has_wildcard cs) free in plain_by (is_slash c) c (levels cs) parts.0 (plain_levels cs parts.1)
 
--- a filter begins with a wildcard where its first level does
+-- a filter begins with a wildcard if its first level does
 onto_first_is : (c : ℕ) (ls : List (List ℕ)) → is_wildcard c ≡ is_first is_wildcard (first_of (onto_first c ls))
 onto_first_is c [] = refl
 onto_first_is c (l ∷ ls) = refl

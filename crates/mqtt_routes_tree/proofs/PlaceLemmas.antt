@@ -26,6 +26,7 @@ module _ (texts : List (List ℕ)) (filter : List ℕ) (place : ℕ) (o : AreOrd
   over : (i : ℕ) → place < i → get_or (insert texts place filter) i [] ≡ get_or texts (i - 1) []
   over i l = ap (λ n. get_or (insert texts place filter) n []) (let e : i ≡ (i - 1) + 1 = omega (arith, l) in e) ∙ get_or-insert_above texts place filter [] (i - 1) (omega (arith, l)) is.within
 
+  -- filters are in order with one more at its place
   pub put_ordered : AreOrdered (insert texts place filter)
   put_ordered i j l lt =
       let long = length-insert texts place filter is.within in

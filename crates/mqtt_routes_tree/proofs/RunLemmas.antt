@@ -24,7 +24,7 @@ within_above lo hi i a = let no : nat_lt i hi ≡ false = grind (arith, nat_test
 pub within_parts : (lo hi i : ℕ) → (nat_le lo i && nat_lt i hi) ≡ true → (lo ≤ i) × (i < hi)
 within_parts lo hi i h = ⊎_elim (λ below. let no = within_below lo hi i below in cc) (λ from. ⊎_elim (λ to. (from, to)) (λ above. let no = within_above lo hi i above in cc) (cases_lt i hi)) (cases_lt i lo)
 
--- the numbers of a run that pass a test, where they are those between two
+-- the numbers of a run that pass a test, if they are those between two
 pub which_between : (from to lo hi i : ℕ) (b : Bool) → from ≤ lo → hi ≤ to → (from ≤ i → i < lo → b ≡ false) → (lo ≤ i → i < hi → b ≡ true) → (hi ≤ i → i < to → b ≡ false) →
     (nat_le lo i && nat_lt i hi) ≡ ((nat_le from i && nat_lt i to) && b)
 which_between from to lo hi i b l h before inside behind =
@@ -49,9 +49,11 @@ false_by false h = refl
 
 -- the filters of a run that begin with a level are those between what comes before it and what comes behind it
 module _ (texts : List (List ℕ)) (run : Run) (l : List ℕ) where
+  -- a filter that comes before the level doesn't begin with it
   pub begins_not_below : (i : ℕ) → is_before false l (rest_of texts run i) ≡ true → begins_with l (rest_of texts run i) ≡ false
   begins_not_below i h = false_by (begins_with l (rest_of texts run i)) (λ b. let no = begins_not_before l (rest_of texts run i) b in cc)
 
+  -- a filter that comes behind those of the level doesn't begin with it
   pub begins_not_above : (i : ℕ) → is_before true l (rest_of texts run i) ≡ false → begins_with l (rest_of texts run i) ≡ false
   begins_not_above i h = false_by (begins_with l (rest_of texts run i)) (λ b. let yes = begins_not_behind l (rest_of texts run i) b in cc)
 
@@ -66,9 +68,11 @@ module _ (texts : List (List ℕ)) (run : Run) (l : List ℕ) (lo hi : ℕ)
     (reached : (i : ℕ) → lo ≤ i → i < run.to → is_before false l (rest_of texts run i) ≡ false)
     (inside : (i : ℕ) → lo ≤ i → i < hi → is_before true l (rest_of texts run i) ≡ true)
     (behind : (i : ℕ) → hi ≤ i → i < run.to → is_before true l (rest_of texts run i) ≡ false) where
+  -- between the two ends that were searched each filter begins with the level
   pub begins_inside : (i : ℕ) → lo ≤ i → i < hi → begins_with l (rest_of texts run i) ≡ true
   begins_inside i a b = begins_between l (rest_of texts run i) (reached i a (omega (arith, b, high))) (inside i a b)
 
+  -- between the two ends that were searched stand exactly those of the run that begin with the level
   pub narrowed_which : (i : ℕ) → (nat_le lo i && nat_lt i hi) ≡ (is_within i run && begins_with l (rest_of texts run i))
   narrowed_which i =
       which_between run.from run.to lo hi i (begins_with l (rest_of texts run i)) low high

@@ -23,6 +23,7 @@ calm_answer e (is_read p rest h u d o c s) = absurd (cc)
 calm_answer e (is_live h o (inl x) c) = (h, o, x, rw e at c)
 calm_answer e (is_live h o (inr x) c) = absurd (cc)
 
+-- a CONNECT that comes is alone under way, with its Clean Start, and the session is connected nowhere on that line
 pub calm_connect : {l : Link} {b st cl c : Bool} {rest : List Answer} {down : List Output} {old : List Answer} {kept : List ℕ} → Calm l b st cl (connect c ∷ rest) down old kept → (l ≡ asked) × (rest ≡ []) × (down ≡ []) × (b ≡ false) × (c ≡ cl)
 calm_connect (is_away h u d x) = absurd (cc)
 calm_connect {cl = cl} {c} (is_sent h u d x) = let q : connect c ≡ connect cl = cc in (h, cc, d, x, cc)
@@ -36,6 +37,7 @@ late_no_answer p rest e (inr h) =
     let q : p ≡ connect false = cc in
     let r : is_connect (connect false) ≡ false = subst (λ p. is_connect p ≡ false) q e in cc
 
+-- a line given up on which something else than CONNECT comes leaves the receiver's line as it was
 pub calm_old : {l : Link} {b st cl : Bool} {p : Answer} {rest up : List Answer} {down : List Output} {kept : List ℕ} → is_connect p ≡ false → Calm l b st cl up down (p ∷ rest) kept → Calm l b st cl up down rest kept × ((i : ℕ) → ups i up ≡ []) × (b ≡ false)
 calm_old e (is_away h u d x) = (is_away h u d x, (λ i. rw u refl), x)
 calm_old e (is_sent h u d x) = (is_sent h u d x, (λ i. rw u refl), x)
@@ -60,6 +62,7 @@ calm_cut {b = b} {up = up} {down} (is_shut h u d e) = is_shut h (if_none b up u)
 calm_cut {b = b} {up = up} {down} (is_read p rest h u d o c s) = is_read p (sent_on b rest (disconnect ∷ [])) h (if_none b up u) (sent_on_head b (connack p) down rest (disconnect ∷ []) d) (inl refl) c s
 calm_cut {b = b} {up = up} {down} (is_live h o u c) = let z = live_none b up u in is_live h (inl refl) (inr z) (rw z refl)
 
+-- a line that the broker closes carries nothing more to it, and DISCONNECT to the receiver
 pub calm_close : {l : Link} {b st cl : Bool} {up : List Answer} {down : List Output} {old : List Answer} {kept : List ℕ} → Calm l b st cl up down old kept → Calm l false st cl [] (sent_on b down (disconnect ∷ [])) old kept
 calm_close (is_away h u d e) = is_away h refl (rw e d) refl
 calm_close (is_sent h u d e) = is_shut h refl (inl (rw e d)) refl
@@ -71,10 +74,12 @@ calm_close (is_live h o u c) = is_live h o (inr refl) refl
 pub map_done : (g : Life → Life) (w w' : World) → w'.copies ≡ map g w.copies → w'.ledger ≡ w.ledger → ((c : ℕ) (f : Option Life) → Settled c f → Settled c (option_map g f)) → (m : ℕ) → Done w m → Done w' m
 map_done g w w' e k s m h = rw (e, k, slice_get-map) (s (handed m w.ledger) (slice_get w.copies m) h)
 
+-- further packets that are no PUBLISH keep those under way in order
 pub ready_sent_on : (S : ℕ → Type 0) (b : Bool) (ps qs : List Output) → Plain qs → Ready S ps → Ready S (sent_on b ps qs)
 ready_sent_on S true ps qs h r = ready_plain S ps qs h r
 ready_sent_on S false ps qs h r = r
 
+-- of no copies none changes
 pub map_none : (g : Life → Life) (fs : List Life) → fs ≡ [] → map g fs ≡ []
 map_none g fs e = rw e refl
 
@@ -432,6 +437,7 @@ calm_no_old f (is_shut h u d e) = is_shut h u d e
 calm_no_old f (is_read p rest h u d o c s) = is_read p rest h u d (inl refl) c (f s)
 calm_no_old f (is_live h o u c) = is_live h (inl refl) u c
 
+-- if nothing is left on the line that was given up, the invariant holds as before
 pub no_old : (w : World) → Norm w → Norm (record w { old = [] })
 no_old w inv = record {
   each = λ j. let at = (inv.each j).1 in ((inv.each j).0, same_stage at refl (inl refl) (inr refl) at.of_down refl at.fits);
@@ -491,6 +497,7 @@ old_connect s c r rest w st u inv = go (subst Olds u inv.olds)
     go (inl h) = let z : rest ≡ [] = cc in let e : c ≡ false = cc in subst (λ rest. Norm (connects_old s c r rest w)) (sym z) (by s c r e st)
     go (inr h) = absurd (cc)
 
+-- the invariant holds after the broker reads a packet of the receiver's line
 pub norm_up : (r : Bool) (order : List ℕ) (up : List Answer) (w : World) → w.up ≡ up → Norm w → Norm (up_comes r order up w)
 norm_up r order [] w u inv = inv
 norm_up r order (connect c ∷ rest) w u inv = connecting w.stands c r order rest w refl u inv
@@ -498,6 +505,7 @@ norm_up r order (puback i code ∷ rest) w u inv = reads_puback i code rest w u 
 norm_up r order (pubrec i code ∷ rest) w u inv = reads_pubrec i code rest w u inv
 norm_up r order (pubcomp i code ∷ rest) w u inv = reads_pubcomp i code rest w u inv
 
+-- the invariant holds after the broker reads a packet of the line that was given up
 pub norm_old : (r : Bool) (old : List Answer) (w : World) → w.old ≡ old → Norm w → Norm (old_comes r old w)
 norm_old r [] w u inv = inv
 norm_old r (connect c ∷ rest) w u inv = old_connect w.stands c r rest w refl u inv

@@ -28,6 +28,7 @@ carries_push fs (y ∷ hs) x c h = (c.0, carries_push fs hs x c.1 h)
 abbrev pub Quiet : World → World → Type 0
 Quiet w w' = (w'.ledger ≡ w.ledger) × (w'.reads ≡ w.reads)
 
+-- if nothing happens nothing is read
 pub silent : (w : World) → Quiet w w
 silent w = (refl, refl)
 
@@ -51,6 +52,7 @@ connecting_old false c false rest w = silent w
 connecting_old true true r rest w = silent w
 connecting_old true false r rest w = silent w
 
+-- if the broker reads the receiver's line nothing is read by the receiver
 pub ups_quiet : (r : Bool) (order : List ℕ) (up : List Answer) (w : World) → Quiet w (up_comes r order up w)
 ups_quiet r order [] w = silent w
 ups_quiet r order (connect c ∷ rest) w = connecting w.stands c r order rest w
@@ -58,6 +60,7 @@ ups_quiet r order (puback i code ∷ rest) w = replying (puback_reply (find i w.
 ups_quiet r order (pubrec i code ∷ rest) w = replying (pubrec_reply i code (find i w.copies)) rest _ w
 ups_quiet r order (pubcomp i code ∷ rest) w = replying (pubcomp_reply (find i w.copies)) rest _ w
 
+-- if the broker reads the line that was given up nothing is read by the receiver
 pub olds_quiet : (r : Bool) (old : List Answer) (w : World) → Quiet w (old_comes r old w)
 olds_quiet r [] w = silent w
 olds_quiet r (connect c ∷ rest) w = connecting_old w.stands c r rest w
@@ -65,6 +68,7 @@ olds_quiet r (puback i code ∷ rest) w = replying_old (puback_reply (find i w.c
 olds_quiet r (pubrec i code ∷ rest) w = replying_old (pubrec_reply i code (find i w.copies)) rest _ w
 olds_quiet r (pubcomp i code ∷ rest) w = replying_old (pubcomp_reply (find i w.copies)) rest _ w
 
+-- a pump alone makes the receiver read nothing
 pub pump_quiet : (i : ℕ) (w : World) → Quiet w (pump_one i w)
 pump_quiet i w = silent w
 
@@ -73,16 +77,19 @@ connack_quiet away p rest w = silent w
 connack_quiet asked p rest w = silent w
 connack_quiet live p rest w = silent w
 
+-- a copy that enters makes the receiver read nothing
 pub enter_quiet : (s : Bool) (b : Body) (w : World) → Quiet w (enters_in s b w)
 enter_quiet true b w = silent w
 enter_quiet false b w = silent w
 
+-- a receiver that gives its line up reads nothing
 pub gives_quiet : (c : Bool) (l : Link) (w : World) → Quiet w (gives_up c l w)
 gives_quiet true l w = silent w
 gives_quiet false away w = silent w
 gives_quiet false asked w = silent w
 gives_quiet false live w = silent w
 
+-- a receiver that joins by a new line reads nothing
 pub joins_quiet : (l : Link) (c : Bool) (w : World) → Quiet w (joins l c w)
 joins_quiet away c w = silent w
 joins_quiet asked c w = silent w
@@ -144,9 +151,11 @@ carry w close g c = c
 carry w close_old g c = c
 carry w restart g c = quietly w (step w restart) (step_on w restart) (silent w) c
 
+-- if what was read is what the copies carry, it is so after any run
 pub carried : (es : List Event) (w : World) → Good w → Carried w → Carried (run es w)
 carried [] w g c = c
 carried (e ∷ es) w g c = carried es (step w e) (keeps w e g) (carry w e g c)
 
+-- what was read in a run from the start is what the copies carry
 pub carried_all : (es : List Event) → Carried (run es start)
 carried_all es = carried es start begins (tt, tt)

@@ -18,10 +18,12 @@ next_same (in_flight i (sent h) b) = refl
 next_same (in_flight i (released h t) b) = (refl, refl)
 next_same (ended e b) = refl
 
+-- a copy may go on as it is
 pub same : (f : Option Life) → Goes_on f f
 same None = tt
 same (Some f) = next_same f
 
+-- a copy keeps what it carries
 pub next_body : (f g : Life) → Next f g → body_of g ≡ body_of f
 next_body (waiting b) g h = h
 next_body (in_flight i (sent x) b) (waiting c) h = absurd h
@@ -78,6 +80,7 @@ next_next (in_flight i (released h t) b) (in_flight j (released p u) c) (ended e
 next_next (in_flight i (released h t) b) (ended e c) k x y = subst (Next (in_flight i (released h t) b)) (sym y) x
 next_next (ended e b) g k x y = let z : Next (ended e b) k = subst (λ g. Next g k) x y in z
 
+-- a copy that may go on to a state, and from there to another, may go on to that
 pub trans : (f g k : Option Life) → Goes_on f g → Goes_on g k → Goes_on f k
 trans None g k x y = tt
 trans (Some f) None k x y = absurd x
@@ -230,6 +233,7 @@ joins_on away c w = stays w.copies
 joins_on asked c w = stays w.copies
 joins_on live c w = stays w.copies
 
+-- in each event each copy goes on as it may
 pub step_on : (w : World) (e : Event) → Onward w.copies (step w e).copies
 step_on w (enter b) = enter_on w.stands b w
 step_on w (finish l n) = lapses l n w.copies
@@ -244,6 +248,7 @@ step_on w close = stays w.copies
 step_on w close_old = stays w.copies
 step_on w restart = mapped anew w.copies on_anew
 
+-- in a run each copy goes on as it may
 pub run_on : (es : List Event) (w : World) → Onward w.copies (run es w).copies
 run_on [] w n = same (slice_get w.copies n)
 run_on (e ∷ es) w n = trans (slice_get w.copies n) (slice_get (step w e).copies n) (slice_get (run es (step w e)).copies n) (step_on w e n) (run_on es (step w e) n)

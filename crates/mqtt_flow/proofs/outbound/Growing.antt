@@ -8,6 +8,7 @@ use Rattle.mqtt_flow.proofs.outbound.LivesWorld.{World, Event, enter, finish, pu
 use Rattle.mqtt_flow_inbound.proofs.Identifiers.{test_cases}
 use Rattle.mqtt_flow.proofs.outbound.Carried.{Quiet, silent, ups_quiet, olds_quiet, pump_quiet, enter_quiet, gives_quiet, joins_quiet}
 
+-- a list that stays has grown by nothing
 pub grows_same : (hs : List Handed) → Grows hs hs
 grows_same [] = tt
 grows_same (h ∷ hs) = (refl, grows_same hs)
@@ -77,6 +78,7 @@ step_growing w close = growing_same w
 step_growing w close_old = growing_same w
 step_growing w restart = growing_same w
 
+-- in a run what was read stays read, and more comes behind it
 pub run_growing : (es : List Event) (w : World) → Growing w (run es w)
 run_growing [] w = growing_same w
 run_growing (e ∷ es) w =

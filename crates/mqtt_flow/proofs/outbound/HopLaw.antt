@@ -48,24 +48,31 @@ weak_of w g n o e = subst (Weak (handed n w.ledger)) (slice_get-life w.copies n 
 was_of : (w : World) → Good (seen w) → (n : ℕ) (o : Option Lot) → slice_get w.copies n ≡ o → Was_read (handed n w.reads) (option_map life o)
 was_of w g n o e = subst (Was_read (handed n w.reads)) (slice_get-life w.copies n ∙ ap (option_map life) e) (good_was (seen w) g n)
 
+-- no copy is in the ledger twice
 pub once_of : (w : World) → Good (seen w) → Once w
 once_of w g n = at_most_once (handed n w.ledger) (slice_get (map life w.copies) n) (good_weak (seen w) g n)
 
+-- a copy of QoS 2 that was taken is in the ledger once
 pub taken_of : (w : World) → Good (seen w) → TakenOnce w
 taken_of w g n e m at qos = (weak_of w g n (Some (past Taken e m)) at).0 (rw qos refl)
 
+-- a copy whose PUBREC was taken is in the ledger once
 pub released_of : (w : World) → Good (seen w) → ReleasedOnce w
 released_of w g n i order e m at ph = rw ph at (weak_of w g n (Some (standing e m)) at)
 
+-- a copy that expired is not in the ledger
 pub expired_of : (w : World) → Good (seen w) → Unhanded Expired w
 expired_of w g n e m at = weak_of w g n (Some (past Expired e m)) at
 
+-- a copy that gave way in a full queue is not in the ledger
 pub dropped_of : (w : World) → Good (seen w) → Unhanded Dropped w
 dropped_of w g n e m at = weak_of w g n (Some (past Dropped e m)) at
 
+-- the ledger has the copies in the order in which they entered
 pub in_order_of : (w : World) → Good (seen w) → InOrder w
 in_order_of w g = good_rising (seen w) g
 
+-- a copy of QoS 1 that was taken was read
 pub read_of : (w : World) → Good (seen w) → TakenRead w
 read_of w g n e m at qos = was_of w g n (Some (past Taken e m)) at (rw qos refl)
 
@@ -88,6 +95,7 @@ carry_on : (ls : List Lot) (hs : List Handed) → course.Carries (map life ls) h
 carry_on ls [] h = tt
 carry_on ls (x ∷ hs) h = (sym (ap (option_map body_of) (slice_get-life ls x.copy) ∙ body_at (slice_get ls x.copy)) ∙ h.0, carry_on ls hs h.1)
 
+-- what was read in a run of the session's world is what its copies carry
 pub carried_run : (largest : ℕ) (es : List Event) → Carried (run largest es start)
 carried_run largest es =
     let l = run_leads largest es start (sound_start largest) begins in
@@ -164,6 +172,7 @@ goes_so None p h = tt
 goes_so (Some l) None h = h
 goes_so (Some l) (Some k) h = next_so l k h
 
+-- in a run of the session's world each copy goes on as it may
 pub course_run : (largest : ℕ) (es later : List Event) → GoOn (run largest es start) (run largest later (run largest es start))
 course_run largest es later n =
     let first = run_leads largest es start (sound_start largest) begins in
@@ -184,6 +193,7 @@ grow_run largest es later =
     let on = run_growing l.events (seen w) in
     (subst (λ v. Grows w.ledger v.ledger) l.same on.0, subst (λ v. Grows w.reads v.reads) l.same on.1)
 
+-- a copy whose PUBREC was taken is in the ledger once, whatever comes later
 pub for_good_run : (largest : ℕ) (es later : List Event) → ReleasedForGood (run largest es start) (run largest later (run largest es start))
 for_good_run largest es later n i order e m at ph =
     let w = run largest es start in
@@ -215,7 +225,7 @@ olds_alone : (old : List Answer) → Olds old → IsConnectAlone old
 olds_alone old (inl e) = subst IsConnectAlone (sym e) refl
 olds_alone old (inr h) = none_alone old h
 
--- where the session is connected no CONNECT is under way
+-- if the session is connected no CONNECT is under way
 heard_linked : (up : List Answer) → list_any is_connect up ≡ false → IsHeard true up
 heard_linked [] h = tt
 heard_linked (connect c ∷ rest) h = absurd (cc)
@@ -236,10 +246,12 @@ heard_blank {b = b} up (no_line h u d e) = subst (λ ps. IsConnectAlone ps × Is
 heard_blank {b = b} up (is_asked h u d e) = subst (λ ps. IsConnectAlone ps × IsHeard b ps) (sym u) (refl, e)
 heard_blank {b = b} up (was_shut h u d e) = subst (λ ps. IsConnectAlone ps × IsHeard b ps) (sym u) (tt, tt)
 
+-- a CONNECT is alone under way, on either line
 pub alone_of : (w : World) → Good (seen w) → ConnectsAlone w
 alone_of w (inl n) = ((heard_calm w.up n.calm).0, olds_alone w.old n.olds)
 alone_of w (inr f) = ((heard_blank w.up f.lines).0, olds_alone w.old (late_olds w.old f.of_old))
 
+-- what is under way on the receiver's line is nothing, begins with CONNECT, or is of a session that is connected there
 pub heard_of : (w : World) → Good (seen w) → Heard w
 heard_of w (inl n) = (heard_calm w.up n.calm).1
 heard_of w (inr f) = (heard_blank w.up f.lines).1

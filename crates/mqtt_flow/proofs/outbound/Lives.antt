@@ -11,6 +11,7 @@ pub data Mark : Type 0 where
   sent : (here : Bool) → Mark
   released : (here taken : Bool) → Mark
 
+-- what becomes of a copy: it waits, has an identifier, or has ended for a cause
 pub data Life : Type 0 where
   waiting : (b : Body) → Life
   in_flight : (i : ℕ) (m : Mark) (b : Body) → Life

@@ -9,6 +9,7 @@ use Rattle.mqtt_flow.proofs.outbound.Lives.{Life, waiting, pids, find, pumped, p
 abbrev pub World : Type 0
 World = Hop (List Life)
 
+-- what may happen in the world of the copies
 pub data Event : Type 0 where
   enter : (b : Body) → Event
   finish : (l : Lapse) (n : ℕ) → Event
@@ -28,7 +29,7 @@ abbrev pub enters_in : Bool → Body → World → World
 enters_in false b w = w
 enters_in true b w = record w { copies = w.copies ++ waiting b ∷ [] }
 
--- an identifier that isn't used, this one where it is free
+-- an identifier that isn't used, this one if it is free
 abbrev pub unused_of : ℕ → List ℕ → ℕ
 unused_of i used = if is_among i used then free_identifier used else i
 
@@ -62,7 +63,7 @@ connects false c false order rest w = made_new rest w
 connects true true r order rest w = made_new rest w
 connects true false r order rest w = resumed order rest w
 
--- the same from the line that was given up. The receiver's line is closed where the session is connected there
+-- the same from the line that was given up. The receiver's line is closed if the session is connected there
 abbrev pub connects_old : Bool → Bool → Bool → List Answer → World → World
 connects_old false c true rest w = record w { old = rest }
 connects_old false c false rest w = record w { old = rest; stands = true; copies = map cut w.copies }

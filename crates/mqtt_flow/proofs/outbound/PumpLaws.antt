@@ -65,6 +65,7 @@ order_from : (way : Way) (queue : List Entry) (place : ℕ) (p : Pacing) → Abo
 order_from way [] place p h a = tt
 order_from way (e ∷ es) place p h a = order_then e p.room place (pump_step way p e) e.phase p (pump_from way es) (entry_for e p.left (verdict way e) p) h.0 (λ q. order_from way es place q h.1 a.1) (λ q. order_from way es e.place q a.0 a.1)
 
+-- the PUBLISH of a pump go out in the order of the queue
 pub in_queue_order : (way : Way) (queue : List Entry) → InQueueOrder way queue
 in_queue_order way queue place h a = order_from way queue place (pace way queue) h a
 
@@ -161,6 +162,7 @@ window_from : (way : Way) (most : ℕ) (es : List Entry) (p : Pacing) (queue : L
 window_from way most [] p queue a w = omega arith
 window_from way most (e ∷ es) p queue a w = window_then e most (pump_step way p e) e.phase p (pump_from way es) queue (entry_for e p.left (verdict way e) p) a w (λ q next b v. window_from way most es q next b v)
 
+-- after a pump no more fills the window than it has room for, or than filled it before
 pub within_window : (way : Way) (queue : List Entry) → WithinWindow way queue
 within_window way queue a = window_from way (max (in_window queue) way.window) queue (pace way queue) queue a (omega arith)
 
@@ -182,6 +184,7 @@ used_below (suc k) i j used l h = ⊎_elim
     (λ (t : is_among i used ≡ false). let h' = rw t at h in absurd (omega arith))
     (test_cases (is_among i used))
 
+-- the identifier that a pump gives is free, and none below it is
 pub is_lowest_free : (used : List ℕ) → IsLowestFree used (free_identifier used)
 is_lowest_free used = record {
   some = lowest_from-least (length used) 1 used;

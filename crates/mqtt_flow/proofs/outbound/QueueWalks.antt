@@ -95,6 +95,7 @@ identifiers-life [] = refl
 identifiers-life (past x e m ∷ ls) = identifiers-life ls
 identifiers-life (standing e m ∷ ls) = pids_by e.phase e.here (body e m) (identifiers (queue_of ls)) (map life ls) (identifiers-life ls)
 
+-- the world of the copies follows a session's pump
 pub pump_leads : (way : Way) (w : World) → Sound way.largest w → Leads way.largest w (take_turns (pump way (queue_of w.copies)) w)
 pump_leads way w s = pump_walk way w.copies [] (pace way (queue_of w.copies)) w refl tt (λ j. ap (is_among j) (identifiers-life w.copies)) s
 
@@ -128,8 +129,10 @@ drop_walk largest (suc k) since (standing e m ∷ ys) xs w q s = ⊎_elim
     (λ (t : gives_way since e ≡ false). rw t (drop_walk largest (suc k) since ys (xs ++ standing e m ∷ []) w (q ∙ shift xs (standing e m) ys) s))
     (test_cases (gives_way since e))
 
+-- the world of the copies follows the copies that expire
 pub expire_leads : (largest now : ℕ) (w : World) → Sound largest w → Leads largest w (take_turns (expired now (queue_of w.copies)) w)
 expire_leads largest now w s = expire_walk largest now w.copies [] w refl s
 
+-- the world of the copies follows the copies that give way in a full queue
 pub drop_leads : (largest k since : ℕ) (w : World) → Sound largest w → Leads largest w (take_turns (dropped k since (queue_of w.copies)) w)
 drop_leads largest k since w s = drop_walk largest k since w.copies [] w refl s

@@ -27,6 +27,7 @@ changed_by P place made e new old = ⊎_elim
     (λ (t : nat_eq e.place place ≡ false). rw t old)
     (test_cases (nat_eq e.place place))
 
+-- a turn leaves each entry its place
 pub place-marked : (t : Turn) (e : Entry) → (marked t e).place ≡ e.place
 place-marked (Send place i) e = changed_by (λ x. x.place ≡ e.place) place (record e { phase = Sent i; here = true }) e refl refl
 place-marked (Resend place i) e = changed_by (λ x. x.place ≡ e.place) place (record e { here = true }) e refl refl
@@ -50,6 +51,7 @@ orders-marked : (t : Turn) (queue : List Entry) → greatest_order (map (marked 
 orders-marked t [] = omega arith
 orders-marked t (e ∷ es) = let one = order-marked t e in let rest = orders-marked t es in omega arith
 
+-- a turn leaves the greatest place what it was
 pub places-marked : (t : Turn) (queue : List Entry) → greatest_place (map (marked t) queue) ≡ greatest_place queue
 places-marked t [] = refl
 places-marked t (e ∷ es) = rw (place-marked t e, places-marked t es) refl
@@ -58,6 +60,7 @@ above-marked : (t : Turn) (place : ℕ) (queue : List Entry) → Above place que
 above-marked t place [] h = h
 above-marked t place (e ∷ es) h = (rw (place-marked t e) h.0, above-marked t place es h.1)
 
+-- a turn leaves the places ascending
 pub ascends-marked : (t : Turn) (queue : List Entry) → Ascends queue → Ascends (map (marked t) queue)
 ascends-marked t [] h = h
 ascends-marked t (e ∷ es) h = (rw (place-marked t e) (above-marked t e.place es h.0), ascends-marked t es h.1)
@@ -70,6 +73,7 @@ orders-filter p (e ∷ es) = let rest = orders-filter p es in ⊎_elim
     (λ (t : p e ≡ false). rw t (omega arith))
     (test_cases (p e))
 
+-- fewer entries have no greater place
 pub places-filter : (p : Entry → Bool) (queue : List Entry) → greatest_place (filter p queue) ≤ greatest_place queue
 places-filter p [] = omega arith
 places-filter p (e ∷ es) = let rest = places-filter p es in ⊎_elim
@@ -91,6 +95,7 @@ above-filter p place (e ∷ es) h = ⊎_elim
     (λ (t : p e ≡ false). rw t (above-filter p place es h.1))
     (test_cases (p e))
 
+-- the places ascend without some entries too
 pub ascends-filter : (p : Entry → Bool) (queue : List Entry) → Ascends queue → Ascends (filter p queue)
 ascends-filter p [] h = h
 ascends-filter p (e ∷ es) h = ⊎_elim
@@ -142,10 +147,12 @@ above-push : (place : ℕ) (e : Entry) (queue : List Entry) → place < e.place 
 above-push place e [] l h = (l, tt)
 above-push place e (x ∷ xs) l h = (h.0, above-push place e xs l h.1)
 
+-- an entry above all places goes behind them in order
 pub ascends-push : (e : Entry) (queue : List Entry) → greatest_place queue < e.place → Ascends queue → Ascends (queue ++ e ∷ [])
 ascends-push e [] l h = (tt, tt)
 ascends-push e (x ∷ xs) l h = (above-push x.place e xs (omega arith) h.0, ascends-push e xs (omega arith) h.1)
 
+-- a queue with a copy more is one, if it was below its limit and a number is left for the place
 pub is_queue-pushed : (copy : QueuedCopy) (queue : List Entry) → length queue < QUEUE_LIMIT → next_place queue ≤ LAST_NUMBER → IsQueue queue → IsQueue (pushed copy queue)
 is_queue-pushed copy queue few place is = let orders = is.orders in let e = entering copy queue in record {
   few = let l = length-push e queue in omega arith;
@@ -167,10 +174,12 @@ above-anew : (place : ℕ) (queue : List Entry) → Above place queue → Above 
 above-anew place [] h = h
 above-anew place (e ∷ es) h = (h.0, above-anew place es h.1)
 
+-- on a new connection the places ascend as before
 pub ascends-anew : (queue : List Entry) → Ascends queue → Ascends (anew queue)
 ascends-anew [] h = h
 ascends-anew (e ∷ es) h = (above-anew e.place es h.0, ascends-anew es h.1)
 
+-- on a new connection a queue is one still
 pub is_queue-anew : (queue : List Entry) → IsQueue queue → IsQueue (anew queue)
 is_queue-anew queue is = let few = is.few in let places = is.places in let orders = is.orders in record {
   few = let e = length-map unsent queue in omega arith;

@@ -52,6 +52,7 @@ pub record Publish_came (i n : ℕ) (b : Body) (f : List Life) (l : Bool) (old u
   pub of_rest : downs i rest ≡ []
   pub is_kept : is_among i kept ≡ (b.twice && opened)
 
+-- a PUBLISH that the receiver reads tells the stage of its identifier
 pub publish_came : {i n : ℕ} {dup : Bool} {b : Body} {f : List Life} {l : Bool} {old up : List Answer} {rest : List Output} {k : List ℕ} {r : List Handed} (s : Stage) → At i f l old up (publish i n dup b ∷ rest) k r s → Publish_came i n b f l old up rest k
 publish_came {i} {n} {dup} {b} {f} {l} {old} {up} {rest} {k} {r} s at = let y = same_id i in go l s at.holds at.of_old at.of_up (at_head (rw y at (way_some l _ _ at.of_down))) at.is_kept
   where
@@ -128,6 +129,7 @@ none_sent i k n m h t x a b f holds g = ⊎_elim
     (λ (h : nat_eq k i ≡ false). h)
     (test_cases (nat_eq k i))
 
+-- the one copy that holds an identifier stands at its number
 pub the_copy : (i n : ℕ) (q : Mark) (b : Body) (f : List Life) → held i 0 f ≡ Copy n q b ∷ [] → slice_get f n ≡ Some (in_flight i q b)
 the_copy i n q b f holds = let h = holder i 0 n q b f holds in rw (h.1, zero-add) h.2
 
@@ -607,6 +609,7 @@ reads_down : (w : World) → Good w → Good (step w to_end)
 reads_down w (inl inv) = norm_down w.down w refl inv
 reads_down w (inr f) = fresh_down w.down w refl f
 
+-- each event keeps the invariant
 pub keeps : (w : World) (e : Event) → Good w → Good (step w e)
 keeps w (enter b) g = enters w.stands b w refl g
 keeps w (finish l n) g = lapses l n w g
@@ -621,6 +624,7 @@ keeps w close g = closes w g
 keeps w close_old g = closes_old w g
 keeps w restart g = restarts w g
 
+-- the invariant holds at the start
 pub begins : Good start
 begins = inl (record {
   each = λ j. (free, record { holds = refl; of_old = inl refl; of_up = inl refl; of_down = inl refl; is_kept = refl; fits = tt });
@@ -634,6 +638,7 @@ begins = inl (record {
   rising = tt;
 })
 
+-- the invariant holds after any run
 pub runs : (es : List Event) (w : World) → Good w → Good (run es w)
 runs [] w g = g
 runs (e ∷ es) w g = runs es (step w e) (keeps w e g)
@@ -643,10 +648,12 @@ pub good_weak : (w : World) → Good w → (n : ℕ) → Weak (handed n w.ledger
 good_weak w (inl inv) n = told_weak (effective w.link w.down w.kept) (handed n w.ledger) (slice_get w.copies n) (inv.told n)
 good_weak w (inr f) n = f.weak n
 
+-- a copy of QoS 1 that was taken was read, at each moment
 pub good_was : (w : World) → Good w → (n : ℕ) → Was_read (handed n w.reads) (slice_get w.copies n)
 good_was w (inl inv) n = inv.was n
 good_was w (inr f) n = f.was n
 
+-- the ledger rises by the numbers of the copies, at each moment
 pub good_rising : (w : World) → Good w → Rising w.ledger
 good_rising w (inl inv) = inv.rising
 good_rising w (inr f) = f.rising

@@ -117,9 +117,11 @@ dropped-orders (suc k) since (e ∷ es) = ⊎_elim
     (λ (t : gives_way since e ≡ false). rw t (dropped-orders (suc k) since es))
     (test_cases (gives_way since e))
 
+-- copies that make way give no order of release
 pub way_made-orders : (limits : QueueLimits) (since : ℕ) (queue : List Entry) → greatest_given (way_made limits since queue) ≡ 0
 way_made-orders limits since queue = dropped-orders (length queue + 1 - limits.queue) since queue
 
+-- copies that expire give no order of release
 pub expired-orders : (now : ℕ) (queue : List Entry) → greatest_given (expired now queue) ≡ 0
 expired-orders now [] = refl
 expired-orders now (e ∷ es) = ⊎_elim
@@ -137,6 +139,7 @@ places-after (Repeat i) queue = omega arith
 places-after (Unknown i) queue = omega arith
 places-after (Leave place ending) queue = places-filter (λ e. not (nat_eq e.place place)) queue
 
+-- after turns the greatest place is no greater than before
 pub places-after_all : (ts : List Turn) (queue : List Entry) → greatest_place (after_all ts queue) ≤ greatest_place queue
 places-after_all [] queue = omega arith
 places-after_all (t ∷ ts) queue = let one = places-after t queue in let rest = places-after_all ts (after t queue) in omega arith
@@ -180,6 +183,7 @@ orders-from : (way : Way) (queue : List Entry) (p : Pacing) → greatest_given (
 orders-from way [] p = omega arith
 orders-from way (e ∷ es) p = then-orders (pump_step way p e) e.phase p (pump_from way es) (length es) (orders-from way es) (entry-order p.left (verdict way e) e.place p)
 
+-- a pump gives no order of release above the next one and as many more as there are copies
 pub pump-orders : (way : Way) (queue : List Entry) → greatest_given (pump way queue) ≤ next_order queue + length queue
 pump-orders way queue = orders-from way queue (pace way queue)
 
@@ -200,6 +204,7 @@ asked-at : (i code order : ℕ) (o : Option Entry) → order_asked (pubrec_at i 
 asked-at i code order None = omega arith
 asked-at i code order (Some e) = asked-by e.phase e.copy.qos code e.place order
 
+-- a PUBREC asks for no order of release above the next one
 pub pubrec-order : (i code : ℕ) (queue : List Entry) → order_asked (pubrec i code queue) ≤ next_order queue
 pubrec-order i code queue = asked-at i code (next_order queue) (holder i queue)
 
@@ -211,8 +216,10 @@ way_open-place limits since queue = let low = places-after_all (way_made limits 
 pub pump_fits : (way : Way) (queue : List Entry) → next_order queue + length queue ≤ LAST_NUMBER → greatest_given (pump way queue) ≤ LAST_NUMBER
 pump_fits way queue h = let most = pump-orders way queue in omega arith
 
+-- a PUBREC asks for no order above the last number, if the next order isn't above it
 pub pubrec_fits : (i code : ℕ) (queue : List Entry) → next_order queue ≤ LAST_NUMBER → order_asked (pubrec i code queue) ≤ LAST_NUMBER
 pubrec_fits i code queue h = let most = pubrec-order i code queue in omega arith
 
+-- once others made way a copy gets no place above the last number, if it would have got none before
 pub enter_fits : (limits : QueueLimits) (since : ℕ) (queue : List Entry) → next_place queue ≤ LAST_NUMBER → next_place (way_open limits since queue) ≤ LAST_NUMBER
 enter_fits limits since queue h = let most = way_open-place limits since queue in omega arith

@@ -9,26 +9,32 @@ use Rattle.mqtt_flow.proofs.outbound.LivesWorld.{World, enters_in, pump_one, unu
 use Rattle.mqtt_flow_inbound.proofs.Identifiers.{test_cases, same_id, free_is_free}
 use Rattle.mqtt_flow.proofs.outbound.Stages.{down_about, ups, downs, Copy_of, Copy, holding, held, Stage, free, idle, publishing, receiving, acking, releasing, completing, stale, down_of, Fits, AtMost, Way, At, Final, Told, Weak, Was_read, Settled, Ready, Published, Calm, is_away, is_sent, is_shut, is_read, is_live, effective, Done, Inv, Fresh, Blank, no_line, is_asked, was_shut, Good, at_most_more, at_most_none, ready_more, ready_push, under_way, held-append, not_held, only, none_in}
 
+-- what holds of one identifier and of all others holds of each
 pub by_id : (P : ℕ → Type 0) (i j : ℕ) → P i → (nat_eq j i ≡ false → P j) → P j
 by_id P i j p q = ⊎_elim (λ (e : nat_eq j i ≡ true). subst P (sym (eqb-true j i e)) p) q (test_cases (nat_eq j i))
 
+-- what is under way on a line, whole or lost, is at most that
 pub way_some : (b : Bool) (xs ys : List Output) → Way b xs ys → AtMost xs ys
 way_some true xs ys h = inr h
 way_some false xs ys h = h
 
+-- nothing under way is what is due, if nothing is
 pub way_none : (b : Bool) (xs : List Output) → xs ≡ [] → Way b xs []
 way_none true xs h = h
 way_none false xs h = inl h
 
+-- equal packets are under way alike
 pub way_same : (b : Bool) (xs ys zs : List Output) → xs ≡ ys → Way b ys zs → Way b xs zs
 way_same true xs ys zs e h = e ∙ h
 way_same false xs ys zs e (inl h) = inl (e ∙ h)
 way_same false xs ys zs e (inr h) = inr (e ∙ h)
 
+-- packets about an identifier about which none was under way are what is under way about it
 pub way_sent_on : (i : ℕ) (b : Bool) (down ps ys : List Output) → downs i down ≡ [] → downs i ps ≡ ys → Way b (downs i (sent_on b down ps)) ys
 way_sent_on i true down ps ys h e = rw (filter-append (down_about i) down ps, h) e
 way_sent_on i false down ps ys h e = inl h
 
+-- packets that aren't about an identifier leave what is under way about it
 pub downs-sent_on : (i : ℕ) (b : Bool) (down ps : List Output) → downs i ps ≡ [] → downs i (sent_on b down ps) ≡ downs i down
 downs-sent_on i true down ps e = rw (filter-append (down_about i) down ps, e, append-nil) refl
 downs-sent_on i false down ps e = refl
@@ -56,6 +62,7 @@ get_lapsed P l (waiting b) g h = g b h
 get_lapsed P l (in_flight i m b) g h = h
 get_lapsed P l (ended e b) g h = h
 
+-- what is known of each copy is known after a copy that waited has ended, if it is of that one
 pub get_lapse : (P : Option Life → Type 0) (l : Lapse) (n : ℕ) (fs : List Life) (m : ℕ) → ((b : Body) → P (Some (waiting b)) → P (Some (ended (cause l) b))) → P (slice_get fs m) → P (slice_get (lapse_at l n fs) m)
 get_lapse P l n [] m g h = h
 get_lapse P l zero (f ∷ fs) zero g h = get_lapsed P l f g h
@@ -69,6 +76,7 @@ get_split P f g [] ys (suc m) c h = h
 get_split P f g (x ∷ xs) ys zero c h = h
 get_split P f g (x ∷ xs) ys (suc m) c h = get_split P f g xs ys m c h
 
+-- what is known of each copy is known after one was sent, if it is of that one
 pub get_pumped : (P : Option Life → Type 0) (i : ℕ) (fs : List Life) (m : ℕ) → ((b : Body) → P (Some (waiting b)) → P (Some (in_flight i (sent true) b))) → ((j : ℕ) (b : Body) → P (Some (in_flight j (sent false) b)) → P (Some (in_flight j (sent true) b))) → P (slice_get fs m) → P (slice_get (pumped i fs) m)
 get_pumped P i [] m f g h = h
 get_pumped P i (waiting b ∷ fs) zero f g h = f b h
@@ -137,11 +145,13 @@ enters_fresh b w f =
       stands = f.stands;
     }
 
+-- a copy that enters keeps the invariant
 pub enters : (s : Bool) (b : Body) (w : World) → w.stands ≡ s → Good w → Good (enters_in s b w)
 enters false b w e good = good
 enters true b w e (inl inv) = inl (enters_norm (effective w.link w.down w.kept) b w e inv)
 enters true b w e (inr f) = inr (enters_fresh b w f)
 
+-- a copy that waits and ends keeps the invariant
 pub lapses : (l : Lapse) (p : ℕ) (w : World) → Good w → Good (step w (finish l p))
 lapses l p w (inl inv) =
     let k = effective w.link w.down w.kept in
@@ -181,6 +191,7 @@ abbrev pub AllGone : List Life → Type 0
 AllGone [] = Unit {0}
 AllGone (f ∷ fs) = Gone f × AllGone fs
 
+-- what a pump of one PUBLISH does: nothing, a first sending, or a second one, of the first copy that has something to send
 pub data Pumped (i k : ℕ) (fs : List Life) : Type 0 where
   Nothing : pumped i fs ≡ fs → pump_sends i k fs ≡ [] → Pumped i k fs
   First : (b : Body) (xs ys : List Life) → fs ≡ xs ++ waiting b ∷ ys → pumped i fs ≡ xs ++ in_flight i (sent true) b ∷ ys → pump_sends i k fs ≡ publish i (k + length xs) false b ∷ [] → AllGone xs → Pumped i k fs
@@ -219,6 +230,7 @@ append_one (x ∷ xs) ys y z h = let e : xs ++ y ∷ ys ≡ [] = cc in let q = (
 held-split : (j : ℕ) (xs ys : List Life) (f : Life) → held j 0 (xs ++ f ∷ ys) ≡ held j 0 xs ++ (holding j (0 + length xs) f ++ held j (suc (0 + length xs)) ys)
 held-split j xs ys f = held-append j 0 xs (f ∷ ys)
 
+-- equal copies in flight have equal numbers
 pub same_number : (m n : ℕ) (q r : Mark) (a b : Body) → Copy (0 + m) q a ≡ Copy n r b → m ≡ n
 same_number m n q r a b h = let e : 0 + m ≡ n = cc in sym (zero-add m) ∙ e
 
@@ -253,10 +265,12 @@ settled_or_way k w inv linked m (in_flight j (sent true) b) e g = go (inv.each j
     go (releasing n o h t a) at = let q = only j n m (released h t) (sent true) a b w.copies at.holds e in absurd (cc)
     go (completing n code h t a) at = let q = only j n m (released h t) (sent true) a b w.copies at.holds e in absurd (cc)
 
+-- packets that go out come behind the first one under way
 pub sent_on_head : (b : Bool) (p : Output) (down rest ps : List Output) → down ≡ p ∷ rest → sent_on b down ps ≡ p ∷ sent_on b rest ps
 sent_on_head true p down rest ps e = rw e refl
 sent_on_head false p down rest ps e = e
 
+-- further packets to the receiver leave the lines in order
 pub calm_sent_on : (l : Link) (b st cl : Bool) (up : List Answer) (down : List Output) (old : List Answer) (kept : List ℕ) (ps : List Output) → Calm l b st cl up down old kept → Calm l b st cl up (sent_on b down ps) old kept
 calm_sent_on l b st cl up down old kept ps (is_away h u d e) = is_away h u (rw e d) e
 calm_sent_on l b st cl up down old kept ps (is_sent h u d e) = is_sent h u (rw e d) e
@@ -264,6 +278,7 @@ calm_sent_on l b st cl up down old kept ps (is_shut h u d e) = is_shut h u (rw e
 calm_sent_on l b st cl up down old kept ps (is_read p rest h u d o c s) = is_read p (sent_on b rest ps) h u (sent_on_head b (connack p) down rest ps d) o c s
 calm_sent_on l b st cl up down old kept ps (is_live h o u c) = is_live h o u c
 
+-- further packets leave the receiver the identifiers that it will have
 pub effective_sent_on : (l : Link) (b st cl : Bool) (up : List Answer) (down : List Output) (old : List Answer) (kept : List ℕ) (ps : List Output) → Calm l b st cl up down old kept → effective l (sent_on b down ps) kept ≡ effective l down kept
 effective_sent_on l b st cl up down old kept ps (is_away h u d e) = rw e refl
 effective_sent_on l b st cl up down old kept ps (is_sent h u d e) = rw e refl
@@ -348,6 +363,7 @@ at_split : (xs ys : List Life) (f : Life) → slice_get (xs ++ f ∷ ys) (length
 at_split [] ys f = refl
 at_split (x ∷ xs) ys f = at_split xs ys f
 
+-- an identifier is held by one copy at most
 pub held_one : {i : ℕ} {f : List Life} {l : Bool} {a b : List Answer} {d : List Output} {k : List ℕ} {r : List Handed} (s : Stage) → At i f l a b d k r s → (held i 0 f ≡ []) ⊎ ((x : Copy_of) × (held i 0 f ≡ x ∷ []))
 held_one free at = inl at.holds
 held_one (idle n dup o b) at = inr (Copy n (sent false) b, at.holds)
@@ -472,5 +488,6 @@ pump_once o w (inr f) =
       stands = f.stands;
     })
 
+-- a pump of one PUBLISH keeps the invariant
 pub pumps : (i : ℕ) (w : World) → Good w → Good (pump_one i w)
 pumps i w good = pump_once i w good

@@ -158,6 +158,7 @@ code_end code = ⊎_elim
 releasing : (i order : ℕ) (e : Entry) (m : TopicAndPayload) → lot_after (Release e.place i order) (standing e m) ≡ standing (record e { phase = Released i order }) m
 releasing i order e m = let same = same_id e.place in rw same refl
 
+-- what the rules make of a PUBACK is what the world of the copies does
 pub agree_puback : (i code : ℕ) (w : World) (largest : ℕ) → Sound largest w → Unique i w → Agrees i (on_puback code) (puback_reply (find i (map life w.copies))) (rules.puback i code (queue_of w.copies)) w
 agree_puback i code w largest s u = go (found i w.copies)
   where
@@ -187,6 +188,7 @@ agree_puback i code w largest s u = go (found i w.copies)
                 (settled i g (Leave e.place (ending_by (is_refusal code))) xs e m ys w.copies (past (ending_by (is_refusal code)) e m) q s.placed refl (left e.place (ending_by (is_refusal code)) e m refl) (c g) rest
                 (rw (ph, t, z) (ap (λ x. ended x (record { twice = false; topic = m.topic; payload = m.payload })) (code_end code))))
 
+-- what the rules make of a PUBREC is what the world of the copies does
 pub agree_pubrec : (i code : ℕ) (w : World) (largest : ℕ) → Sound largest w → Unique i w → Agrees i (on_pubrec code) (pubrec_reply i code (find i (map life w.copies))) (rules.pubrec i code (queue_of w.copies)) w
 agree_pubrec i code w largest s u = go (found i w.copies)
   where
@@ -235,6 +237,7 @@ agree_pubrec i code w largest s u = go (found i w.copies)
                 (settled i g (Release e.place j order) xs e m ys w.copies (standing (record e { phase = Released j order }) m) q s.placed refl (releasing j order e m) (c g) rest (rw (ph, t, k, b') refl)))
                 (test_cases (is_refusal code))
 
+-- what the rules make of a PUBCOMP is what the world of the copies does
 pub agree_pubcomp : (i : ℕ) (w : World) (largest : ℕ) → Sound largest w → Unique i w → Agrees i on_pubcomp (pubcomp_reply (find i (map life w.copies))) (rules.pubcomp i (queue_of w.copies)) w
 agree_pubcomp i w largest s u = go (found i w.copies)
   where
@@ -265,10 +268,12 @@ pub sent_on_none : (l : Bool) (down : List Output) → sent_on l down [] ≡ dow
 sent_on_none true down = append-nil down
 sent_on_none false down = refl
 
+-- packets that go out from the session go out as seen from the copies
 pub told_seen : (ps : List Output) (w : World) → record (seen w) { down = sent_on w.linked w.down ps } ≡ seen (told ps w)
 told_seen [] w = ap (λ d. record (seen w) { down = d }) (sent_on_none w.linked w.down)
 told_seen (p ∷ ps) w = refl
 
+-- an answer on the receiver's line is seen from the copies as what they make of it
 pub agrees_up : (i : ℕ) (g : Mark → Body → Course) (r : Reply) (a : rules.Answer) (w : World) (rest : List Answer) → Agrees i g r a w → lives.replied r rest (map (answered i g) (map life w.copies)) (seen w) ≡ seen (replied a rest w)
 agrees_up i g r a w rest (both_wrong x y) = rw (x, y) refl
 agrees_up i g r a w rest (nothing x y c) = rw (x, y)
@@ -278,6 +283,7 @@ agrees_up i g r a w rest (by_turn t ps x y o n c) = rw (x, y)
     ∙ told_seen ps (record w { up = rest; copies = lots_after t w.copies })
     ∙ ap (λ qs. seen (told qs (record w { up = rest; copies = lots_after t w.copies }))) (sym o))
 
+-- an answer on the line that was given up is seen from the copies as what they make of it
 pub agrees_old : (i : ℕ) (g : Mark → Body → Course) (r : Reply) (a : rules.Answer) (w : World) (rest : List Answer) → Agrees i g r a w → lives.replied_old r rest (map (answered i g) (map life w.copies)) (seen w) ≡ seen (replied_old a rest w)
 agrees_old i g r a w rest (both_wrong x y) = rw (x, y) refl
 agrees_old i g r a w rest (nothing x y c) = rw (x, y) (ap (λ k. record (seen w) { old = rest; copies = k }) c)
@@ -305,11 +311,13 @@ told-copies (p ∷ ps) w = refl
 sound_lots : (largest : ℕ) (ls : List Lot) (w : World) → w.copies ≡ ls → Ascends (queue_of ls) → AllFit largest ls → Sound largest w
 sound_lots largest ls w q h f = record { placed = subst (λ k. Ascends (queue_of k)) (sym q) h; fit = subst (AllFit largest) (sym q) f }
 
+-- an answer on the receiver's line leaves the places ascending and sent copies within the size
 pub sound_up : (i : ℕ) (g : Mark → Body → Course) (r : Reply) (a : rules.Answer) (w : World) (rest : List Answer) (largest : ℕ) → Agrees i g r a w → Sound largest w → Sound largest (replied a rest w)
 sound_up i g r a w rest largest (both_wrong x y) s = rw y (record { placed = s.placed; fit = s.fit })
 sound_up i g r a w rest largest (nothing x y c) s = rw y (record { placed = s.placed; fit = s.fit })
 sound_up i g r a w rest largest (by_turn t ps x y o n c) s = rw y (sound_lots largest (lots_after t w.copies) _ (told-copies (packets t w.copies) (record w { up = rest; copies = lots_after t w.copies })) (placed-after t w.copies s.placed) (fit-after largest t w.copies n s.fit))
 
+-- an answer on the line that was given up leaves the places ascending and sent copies within the size
 pub sound_old : (i : ℕ) (g : Mark → Body → Course) (r : Reply) (a : rules.Answer) (w : World) (rest : List Answer) (largest : ℕ) → Agrees i g r a w → Sound largest w → Sound largest (replied_old a rest w)
 sound_old i g r a w rest largest (both_wrong x y) s = rw y (record { placed = s.placed; fit = s.fit })
 sound_old i g r a w rest largest (nothing x y c) s = rw y (record { placed = s.placed; fit = s.fit })

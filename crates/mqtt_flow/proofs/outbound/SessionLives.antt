@@ -49,6 +49,7 @@ queue_of-same t h [] = refl
 queue_of-same t h (past x e m ∷ ls) = queue_of-same t h ls
 queue_of-same t h (standing e m ∷ ls) = rw (h e m) (ap (λ q. e ∷ q) (queue_of-same t h ls))
 
+-- a turn makes of the queue among all copies what it makes of the queue
 pub queue_of-after : (t : Turn) (ls : List Lot) → queue_of (lots_after t ls) ≡ after t (queue_of ls)
 queue_of-after (Send place i) ls = queue_of-mark (Send place i) (λ e m. refl) ls
 queue_of-after (Resend place i) ls = queue_of-mark (Resend place i) (λ e m. refl) ls
@@ -58,6 +59,7 @@ queue_of-after (Repeat i) ls = queue_of-same (Repeat i) (λ e m. refl) ls
 queue_of-after (Unknown i) ls = queue_of-same (Unknown i) (λ e m. refl) ls
 queue_of-after (Leave place ending) ls = queue_of-leave place ending ls
 
+-- a turn leaves a queue's places ascending
 pub ascends_by : (t : Turn) (queue : List Entry) → Ascends queue → Ascends (after t queue)
 ascends_by (Send place i) queue h = ascends-marked (Send place i) queue h
 ascends_by (Resend place i) queue h = ascends-marked (Resend place i) queue h
@@ -67,6 +69,7 @@ ascends_by (Repeat i) queue h = h
 ascends_by (Unknown i) queue h = h
 ascends_by (Leave place ending) queue h = ascends-filter (λ e. not (nat_eq e.place place)) queue h
 
+-- a turn leaves the places of the copies that stand ascending
 pub placed-after : (t : Turn) (ls : List Lot) → Ascends (queue_of ls) → Ascends (queue_of (lots_after t ls))
 placed-after t ls h = rw (queue_of-after t ls) (ascends_by t (queue_of ls) h)
 
@@ -86,11 +89,13 @@ above_at place [] e m ys h = h.0
 above_at place (past x f n ∷ xs) e m ys h = above_at place xs e m ys h
 above_at place (standing f n ∷ xs) e m ys h = above_at place xs e m ys h.1
 
+-- no copy before an entry stands at its place
 pub misses_before : (xs : List Lot) (e : Entry) (m : TopicAndPayload) (ys : List Lot) → Ascends (queue_of (xs ++ standing e m ∷ ys)) → Misses e.place xs
 misses_before [] e m ys h = tt
 misses_before (past x f n ∷ xs) e m ys h = misses_before xs e m ys h
 misses_before (standing f n ∷ xs) e m ys h = ((let l = above_at f.place xs e m ys h.0 in grind (arith, nat_tests)), misses_before xs e m ys h.1)
 
+-- no copy behind an entry stands at its place
 pub misses_behind : (xs : List Lot) (e : Entry) (m : TopicAndPayload) (ys : List Lot) → Ascends (queue_of (xs ++ standing e m ∷ ys)) → Misses e.place ys
 misses_behind [] e m ys h = misses_above e.place ys h.0
 misses_behind (past x f n ∷ xs) e m ys h = misses_behind xs e m ys h
@@ -142,6 +147,7 @@ pub life-append : (xs ys : List Lot) → map life (xs ++ ys) ≡ map life xs ++ 
 life-append [] ys = refl
 life-append (x ∷ xs) ys = ap (λ zs. life x ∷ zs) (life-append xs ys)
 
+-- seen from the copies there are as many
 pub length-life : (xs : List Lot) → length (map life xs) ≡ length xs
 length-life [] = refl
 length-life (x ∷ xs) = let r = length-life xs in omega arith
@@ -167,6 +173,7 @@ passes i (Sent j) here b fs h = rw h refl
 passes i (Released j order) here b fs h = refl
 passes i (Oversize j order) here b fs h = refl
 
+-- a pump sends the first copy behind those that it passes
 pub pumped-split : (i : ℕ) (xs : List Lot) (f g : Life) (fs : List Life) → AllPassed xs → pumped i (f ∷ fs) ≡ g ∷ fs → pumped i (map life xs ++ f ∷ fs) ≡ map life xs ++ g ∷ fs
 pumped-split i [] f g fs h d = d
 pumped-split i (past x e m ∷ xs) f g fs h d = ap (λ zs. ended x (body e m) ∷ zs) (pumped-split i xs f g fs h d)
@@ -178,11 +185,13 @@ passes_silent i n (Sent j) here b fs h = rw h refl
 passes_silent i n (Released j order) here b fs h = refl
 passes_silent i n (Oversize j order) here b fs h = refl
 
+-- the PUBLISH of that copy has the number behind those that are passed
 pub pump_sends-split : (i n : ℕ) (xs : List Lot) (fs : List Life) → AllPassed xs → pump_sends i n (map life xs ++ fs) ≡ pump_sends i (n + length xs) fs
 pump_sends-split i n [] fs h = let z : n + 0 ≡ n = omega arith in rw z refl
 pump_sends-split i n (past x e m ∷ xs) fs h = let z : suc n + length xs ≡ n + suc (length xs) = omega arith in pump_sends-split i (suc n) xs fs h ∙ ap (λ k. pump_sends i k fs) z
 pump_sends-split i n (standing e m ∷ xs) fs h = let z : suc n + length xs ≡ n + suc (length xs) = omega arith in passes_silent i n e.phase e.here (body e m) (map life xs ++ fs) h.0 ∙ pump_sends-split i (suc n) xs fs h.1 ∙ ap (λ k. pump_sends i k fs) z
 
+-- the copy behind the first ones is the one that ends
 pub lapse_at-split : (l : Lapse) (xs : List Lot) (f : Life) (fs : List Life) → lapse_at l (length xs) (map life xs ++ f ∷ fs) ≡ map life xs ++ lapsed l f ∷ fs
 lapse_at-split l [] f fs = refl
 lapse_at-split l (x ∷ xs) f fs = ap (λ zs. life x ∷ zs) (lapse_at-split l xs f fs)

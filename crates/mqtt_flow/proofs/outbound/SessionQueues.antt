@@ -46,6 +46,7 @@ abbrev pub AllFit : ℕ → List Lot → Type 0
 AllFit largest [] = Unit {0}
 AllFit largest (l ∷ ls) = Fit largest l × AllFit largest ls
 
+-- places ascend, and a copy that was sent is within the receiver's Maximum Packet Size
 pub record Sound (largest : ℕ) (w : World) : Type 0 where
   pub placed : Ascends (queue_of w.copies)
   pub fit : AllFit largest w.copies
@@ -60,9 +61,11 @@ run-append : (es fs : List lives.Event) (v : lives.World) → lives.run (es ++ f
 run-append [] fs v = refl
 run-append (e ∷ es) fs v = run-append es fs (lives.step v e)
 
+-- if nothing happens the world of the copies follows by doing nothing
 pub leads_not : (largest : ℕ) (w : World) → Sound largest w → Leads largest w w
 leads_not largest w s = record { events = []; same = refl; sound = s }
 
+-- if the world of the copies follows one step and then another, it follows both
 pub leads_on : {largest : ℕ} {w w' w'' : World} → Leads largest w w' → Leads largest w' w'' → Leads largest w w''
 leads_on {w = w} a b = record { events = a.events ++ b.events; same = run-append a.events b.events (seen w) ∙ ap (lives.run b.events) a.same ∙ b.same; sound = b.sound }
 
@@ -70,10 +73,12 @@ fit-at : (largest : ℕ) (xs : List Lot) (l : Lot) (ys : List Lot) → AllFit la
 fit-at largest [] l ys h = h.0
 fit-at largest (x ∷ xs) l ys h = fit-at largest xs l ys h.1
 
+-- one copy changed to one that fits leaves all fitting
 pub fit-change : (largest : ℕ) (xs : List Lot) (l k : Lot) (ys : List Lot) → Fit largest k → AllFit largest (xs ++ l ∷ ys) → AllFit largest (xs ++ k ∷ ys)
 fit-change largest [] l k ys f h = (f, h.1)
 fit-change largest (x ∷ xs) l k ys f h = (h.0, fit-change largest xs l k ys f h.1)
 
+-- each copy that stands fits
 pub fit_here : (largest : ℕ) (xs : List Lot) (e : Entry) (m : TopicAndPayload) (ys : List Lot) → AllFit largest (xs ++ standing e m ∷ ys) → IsGranted e.copy.qos × FitPhase largest e.copy e.phase
 fit_here largest xs e m ys h = fit-at largest xs (standing e m) ys h
 
@@ -81,6 +86,7 @@ fit_here largest xs e m ys h = fit-at largest xs (standing e m) ys h
 pub left : (place : ℕ) (ending : Ending) (e : Entry) (m : TopicAndPayload) → e.place ≡ place → lot_after (Leave place ending) (standing e m) ≡ past ending e m
 left place ending e m h = let same = same_id place in rw (h, same) refl
 
+-- the turn by which a copy leaves ends that copy and leaves the others
 pub lapse_copies : (l : Lapse) (xs : List Lot) (e : Entry) (m : TopicAndPayload) (ys ls : List Lot) → ls ≡ xs ++ standing e m ∷ ys → Ascends (queue_of ls) → lots_after (Leave e.place (cause l)) ls ≡ xs ++ past (cause l) e m ∷ ys
 lapse_copies l xs e m ys ls q h =
     ap (lots_after (Leave e.place (cause l))) q
@@ -94,6 +100,7 @@ lapse_lives l xs e m ys ph =
     ∙ ap (λ f. map life xs ++ lapsed l f ∷ map life ys) (ap (λ p. life_by p e.here (body e m)) ph)
     ∙ sym (life-append xs (past (cause l) e m ∷ ys))
 
+-- the world of the copies follows a copy that waits and leaves
 pub lapse_leads : (largest : ℕ) (l : Lapse) (xs : List Lot) (e : Entry) (m : TopicAndPayload) (ys : List Lot) (w : World) → w.copies ≡ xs ++ standing e m ∷ ys → e.phase ≡ Waiting → Sound largest w → Leads largest w (take_turn (Leave e.place (cause l)) w)
 lapse_leads largest l xs e m ys w q ph s =
     let moved = lapse_copies l xs e m ys w.copies q s.placed in
@@ -147,6 +154,7 @@ pub data Steps (way : Way) (p : Pacing) (e : Entry) : Type 0 where
   begins : pump_step way p e ≡ Take (Send e.place (free_identifier p.used)) → e.phase ≡ Waiting → is_large way e.copy ≡ false → Steps way p e
   repeats : (i : ℕ) → pump_step way p e ≡ Take (Resend e.place i) → e.phase ≡ Sent i → e.here ≡ false → Steps way p e
 
+-- what a pump does at an entry is one of these cases
 pub steps_at : (way : Way) (p : Pacing) (e : Entry) (left room : ℕ) (phase : Phase) → p.left ≡ left → p.room ≡ room → e.phase ≡ phase → FitPhase way.largest e.copy phase → Steps way p e
 steps_at way p e zero room phase l r ph fit = stops (rw l refl)
 steps_at way p e (suc k) zero Waiting l r ph fit = ⊎_elim
@@ -174,16 +182,19 @@ steps_at way p e (suc k) room (Sent i) l r ph fit = ⊎_elim
 steps_at way p e (suc k) room (Released i order) l r ph fit = passes (rw (l, ph) refl) (rw ph tt)
 steps_at way p e (suc k) room (Oversize i order) l r ph fit = passes (rw (l, ph) refl) (rw ph tt)
 
+-- copies that a pump passes are passed with one more behind them that is
 pub passed-push : (xs : List Lot) (e : Entry) (m : TopicAndPayload) → AllPassed xs → Passed e.phase e.here → AllPassed (xs ++ standing e m ∷ [])
 passed-push [] e m h p = (p, tt)
 passed-push (past x f n ∷ xs) e m h p = passed-push xs e m h p
 passed-push (standing f n ∷ xs) e m h p = (h.0, passed-push xs e m h.1 p)
 
+-- copies that a pump passes are passed with one more behind them that has ended
 pub passed-past : (xs : List Lot) (x : Ending) (e : Entry) (m : TopicAndPayload) → AllPassed xs → AllPassed (xs ++ past x e m ∷ [])
 passed-past [] x e m h = tt
 passed-past (past y f n ∷ xs) x e m h = passed-past xs x e m h
 passed-past (standing f n ∷ xs) x e m h = (h.0, passed-past xs x e m h.1)
 
+-- the first item behind others may be put to these
 pub shift : {X : Type 0} (xs : List X) (x : X) (ys : List X) → xs ++ x ∷ ys ≡ (xs ++ x ∷ []) ++ ys
 shift [] x ys = refl
 shift (z ∷ xs) x ys = ap (λ zs. z ∷ zs) (shift xs x ys)
@@ -195,6 +206,7 @@ pids-append (waiting b ∷ fs) gs = pids-append fs gs
 pids-append (in_flight i q b ∷ fs) gs = ap (λ is. i ∷ is) (pids-append fs gs)
 pids-append (ended x b ∷ fs) gs = pids-append fs gs
 
+-- an identifier is among others and one more if it is among the others or is that one
 pub has-insert : (j i : ℕ) (is js : List ℕ) → is_among j (is ++ i ∷ js) ≡ (is_among j (is ++ js) || nat_eq j i)
 has-insert j i [] js = grind (arith, nat_tests)
 has-insert j i (x ∷ is) js = let h = has-insert j i is js in grind (arith, nat_tests, h)
@@ -202,6 +214,7 @@ has-insert j i (x ∷ is) js = let h = has-insert j i is js in grind (arith, nat
 abbrev pub Uses : Pacing → World → Type 0
 Uses p w = (j : ℕ) → is_among j p.used ≡ is_among j (pids (map life w.copies))
 
+-- a copy that changes and keeps its identifier leaves the identifiers in use
 pub same_pids : (xs : List Lot) (l k : Lot) (ys : List Lot) → ((fs : List Life) → pids (life l ∷ fs) ≡ pids (life k ∷ fs)) → pids (map life (xs ++ l ∷ ys)) ≡ pids (map life (xs ++ k ∷ ys))
 same_pids xs l k ys h =
     ap pids (life-append xs (l ∷ ys)) ∙ pids-append (map life xs) (life l ∷ map life ys)

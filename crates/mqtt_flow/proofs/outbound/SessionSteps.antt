@@ -344,14 +344,17 @@ step_leads largest w close_old s g = one_step largest lives.close_old w (step la
 step_leads largest w restart s g = one_step largest lives.restart w (step largest w restart)
     (ap (λ k. record (seen (step largest w restart)) { copies = k }) (anew-life w.copies)) (renewed_sound largest w (step largest w restart) refl s)
 
+-- the invariant holds of what the world of the copies followed
 pub good_on : {largest : ℕ} {w w' : World} → Leads largest w w' → Good (seen w) → Good (seen w')
 good_on {w = w} l g = subst Good l.same (runs l.events (seen w) g)
 
+-- the world of the copies follows each run of the session's world
 pub run_leads : (largest : ℕ) (es : List Event) (w : World) → Sound largest w → Good (seen w) → Leads largest w (run largest es w)
 run_leads largest [] w s g = leads_not largest w s
 run_leads largest (e ∷ es) w s g =
     let first = step_leads largest w e s g in
     leads_on first (run_leads largest es (step largest w e) first.sound (good_on first g))
 
+-- at the start there is no copy, so all fit
 pub sound_start : (largest : ℕ) → Sound largest start
 sound_start largest = record { placed = tt; fit = tt }

@@ -119,6 +119,7 @@ abbrev pub Way : Bool → List Output → List Output → Type 0
 Way true xs ys = xs ≡ ys
 Way false xs ys = AtMost xs ys
 
+-- where an identifier stands: the copy that has it, what is under way about it, and whether the receiver keeps it
 pub record At (i : ℕ) (copies : List Life) (linked : Bool) (old up : List Answer) (down : List Output) (kept : List ℕ) (reads : List Handed) (s : Stage) : Type 0 where
   pub holds : held i 0 copies ≡ held_of s
   pub of_old : AtMost (ups i old) (up_of i s)
@@ -198,6 +199,7 @@ Late old = (old ≡ []) ⊎ (old ≡ connect false ∷ [])
 abbrev pub Olds : List Answer → Type 0
 Olds old = (old ≡ connect false ∷ []) ⊎ (list_any is_connect old ≡ false)
 
+-- how the lines stand, by how far the receiver's handshake is
 pub data Calm (l : Link) (b stands clean : Bool) (up : List Answer) (down : List Output) (old : List Answer) (kept : List ℕ) : Type 0 where
   is_away : l ≡ away → up ≡ [] → down ≡ [] → b ≡ false → Calm l b stands clean up down old kept
   is_sent : l ≡ asked → up ≡ connect clean ∷ [] → down ≡ [] → b ≡ false → Calm l b stands clean up down old kept
@@ -222,6 +224,7 @@ effective live down kept = kept
 abbrev pub Done : World → ℕ → Type 0
 Done w m = Settled (handed m w.ledger) (slice_get w.copies m)
 
+-- the invariant, with the identifiers that the receiver will have once it has read CONNACK
 pub record Inv (k : List ℕ) (w : World) : Type 0 where
   pub each : (i : ℕ) → (s : Stage) × At i w.copies w.linked w.old w.up w.down k w.reads s
   pub told : (n : ℕ) → Told k (handed n w.ledger) (slice_get w.copies n)
@@ -242,6 +245,7 @@ pub data Blank (l : Link) (b : Bool) (up : List Answer) (down : List Output) : T
   is_asked : l ≡ asked → up ≡ connect true ∷ [] → down ≡ [] → b ≡ false → Blank l b up down
   was_shut : l ≡ asked → up ≡ [] → down ≡ [] → b ≡ false → Blank l b up down
 
+-- what is known while a Clean Start whose CONNACK was lost is carried through
 pub record Fresh (w : World) : Type 0 where
   pub of_old : Late w.old
   pub lines : Blank w.link w.linked w.up w.down
@@ -260,19 +264,23 @@ pub at_most_none : {P : Type 0} {xs : List P} → AtMost xs [] → xs ≡ []
 at_most_none (inl e) = e
 at_most_none (inr e) = e
 
+-- what is at most a list that is at most another is at most that
 pub at_most_more : {P : Type 0} {xs ys zs : List P} → AtMost xs ys → AtMost ys zs → AtMost xs zs
 at_most_more (inl e) h = inl e
 at_most_more (inr e) (inl h) = inl (e ∙ h)
 at_most_more (inr e) (inr h) = inr (e ∙ h)
 
+-- a packet that is under way shows that nothing of the list was lost
 pub at_head : {P : Type 0} {xs ys : List P} {p : P} → AtMost (p ∷ xs) ys → p ∷ xs ≡ ys
 at_head (inl e) = absurd (cc)
 at_head (inr e) = e
 
+-- a line given up with a late CONNECT alone has no other
 pub late_olds : (old : List Answer) → Late old → Olds old
 late_olds old (inl e) = inr (rw e refl)
 late_olds old (inr e) = inl e
 
+-- of a line given up no more than a late CONNECT is spared
 pub late_spared : (old : List Answer) → Olds old → Late (spared old)
 late_spared [] h = inl refl
 late_spared (connect c ∷ rest) (inl h) = inr h
@@ -281,6 +289,7 @@ late_spared (puback i code ∷ rest) h = inl refl
 late_spared (pubrec i code ∷ rest) h = inl refl
 late_spared (pubcomp i code ∷ rest) h = inl refl
 
+-- a late CONNECT is about no identifier
 pub late_ups : (i : ℕ) (old : List Answer) → Late old → ups i old ≡ []
 late_ups i old (inl e) = rw e refl
 late_ups i old (inr e) = rw e refl
@@ -295,6 +304,7 @@ ready_more S R (publish i n dup b ∷ ps) f h =
 ready_more S R (pubrel i code ∷ ps) f h = ready_more S R ps f h
 ready_more S R (disconnect ∷ ps) f h = ready_more S R ps f h
 
+-- a PUBLISH behind others is in order, if all earlier copies are settled or are under way
 pub ready_push : (S : ℕ → Type 0) (ps : List Output) (i n : ℕ) (dup : Bool) (b : Body) → Ready S ps → ((m : ℕ) → m < n → S m ⊎ Published m ps) → Ready S (ps ++ publish i n dup b ∷ [])
 ready_push S [] i n dup b r h = (λ m l. ⊎_elim (λ s. s) (λ p. absurd p) (h m l), tt)
 ready_push S (connack p ∷ ps) i n dup b r h = ready_push S ps i n dup b r h
@@ -321,6 +331,7 @@ ready_none S (publish i n dup b ∷ ps) h = absurd h
 ready_none S (pubrel i code ∷ ps) h = ready_none S ps h
 ready_none S (disconnect ∷ ps) h = ready_none S ps h
 
+-- packets that are no PUBLISH, behind others, keep these in order
 pub ready_plain : (S : ℕ → Type 0) (ps qs : List Output) → Plain qs → Ready S ps → Ready S (ps ++ qs)
 ready_plain S [] qs h r = ready_none S qs h
 ready_plain S (connack p ∷ ps) qs h r = ready_plain S ps qs h r
@@ -367,6 +378,7 @@ plain_arranged order ps [] h g = h
 plain_arranged [] ps (q ∷ qs) h g = let y = plain_head q qs g in plain_arranged [] (put_at 0 q ps) qs (plain_put 0 q ps y.0 h) y.1
 plain_arranged (k ∷ order) ps (q ∷ qs) h g = let y = plain_head q qs g in plain_arranged order (put_at k q ps) qs (plain_put k q ps y.0 h) y.1
 
+-- PUBRELs in whatever order carry no PUBLISH out of order
 pub ready_pubrels : (S : ℕ → Type 0) (order : List ℕ) (fs : List Life) → Ready S (arranged order [] (pubrels fs))
 ready_pubrels S order fs = ready_none S (arranged order [] (pubrels fs)) (plain_arranged order [] (pubrels fs) tt (plain_pubrels fs))
 
@@ -405,12 +417,14 @@ moved k i ps q qs r one (inr h) = ⊎_elim
     (λ (t : down_about i q ≡ false). inr (downs-put_other i k q ps t ∙ h.0, rw t at h.1))
     (test_cases (down_about i q))
 
+-- a PUBREL about an identifier is under way once, in whatever order they go out
 pub downs-arranged : (i : ℕ) (order : List ℕ) (ps qs r : List Output) → OneAtMost r → ((downs i ps ≡ []) × (downs i qs ≡ r)) ⊎ ((downs i ps ≡ r) × (downs i qs ≡ [])) → downs i (arranged order ps qs) ≡ r
 downs-arranged i order ps [] r one (inl h) = h.0 ∙ h.1
 downs-arranged i order ps [] r one (inr h) = h.0
 downs-arranged i [] ps (q ∷ qs) r one h = downs-arranged i [] (put_at 0 q ps) qs r one (moved 0 i ps q qs r one h)
 downs-arranged i (k ∷ order) ps (q ∷ qs) r one h = downs-arranged i order (put_at k q ps) qs r one (moved k i ps q qs r one h)
 
+-- a PUBLISH about an identifier is among the packets under way
 pub under_way : (i n : ℕ) (dup : Bool) (b : Body) (ps : List Output) → downs i ps ≡ publish i n dup b ∷ [] → Published n ps
 under_way i n dup b [] h = absurd (cc)
 under_way i n dup b (connack p ∷ ps) h = under_way i n dup b ps h
@@ -430,6 +444,7 @@ pub held-append : (i k : ℕ) (fs gs : List Life) → held i k (fs ++ gs) ≡ he
 held-append i k [] gs = rw add-zero refl
 held-append i k (f ∷ fs) gs = let e : suc k + length fs ≡ k + suc (length fs) = omega arith in rw (held-append i (suc k) fs gs, e, append_assoc) refl
 
+-- an identifier that isn't in use is held by no copy
 pub not_held : (i k : ℕ) (fs : List Life) → is_among i (pids fs) ≡ false → held i k fs ≡ []
 not_held i k [] h = refl
 not_held i k (waiting b ∷ fs) h = not_held i (suc k) fs h
@@ -441,6 +456,7 @@ abbrev pub first_of : List Copy_of → Option (Mark × Body)
 first_of [] = None
 first_of (Copy n m b ∷ hs) = Some (m, b)
 
+-- the broker finds the first copy that holds the identifier
 pub find-held : (i k : ℕ) (fs : List Life) → find i fs ≡ first_of (held i k fs)
 find-held i k [] = refl
 find-held i k (waiting b ∷ fs) = find-held i (suc k) fs
@@ -472,9 +488,11 @@ one_in : (x y : Copy_of) → In x (y ∷ []) → x ≡ y
 one_in x y (inl e) = e
 one_in x y (inr h) = absurd h
 
+-- if no copy holds an identifier, none in flight has it
 pub none_in : (i m : ℕ) (q : Mark) (b : Body) (fs : List Life) → held i 0 fs ≡ [] → slice_get fs m ≡ Some (in_flight i q b) → ⊥
 none_in i m q b fs h e = let x = in_held i 0 m q b fs e in rw h at x
 
+-- the one copy that holds an identifier is the one in flight with it
 pub only : (i n m : ℕ) (r q : Mark) (a b : Body) (fs : List Life) → held i 0 fs ≡ Copy n r a ∷ [] → slice_get fs m ≡ Some (in_flight i q b) → Copy (0 + m) q b ≡ Copy n r a
 only i n m r q a b fs h e = one_in (Copy (0 + m) q b) (Copy n r a) (rw h at (in_held i 0 m q b fs e))
 
@@ -484,6 +502,7 @@ Holder i k n r b fs = (m : ℕ) × (n ≡ k + m) × (slice_get fs m ≡ Some (in
 further : (i k n : ℕ) (r : Mark) (b : Body) (fs : List Life) (f : Life) → Holder i (suc k) n r b fs → Holder i k n r b (f ∷ fs)
 further i k n r b fs f h = let e = h.1 in (suc h.0, omega arith, h.2)
 
+-- the copy that holds an identifier stands at its number
 pub holder : (i k n : ℕ) (r : Mark) (b : Body) (fs : List Life) → held i k fs ≡ Copy n r b ∷ [] → Holder i k n r b fs
 holder i k n r b [] h = absurd (cc)
 holder i k n r b (waiting c ∷ fs) h = further i k n r b fs (waiting c) (holder i (suc k) n r b fs h)

@@ -19,6 +19,7 @@ held-anew i k (waiting b ∷ fs) = held-anew i (suc k) fs
 held-anew i k (in_flight j m b ∷ fs) = let r = held-anew i (suc k) fs in ⊎_elim (λ (e : nat_eq i j ≡ true). rw (e, r) refl) (λ (e : nat_eq i j ≡ false). rw (e, r) refl) (test_cases (nat_eq i j))
 held-anew i k (ended e b ∷ fs) = held-anew i (suc k) fs
 
+-- once the session has ended no copy holds an identifier
 pub held-cut : (i k : ℕ) (fs : List Life) → held i k (map cut fs) ≡ []
 held-cut i k [] = refl
 held-cut i k (waiting b ∷ fs) = held-cut i (suc k) fs
@@ -105,6 +106,7 @@ way_again i l xs (acking n b) h = inl (at_most_none (way_some l _ _ h))
 way_again i l xs (releasing n o x t b) h = way_some l _ _ h
 way_again i l xs (completing n code x t b) h = inl (at_most_none (way_some l _ _ h))
 
+-- what is under way of a stage is, once the line is lost, at most what may be stale
 pub way_lost : (i : ℕ) (l : Bool) (xs : List Output) (s : Stage) → Way l xs (down_of i l s) → AtMost xs (down_of i false s)
 way_lost i l xs free h = way_some l _ _ h
 way_lost i true xs (idle n dup o b) h = inl h
@@ -124,6 +126,7 @@ one_freed i (acking n b) = tt
 one_freed i (releasing n o h t b) = refl
 one_freed i (completing n code h t b) = refl
 
+-- a session that is resumed has each identifier at the stage to go on from
 pub begins_again : (order : List ℕ) {i : ℕ} {f : List Life} {l : Bool} {a a' b b' : List Answer} {d : List Output} {k : List ℕ} {r : List Handed} (s : Stage) → At i f l a b d k r s → ups i a' ≡ [] → ups i b' ≡ [] → At i (map anew f) true a' b' (connack true ∷ arranged order [] (pubrels f)) k r (again s)
 begins_again order {i} {f} {r = r} s at e' e = record {
   holds = held-anew i 0 f ∙ (ap aged at.holds ∙ sym (held_again s));
@@ -134,6 +137,7 @@ begins_again order {i} {f} {r = r} s at e' e = record {
   fits = fits_again r s;
 }
 
+-- a line that is lost leaves each identifier at the stage to go on from, with nothing under way
 pub ends_again : {i : ℕ} {f : List Life} {l : Bool} {a a' b b' : List Answer} {d d' : List Output} {k : List ℕ} {r : List Handed} (s : Stage) → At i f l a b d k r s → ups i a' ≡ [] → ups i b' ≡ [] → AtMost (downs i d') (downs i d) → At i (map anew f) false a' b' d' k r (again s)
 ends_again {i} {f} {l} {r = r} s at e' e g = record {
   holds = held-anew i 0 f ∙ (ap aged at.holds ∙ sym (held_again s));
@@ -148,6 +152,7 @@ one_or_none : (b : Bool) → cond b 1 0 ≤ 1
 one_or_none true = omega arith
 one_or_none false = omega arith
 
+-- on a new connection the ledger has each copy as often as its phase says
 pub told_anew : (k : List ℕ) (c : ℕ) (f : Option Life) → Told k c f → Told k c (option_map anew f)
 told_anew k c None t = t
 told_anew k c (Some (waiting b)) t = t
@@ -155,6 +160,7 @@ told_anew k c (Some (in_flight i (sent h) b)) t = t
 told_anew k c (Some (in_flight i (released h x) b)) t = t
 told_anew k c (Some (ended e b)) t = t
 
+-- on a new connection what is known of the ledger during a Clean Start is known still
 pub weak_anew : (c : ℕ) (f : Option Life) → Weak c f → Weak c (option_map anew f)
 weak_anew c None t = t
 weak_anew c (Some (waiting b)) t = t
@@ -162,12 +168,14 @@ weak_anew c (Some (in_flight i (sent h) b)) t = t
 weak_anew c (Some (in_flight i (released h x) b)) t = t
 weak_anew c (Some (ended e b)) t = t
 
+-- on a new connection copies of QoS 1 that were taken were read
 pub was_anew : (r : ℕ) (f : Option Life) → Was_read r f → Was_read r (option_map anew f)
 was_anew r None t = t
 was_anew r (Some (waiting b)) t = t
 was_anew r (Some (in_flight i m b)) t = t
 was_anew r (Some (ended e b)) t = t
 
+-- on a new connection settled copies are settled still
 pub settled_anew : (c : ℕ) (f : Option Life) → Settled c f → Settled c (option_map anew f)
 settled_anew c None t = t
 settled_anew c (Some (waiting b)) t = t
@@ -191,12 +199,14 @@ weak_cut c (Some (in_flight i (sent h) b)) t = t
 weak_cut c (Some (in_flight i (released h x) b)) t = omega arith
 weak_cut c (Some (ended e b)) t = t
 
+-- when the session ends copies of QoS 1 that were taken were read
 pub was_cut : (r : ℕ) (f : Option Life) → Was_read r f → Was_read r (option_map cut f)
 was_cut r None t = t
 was_cut r (Some (waiting b)) t = t
 was_cut r (Some (in_flight i m b)) t = t
 was_cut r (Some (ended e b)) t = t
 
+-- when the session ends settled copies are settled still
 pub settled_cut : (c : ℕ) (f : Option Life) → Settled c f → Settled c (option_map cut f)
 settled_cut c None t = t
 settled_cut c (Some (waiting b)) t = tt
@@ -220,6 +230,7 @@ holding-away : (i j k : ℕ) (t : Turn) (b : Body) → nat_eq i j ≡ false → 
 holding-away i j k (stay m) b e = rw e refl
 holding-away i j k (over x) b e = refl
 
+-- an answer moves the copy that holds its identifier
 pub held-answered_same : (i k : ℕ) (g : Mark → Body → Turn) (fs : List Life) → held i k (map (answered i g) fs) ≡ moved g (held i k fs)
 held-answered_same i k g [] = refl
 held-answered_same i k g (waiting b ∷ fs) = held-answered_same i (suc k) g fs
@@ -229,6 +240,7 @@ held-answered_same i k g (in_flight j m b ∷ fs) = let r = held-answered_same i
     (test_cases (nat_eq i j))
 held-answered_same i k g (ended e b ∷ fs) = held-answered_same i (suc k) g fs
 
+-- an answer leaves alone who holds other identifiers
 pub held-answered_other : (i j k : ℕ) (g : Mark → Body → Turn) (fs : List Life) → nat_eq i j ≡ false → held i k (map (answered j g) fs) ≡ held i k fs
 held-answered_other i j k g [] h = refl
 held-answered_other i j k g (waiting b ∷ fs) h = held-answered_other i j (suc k) g fs h
@@ -250,40 +262,49 @@ get_answered P i g (Some (in_flight j m b)) h p = ⊎_elim
     (test_cases (nat_eq i j))
 get_answered P i g (Some (ended e b)) h p = p
 
+-- after a PUBREC the ledger has its copy as often as its phase says
 pub told_pubrec : (k : List ℕ) (c i : ℕ) (m : Mark) (b : Body) → b.twice ≡ true → is_among i k ≡ true → Told k c (Some (in_flight i m b)) → Told k c (Some (turned i (on_pubrec 0 m b) b))
 told_pubrec k c i (sent h) b tw o t = rw tw (let t' : c ≡ 1 = rw (tw, o) at t in (t', refl))
 told_pubrec k c i (released h x) b tw o t = t
 
+-- after a PUBACK the ledger has its copy as often as its phase says
 pub told_puback : (k : List ℕ) (c i : ℕ) (m : Mark) (b : Body) → b.twice ≡ false → Told k c (Some (in_flight i m b)) → Told k c (Some (turned i (on_puback 0 m b) b))
 told_puback k c i (sent h) b tw t = rw tw (let t' : c ≡ 0 = rw tw at t in (λ x. absurd (cc), omega arith))
 told_puback k c i (released h x) b tw t = t
 
+-- after a PUBCOMP the ledger has its copy as often as its phase says
 pub told_pubcomp : (k : List ℕ) (c i : ℕ) (m : Mark) (b : Body) → Told k c (Some (in_flight i m b)) → Told k c (Some (turned i (on_pubcomp m b) b))
 told_pubcomp k c i (sent h) b t = t
 told_pubcomp k c i (released h true) b t = let t' = t.0 in (λ x. t', omega arith)
 told_pubcomp k c i (released h false) b t = let t' = t.0 in omega arith
 
+-- after a PUBREC of a copy of QoS 2 those of QoS 1 that were taken were read, as before
 pub was_pubrec : (r i : ℕ) (m : Mark) (b : Body) → b.twice ≡ true → Was_read r (Some (turned i (on_pubrec 0 m b) b))
 was_pubrec r i (sent h) b tw = rw tw tt
 was_pubrec r i (released h x) b tw = tt
 
+-- a copy that a PUBACK takes was read
 pub was_puback : (r i : ℕ) (m : Mark) (b : Body) → b.twice ≡ false → 1 ≤ r → Was_read r (Some (turned i (on_puback 0 m b) b))
 was_puback r i (sent h) b tw l = rw tw (λ x. l)
 was_puback r i (released h x) b tw l = tt
 
+-- after a PUBCOMP copies of QoS 1 that were taken were read, as before
 pub was_pubcomp : (k : List ℕ) (c r i : ℕ) (m : Mark) (b : Body) → Told k c (Some (in_flight i m b)) → Was_read r (Some (turned i (on_pubcomp m b) b))
 was_pubcomp k c r i (sent h) b t = tt
 was_pubcomp k c r i (released h true) b t = λ x. let y = sym t.1 ∙ x in absurd (cc)
 was_pubcomp k c r i (released h false) b t = tt
 
+-- after a PUBREC its copy is settled if it was
 pub settled_pubrec : (c i : ℕ) (m : Mark) (b : Body) → b.twice ≡ true → Settled c (Some (in_flight i m b)) → Settled c (Some (turned i (on_pubrec 0 m b) b))
 settled_pubrec c i (sent h) b tw t = rw tw tt
 settled_pubrec c i (released h x) b tw t = t
 
+-- after a PUBACK its copy is settled if it was
 pub settled_puback : (c i : ℕ) (m : Mark) (b : Body) → b.twice ≡ false → Settled c (Some (in_flight i m b)) → Settled c (Some (turned i (on_puback 0 m b) b))
 settled_puback c i (sent h) b tw t = rw tw tt
 settled_puback c i (released h x) b tw t = t
 
+-- after a PUBCOMP its copy is settled if it was
 pub settled_pubcomp : (c i : ℕ) (m : Mark) (b : Body) → Settled c (Some (in_flight i m b)) → Settled c (Some (turned i (on_pubcomp m b) b))
 settled_pubcomp c i (sent h) b t = t
 settled_pubcomp c i (released h x) b t = tt
@@ -299,6 +320,7 @@ pub record Pubrec_came (i code : ℕ) (f : List Life) (rest : List Answer) (down
   pub is_kept : is_among i kept ≡ true
   pub twice : body.twice ≡ true
 
+-- a PUBREC that comes tells the stage of its identifier
 pub pubrec_came : {i code : ℕ} {f : List Life} {l : Bool} {a rest : List Answer} {d : List Output} {k : List ℕ} {r : List Handed} (s : Stage) → At i f l a (pubrec i code ∷ rest) d k r s → Pubrec_came i code f rest d k
 pubrec_came {i} {code} {f} {l} {a} {rest} {d} {k} {r} s at = let y = same_id i in go s at.holds (at_head (rw y at at.of_up)) (way_some l _ _ at.of_down) at.is_kept at.fits
   where
@@ -311,6 +333,7 @@ pubrec_came {i} {code} {f} {l} {a} {rest} {d} {k} {r} s at = let y = same_id i i
     go (releasing n p x t b) h e w o q = absurd (cc)
     go (completing n c x t b) h e w o q = absurd (cc)
 
+-- what is known when a PUBACK comes: its copy was sent here, is of QoS 1, and was read
 pub record Puback_came (i code : ℕ) (f : List Life) (rest : List Answer) (down : List Output) (kept : List ℕ) (reads : List Handed) : Type 0 where
   pub number : ℕ
   pub body : Body
@@ -322,6 +345,7 @@ pub record Puback_came (i code : ℕ) (f : List Life) (rest : List Answer) (down
   pub twice : body.twice ≡ false
   pub was : 1 ≤ handed number reads
 
+-- a PUBACK that comes tells the stage of its identifier
 pub puback_came : {i code : ℕ} {f : List Life} {l : Bool} {a rest : List Answer} {d : List Output} {k : List ℕ} {r : List Handed} (s : Stage) → At i f l a (puback i code ∷ rest) d k r s → Puback_came i code f rest d k r
 puback_came {i} {code} {f} {l} {a} {rest} {d} {k} {r} s at = let y = same_id i in go s at.holds (at_head (rw y at at.of_up)) (way_some l _ _ at.of_down) at.is_kept at.fits
   where
@@ -334,6 +358,7 @@ puback_came {i} {code} {f} {l} {a} {rest} {d} {k} {r} s at = let y = same_id i i
     go (releasing n p x t b) h e w o q = absurd (cc)
     go (completing n c x t b) h e w o q = absurd (cc)
 
+-- what is known when a PUBCOMP comes: its copy was released, and nothing else is under way about it
 pub record Pubcomp_came (i : ℕ) (f : List Life) (rest : List Answer) (down : List Output) (kept : List ℕ) : Type 0 where
   pub number : ℕ
   pub here : Bool
@@ -344,6 +369,7 @@ pub record Pubcomp_came (i : ℕ) (f : List Life) (rest : List Answer) (down : L
   pub of_down : downs i down ≡ []
   pub is_kept : is_among i kept ≡ false
 
+-- a PUBCOMP that comes tells the stage of its identifier
 pub pubcomp_came : {i code : ℕ} {f : List Life} {l : Bool} {a rest : List Answer} {d : List Output} {k : List ℕ} {r : List Handed} (s : Stage) → At i f l a (pubcomp i code ∷ rest) d k r s → Pubcomp_came i f rest d k
 pubcomp_came {i} {code} {f} {l} {a} {rest} {d} {k} {r} s at = let y = same_id i in go s at.holds (at_head (rw y at at.of_up)) (way_some l _ _ at.of_down) at.is_kept
   where
@@ -360,6 +386,7 @@ pubcomp_came {i} {code} {f} {l} {a} {rest} {d} {k} {r} s at = let y = same_id i 
 pub swap : {i : ℕ} {f : List Life} {l : Bool} {a b : List Answer} {d : List Output} {k : List ℕ} {r : List Handed} {s : Stage} → At i f l a b d k r s → At i f l b a d k r s
 swap at = record { holds = at.holds; of_old = at.of_up; of_up = at.of_old; of_down = at.of_down; is_kept = at.is_kept; fits = at.fits }
 
+-- after an answer about one identifier each has its stage
 pub answer_each : (i : ℕ) (p : Answer) (g : Mark → Body → Turn) (f : List Life) (l : Bool) (a rest : List Answer) (d d' : List Output) (k : List ℕ) (r : List Handed) → ((j : ℕ) → (s : Stage) × At j f l a (p ∷ rest) d k r s) → ((j : ℕ) → nat_eq j i ≡ false → up_about j p ≡ false) → ((j : ℕ) → nat_eq j i ≡ false → downs j d' ≡ downs j d) → (s : Stage) × At i (map (answered i g) f) l a rest d' k r s → (j : ℕ) → (s : Stage) × At j (map (answered i g) f) l a rest d' k r s
 answer_each i p g f l a rest d d' k r each about there new j =
     by_id (λ j. (s : Stage) × At j (map (answered i g) f) l a rest d' k r s) i j new

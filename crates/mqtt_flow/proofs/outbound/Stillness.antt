@@ -69,14 +69,17 @@ map_drop f zero xs = refl
 map_drop f (suc k) [] = refl
 map_drop f (suc k) (x ∷ xs) = map_drop f k xs
 
+-- the rows behind those that stand still are the entries behind them
 pub rows_behind : {R : Type 0} (f : R → Entry) (still : ℕ) (rows : List R) → map f (take (length rows - still) (drop still rows)) ≡ drop still (map f rows)
 rows_behind f still rows = ap (map f) (take_all (length rows - still) (drop still rows) (sym (length-drop still rows))) ∙ map_drop f still rows
 
+-- the first rows are no more than all
 pub take_within : {R : Type 0} (n : ℕ) (xs : List R) → length (take n xs) ≤ length xs
 take_within zero xs = omega arith
 take_within (suc n) [] = omega arith
 take_within (suc n) (x ∷ xs) = let rest = take_within n xs in omega arith
 
+-- the rows behind the first ones are no more than all
 pub drop_within : {R : Type 0} (n : ℕ) (xs : List R) → length (drop n xs) ≤ length xs
 drop_within zero xs = omega arith
 drop_within (suc n) [] = omega arith

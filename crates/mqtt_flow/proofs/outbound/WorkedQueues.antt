@@ -44,6 +44,7 @@ resends_first = refl
 pub one_in_window : pump (way 1 100 0) (entry 1 ExactlyOnce Waiting ∷ entry 2 ExactlyOnce Waiting ∷ []) ≡ Send 1 1 ∷ []
 one_in_window = refl
 
+-- a window that is full stops the pump
 pub window_full : pump (way 1 100 0) (here 1 ExactlyOnce (Sent 1) ∷ entry 2 ExactlyOnce Waiting ∷ []) ≡ []
 window_full = refl
 
@@ -51,6 +52,7 @@ window_full = refl
 pub released_elsewhere : pump (way 1 100 0) (entry 1 ExactlyOnce (Released 1 1) ∷ entry 2 ExactlyOnce Waiting ∷ []) ≡ Send 2 2 ∷ []
 released_elsewhere = refl
 
+-- a released copy whose PUBLISH went out on this connection fills room
 pub released_here : pump (way 1 100 0) (here 1 ExactlyOnce (Released 1 1) ∷ entry 2 ExactlyOnce Waiting ∷ []) ≡ []
 released_here = refl
 
@@ -58,9 +60,11 @@ released_here = refl
 pub expires : pump (way 10 100 5000) (late 1 (Sent 1) ∷ late 2 Waiting ∷ entry 3 ExactlyOnce Waiting ∷ []) ≡ Resend 1 1 ∷ Leave 2 Expired ∷ Send 3 2 ∷ []
 expires = refl
 
+-- before its interval a copy doesn't expire
 pub not_yet : expired 4999 (late 1 Waiting ∷ []) ≡ []
 not_yet = refl
 
+-- at its interval a copy that waits expires, and one that was sent doesn't
 pub at_the_interval : expired 5000 (late 1 (Sent 1) ∷ late 2 Waiting ∷ []) ≡ Leave 2 Expired ∷ []
 at_the_interval = refl
 
@@ -68,6 +72,7 @@ at_the_interval = refl
 pub too_large : pump (way 10 19 0) (entry 1 ExactlyOnce (Sent 1) ∷ entry 2 AtLeastOnce (Sent 2) ∷ entry 3 ExactlyOnce Waiting ∷ []) ≡ Outgrow 1 1 1 ∷ Leave 2 TooLarge ∷ Leave 3 TooLarge ∷ []
 too_large = refl
 
+-- a copy of QoS 2 that was too large ends as such at its PUBCOMP
 pub outgrown : pubcomp 1 (entry 1 ExactlyOnce (Oversize 1 1) ∷ []) ≡ Ok (Some (Leave 1 TooLarge))
 outgrown = refl
 
@@ -75,15 +80,19 @@ outgrown = refl
 pub released : pubrec 1 0x10 (here 1 ExactlyOnce (Sent 1) ∷ entry 2 ExactlyOnce (Released 2 7) ∷ []) ≡ Ok (Some (Release 1 1 8))
 released = refl
 
+-- a PUBREC of 0x80 ends the copy as refused
 pub refused : pubrec 1 0x80 (here 1 ExactlyOnce (Sent 1) ∷ []) ≡ Ok (Some (Leave 1 Refused))
 refused = refl
 
+-- a PUBREC for an identifier that no copy has is answered 0x92
 pub unknown : pubrec 9 0 (here 1 ExactlyOnce (Sent 1) ∷ []) ≡ Ok (Some (Unknown 9))
 unknown = refl
 
+-- a PUBACK for an identifier that no copy has is passed over
 pub passed_over : puback 9 0 (here 1 ExactlyOnce (Sent 1) ∷ []) ≡ Ok None
 passed_over = refl
 
+-- a PUBACK for a copy of QoS 2 is a protocol error
 pub wrong_step : puback 1 0 (here 1 ExactlyOnce (Sent 1) ∷ []) ≡ Err WrongStep
 wrong_step = refl
 
@@ -95,9 +104,11 @@ in_release = refl
 pub full : has_room (record { queue = 2; full = Refuse }) 3 (entry 1 ExactlyOnce Waiting ∷ entry 2 ExactlyOnce Waiting ∷ []) ≡ false
 full = refl
 
+-- of a full queue the oldest copy that waits gives way
 pub oldest_gives_way : way_made (record { queue = 2; full = Drop }) 3 (entry 1 ExactlyOnce (Sent 1) ∷ entry 2 ExactlyOnce Waiting ∷ []) ≡ Leave 2 Dropped ∷ []
 oldest_gives_way = refl
 
+-- copies of this step don't give way
 pub none_gives_way : has_room (record { queue = 2; full = Drop }) 2 (entry 1 ExactlyOnce (Sent 1) ∷ entry 2 ExactlyOnce Waiting ∷ []) ≡ false
 none_gives_way = refl
 

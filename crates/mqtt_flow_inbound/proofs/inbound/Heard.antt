@@ -52,7 +52,7 @@ alone_of : (w : World) → Good w → ConnectsAlone w
 alone_of w (inl h) = (calm_alone w.up h.calm, old_alone w.old h.olds)
 alone_of w (inr h) = (blank_alone w.up h.lines, late_alone w.old h.late)
 
--- what the publisher sends where the session is connected
+-- what the publisher sends if the session is connected
 heard_rest : (linked : Bool) (rest : List FromPublisher) → linked ≡ true → HasNoConnect rest → IsHeard linked rest
 heard_rest linked [] e h = tt
 heard_rest linked (CONNECT clean ∷ rest) e h = absurd h

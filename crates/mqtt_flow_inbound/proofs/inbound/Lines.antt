@@ -98,7 +98,7 @@ swap_each each j = ((each j).0, swap (each j).1)
 old_rest_of : (w : World) {p : FromPublisher} {rest : List FromPublisher} → w.old ≡ p ∷ rest → is_connect p ≡ false → Norm w → IsOld rest
 old_rest_of w {p} {rest} u e inv = old_rest p rest e (subst IsOld u inv.olds)
 
--- where something is under way, the session stands
+-- if something is under way, the session stands
 not_begun : {A : Type 0} (w : World) (i n : ℕ) (r : Mark) → Norm w → held i 0 w.fates ≡ (n, r) ∷ [] → w.stands ≡ false → A
 not_begun w i n r inv holds t =
     let b = (inv.begun t).0 in

@@ -122,7 +122,7 @@ apart i k n m f holds g e =
     (λ (h : nat_eq k i ≡ false). h)
     (test_cases (nat_eq k i))
 
--- where i waits for another packet, none is
+-- if i waits for another packet, none is
 pub none_sent : (i k n m : ℕ) (r : Mark) (f : List Fate) → is_pubrec r ≡ false → held i 0 f ≡ (n, r) ∷ [] → slice_get f m ≡ Some (sent k) → nat_eq k i ≡ false
 none_sent i k n m r f other holds g =
     ⊎_elim

@@ -172,6 +172,7 @@ pub data Calm (link : Link) (clean linked stands : Bool) (up : List FromPublishe
   is_answered : (present : Bool) (rest : List ToPublisher) → link ≡ asked → up ≡ [] → down ≡ CONNACK present ∷ rest → IsQuiet rest → IsLate old → (present ≡ true) ⊎ (in_flight fates ≡ []) → stands ≡ true → Calm link clean linked stands up down old fates
   is_live : link ≡ live → list_any is_connect up ≡ false → IsLate old → stands ≡ true → Calm link clean linked stands up down old fates
 
+-- the invariant: each identifier has its stage, each message was accepted as its fate tells, and the lines are calm
 pub record Norm (w : World) : Type 0 where
   pub each : (i : ℕ) → (s : Stage) × At i w.fates w.old w.up w.down w.ids w.accepted s
   pub told : (n : ℕ) → Told w.ids (count_of n w.accepted) (slice_get w.fates n)
@@ -189,12 +190,14 @@ Weak c (Some (sent i)) = c ≤ 1
 Weak c (Some (released i)) = c ≤ 1
 Weak c (Some (ended by)) = EndTold c by
 
+-- how the lines stand while a Clean Start is carried through
 pub data Blank (link : Link) (linked : Bool) (up : List FromPublisher) (down : List ToPublisher) : Type 0 where
   blank_away : link ≡ away → linked ≡ false → up ≡ [] → down ≡ [] → Blank link linked up down
   blank_asking : link ≡ asked → linked ≡ false → up ≡ CONNECT true ∷ [] → down ≡ [] → Blank link linked up down
   blank_shut : link ≡ asked → linked ≡ false → up ≡ [] → down ≡ [] → Blank link linked up down
   blank_answered : (rest : List ToPublisher) → link ≡ asked → up ≡ [] → down ≡ CONNACK false ∷ rest → IsQuiet rest → Blank link linked up down
 
+-- what is known after a Clean Start was read, until its CONNACK is: nothing is open, nothing else is under way
 pub record Fresh (w : World) : Type 0 where
   pub of_ids : w.ids ≡ []
   pub late : IsLate w.old
@@ -217,7 +220,7 @@ at_most_more (inl e) h = inl e
 at_most_more (inr e) (inl h) = inl (e ∙ h)
 at_most_more (inr e) (inr h) = inr (e ∙ h)
 
--- where at most so much is and something is, it is all of that
+-- if at most so much is and something is, it is all of that
 pub at_head : {P : Type 0} {xs ys : List P} {p : P} → AtMost (p ∷ xs) ys → p ∷ xs ≡ ys
 at_head (inl e) = absurd (cc)
 at_head (inr e) = e

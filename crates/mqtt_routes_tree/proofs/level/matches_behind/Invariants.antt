@@ -1,4 +1,4 @@
--- What is left of the filter matches what is left of the name where they match as a whole.
+-- What is left of the filter matches what is left of the name if they match as a whole.
 use Rattle.std.proofs.Common.{◌≡◌, length}
 use Rattle.mqtt_topic.specs.Matching.{matches_levels}
 use Rattle.mqtt_routes_tree.specs.Tree.{levels_behind}
