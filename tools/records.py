@@ -4,7 +4,7 @@ crates/NAME/wrong/tried has a first line 'SUM WHEN SECONDS', and then the names 
 sum: WHEN in seconds since 1970, SECONDS of a processor for those that were tried last. crates/NAME/proved has such a first line alone, and is the
 record of a crate of tests or a bench that was proved whole.
 
-A sum covers the kit, the tools that do it, the crate's own sources, definitions and proofs (and its wrong bodies), its line of crates.txt, and of
+A sum covers the kit (of a wrong body the kit's logic: a false contract has a proof in no kit of that logic), the tools that do it, the crate's own sources, definitions and proofs (and its wrong bodies), its line of crates.txt, and of
 each crate below what that one states: its items with their contracts and without bodies, and its definitions, as rattle wrote them into its library.
 A wrong body is refused since its function's contract is false of it, and what a function below promises is its contract: so a body or a proof that
 changes below makes no record stale, and a clause or a definition does.
@@ -55,13 +55,19 @@ def stated(crate):
     return sums[lang]
 
 
-def sum_over(crate, tools, own):
-    """Returns a sum of these texts, the tools, the kit, the crate's line and what stands below it, or None where a library there is not built."""
+def logic_of(identity):
+    """Returns the logic that a kit's identity names, as of 'rattle-kit-13b logic dac8208d650f15bf', or the whole identity where it names none."""
+    found = re.search(r"\blogic ([0-9a-f]{16,})\b", identity)
+    return found[0] if found else identity
+
+
+def sum_over(crate, tools, identity, own):
+    """Returns a sum of these texts, the tools, what names the kit, the crate's line and what stands below it, or None where a library there is not built."""
     under = [(it.name, stated(it)) for it in sorted(crate.below, key=lambda it: it.name)]
     if any(it is None for _, it in under):
         return None
     tools = [read(f"{ROOT}/tools/{it}") for it in tools]
-    return sum_of(read(f"{kit()}/KIT-ID"), tools, inspect.getsource(check_words), crate.name, crate.of_kit, [it.name for it in crate.own], own, under)
+    return sum_of(identity, tools, inspect.getsource(check_words), crate.name, crate.of_kit, [it.name for it in crate.own], own, under)
 
 
 def name_of(path):
@@ -74,7 +80,7 @@ def sum_of_wrong(crate):
     """Returns the sum under which the wrong bodies of a crate are recorded, or None where a library below it is not built."""
     edits = [it for part in ("wrong", "must-fail") for it in files_in(f"{crate.folder}/{part}") if it.endswith(".edit")]
     own = [texts_of(crate.folder, ("src", "specs", "proofs")), sorted((name_of(it), read(it)) for it in edits)]
-    return sum_over(crate, ("trials.py", "edits.py", "records.py"), own)
+    return sum_over(crate, ("trials.py", "edits.py", "records.py"), logic_of(read(f"{kit()}/KIT-ID")), own)
 
 
 def texts_for_proof(crate):
@@ -84,7 +90,7 @@ def texts_for_proof(crate):
 
 def sum_of_proof(crate, handles):
     """Returns the sum under which the proof of a crate of tests, or of a bench, is recorded, or None where a library below it is not built."""
-    return sum_over(crate, ("rt", "as_rt_ci", "records.py"), [handles, texts_for_proof(crate)])
+    return sum_over(crate, ("rt", "as_rt_ci", "records.py"), read(f"{kit()}/KIT-ID"), [handles, texts_for_proof(crate)])
 
 
 class Record:
