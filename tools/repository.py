@@ -131,19 +131,33 @@ def free_memory():
 
 
 class Limits:
-    """What a run may take: it begins nothing after a moment (in seconds since 1970), nor once it has taken so many minutes of processors."""
+    """What a run may take: it begins nothing after a moment (in seconds since 1970), nor what would take it beyond so many minutes of processors.
+
+    Who begins is of one thread, and tells what it took before it begins again. What is under way counts as what the ended ones took on average, or
+    as long as it has run by now if that is more; so does what is to begin.
+    """
 
     def __init__(self, minutes="", until=""):
         self.seconds, self.until = 60 * float(minutes or "inf"), float(until or "inf")
-        self.spent, self.turn = 0.0, threading.Lock()
+        self.spent, self.ended, self.turn, self.under_way = 0.0, 0, threading.Lock(), {}
 
     def may_begin(self, seconds=0):
         """Returns whether something may begin that takes so many seconds."""
-        return time.time() + seconds < self.until and self.spent < self.seconds
+        now, own = time.time(), threading.get_ident()
+        with self.turn:
+            mean = self.spent / self.ended if self.ended else 0.0
+            taken = self.spent + sum(max(mean, now - it) for key, it in self.under_way.items() if key != own)
+            begins = now + seconds < self.until and taken + mean < self.seconds
+            if begins:
+                self.under_way[own] = now
+            else:
+                self.under_way.pop(own, None)
+            return begins
 
     def spend(self, seconds):
         with self.turn:
-            self.spent += seconds
+            self.under_way.pop(threading.get_ident(), None)
+            self.spent, self.ended = self.spent + seconds, self.ended + 1
 
 
 def at_run():
