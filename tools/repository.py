@@ -8,6 +8,8 @@ import threading
 import time
 from concurrent.futures import FIRST_COMPLETED, ThreadPoolExecutor, wait
 
+from lanes import jobs_for
+
 ROOT = os.path.dirname(os.path.dirname(os.path.realpath(__file__)))
 
 
@@ -197,12 +199,12 @@ class Beside:
         return self.below[key] <= told and free_memory() - self.KEPT >= need and at_run() < lanes
 
 
-def side_by_side(tasks, beside=None):
+def side_by_side(tasks, beside=None, is_chain=False):
     """Runs tasks, each once those that it waits for have ended, as many as processors and memory hold.
 
     A task is its key, the keys that it waits for, its memory in bytes, its weight, and a call that takes a number of jobs. Those with
-    the greatest weight behind them go first. Returns what each call gave, by key. RT_JOBS is how many run at a time, as under rt ci.
-    Beside a run of rt ci they begin as `Beside` says, until it is over.
+    the greatest weight behind them go first; of a chain, the one that all others wait for in the end gets more jobs. Returns what each call gave, by
+    key. RT_JOBS is how many run at a time, as under rt ci. Beside a run of rt ci they begin as `Beside` says, until it is over.
     """
     number = os.environ.get("RT_JOBS", "")
     fixed = int(number) if number.isdigit() else 0
@@ -213,21 +215,22 @@ def side_by_side(tasks, beside=None):
             behind[it] = max(behind[it], by_key[it][3] + behind[key])
     left = sorted(by_key, key=lambda it: -behind[it])
     running, given, turn = {}, {}, threading.Lock()
-    with ThreadPoolExecutor(lanes) as pool:
+    with ThreadPoolExecutor(lanes + 1) as pool:
         while left or running:
             told = beside.told() if beside else set()
             if "over" in told:
                 beside, memory = None, 0.85 * free_memory() + sum(it for _, it, _ in running.values())
             ready = [it for it in left if all(below in given for below in by_key[it][1])]
+            longest = max([behind[it] for it in [*ready, *[key for key, _, _ in running.values()]]], default=0)
             for at, key in enumerate(ready):
                 _, _, need, _, call = by_key[key]
-                free = lanes - sum(jobs for _, _, jobs in running.values())
+                used = sum(jobs for _, _, jobs in running.values())
                 room = memory - sum(it for _, it, _ in running.values())
-                if beside and free > 0 and beside.begins(key, need, lanes, told):
+                wanted = jobs_for(is_chain and not fixed and behind[key] == longest, lanes, used, len(ready) - at)
+                if beside and wanted and beside.begins(key, need, lanes, told):
                     jobs = 1
-                elif not beside and free > 0 and (fixed or not running or need <= room):
-                    # a further job is for the processors that no other task waits for
-                    jobs = 1 if fixed else max(1, min(4, free // (len(ready) - at), 1 + int((room / need - 1) / 0.6)))
+                elif not beside and wanted and (fixed or not running or need <= room):
+                    jobs = 1 if fixed else max(1, min(wanted, 1 + int((room / need - 1) / 0.6)))
                 else:
                     continue
                 with turn:
