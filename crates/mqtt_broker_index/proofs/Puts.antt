@@ -1,11 +1,11 @@
 -- A subscription that is put finds room in the index: where its row can be followed, and where it is one of those that are stored.
-use Rattle.std.proofs.Common.{◌≡◌, ℕ, ◌+◌, ◌≤◌, ◌<◌, Bool, true, false, not, ◌||◌, List, [], ◌∷◌, ◌++◌, filter, length, map, Option, Some, None, nat_lt, bytes_eq, refl, ap, sym, subst, ◌∙◌, inl, inr, arith}
+use Rattle.std.proofs.Common.{◌≡◌, ℕ, ◌+◌, ◌≤◌, ◌<◌, Bool, true, false, ◌||◌, List, [], ◌∷◌, ◌++◌, length, map, Option, Some, None, nat_lt, bytes_eq, refl, ap, sym, subst, ◌∙◌, inl, inr, arith}
 use Rattle.std.specs.List.{AllByRecursion}
 use Rattle.std.proofs.lemmas.Bool.{cases_Bool, lt-ltb}
 use Rattle.std.proofs.lemmas.List.{length-map}
 use Rattle.std.proofs.Common.{length-append}
 use Rattle.mqtt_base.specs.declared.limits.TheConstants.{SUBSCRIPTION_LIMIT}
-use Rattle.mqtt_records.specs.Records.{HasSome, changed, changed_all}
+use Rattle.mqtt_records.specs.Records.{HasSome, changed}
 use Rattle.mqtt_records.specs.Session.{birth_of, without_filter}
 use Rattle.mqtt_records.specs.declared.change.Change.{Change}
 use Rattle.mqtt_records.specs.declared.change.Change.TheVariants.{SetCounter, PutSession, SetSession, RemoveSession, PutWill, RemoveWill, PutSubscription, RemoveSubscription, PutInbound, RemoveInbound, PutCopy, SetCopy, RemoveCopy, PutRetained, RemoveRetained}
@@ -15,12 +15,12 @@ use Rattle.mqtt_records.specs.declared.subscription.Subscription.{Subscription}
 use Rattle.mqtt_records_rows.specs.Distinct.{AllDiffer}
 use Rattle.mqtt_records_rows.specs.Order.{IsAscending, row_at}
 use Rattle.mqtt_routes.specs.declared.subscription.Subscription.{Subscription as RoutedSubscription}
-use Rattle.mqtt_routes.specs.Subscriptions.{Subscriber, has_filter, subs_of, subscribed, takes_filter, with_some}
+use Rattle.mqtt_routes.specs.Subscriptions.{Subscriber, has_filter, subs_of, takes_filter}
 use Rattle.mqtt_rules.specs.Contents.{IsAskedFor}
 use Rattle.mqtt_rules.specs.Laws.{HasTables}
 use Rattle.mqtt_rules.specs.Routing.{routed_subscription, subscribers}
 use Rattle.mqtt_broker_step.specs.Subscribing.{filter_of, HasEachFilterOnce}
-use Rattle.mqtt_broker_index.specs.Following.{CanAllBeFollowed, CanAllBeGiven, CanBeFollowed, CanBeGiven, CanBeIndexed, CanBePut, CanGoAlong, CanGoAlongAll, HasAsked, IsGranted, followed, given}
+use Rattle.mqtt_broker_index.specs.Following.{CanAllBeFollowed, CanAllBeGiven, CanBeFollowed, CanBeGiven, CanBeIndexed, CanGoAlong, CanGoAlongAll, HasAsked, IsGranted, followed}
 use Rattle.mqtt_broker_index.specs.Indexing.{Serves}
 use Rattle.mqtt_broker_index.proofs.Along.{in_order, indexed_changed, serves_followed}
 use Rattle.mqtt_broker_index.proofs.Building.{AreBefore, AreBeforeAll, AreNew, before_all, before_none, has_last, last_of, new_later, none_yet, one_given, session_given}

@@ -25,7 +25,6 @@ use std::hash::RandomState;
 use std::marker::Model;
 
 /// An index of the subscriptions of all sessions.
-#[derive(Drop)]
 pub struct Index {
     pub(crate) routes: Routes<()>,
     /// The publications of the step under way for which groups took their turns, in order.
@@ -38,6 +37,15 @@ impl Model for Index {
     ghost Value = { HeldSessions };
 
     ghost view = { λ a. record { sessions = a.routes.table.sessions; room = a.routes.session_room } };
+}
+
+// Written out, so that who lets an index go needs no proof of its own for each type in it.
+impl Drop for Index {
+    fn drop(self) {
+        let Index { routes, turns } = self;
+        drop(routes);
+        drop(turns);
+    }
 }
 
 /// The number of a quality of service.

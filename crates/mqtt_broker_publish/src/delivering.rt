@@ -50,6 +50,28 @@ fn deliver(
     }
 }
 
+/// Copies are handed over in order; `last` is what was encoded last of those of QoS 0.
+fn deliver_each(
+    alloc: Global,
+    step: &mut Step,
+    copies: Vec<MessageCopy>,
+    last: &mut Option<Encoded>,
+) -> Result<(), StepFault>
+    requires spelled { AllByRecursion IsSpelled copies.items }
+    requires room { HasRoomIn step.old (addressed_all copies.items) }
+    ensures ok { OnOk result (Does (delivers_all (addressed_all copies.items))
+        step.old step.new) }
+    ensures sessions { OnOk result (SameSessions step.old.broker.records
+        step.new.broker.records) }
+    ensures left { IfErr result (λ fault. Leaves
+        (delivers_all (addressed_all copies.items)) fault step.old step.new) }
+{
+    for copy in copies {
+        deliver(alloc, step, copy, last)?;
+    }
+    Ok(())
+}
+
 /// Copies, whose PUBLISH have spellings, are handed over in order. Each queue has room for those that are
 /// to enter it, and where it is full the oldest that wait make way. Those of QoS 0 that say the same share one encoding.
 pub fn deliver_all(
@@ -67,8 +89,7 @@ pub fn deliver_all(
         (delivers_all (addressed_all copies.items)) fault step.old step.new) }
 {
     let mut last = None;
-    for copy in copies {
-        deliver(alloc, step, copy, &mut last)?;
-    }
-    Ok(())
+    let done = deliver_each(alloc, step, copies, &mut last);
+    drop(last);
+    done
 }

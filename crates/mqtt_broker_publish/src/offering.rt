@@ -43,12 +43,16 @@ pub(crate) fn offer_copy(
     ensures left { IfErr result (λ fault. IsLeft (offers birth copy) fault step.old step.new) }
 {
     let Some(line) = line_of(step, birth) else {
+        drop(copy);
         return Ok(());
     };
     if publish_len(&copy) > line.largest() as usize {
+        drop(copy);
         return Ok(());
     }
     let number = line.number();
-    let bytes = encoding(alloc, step.moment(), copy, last)?;
-    step.send_spelled(number, bytes)
+    match encoding(alloc, step.moment(), copy, last) {
+        Ok(bytes) => step.send_spelled(number, bytes),
+        Err(error) => Err(StepFault::from(error)),
+    }
 }

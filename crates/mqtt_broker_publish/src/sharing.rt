@@ -1,5 +1,5 @@
 //! Copies of a publication whose PUBLISH are the same share its bytes (MQTT 5.0, 3.3, 3.3.4).
-ghost use Rattle.std.specs.Prelude.{◌≡◌, ℕ, Bool, false, IfOk, IsTrue};
+ghost use Rattle.std.specs.Prelude.{◌≡◌, ℕ, Bool, false, IfOk, IfSome, IsTrue};
 ghost use Rattle.mqtt_codec.specs.Packets.{shortest_of};
 ghost use Rattle.mqtt_records_message.specs.Queue.{IsSpelled};
 ghost use Rattle.mqtt_rules.specs.Packets.{publish_of};
@@ -10,6 +10,7 @@ use mqtt_props::PropsRef;
 use mqtt_records_message::{Content, MessageCopy};
 use std::alloc::{AllocError, Global};
 use std::marker::Model;
+use std::mem;
 
 /// The PUBLISH of a copy of QoS 0 that was encoded last, at a moment in milliseconds.
 #[derive(Drop)]
@@ -76,6 +77,43 @@ impl Encoded {
     }
 }
 
+/// The bytes that were encoded last, if the PUBLISH of a copy at a moment is the same. Takes no memory.
+fn known<'a>(last: &'a Option<Encoded>, moment: u64, copy: &MessageCopy) -> Option<&'a Bytes>
+    ensures { IfSome result (λ bytes. bytes.now ≡ shortest_of (publish_of moment false 0 copy.now)) }
+{
+    match last {
+        Some(encoded) if encoded.is_of(moment, copy) => Some(&encoded.bytes),
+        Some(_) | None => None,
+    }
+}
+
+/// The PUBLISH of a copy of QoS 0, which has a spelling, is encoded at a moment in milliseconds.
+fn encode(alloc: Global, moment: u64, copy: MessageCopy) -> Result<Encoded, AllocError>
+    requires { IsSpelled copy }
+    ensures { IfOk result (λ made. made.bytes ≡ shortest_of (publish_of moment false 0 copy)) }
+{
+    match publish(alloc, moment, false, 0, &copy) {
+        Ok(bytes) => Ok(Encoded {
+            moment,
+            copy,
+            bytes,
+        }),
+        Err(error) => {
+            drop(copy);
+            Err(error)
+        }
+    }
+}
+
+/// What was encoded is the last, and its bytes are shared.
+fn keep(last: &mut Option<Encoded>, encoded: Encoded) -> Result<Bytes, AllocError>
+    ensures { IfOk result (λ bytes. bytes ≡ encoded.bytes) }
+{
+    let bytes: Result<_, _> = encoded.bytes.clone();
+    drop(mem::replace(last, Some(encoded)));
+    bytes
+}
+
 /// The PUBLISH of a copy of QoS 0, which has a spelling, at a moment in milliseconds (3.3). Where it is the one that was
 /// encoded last, both share their bytes.
 pub(crate) fn encoding(
@@ -87,17 +125,13 @@ pub(crate) fn encoding(
     requires { IsSpelled copy }
     ensures { IfOk result (λ bytes. bytes ≡ shortest_of (publish_of moment false 0 copy)) }
 {
-    if let Some(encoded) = last {
-        if encoded.is_of(moment, &copy) {
-            return encoded.bytes.clone();
-        }
+    if let Some(bytes) = known(last, moment, &copy) {
+        let shared: Result<_, _> = bytes.clone();
+        drop(copy);
+        return shared;
     }
-    let bytes = publish(alloc, moment, false, 0, &copy)?;
-    let shared = bytes.clone()?;
-    *last = Some(Encoded {
-        moment,
-        copy,
-        bytes: shared,
-    });
-    Ok(bytes)
+    match encode(alloc, moment, copy) {
+        Ok(encoded) => keep(last, encoded),
+        Err(error) => Err(error),
+    }
 }

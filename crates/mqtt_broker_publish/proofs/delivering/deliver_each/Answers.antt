@@ -2,7 +2,7 @@ use Rattle.std.proofs.Common.{◌≡◌, ◌∷◌, length, rules, arith}
 use Rattle.mqtt_broker_step.specs.Stepping.{Leaves}
 use Rattle.mqtt_broker_publish.specs.Delivering.{addressed_all, delivers_all}
 use Rattle.mqtt_broker_publish.proofs.Delivered.{hands_room, hands_step, hands_left, hands_last}
-use Rattle.mqtt_broker_publish.proofs.delivering.deliver_all.Goals as goal
+use Rattle.mqtt_broker_publish.proofs.delivering.deliver_each.Goals as goal
 
 pub deliver-requires-clause-room : goal.deliver-requires-clause-room
 deliver-requires-clause-room c =
