@@ -8,17 +8,21 @@ use mqtt_records::Keep;
 
 impl<K: Keep> Engine<K> {
     /// Whether a line is linked. Takes no memory.
+    #[tactic(auto, using(mqtt_broker_engine::proofs::Holders::row_of))]
     pub fn is_linked(&self, line: u64) -> bool
         ensures { result ≡ is_some (line_at line self.now.running.broker) }
     {
-        self.inner.is_linked(line)
+        match self.inner.step().line(line) {
+            Some(_) => true,
+            None => false,
+        }
     }
 
     /// Whether a further line may be linked: fewer than 64 stand, and fewer than 2^62 were linked (ours). Takes no memory.
     pub fn may_link(&self) -> bool
         ensures { result ≡ can_link self.now.running.broker }
     {
-        self.inner.may_link()
+        self.inner.step().may_link()
     }
 
     /// How many copies wait for the session of a client identifier, or are in flight to it; None where no session has
@@ -27,27 +31,30 @@ impl<K: Keep> Engine<K> {
         ensures { result ≡ option_map (λ s. length s.queue)
             (session_named client.now self.now.running.broker.records) }
     {
-        self.inner.queue_len(client)
+        match self.inner.step().session_named(client) {
+            Some(session) => Some(session.queue.len()),
+            None => None,
+        }
     }
 
     /// How many sessions stand. Takes no memory.
     pub fn sessions_len(&self) -> usize
         ensures { result ≡ length self.now.running.broker.records.sessions }
     {
-        self.inner.sessions_len()
+        self.inner.step().sessions_len()
     }
 
     /// The number of the last session that began: from 1, in the order in which they did. Takes no memory.
     pub fn births(&self) -> u64
         ensures { result ≡ self.now.running.broker.records.births }
     {
-        self.inner.births()
+        self.inner.step().births()
     }
 
     /// The number of the last publication that was accepted: from 1, in the order in which they were. Takes no memory.
     pub fn publications(&self) -> u64
         ensures { result ≡ self.now.running.broker.records.publications }
     {
-        self.inner.publications()
+        self.inner.step().publications()
     }
 }

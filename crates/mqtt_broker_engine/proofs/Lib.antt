@@ -1,4 +1,6 @@
 pub mod Called
+pub mod Finished
+pub mod Resting
 pub mod Linked
 pub mod Holders
 pub mod Own

@@ -1,4 +1,5 @@
 pub mod Calling
+pub mod Finishing
 pub mod Running
 pub mod Sessions
 pub mod Closing

@@ -1,5 +1,5 @@
 //! What is asked of the engine: a packet, a fault, a loss, a turn of sending, a turn of the clock (MQTT 5.0, 3, 4).
-ghost use Rattle.std.specs.Prelude.{◌≡◌, ◌↔◌, Some, false, IsErrOf, IsTrue};
+ghost use Rattle.std.specs.Prelude.{◌≡◌, Some, true, false, IfOk, IfErr, OnErr, OnOk};
 ghost use Rattle.mqtt_rules.specs.Contents.{IsTaken};
 ghost use Rattle.mqtt_rules.specs.Lines.{session_on};
 ghost use Rattle.mqtt_rules.specs.Routing.{subscribers};
@@ -12,8 +12,6 @@ ghost use Rattle.mqtt_broker_index.specs.Indexing.{Serves};
 ghost use Rattle.mqtt_broker_engine.specs.Calling.{Called};
 
 use crate::engine::Engine;
-use crate::finishing::finish;
-use crate::indexing::renew;
 use crate::outcome::Outcome;
 use mqtt_base::Reason;
 use mqtt_broker_calls::{fault_at, first_at, input, lost_at, pump_at, tick_at};
@@ -23,13 +21,6 @@ use mqtt_broker_step::{EngineError, Step, StepFault};
 use mqtt_codec::Packet;
 use mqtt_records::Keep;
 use std::alloc::Global;
-
-/// Whether the store has failed.
-fn has_failed(answer: &Result<Outcome, EngineError>) -> bool
-    ensures { IsTrue result ↔ IsErrOf answer.now EngineError.Stopped }
-{
-    matches!(answer, Err(EngineError::Stopped))
-}
 
 /// The session that is connected on a line, if the line is linked.
 fn session_of(step: &Step, line: u64) -> Option<Option<u64>>
@@ -131,6 +122,29 @@ fn later_quiet(step: &Step, quiet: u64, was_due: bool) -> u64
 }
 
 impl<K: Keep> Engine<K> {
+    /// `Stopped` (2) where the store has failed.
+    fn runs(&self) -> Result<(), EngineError>
+        ensures ok { OnOk result (self.now.stopped ≡ false) }
+        ensures fault { IfErr result (λ error. error ≡ EngineError.Stopped) }
+        ensures err { OnErr result (self.now.stopped ≡ true) }
+    {
+        if self.parts.stopped {
+            return Err(EngineError::Stopped);
+        }
+        Ok(())
+    }
+
+    /// The session that is connected on a line, if the line is linked. `Stopped` (2) where the store has failed.
+    fn session_on(&self, line: u64) -> Result<Option<Option<u64>>, EngineError>
+        ensures session { IfOk result (λ session. session ≡ session_on line self.now.broker) }
+        ensures ok { OnOk result (self.now.stopped ≡ false) }
+        ensures fault { IfErr result (λ error. error ≡ EngineError.Stopped) }
+        ensures err { OnErr result (self.now.stopped ≡ true) }
+    {
+        self.runs()?;
+        Ok(session_of(&self.parts.step, line))
+    }
+
     /// A packet on a line that is linked, with the session that is connected on it.
     fn input_on(
         &mut self,
@@ -139,33 +153,19 @@ impl<K: Keep> Engine<K> {
         packet: &Packet,
         moment: u64,
     ) -> Result<Outcome, EngineError>
+        requires running { self.old.stopped ≡ false }
         requires linked { session_on line self.old.broker ≡ Some session }
         requires taken { IsTaken packet.now }
         ensures { Called K.Keep moment (Input line packet.now) self.old result self.new }
     {
-        if self.stopped {
-            return Err(EngineError::Stopped);
-        }
-        renew(
-            self.alloc,
-            self.hasher,
-            &self.step,
-            &mut self.index,
-            &mut self.is_stale,
-        )?;
-        let (alloc, index, step) = (self.alloc, &mut self.index, &mut self.step);
-        let done = input_at(alloc, index, step, line, session, packet, moment);
-        let answer = finish(
-            &mut self.keep,
-            &mut self.step,
-            &mut self.index,
-            &mut self.is_stale,
-            &mut self.quiet,
-            done,
-            false,
+        self.parts.renew()?;
+        let (alloc, index, step) = (
+            self.parts.alloc,
+            &mut self.parts.index,
+            &mut self.parts.step,
         );
-        self.stopped = has_failed(&answer);
-        answer
+        let done = input_at(alloc, index, step, line, session, packet, moment);
+        self.parts.finish(done, false)
     }
 
     /// A packet, the first whole one of a line, is answered (3, 4). On a line that isn't linked nothing is done, without
@@ -175,10 +175,7 @@ impl<K: Keep> Engine<K> {
         requires { IsTaken packet.now }
         ensures { Called K.Keep moment (Input line packet.now) self.old result self.new }
     {
-        if self.stopped {
-            return Err(EngineError::Stopped);
-        }
-        match session_of(&self.step, line) {
+        match self.session_on(line)? {
             Some(session) => self.input_on(line, session, packet, moment),
             None => self.skip(line, moment),
         }
@@ -193,32 +190,18 @@ impl<K: Keep> Engine<K> {
         code: Reason,
         moment: u64,
     ) -> Result<Outcome, EngineError>
-        requires { session_on line self.old.broker ≡ Some session }
+        requires running { self.old.stopped ≡ false }
+        requires linked { session_on line self.old.broker ≡ Some session }
         ensures { Called K.Keep moment (BadInput line is_connect code.0) self.old result self.new }
     {
-        if self.stopped {
-            return Err(EngineError::Stopped);
-        }
-        renew(
-            self.alloc,
-            self.hasher,
-            &self.step,
-            &mut self.index,
-            &mut self.is_stale,
-        )?;
-        let (alloc, index, step) = (self.alloc, &mut self.index, &mut self.step);
-        let done = fault_at(alloc, index, step, line, session, is_connect, code, moment);
-        let answer = finish(
-            &mut self.keep,
-            &mut self.step,
-            &mut self.index,
-            &mut self.is_stale,
-            &mut self.quiet,
-            done,
-            false,
+        self.parts.renew()?;
+        let (alloc, index, step) = (
+            self.parts.alloc,
+            &mut self.parts.index,
+            &mut self.parts.step,
         );
-        self.stopped = has_failed(&answer);
-        answer
+        let done = fault_at(alloc, index, step, line, session, is_connect, code, moment);
+        self.parts.finish(done, false)
     }
 
     /// The bytes of a line begin with a fault, which has a code; `is_connect` says whether they begin with the type of
@@ -232,10 +215,7 @@ impl<K: Keep> Engine<K> {
     ) -> Result<Outcome, EngineError>
         ensures { Called K.Keep moment (BadInput line is_connect code.0) self.old result self.new }
     {
-        if self.stopped {
-            return Err(EngineError::Stopped);
-        }
-        match session_of(&self.step, line) {
+        match self.session_on(line)? {
             Some(session) => self.bad_input_on(line, session, is_connect, code, moment),
             None => self.skip(line, moment),
         }
@@ -243,40 +223,24 @@ impl<K: Keep> Engine<K> {
 
     /// A line that is linked is lost.
     fn lose(&mut self, line: u64, moment: u64) -> Result<Outcome, EngineError>
+        requires running { self.old.stopped ≡ false }
         ensures { Called K.Keep moment (Lost line) self.old result self.new }
     {
-        if self.stopped {
-            return Err(EngineError::Stopped);
-        }
-        renew(
-            self.alloc,
-            self.hasher,
-            &self.step,
-            &mut self.index,
-            &mut self.is_stale,
-        )?;
-        let done = lost_at(self.alloc, &mut self.index, &mut self.step, line, moment);
-        let answer = finish(
-            &mut self.keep,
-            &mut self.step,
-            &mut self.index,
-            &mut self.is_stale,
-            &mut self.quiet,
-            done,
-            false,
+        self.parts.renew()?;
+        let (alloc, index, step) = (
+            self.parts.alloc,
+            &mut self.parts.index,
+            &mut self.parts.step,
         );
-        self.stopped = has_failed(&answer);
-        answer
+        let done = lost_at(alloc, index, step, line, moment);
+        self.parts.finish(done, false)
     }
 
     /// A line is lost: it closes, and its session with it (4.1). Refusals are those of `input`.
     pub fn lost(&mut self, line: u64, moment: u64) -> Result<Outcome, EngineError>
         ensures { Called K.Keep moment (Lost line) self.old result self.new }
     {
-        if self.stopped {
-            return Err(EngineError::Stopped);
-        }
-        match session_of(&self.step, line) {
+        match self.session_on(line)? {
             Some(_) => self.lose(line, moment),
             None => self.skip(line, moment),
         }
@@ -284,24 +248,13 @@ impl<K: Keep> Engine<K> {
 
     /// A turn of sending on a line that is linked.
     fn pump_on(&mut self, line: u64, moment: u64) -> Result<Outcome, EngineError>
+        requires running { self.old.stopped ≡ false }
         ensures { Called K.Keep moment (Pump line) self.old result self.new }
     {
-        if self.stopped {
-            return Err(EngineError::Stopped);
-        }
         let mut again = false;
-        let done = pump_once(self.alloc, &mut self.step, line, moment, &mut again);
-        let answer = finish(
-            &mut self.keep,
-            &mut self.step,
-            &mut self.index,
-            &mut self.is_stale,
-            &mut self.quiet,
-            done,
-            again,
-        );
-        self.stopped = has_failed(&answer);
-        answer
+        let (alloc, step) = (self.parts.alloc, &mut self.parts.step);
+        let done = pump_once(alloc, step, line, moment, &mut again);
+        self.parts.finish(done, again)
     }
 
     /// A turn of sending: what waits for the session of a line goes out, up to 16 PUBLISH (4.6, 4.9); `again` says whether
@@ -309,10 +262,7 @@ impl<K: Keep> Engine<K> {
     pub fn pump(&mut self, line: u64, moment: u64) -> Result<Outcome, EngineError>
         ensures { Called K.Keep moment (Pump line) self.old result self.new }
     {
-        if self.stopped {
-            return Err(EngineError::Stopped);
-        }
-        match session_of(&self.step, line) {
+        match self.session_on(line)? {
             Some(_) => self.pump_on(line, moment),
             None => self.skip(line, moment),
         }
@@ -323,30 +273,17 @@ impl<K: Keep> Engine<K> {
     pub fn tick(&mut self, moment: u64) -> Result<Outcome, EngineError>
         ensures { Called K.Keep moment Tick self.old result self.new }
     {
-        if self.stopped {
-            return Err(EngineError::Stopped);
-        }
-        renew(
-            self.alloc,
-            self.hasher,
-            &self.step,
-            &mut self.index,
-            &mut self.is_stale,
-        )?;
+        self.runs()?;
+        self.parts.renew()?;
         let mut again = false;
-        let (alloc, index, step) = (self.alloc, &mut self.index, &mut self.step);
-        let done = tick_once(alloc, index, step, moment, self.quiet, &mut again);
-        let answer = finish(
-            &mut self.keep,
-            &mut self.step,
-            &mut self.index,
-            &mut self.is_stale,
-            &mut self.quiet,
-            done,
-            again,
+        let (alloc, index, step) = (
+            self.parts.alloc,
+            &mut self.parts.index,
+            &mut self.parts.step,
         );
-        self.stopped = has_failed(&answer);
-        self.quiet = later_quiet(&self.step, self.quiet, again);
+        let done = tick_once(alloc, index, step, moment, self.parts.quiet, &mut again);
+        let answer = self.parts.finish(done, again);
+        self.parts.quiet = later_quiet(&self.parts.step, self.parts.quiet, again);
         answer
     }
 }

@@ -11,6 +11,7 @@ ghost use Rattle.mqtt_broker_engine.specs.Calling.{Called, IsOn, Tells};
 
 use crate::holding::copy_of;
 use crate::outcome::{Outcome, nothing};
+use crate::parts::EngineParts;
 use mqtt_base::CopyId;
 use mqtt_broker_index::Index;
 use mqtt_broker_step::{EngineError, Step};
@@ -22,42 +23,19 @@ use std::marker::Model;
 /// A broker over a store.
 #[derive(Drop)]
 pub struct Engine<K: Keep> {
-    pub(crate) alloc: Global,
-    pub(crate) hasher: RandomState,
-    pub(crate) keep: K,
-    pub(crate) step: Step,
-    pub(crate) index: Index,
-    pub(crate) is_stale: bool,
-    pub(crate) stopped: bool,
-    pub(crate) quiet: u64,
+    pub(crate) parts: EngineParts<K>,
 }
 
 impl<K: Keep> Model for Engine<K> {
-    ghost use Rattle.std.specs.Prelude.{◌≡◌, false};
-    ghost use Rattle.mqtt_broker_index.specs.Indexing.{Serves};
-    ghost use Rattle.mqtt_rules.specs.Routing.{subscribers};
-    ghost use Rattle.mqtt_broker_step.specs.Stepping.{at_rest};
+    ghost use Rattle.mqtt_broker_engine.specs.Finishing.{IsAtRest, running_of};
     ghost use Rattle.mqtt_broker_engine.specs.Running.{Running};
-    ghost use Rattle.mqtt_broker_clock.specs.Quiet.{AreQuietBefore};
-    ghost use Rattle.mqtt_broker_calls.specs.Sound.{IsSound};
 
     ghost Value = { Running K };
 
-    ghost view = { λ e. record {
-      keep = e.keep;
-      limits = e.step.limits;
-      broker = e.step.broker;
-      stopped = e.stopped;
-    } };
+    ghost view = { λ e. running_of e.parts };
 
-    // Between calls no step is under way; while the store hasn't failed it holds what is stored; and the index is that of
-    // the subscriptions that stand, unless it is to be made anew. Nothing that is stored is due before the moment
-    // `quiet`.
-    ghost invariant = { λ e. (e.step ≡ at_rest e.step.limits e.step.broker)
-        × IsSound e.step.limits e.step.broker
-        × (e.stopped ≡ false → K.is_loaded e.keep × K.holds e.keep e.step.broker.records)
-        × (e.is_stale ≡ false → Serves e.index.sessions (subscribers e.step.broker.records))
-        × AreQuietBefore e.quiet e.step.broker.records };
+    // Between calls no step is under way, and all that the engine has is of its broker.
+    ghost invariant = { λ e. IsAtRest K.Keep e.parts };
 }
 
 impl<K: Keep> Engine<K> {
@@ -78,7 +56,7 @@ impl<K: Keep> Engine<K> {
     {
         let mut index = index;
         index.settle();
-        Engine {
+        let parts = EngineParts {
             alloc,
             hasher,
             keep,
@@ -87,7 +65,8 @@ impl<K: Keep> Engine<K> {
             is_stale: false,
             stopped: false,
             quiet: 0,
-        }
+        };
+        Engine { parts }
     }
 
     /// A line is linked at a moment in milliseconds, and gets the next number, from 1. None where 64 lines
@@ -98,19 +77,19 @@ impl<K: Keep> Engine<K> {
             self.new.broker }
         ensures same { self.new ≡ record self.old { broker = self.new.broker } }
     {
-        self.step.link(moment)
+        self.parts.step.link(moment)
     }
 
     /// Gives the store back. Takes no memory.
     pub fn close(self) -> K
         ensures { result ≡ self.keep }
     {
-        let Engine {
+        let EngineParts {
             keep,
             step,
             index,
             ..
-        } = self;
+        } = self.parts;
         drop(step);
         drop(index);
         keep
@@ -121,14 +100,14 @@ impl<K: Keep> Engine<K> {
         ensures exact { result ≡ self.now.stopped }
         ensures stored { self.now.stopped ≡ false → K.holds self.now.keep self.now.broker.records }
     {
-        self.stopped
+        self.parts.stopped
     }
 
     /// How many failures its store has counted, modulo 2^64. Takes no memory.
     pub fn failures(&self) -> u64
         ensures { result ≡ K.counted self.now.keep }
     {
-        self.keep.failures()
+        self.parts.keep.failures()
     }
 
     /// Nothing comes about but that the moment is the greatest handed in. Takes no memory.
@@ -136,28 +115,33 @@ impl<K: Keep> Engine<K> {
         ensures told { Tells nothing_told result }
         ensures ok { self.new ≡ record self.old { broker = at_moment moment self.old.broker } }
     {
-        self.step.rest_at(moment);
-        nothing(self.alloc)
+        self.parts.step.rest_at(moment);
+        nothing(self.parts.alloc)
     }
 
     /// What comes, or is asked, on a line that isn't linked does nothing but that the moment is the greatest handed in.
     /// Takes no memory.
     pub(crate) fn skip(&mut self, line: u64, moment: u64) -> Result<Outcome, EngineError>
-        requires { line_at line self.old.broker ≡ None }
+        requires running { self.old.stopped ≡ false }
+        requires unlinked { line_at line self.old.broker ≡ None }
         ensures { (call : Call) → IsOn line call
             → Called K.Keep moment call self.old result self.new }
     {
-        if self.stopped {
-            return Err(EngineError::Stopped);
-        }
-        self.step.rest_at(moment);
-        Ok(nothing(self.alloc))
+        self.parts.step.rest_at(moment);
+        Ok(nothing(self.parts.alloc))
+    }
+
+    /// The tables of its broker, to be looked at: no step is under way on them. Takes no memory.
+    pub fn step(&self) -> &Step
+        ensures { result.now ≡ at_rest self.now.limits self.now.broker }
+    {
+        &self.parts.step
     }
 
     /// The copy that has a packet identifier in the queue of a line's session. Takes no memory.
     pub fn copy_of(&self, line: u64, identifier: u16) -> Option<&CopyId>
         ensures { option_copied result ≡ copy_of line identifier self.now.broker }
     {
-        copy_of(&self.step, line, identifier)
+        copy_of(&self.parts.step, line, identifier)
     }
 }

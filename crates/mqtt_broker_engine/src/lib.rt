@@ -7,12 +7,10 @@ mod closing;
 mod engine;
 mod finishing;
 mod holding;
-mod indexing;
-mod looks;
 mod opening;
 mod outcome;
+mod parts;
 
 pub use engine::Engine;
-pub use finishing::finish;
 pub use opening::open;
 pub use outcome::Outcome;

@@ -1,15 +1,38 @@
--- What is stored is quiet before the moment that the end of the call leaves.
-use Rattle.std.proofs.Common.{rules, sym, subst}
-use Rattle.mqtt_broker_clock.specs.Quiet.{AreQuietBefore}
-use Rattle.mqtt_rules.specs.State.{Broker}
+-- The step begins in an engine at rest that runs, and its end is the engine's.
+use Rattle.std.proofs.Common.{◌∙◌, rules}
+use Rattle.mqtt_rules.specs.Step.{Lost}
+use Rattle.mqtt_broker_engine.proofs.Resting.{begins_call, called_of, called_stale}
 use Rattle.mqtt_broker_engine.proofs.engine.Engine.lose.Goals as goal
 
+pub returns-in_err-renew : goal.returns-in_err-renew
+returns-in_err-renew g c =
+    called_stale g.K.Keep c.args.moment (Lost c.args.line) c.renew.new.self c.args.self.now _ c.in_err-renew.field-0.0 (search rules) c.in_err-renew.ensures.fault
+    c.renew.ensures.rest (c.renew.ensures.same ∙ c.self.view_is) c.requires.running g.met.K.Keep.leaves_held
+
+pub lost_at-done-requires-clause-rest : goal.lost_at-done-requires-clause-rest
+lost_at-done-requires-clause-rest g c = c.renew.ensures.rest.rest
+
+pub lost_at-done-requires-clause-sound : goal.lost_at-done-requires-clause-sound
+lost_at-done-requires-clause-sound g c = c.renew.ensures.rest.its.sound
+
+pub lost_at-done-requires-clause-serves : goal.lost_at-done-requires-clause-serves
+lost_at-done-requires-clause-serves g c = c.in_ok-renew.ensures.ok
+
+pub finish-requires-clause-mid : goal.finish-requires-clause-mid
+finish-requires-clause-mid g c =
+    begins_call g.K.Keep c.renew.new.self c.args.self.now c.lost_at-done.new.router c.lost_at-done.new.step c.renew.ensures.rest (c.renew.ensures.same ∙ c.self.view_is) c.requires.running c.lost_at-done.ensures.start c.lost_at-done.ensures.limits
+    (λ fresh. c.lost_at-done.ensures.serves _ c.in_ok-renew.ensures.ok)
+
+pub finish-requires-clause-called : goal.finish-requires-clause-called
+finish-requires-clause-called g c = (c.args.moment, Lost c.args.line, tt, c.lost_at-done.ensures.called)
+
+pub returns : goal.returns
+returns g c =
+    called_of g.K.Keep c.args.moment (Lost c.args.line) c.renew.new.self c.args.self.now c.lost_at-done.new.router c.lost_at-done.new.step _ _ (c.renew.ensures.same ∙ c.self.view_is) c.lost_at-done.ensures.start c.lost_at-done.ensures.limits
+    (c.finish.ensures.called c.args.moment (Lost c.args.line) c.lost_at-done.ensures.called)
+
+pub invariant_of-self : goal.invariant_of-self
+invariant_of-self g c = c.renew.ensures.rest
+
 pub invariant_of-self-2 : goal.invariant_of-self-2
-invariant_of-self-2 g c =
-    let before = subst (λ (b : Broker). AreQuietBefore c.self.inside.quiet b.records) (sym c.lost_at-done.ensures.start) c.self.invariant.4 in (
-      search rules,
-      search rules,
-      search rules,
-      search rules,
-      c.finish-answer.ensures.quiet before,
-    )
+invariant_of-self-2 g c = c.finish.ensures.rest

@@ -1,16 +1,16 @@
-use Rattle.std.proofs.Common.{◌≡◌, rules, ap, sym, subst, ◌∙◌}
+use Rattle.std.proofs.Common.{◌≡◌, rules, ap, sym, ◌∙◌}
 use Rattle.mqtt_rules.specs.State.{Broker}
 use Rattle.mqtt_rules.specs.Step.{at_moment}
-use Rattle.mqtt_broker_clock.specs.Quiet.{AreQuietBefore}
 use Rattle.mqtt_broker_step.specs.Stepping.{Stepping, at_rest}
 use Rattle.mqtt_broker_engine.proofs.Linked.{passed_over}
+use Rattle.mqtt_broker_engine.proofs.Resting.{rests_on}
 use Rattle.mqtt_broker_engine.proofs.engine.Engine.skip.Goals as goal
 
 pub returns : goal.returns
 returns g c = λ call on.
-    let same : c.args.self.now.broker ≡ c.self.inside.step.broker = search rules in
+    let same : c.args.self.now.broker ≡ c.self.inside.parts.step.broker = search rules in
     record {
-      step = passed_over c.args.self.now.limits c.args.moment c.args.line c.args.self.now.broker c.rest_at.new.self.broker c.nothing.result c.requires
+      step = passed_over c.args.self.now.limits c.args.moment c.args.line c.args.self.now.broker c.rest_at.new.self.broker c.nothing.result c.requires.unlinked
           (ap (λ (t : Stepping). t.broker) c.rest_at.ensures ∙ ap (λ (b : Broker). at_moment c.args.moment b) (sym same))
           c.nothing.ensures call on;
       stored = search rules;
@@ -28,11 +28,6 @@ returns g c = λ call on.
 
 pub invariant_of-self : goal.invariant_of-self
 invariant_of-self g c =
-    let s = c.self.inside.step in
-    let is : c.rest_at.new.self ≡ at_rest s.limits (at_moment c.args.moment s.broker) = c.rest_at.ensures in (
-      search rules,
-      search rules,
-      search rules,
-      search rules,
-      subst (λ (t : Stepping). AreQuietBefore c.self.inside.quiet t.broker.records) (sym is) c.self.invariant.4,
-    )
+    let s = c.self.inside.parts.step in
+    let is : c.rest_at.new.self ≡ at_rest s.limits (at_moment c.args.moment s.broker) = c.rest_at.ensures in
+    rests_on g.K.Keep c.self.inside.parts c.rest_at.new.self c.self.invariant (search rules) (search rules) (ap (λ (t : Stepping). t.broker.records) is)
