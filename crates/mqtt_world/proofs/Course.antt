@@ -8,18 +8,20 @@ use Rattle.mqtt_world_peers.specs.declared.told.RunFault.{RunFault}
 use Rattle.mqtt_world_peers.specs.declared.told.RunFault.TheVariants as fault
 use Rattle.mqtt_script.specs.declared.event.Event.{Event}
 use Rattle.mqtt_script.specs.declared.event.Event.TheVariants.{Drain}
-use Rattle.mqtt_script_laws.specs.Scripted.{IsBadHere, RunsTo, as_drain, as_event, bad_drain, bad_event}
+use Rattle.mqtt_script_laws.specs.Sayable.{AreSayableEvents}
+use Rattle.mqtt_script_laws.specs.Scripted.{IsBad, IsBadHere, RunsTo, as_drain, as_event, bad_drain, bad_event}
 use Rattle.mqtt_script_laws.specs.Drains.{DrainHappens}
 use Rattle.mqtt_script_drain_laws.specs.Done.{IsEmptied}
 use Rattle.mqtt_script_drain_laws.proofs.Done.{script_empties}
 use Rattle.mqtt_script_laws.proofs.Carrying.{delivers_once}
+use Rattle.mqtt_script_laws.proofs.Fronts.{script_refuses}
 use Rattle.mqtt_script_laws.proofs.Scripts.{runs_join}
 use Rattle.mqtt_rules.specs.Laws.{AreWithin}
 use Rattle.mqtt_rules.specs.declared.Limits.{Limits}
 use Rattle.mqtt_world_scene.specs.Events.{IsReached}
 use Rattle.mqtt_world_scene.specs.Halting.{fault_of}
 use Rattle.mqtt_world.specs.Stages.{IsSoundAt, IsStanding, PlaysDrain, Staged, broker_of, world_at}
-use Rattle.mqtt_world.specs.Worlds.{Came, CantHappen, DrainEmpties, Happen, HappenDrained, HasCome, HasDelivered, IfSound, Lasting, Performs, Refuses, Runs, Stops, over_by, performs_drain, performs_event, with_stage}
+use Rattle.mqtt_world.specs.Worlds.{Came, CantHappen, DrainEmpties, Happen, HappenDrained, HasCome, HasDelivered, IfBegunWell, IfSound, Lasting, Performs, Refuses, Runs, Stops, over_by, performs_drain, performs_event, with_stage}
 use Rattle.mqtt_world_scene.specs.declared.over.Over.{Over}
 use Rattle.mqtt_world_scene.specs.declared.over.Over.TheVariants as over
 use Rattle.mqtt_world_scene.proofs.ReadAsSent.{spells_all}
@@ -30,7 +32,8 @@ use Rattle.mqtt_world_scene.proofs.ReadAsSent.{spells_all}
 pub ok_is : {A E : Type 0} (r : Result A E) (a b : A) → r ≡ Ok a → r ≡ Ok b → a ≡ b
 ok_is r a b is same = cc
 
-ok_no_err : {P : Type 0} {A E : Type 0} (r : Result A E) (a : A) (e : E) → r ≡ Ok a → r ≡ Err e → P
+-- a result that is a value is no error
+pub ok_no_err : {P : Type 0} {A E : Type 0} (r : Result A E) (a : A) (e : E) → r ≡ Ok a → r ≡ Err e → P
 ok_no_err r a e is bad = absurd (cc)
 
 none_of : {A : Type 0} (xs : List A) → length xs ≡ 0 → xs ≡ []
@@ -107,6 +110,13 @@ module _ {K : Type 0} (g : Ghosts K) where
   played_bad e old new (performs_drain client is (None, told, p)) = λ sound reached. bad_drain client is (p.done sound (spells_all old.limits) reached).0
   played_bad e old new (performs_drain client is (Some x, told, p)) = absurd (cc)
 
+  -- where the kept events have led, it is bad by the definitions alone, since what they bring can be said
+  bad_after : (start : World) (e : Event) (s n : Staged K) (w : Lasting K) → AreSayableEvents w.events → Performs g e s None n
+      → HasCome g start (with_stage s w) → IfBegunWell g start n (IsBad e (world_at s))
+  bad_after start e s n w said p come = λ sound nobody sends.
+      let c = come s refl ((played_none e s n p).sound sound) in
+      script_refuses s.limits w.events c.tells start (world_at s) nobody sends said c.runs e (played_bad e s n p sound c.reached)
+
   -- ---- in the world
 
   -- if nothing happens, a world that stands stays as it is
@@ -133,8 +143,9 @@ module _ {K : Type 0} (g : Ghosts K) where
   happened_one e s n t w new p is kept = record { from = s; to = n; was = refl; is = is; runs = played_one e s t n p; kept = kept }
 
   -- an event that could not be performed on the stage can't happen, and the world keeps nothing of it
-  pub cant_happen : (e : Event) (s n : Staged K) (w : Lasting K) → Performs g e s None n → CantHappen g e (with_stage s w) (with_stage n w)
-  cant_happen e s n w p = record {
+  pub cant_happen : (e : Event) (s n : Staged K) (w : Lasting K) → AreSayableEvents w.events → Performs g e s None n
+      → CantHappen g e (with_stage s w) (with_stage n w)
+  cant_happen e s n w said p = record {
     nothing = record {
       from = s;
       to = n;
@@ -144,6 +155,7 @@ module _ {K : Type 0} (g : Ghosts K) where
       kept = sym (append-nil w.events);
     };
     bad = played_bad e s n p;
+    is_bad = λ start come. bad_after start e s n w said p come;
   }
 
   -- a world that is over
@@ -217,11 +229,12 @@ module _ {K : Type 0} (g : Ghosts K) where
   kept_happens e s n told w new (Err f) p told_is is = tt
 
   -- what can't happen is not
-  pub refused_here : (e : Event) (s n : Staged K) (w new : Lasting K) (r : Result Telling RunFault) → Performs g e s None n
-      → r ≡ Err (fault.BadEvent (length w.events)) → new ≡ with_stage n w → IfErr r (λ (f : RunFault). Refuses g e f (with_stage s w) new)
-  refused_here e s n w new r p is same =
+  pub refused_here : (e : Event) (s n : Staged K) (w new : Lasting K) (r : Result Telling RunFault) → AreSayableEvents w.events
+      → Performs g e s None n → r ≡ Err (fault.BadEvent (length w.events)) → new ≡ with_stage n w
+      → IfErr r (λ (f : RunFault). Refuses g e f (with_stage s w) new)
+  refused_here e s n w new r said p is same =
       subst (λ (x : Result Telling RunFault). IfErr x (λ (f : RunFault). Refuses g e f (with_stage s w) new)) (sym is)
-      (subst (λ (x : Lasting K). CantHappen g e (with_stage s w) x) (sym same) (cant_happen g e s n w p), refl)
+      (subst (λ (x : Lasting K). CantHappen g e (with_stage s w) x) (sym same) (cant_happen g e s n w said p), refl)
 
   -- ---- what a drain comes to
 
@@ -247,12 +260,12 @@ module _ {K : Type 0} (g : Ghosts K) where
   kept_drain e client rounds s n told w new (Err f) is p kept = tt
 
   -- a drain that can't happen is refused, with its place behind the events that are kept
-  pub drain_refused : (client : List ℕ) (s n : Staged K) (w new : Lasting K) (f : RunFault) → PlaysDrain g client s None n → f ≡ fault.BadEvent (length w.events)
-      → new ≡ with_stage n w → Refuses g (Drain client) f (with_stage s w) new
-  drain_refused client s n w new f p is same =
+  pub drain_refused : (client : List ℕ) (s n : Staged K) (w new : Lasting K) (f : RunFault) → AreSayableEvents w.events → PlaysDrain g client s None n
+      → f ≡ fault.BadEvent (length w.events) → new ≡ with_stage n w → Refuses g (Drain client) f (with_stage s w) new
+  drain_refused client s n w new f said p is same =
       subst (λ (x : RunFault). Refuses g (Drain client) x (with_stage s w) new) (sym is) (
         subst (λ (x : Lasting K). CantHappen g (Drain client) (with_stage s w) x) (sym same)
-            (cant_happen g (Drain client) s n w (performs_drain client refl (None, refl, p))),
+            (cant_happen g (Drain client) s n w said (performs_drain client refl (None, refl, p))),
         refl,
       )
 
@@ -289,6 +302,10 @@ module _ {K : Type 0} (g : Ghosts K) where
   -- a world is its stage, as it was found to be, with the events that it keeps
   pub lasting_as : (stage at : Result (Staged K) Over) (es : List Event) (w : Lasting K) → lasting stage es ≡ w → stage ≡ at → lasting at es ≡ w
   lasting_as stage at es w view is = ap (λ (x : Result (Staged K) Over). lasting x es) (sym is) ∙ view
+
+  -- and its stage is what it was found to be
+  pub stage_as : (stage at : Result (Staged K) Over) (es : List Event) (w : Lasting K) → lasting stage es ≡ w → stage ≡ at → w.stage ≡ at
+  stage_as stage at es w view is = ap (λ (x : Lasting K). x.stage) (sym view) ∙ is
 
   -- what drained a receiver in a world taken apart drained it in that world as a whole
   pub drained_at : (client : List ℕ) (w0 w new : Lasting K) (r : Result ℕ RunFault) → w0 ≡ w → IfOk r (λ (n : ℕ). HappenDrained g client n w0 new)

@@ -1,5 +1,5 @@
 -- A world that begins, from what the opening of its broker is (MQTT 5.0, 4.1).
-use Rattle.std.proofs.Common.{◌≡◌, List, [], refl, sym, ap, subst, ◌∙◌}
+use Rattle.std.proofs.Common.{◌≡◌, ℕ, List, [], refl, sym, ap, subst, ◌∙◌}
 use Rattle.std.specs.Prelude.{Ok}
 use Rattle.mqtt_records_lawful.specs.Lawful.{IsLawful}
 use Rattle.mqtt_records.specs.declared.keep.Keep.{Ghosts}
@@ -7,9 +7,11 @@ use Rattle.mqtt_records.specs.declared.records.Records.{Records}
 use Rattle.mqtt_world_model.specs.World.{Stranger, World}
 use Rattle.mqtt_script.specs.declared.event.Event.{Event}
 use Rattle.mqtt_rules_spelling_laws.specs.Sending.{HaveSentPhases}
+use Rattle.mqtt_rules_spelling_laws.proofs.Steps.{well_begun}
 use Rattle.mqtt_world_acceptance_laws.specs.Fair.{opened_world}
+use Rattle.mqtt_world_reading_laws.specs.UnderWay.{IsUninhabited}
 use Rattle.mqtt_rules.specs.Laws.{AreWithin}
-use Rattle.mqtt_rules.specs.State.{Broker}
+use Rattle.mqtt_rules.specs.State.{Broker, MemberChoice}
 use Rattle.mqtt_rules.specs.Step.{opened}
 use Rattle.mqtt_rules.specs.declared.Limits.{Limits}
 use Rattle.mqtt_world_clients.specs.Ends.{Ends}
@@ -37,6 +39,10 @@ module _ {K : Type 0} (g : Ghosts K) (limits : Limits) (r : Records) (s : Played
         runs = (refl, world_began o none);
       })
 
+-- nobody is there where a broker was opened
+alone_at_first : (limits : Limits) (choice : MemberChoice) (now : ℕ) (r : Records) → IsUninhabited (opened_world limits choice now r)
+alone_at_first limits choice now r = record { publishers = refl; receivers = refl; strangers = refl }
+
 module _ {K : Type 0} (g : Ghosts K) (limits : Limits) (keep : K) (s : Played K) where
   -- it can go on
   pub begun_stands : AreWithin limits → (b : Begins g limits 0 keep s) → IsStanding g (staged s [] 0 limits)
@@ -60,6 +66,8 @@ module _ {K : Type 0} (g : Ghosts K) (limits : Limits) (keep : K) (s : Played K)
     comes = λ phases t is sound.
         subst (Came (opened_world limits b.opens.choice 0 b.records) events) (ok_is (Ok (staged s [] 0 limits)) (staged s [] 0 limits) t refl is)
         (came_first g limits b.records s events b.opens b.ends nothing within b.lawful phases);
+    alone = alone_at_first limits b.opens.choice 0 b.records;
+    sends = λ phases. well_begun limits b.opens.choice 0 b.records b.opens.unspent b.lawful phases;
   }
 
   -- a world that just began, without strangers, can go on

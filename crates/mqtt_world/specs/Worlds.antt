@@ -1,7 +1,7 @@
 -- Worlds that run: what a script's events come to there, one after the other, and what holds of all of them (MQTT 5.0, 4.1 to
 -- 4.4).
-use Rattle.std.specs.Prelude.{◌≡◌, ℕ, Bool, false, List, [], ◌∷◌, ◌++◌, length, count_by, cond, bytes_eq, Option, None}
-use Rattle.std.specs.Prelude.{Some, Result, Ok, Err, option_map}
+use Rattle.std.specs.Prelude.{◌≡◌, ◌↔◌, ℕ, Bool, false, List, [], ◌∷◌, ◌++◌, length, count_by, cond, bytes_eq, Option, None}
+use Rattle.std.specs.Prelude.{Some, Result, Ok, Err, IsErrOf, option_map}
 use Rattle.mqtt_records.specs.declared.keep.Keep.{Ghosts}
 use Rattle.mqtt_records.specs.declared.records.Records.{Records}
 use Rattle.mqtt_records_lawful.specs.Lawful.{IsLawful}
@@ -15,9 +15,10 @@ use Rattle.mqtt_script.specs.declared.event.Event.{Event}
 use Rattle.mqtt_script.specs.declared.event.Event.TheVariants.{Publish, Drain}
 use Rattle.mqtt_script_laws.specs.Cleanly.{BeginClean, ScriptDelivers}
 use Rattle.mqtt_script_laws.specs.Drains.{DrainHappens}
-use Rattle.mqtt_script_laws.specs.Scripted.{IsBadHere, RunsTo, event_of}
+use Rattle.mqtt_script_laws.specs.Scripted.{IsBad, IsBadHere, RunsTo, event_of}
 use Rattle.mqtt_script_drain_laws.specs.Done.{IsEmptied}
-use Rattle.mqtt_rules_spelling_laws.specs.Sending.{HaveSentPhases}
+use Rattle.mqtt_rules_spelling_laws.specs.Sending.{HaveSentPhases, SendsWell}
+use Rattle.mqtt_world_reading_laws.specs.UnderWay.{IsUninhabited}
 use Rattle.mqtt_world_delivery_laws.specs.Untouched.{IsUntouched}
 use Rattle.mqtt_world_acceptance_laws.specs.Fair.{opened_world}
 use Rattle.mqtt_world_headline_laws.specs.Lives.{BeginsWell}
@@ -68,6 +69,25 @@ with_stage s w = record w { stage = Ok s }
 abbrev pub over_by : {K : Type 0} → Over → Lasting K → Lasting K
 over_by o w = record w { stage = Err o }
 
+-- ---- all that a world keeps
+
+-- events led from one world to what stands, by a run of the definitions' world
+pub record Came {K : Type 0} (start : World) (es : List Event) (s : Staged K) : Type 0 where
+  pub within : AreWithin s.limits
+  pub reached : IsReached s.limits (broker_of s)
+  pub tells : List Telling
+  pub runs : RunsTo s.limits es tells start (world_at s)
+
+-- while it stands, and the device of its store has returned what was written, the events that it keeps led there
+abbrev pub HasCome : {K : Type 0} → Ghosts K → World → Lasting K → Type 0
+HasCome {K} g start w = (s : Staged K) → w.stage ≡ Ok s → IsSoundAt g s → Came start w.events s
+
+-- over a store whose device is sound then, if nobody was there at first, and the broker sent well
+abbrev pub IfBegunWell : {K : Type 0} → Ghosts K → World → Staged K → Type 0 → Type 0
+IfBegunWell g start to P = IsSoundAt g to → IsUninhabited start → SendsWell start.broker → P
+
+-- ---- what happens in a world
+
 -- events happened, with what each tells, and the world keeps them
 pub record Happen {K : Type 0} (g : Ghosts K) (es : List Event) (ts : List Telling) (old new : Lasting K) : Type 0 where
   pub from : Staged K
@@ -84,10 +104,11 @@ pub record HappenDrained {K : Type 0} (g : Ghosts K) (client : List ℕ) (rounds
   pub drained : (from to : Staged K) → old.stage ≡ Ok from → new.stage ≡ Ok to
       → IfSound g from to ((h : DrainHappens from.limits client t (world_at from) (world_at to)) × (h.rounds ≡ rounds))
 
--- an event can't happen there, and nothing changed
+-- an event can't happen there, and nothing changed; and it is bad where the events that are kept have led
 pub record CantHappen {K : Type 0} (g : Ghosts K) (e : Event) (old new : Lasting K) : Type 0 where
   pub nothing : Happen g [] [] old new
   pub bad : IfSound g nothing.from nothing.to (IsBadHere e (world_at nothing.from))
+  pub is_bad : (start : World) → HasCome g start old → IfBegunWell g start nothing.to (IsBad e (world_at nothing.from))
 
 -- why an event did not happen: it can't, and its place is behind those that the world keeps; or the world is over
 abbrev pub Refuses : {K : Type 0} → Ghosts K → Event → RunFault → Lasting K → Lasting K → Type 0
@@ -106,18 +127,7 @@ pub record Stops {K : Type 0} (g : Ghosts K) (es : List Event) (f : RunFault) (o
   pub happened : Happen g before tells old mid
   pub refused : Refuses g event f mid new
 
--- ---- all that a world keeps
-
--- events led from one world to what stands, by a run of the definitions' world
-pub record Came {K : Type 0} (start : World) (es : List Event) (s : Staged K) : Type 0 where
-  pub within : AreWithin s.limits
-  pub reached : IsReached s.limits (broker_of s)
-  pub tells : List Telling
-  pub runs : RunsTo s.limits es tells start (world_at s)
-
--- while it stands, and the device of its store has returned what was written, the events that it keeps led there
-abbrev pub HasCome : {K : Type 0} → Ghosts K → World → Lasting K → Type 0
-HasCome {K} g start w = (s : Staged K) → w.stage ≡ Ok s → IsSoundAt g s → Came start w.events s
+-- ---- what holds of all that a world keeps
 
 -- exactly-once delivery, of all of them, whatever turns they came to: where nobody was there at first, what was stored is as a
 -- broker leaves it, and their ends begin clean (3.1.2.4, 3.3.4, 4.3, 4.4, 4.6, 4.8, 4.9)
@@ -133,6 +143,29 @@ abbrev pub DrainEmpties : {K : Type 0} → Ghosts K → World → List ℕ → �
 DrainEmpties {K} g start client rounds old new = (from to : Staged K) → old.stage ≡ Ok from → new.stage ≡ Ok to → IsSoundAt g to
     → IsUntouched from.limits start → BeginClean from.limits old.events start
     → IsEmptied from.limits client rounds (world_at from) (world_at to)
+
+-- ---- which events are bad
+
+-- an event is answered as bad exactly if it is, where the events that are kept have led
+abbrev pub TellsBad : {K T : Type 0} → Ghosts K → World → Event → Result T RunFault → Lasting K → Lasting K → Type 0
+TellsBad {K} g start e answer old new = (from to : Staged K) → old.stage ≡ Ok from → new.stage ≡ Ok to
+    → IfBegunWell g start to (IsErrOf answer (fault.BadEvent (length old.events)) ↔ IsBad e (world_at from))
+
+-- the events before one are kept, and that one is bad where they have led
+pub record StopsAtBad {K : Type 0} (es : List Event) (old new : Lasting K) (w : World) : Type 0 where
+  pub before : List Event
+  pub event : Event
+  pub rest : List Event
+  pub are : es ≡ before ++ event ∷ rest
+  pub kept : new.events ≡ old.events ++ before
+  pub bad : IsBad event w
+
+-- a run of events is answered as one with a bad event exactly if it stopped at one
+abbrev pub TellsFirstBad : {K T : Type 0} → Ghosts K → World → List Event → Result T RunFault → Lasting K → Lasting K → Type 0
+TellsFirstBad {K} g start es answer old new = (from to : Staged K) → old.stage ≡ Ok from → new.stage ≡ Ok to
+    → IfBegunWell g start to (IsErrOf answer (fault.BadEvent (length new.events)) ↔ StopsAtBad es old new (world_at to))
+
+-- ---- how a world begins
 
 -- it begins at moment 0 with an opening of lawful records that the store's load answered, without ends or strangers
 pub record Starts {K : Type 0} (g : Ghosts K) (limits : Limits) (keep : K) (w : Lasting K) : Type 0 where
@@ -150,6 +183,9 @@ pub record Starts {K : Type 0} (g : Ghosts K) (limits : Limits) (keep : K) (w : 
   pub events : w.events ≡ []
   -- its runs have all that is proved of every run, if what was in flight has identifiers of two bytes (2.2.1)
   pub comes : HaveSentPhases records → HasCome g (opened_world limits choice 0 records) w
+  -- nobody is there, and then its broker sends well
+  pub alone : IsUninhabited (opened_world limits choice 0 records)
+  pub sends : HaveSentPhases records → SendsWell (opened_world limits choice 0 records).broker
 
 -- ---- what is seen of a world; of one that is over there is nothing to see
 

@@ -6,7 +6,7 @@ ghost use Rattle.mqtt_world_peers.specs.declared.told.RunFault.TheVariants as fa
 ghost use Rattle.mqtt_script.specs.declared.event.Event.TheVariants.{Drain};
 ghost use Rattle.mqtt_world_scene.specs.Halting.{IsFaultDue, fault_of};
 ghost use Rattle.mqtt_world.specs.Stages.{IsStanding, PlaysDrain, Staged};
-ghost use Rattle.mqtt_world.specs.Worlds.{DrainEmpties, HappenDrained, HasCome, HasDelivered, Refuses, over_by, with_stage};
+ghost use Rattle.mqtt_world.specs.Worlds.{DrainEmpties, HappenDrained, HasCome, HasDelivered, Refuses, TellsBad, over_by, with_stage};
 ghost use Rattle.mqtt_world_scene.specs.declared.over.Over.{Over as Why};
 ghost use Rattle.mqtt_world_scene.specs.declared.over.Over.TheVariants as over;
 
@@ -26,7 +26,7 @@ impl<K: Keep> World<K> {
         ensures event { IfOk result (λ event. event ≡ Drain client.now) }
         ensures same { self.new ≡ self.old }
     {
-        self.events.reserve(1)?;
+        self.events.make_room()?;
         let client = client.clone()?;
         Ok(Event::Drain { client })
     }
@@ -121,6 +121,10 @@ impl<K: Keep> World<K> {
         // it are the receiver's, and end for a cause of a drain.
         ensures empty { (start : Start) → HasCome K.Keep start self.old
             → IfOk result (λ n. DrainEmpties K.Keep start client.now n self.old self.new) }
+
+        // It is answered as bad exactly if a drain of it is bad where the events before it have led.
+        ensures bad { (start : Start) → HasCome K.Keep start self.old
+            → TellsBad K.Keep start (Drain client.now) result self.old self.new }
 
         // All that it keeps is a run of the definitions' world, and exactly-once delivery holds of it, if the device of
         // its store is sound then.

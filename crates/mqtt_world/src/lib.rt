@@ -4,6 +4,7 @@
 
 mod draining;
 mod drains;
+mod kept;
 mod looks;
 mod playing;
 mod stage;

@@ -72,7 +72,7 @@ impl<K: Keep> World<K> {
         ensures { result ≡ seen (sent_in client.now self.now.events) self.now }
     {
         match &self.stage {
-            Ok(stage) => stage.sent(client, &self.events),
+            Ok(stage) => stage.sent(client, self.events.as_slice()),
             Err(_) => None,
         }
     }

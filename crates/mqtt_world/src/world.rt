@@ -6,12 +6,14 @@ ghost use Rattle.mqtt_rules.specs.Laws.{AreWithin};
 ghost use Rattle.mqtt_world_model.specs.Tellings.{Telling};
 ghost use Rattle.mqtt_world_model.specs.World.{World as Start};
 ghost use Rattle.mqtt_world_peers.specs.declared.told.RunFault.TheVariants as fault;
+ghost use Rattle.mqtt_script_laws.specs.Sayable.{AreSayableEvents};
 ghost use Rattle.mqtt_world_scene.specs.Halting.{IsFaultDue, IsNoStart, fault_of};
 ghost use Rattle.mqtt_world.specs.Stages.{IsStanding, Staged};
-ghost use Rattle.mqtt_world.specs.Worlds.{Happen, HasCome, HasDelivered, Performs, Refuses, Starts, Stops, over_by, with_stage};
+ghost use Rattle.mqtt_world.specs.Worlds.{Happen, HasCome, HasDelivered, Performs, Refuses, Starts, Stops, TellsBad, TellsFirstBad, over_by, with_stage};
 ghost use Rattle.mqtt_world_scene.specs.declared.over.Over.{Over as Why};
 ghost use Rattle.mqtt_world_scene.specs.declared.over.Over.TheVariants as over;
 
+use crate::kept::Kept;
 use crate::stage::Stage;
 use mqtt_records::Keep;
 use mqtt_rules::Limits;
@@ -28,7 +30,7 @@ use std::mem;
 pub struct World<K: Keep> {
     pub(crate) alloc: Global,
     pub(crate) stage: Result<Stage<K>, Halt<K>>,
-    pub(crate) events: Vec<Event>,
+    pub(crate) events: Kept,
 }
 
 impl<K: Keep> Model for World<K> {
@@ -38,7 +40,7 @@ impl<K: Keep> Model for World<K> {
 
     ghost Value = { Lasting K };
 
-    ghost view = { λ w. record { stage = w.stage; events = w.events.items } };
+    ghost view = { λ w. record { stage = w.stage; events = w.events } };
 
     // What stands can go on.
     ghost invariant = { λ w. IfOk w.stage (λ s. IsStanding K.Keep s) };
@@ -82,7 +84,7 @@ impl<K: Keep> World<K> {
                     hasher,
                     alloc,
                 }),
-                events: Vec::new(alloc),
+                events: Kept::new(alloc),
             }),
             Err(over) => {
                 let fault = over.fault();
@@ -117,7 +119,7 @@ impl<K: Keep> World<K> {
         ensures copy { IfOk result (λ copy. copy ≡ event.now) }
         ensures same { self.new ≡ self.old }
     {
-        self.events.reserve(1)?;
+        self.events.make_room()?;
         event.clone()
     }
 
@@ -140,8 +142,7 @@ impl<K: Keep> World<K> {
                 self.stage = Ok(stage);
                 Ok(told)
             }
-            Err(refused) => {
-                drop(refused);
+            Err(_) => {
                 drop(stage);
                 drop(told);
                 Err(self.end_short())
@@ -149,11 +150,12 @@ impl<K: Keep> World<K> {
         }
     }
 
-    /// An event can't happen, and what stands goes on. Takes no memory.
+    /// An event can't happen, and what stands goes on. What the kept events bring can be said. Takes no memory.
     pub(crate) fn refuse(&mut self, stage: Stage<K>) -> RunFault
         requires standing { IsStanding K.Keep stage }
         ensures fault { result ≡ fault.BadEvent (length self.old.events) }
         ensures goes_on { self.new ≡ with_stage stage self.old }
+        ensures said { AreSayableEvents self.old.events }
         ensures cause { IsFaultDue K.Keep result }
     {
         self.stage = Ok(stage);
@@ -234,6 +236,10 @@ impl<K: Keep> World<K> {
         ensures over { (o : Why) → self.old.stage ≡ Err o
             → (result ≡ Err (fault_of o)) × (self.new ≡ self.old) }
 
+        // It is answered as bad exactly if it is bad where those before it have led, by the definitions alone.
+        ensures bad { (start : Start) → HasCome K.Keep start self.old
+            → TellsBad K.Keep start event.now result self.old self.new }
+
         // All that it keeps is a run of the definitions' world, and exactly-once delivery holds of it, if the device of
         // its store is sound then.
         ensures goes_on { (start : Start) → HasCome K.Keep start self.old → HasCome K.Keep start self.new }
@@ -289,6 +295,10 @@ impl<K: Keep> World<K> {
         // Whatever is asked of a world that is over, it answers why it is.
         ensures over { (o : Why) → self.old.stage ≡ Err o
             → (result ≡ Err (fault_of o)) × (self.new ≡ self.old) }
+
+        // They stop at the first that is bad where those before it have led, by the definitions alone.
+        ensures bad { (start : Start) → HasCome K.Keep start self.old
+            → TellsFirstBad K.Keep start events.now result self.old self.new }
 
         // All that it keeps is a run of the definitions' world, and exactly-once delivery holds of it, if the device of
         // its store is sound then.
