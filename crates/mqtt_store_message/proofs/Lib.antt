@@ -1,0 +1,10 @@
+pub mod Behind
+pub mod Asking
+pub mod Deletes
+pub mod PutKept
+pub mod PutMessage
+pub mod PutQueued
+pub mod Pubs
+pub mod Reading
+pub mod SetQueued
+pub mod SweepMessage

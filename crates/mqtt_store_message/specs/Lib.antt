@@ -1,0 +1,5 @@
+pub mod Places
+pub mod Rows
+pub mod Messages
+pub mod Copies
+pub mod References
