@@ -3,3 +3,4 @@ pub mod Rows
 pub mod Messages
 pub mod Copies
 pub mod References
+pub mod Endings

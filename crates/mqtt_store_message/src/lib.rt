@@ -5,7 +5,9 @@ mod kept;
 mod messages;
 mod numbers;
 mod queued;
+mod sessions;
 
 pub use kept::{KeptColumns, pub_of_kept, put_kept, remove_kept};
 pub use messages::{MessageColumns, put_message, sweep_message};
 pub use queued::{QueuedColumns, pub_of_queued, put_queued, remove_queued, set_queued};
+pub use sessions::{pubs_of_queue, remove_session};

@@ -1,9 +1,10 @@
 //! Numbers on their way into SQL and out of it.
 ghost use Rattle.std.specs.Prelude.{◌≡◌, ◌<◌, ◌≤◌, ◌^◌, IfOk, IfSome, length, map, option_map, pos};
 ghost use Rattle.sqlite_value.specs.Order.{column};
-ghost use Rattle.mqtt_store_message.specs.References.{as_row};
+ghost use Rattle.mqtt_store_message.specs.References.{as_row, as_rows};
 
 use sqlite::{Error, Row};
+use std::alloc::Global;
 
 /// A number as SQL has it.
 pub(crate) fn whole(n: u64) -> i64
@@ -32,4 +33,15 @@ pub(crate) fn number_of(rows: &[Row]) -> Result<Option<u64>, Error>
         [row] => Ok(Some(row.get(0)?)),
         _ => Ok(None),
     }
+}
+
+/// The number of each row.
+pub(crate) fn numbers_of(alloc: Global, rows: &[Row]) -> Result<Vec<u64>, Error>
+    ensures { IfOk result (λ found. map (λ r. column r 0) rows.now ≡ as_rows found.items) }
+{
+    let mut found = Vec::new(alloc);
+    for row in rows {
+        found.push(row.get(0)?)?;
+    }
+    Ok(found)
 }
