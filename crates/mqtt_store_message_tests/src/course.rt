@@ -1,8 +1,9 @@
 //! A publication's message, from the first row that refers to it to the last.
 
 use mqtt_store_message::{
-    KeptColumns, MessageColumns, QueuedColumns, pub_of_kept, pub_of_queued, put_kept, put_message,
-    put_queued, remove_kept, remove_queued, set_queued, sweep_message,
+    KeptColumns, MessageColumns, QueuedColumns, pub_of_kept, pub_of_queued, pubs_of_queue,
+    put_kept, put_message, put_queued, remove_kept, remove_queued, remove_session, set_queued,
+    sweep_message,
 };
 use mqtt_store_schema::create_store;
 use mqtt_store_schema_two::{add_tables, create_second};
@@ -176,5 +177,47 @@ fn the_first_message_stays_and_a_phase_is_set(rt: HostRuntime) -> Result<(), Fai
     assert_eq!(rt; new, (5, 91));
     let taken_over = set_in(rt.alloc(), false)?;
     assert_eq!(rt; taken_over, (5, 91));
+    Ok(())
+}
+
+/// The numbers of a queue before its session ends, and what is left once they were swept.
+fn ended<S: Alter>(alloc: Global, tx: &mut Transaction<'_, S>) -> Result<(Vec<u64>, i64), Error> {
+    fill(tx)?;
+    remove_kept(tx, 1)?;
+    let all = pubs_of_queue(alloc, tx, 1)?;
+    remove_session(tx, 1)?;
+    for publication in all.as_slice() {
+        if *publication < 100 {
+            sweep_message(tx, *publication)?;
+        }
+    }
+    let rows = shown(
+        tx,
+        "SELECT (SELECT count(*) FROM session) + (SELECT count(*) FROM queued) + (SELECT count(*) FROM message)",
+    )?;
+    Ok((all, rows))
+}
+
+/// The same in a database in memory.
+fn ended_in(alloc: Global, is_new: bool) -> Result<(Vec<u64>, i64), Error> {
+    let mut conn = database(alloc, is_new)?;
+    let seen = if conn.is_autocommit() {
+        let mut tx = conn.transaction();
+        ended(alloc, &mut tx)
+    } else {
+        Err(Error::InvalidQuery)
+    };
+    drop(conn);
+    seen
+}
+
+#[test]
+fn a_queue_goes_with_its_session(rt: HostRuntime) -> Result<(), Fail> {
+    let (new, rows) = ended_in(rt.alloc(), true)?;
+    assert_eq!(rt; new.as_slice(), [7].as_slice());
+    assert_eq!(rt; rows, 0);
+    let (taken_over, left) = ended_in(rt.alloc(), false)?;
+    assert_eq!(rt; taken_over.as_slice(), [7].as_slice());
+    assert_eq!(rt; left, 0);
     Ok(())
 }
