@@ -1,0 +1,13 @@
+pub mod Behind
+pub mod Asking
+pub mod Cuts
+pub mod Deletes
+pub mod PutKept
+pub mod PutMessage
+pub mod PutQueued
+pub mod Pubs
+pub mod PubsOfQueue
+pub mod Reading
+pub mod RemoveSession
+pub mod SetQueued
+pub mod SweepMessage
