@@ -16,7 +16,7 @@ use Rattle.mqtt_rules.specs.declared.Limits.{Limits}
 use Rattle.mqtt_script.specs.declared.event.Event.{Event}
 use Rattle.mqtt_script.specs.Lines.{IsLineOf, is_passed_over}
 use Rattle.mqtt_script.specs.Telling.{bad_text, publisher_text, receiver_text, broker_text}
-use Rattle.mqtt_script_laws.specs.Scripted.{IsBadHere, RunsTo}
+use Rattle.mqtt_script_laws.specs.Scripted.{IsBad, RunsTo}
 use Rattle.mqtt_script_laws.proofs.Carrying.{delivers_once}
 use Rattle.mqtt_rules_spelling_laws.specs.Sending.{HaveSentPhases}
 use Rattle.mqtt_world_acceptance_laws.specs.Fair.{opened_world}
@@ -195,15 +195,15 @@ module _ {K : Type 0} (g : Ghosts K) where
                 (subst (λ (l : Limits). AreWithin l) starts.limits_are came.within) begins clean runs;
           }
 
-      -- an event that can't happen there can't in the definitions' world
+      -- an event that can't happen there is bad in the definitions' world: nobody was there at first, and the broker sent well
       cant_here : (e : Event) (end after : Lasting K) (es : List Event) (ts : List Telling) → (h : Happen g es ts w end) → (cant : CantHappen g e end after)
-          → IsSoundAt g cant.nothing.to → IsBadHere e (world_at h.to)
+          → IsSoundAt g cant.nothing.to → IsBad e (world_at h.to)
       cant_here e end after es ts h cant sound =
           let from = cant.nothing.from in
           let same : from ≡ h.to = ok_is end.stage from h.to cant.nothing.was h.is in
           let come : HasCome g begun end = come_on g begun es ts w end h has_come in
-          subst (λ (s : Staged K). IsBadHere e (world_at s)) same
-          (cant.bad sound (come from cant.nothing.was (cant.nothing.runs.sound sound)).reached)
+          subst (λ (s : Staged K). IsBad e (world_at s)) same
+          (cant.is_bad begun come sound starts.alone (starts.sends phases))
 
     -- what a bad line leaves of the store
     abbrev left_by : (bad : List ℕ) (end : Standing (Lasting K)) → Staged K → IsBadLine (play_of g) bad end → Staged K

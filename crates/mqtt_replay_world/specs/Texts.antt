@@ -16,7 +16,7 @@ use Rattle.mqtt_script.specs.declared.event.Event.{Event}
 use Rattle.mqtt_script.specs.Lines.{IsLineOf, IsNoLine, first_word, is_passed_over}
 use Rattle.mqtt_script.specs.Telling.{bad_text, broker_text, publisher_text, receiver_text}
 use Rattle.mqtt_script_laws.specs.Cleanly.{BeginClean, ScriptDelivers}
-use Rattle.mqtt_script_laws.specs.Scripted.{IsBadHere, RunsTo}
+use Rattle.mqtt_script_laws.specs.Scripted.{IsBad, RunsTo}
 use Rattle.mqtt_world_headline_laws.specs.Lives.{BeginsWell}
 use Rattle.mqtt_world_acceptance_laws.specs.Fair.{opened_world}
 use Rattle.mqtt_rules_spelling_laws.specs.Sending.{HaveSentPhases}
@@ -37,9 +37,9 @@ AreEventsOf (line ∷ lines) es =
     ⊎ ((is_passed_over line ≡ false) × (e : Event) × (rest : List Event) × IsLineOf e line × (es ≡ e ∷ rest)
     × AreEventsOf lines rest)
 
--- a line is that of no event, or of one that can't happen there
+-- a line is that of no event, or of one that is bad there
 abbrev pub IsBadLineIn : List ℕ → World → Type 0
-IsBadLineIn line w = (is_passed_over line ≡ false) × (IsNoLine line ⊎ ((e : Event) × IsLineOf e line × IsBadHere e w))
+IsBadLineIn line w = (is_passed_over line ≡ false) × (IsNoLine line ⊎ ((e : Event) × IsLineOf e line × IsBad e w))
 
 -- ---- a line for each event that happened, numbered on from here, with what it tells
 
