@@ -24,7 +24,7 @@ fn frames() -> &'static [&'static [u8]] {
     ]
 }
 
-/// How often the frames are gone through where the command line gives no other number.
+/// How often the frames are gone through if the command line gives no other number.
 const DEFAULT_ROUNDS: u64 = 100;
 
 /// What was done: how many packets, and a sum over them.

@@ -56,9 +56,9 @@ pub(crate) enum Step {
     Answer(u8),
     /// The publisher's PUBREL.
     Release,
-    /// Turns of sending where nothing waits, or the window is full.
+    /// Turns of sending when nothing waits, or the window is full.
     IdlePump,
-    /// Turns of the clock where nothing is due.
+    /// Turns of the clock when nothing is due.
     IdleTick,
     /// A client comes back and goes, with a turn of the clock after each.
     Return,
@@ -217,7 +217,7 @@ fn read(
     Ok(())
 }
 
-/// Turns of sending, or of the clock, where there is nothing to do.
+/// Turns of sending, or of the clock, when there is nothing to do.
 fn idle(
     engine: &mut Engine<MemKeep>,
     tally: &mut Tally,

@@ -46,7 +46,7 @@ fn part_of(of: &'static str, name: &'static str, step: Step) -> Part {
     }
 }
 
-/// A batch at each QoS, one after the other, and turns where there is nothing to do.
+/// A batch at each QoS, one after the other, and turns when there is nothing to do.
 fn parts() -> [Part; 11] {
     [
         part_of("qos0", "PUBLISH", Step::PublishAtOnce),
@@ -63,7 +63,7 @@ fn parts() -> [Part; 11] {
     ]
 }
 
-/// What goes on at a queue behind a full window: turns where nothing can go out, answers, as many publications, and the
+/// What goes on at a queue behind a full window: turns when nothing can go out, answers, as many publications, and the
 /// turn that fills the window again.
 fn parts_of_a_queue() -> [Part; 4] {
     [
@@ -310,7 +310,7 @@ fn run_all_queues(
     run_queue(rt, alloc, hasher, "behind", sizes)
 }
 
-/// The number that a word says, or this one where there is no word.
+/// The number that a word says, or this one if there is no word.
 fn number(word: Option<&String>, other: u64) -> anyhow::Result<u64> {
     match word {
         Some(word) => Ok(word.parse::<u64>()?),

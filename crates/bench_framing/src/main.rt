@@ -11,7 +11,7 @@ use std::time::{CpuClock, Duration};
 /// A PUBLISH at QoS 0 of `12345` to the topic `a/b`.
 const PACKET: [u8; 13] = *b"\x30\x0b\x00\x03a/b\x0012345";
 
-/// The bytes that are framed where the command line gives no other number.
+/// The bytes that are framed if the command line gives no other number.
 const DEFAULT_SIZE: usize = 130_000;
 
 /// The most bytes that are fed at once.

@@ -13,7 +13,7 @@ use std::env;
 use std::hash::RandomState;
 use std::time::{CpuClock, Duration};
 
-/// How many subscriptions stand in the tables that are compared where the command line asks for none.
+/// How many subscriptions stand in the tables that are compared if the command line asks for none.
 const SUBSCRIPTIONS: [u32; 3] = [10, 100, 1_000];
 
 /// How many topics have a retained message in the tables that are compared.

@@ -63,7 +63,7 @@ fn do_with<K: Keep>(
     }
 }
 
-/// Does a deed, and tells what is found where that is what is asked.
+/// Does a deed, and tells what is found if that is what is asked.
 fn act<K: Keep>(
     rt: &(impl Print + Clock),
     keep: &mut K,
@@ -122,7 +122,7 @@ fn measure_at(rt: &HostRuntime, place: &str, deed: Deed<'_>) -> anyhow::Result<(
     Ok(())
 }
 
-/// The number that a word says; 100 where there is none.
+/// The number that a word says; 100 if there is none.
 fn number(word: Option<&String>) -> anyhow::Result<u64> {
     match word {
         Some(word) => Ok(word.parse::<u64>()?),

@@ -12,7 +12,7 @@ use std::alloc::{AllocError, Global};
 use std::env;
 use std::time::{CpuClock, Duration};
 
-/// How many changes of each kind are made where the command line gives no other number.
+/// How many changes of each kind are made if the command line gives no other number.
 const DEFAULT_CHANGES: u64 = 1_000;
 
 /// How many copies wait in each session but the one that is changed.

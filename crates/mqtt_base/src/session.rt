@@ -21,7 +21,7 @@ pub enum Qos {
 pub enum RetainHandling {
     /// 0: those that match, at each SUBSCRIBE.
     SendAlways = 0,
-    /// 1: those that match, where there was no such subscription before.
+    /// 1: those that match, if there was no such subscription before.
     SendIfNew = 1,
     /// 2: none.
     DoNotSend = 2,

@@ -16,7 +16,7 @@ use std::marker::Model;
 /// with them (1.5.4). Control characters and noncharacters are accepted (ours), and U+FEFF is kept.
 /// Takes no memory.
 ///
-/// It answers `Short` (1) where the input ends inside the text and `BadText` (3) where all bytes
+/// It answers `Short` (1) if the input ends inside the text and `BadText` (3) if all bytes
 /// are there and are no well-formed UTF-8 or hold U+0000; never `Overlong`.
 #[inline(always)]
 pub fn text_read(bytes: &[u8]) -> Result<(&str, usize), ReadFault>

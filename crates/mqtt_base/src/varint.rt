@@ -13,7 +13,7 @@ use std::alloc::AllocError;
 /// Reads the variable byte integer at the front, at most 268,435,455, and how many bytes it takes,
 /// one to four (1.5.5). Takes no memory.
 ///
-/// It answers `Short` (1) where the input ends inside the integer and `Overlong` (2) where its last
+/// It answers `Short` (1) if the input ends inside the integer and `Overlong` (2) if its last
 /// byte of two or more is 00 or its fourth byte has the high bit; never `BadText`.
 #[inline(always)]
 pub fn varint_read(bytes: &[u8]) -> Result<(u32, usize), ReadFault>

@@ -127,7 +127,7 @@ pub record IsAnswered (line : ℕ) (cs : List Coming) (g : Giving) (items : List
   pub front : IsFrontOf (answered line cs g) (there_in items ending)
   pub whole : IsGivenWhole line (after_comings line cs g) → answered line cs g ≡ there_in items ending
 
--- where the line stands, the last answer tells whether more is whole
+-- if the line stands, the last answer tells whether more is whole
 abbrev TellsAgain : ℕ → Giving → Type 0
 TellsAgain line g = IsStanding line g → g.again ≡ is_whole (first_of g.framing.held)
 
@@ -143,7 +143,7 @@ again_after line (Piece limits choice now piece) g stands tells = λ still. by (
 again_after line (Other limits choice now call) g stands tells = λ still. tells stands
 
 module _ (line : ℕ) (items : List Item) (ending : Ending) where
-  -- nothing is there to answer where all is taken and nothing is whole
+  -- nothing is there to answer if all is taken and nothing is whole
   ended : (g : Giving) (place end : ℕ) (rest : List ℕ) → TellsAgain line g → IsCut place (g.framing.held ++ g.left) items end rest → EndsAs end rest ending
       → IsGivenWhole line g → [] ≡ there_in items ending
   ended g place end rest tells cut ends whole =

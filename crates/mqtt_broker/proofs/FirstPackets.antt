@@ -31,7 +31,7 @@ whole_unless true (Ok (Some x)) waits whole = refl
 whole_unless true (Err fault) waits whole = refl
 whole_unless false r waits whole = sym (ap is_whole (waits refl))
 
--- where no packet is asked for, nothing is dropped
+-- if no packet is asked for, nothing is dropped
 pub none_kept : (line : ℕ) (f : Framing) → None ≡ first_call line f.held → without_first f ≡ f
 none_kept line f e = by (first_of f.held) e
   where

@@ -31,7 +31,7 @@ append_bytes xs ys h k i = elim (cases_lt i (length xs)) [
 pub fed_bytes : (piece : List ℕ) (f : Framing) → AreBytes f.held → AreBytes piece → AreBytes (fed piece f).held
 fed_bytes piece f h k = append_bytes f.held (take (bytes_taken f.held piece) piece) h (IsBytes-take (bytes_taken f.held piece) piece k)
 
--- where bytes were taken, and where none were
+-- if bytes were taken, and if none were
 pub taken_bytes : {E : Type 0} (piece : List ℕ) (old new : Framing) (r : Result ℕ E) → OnOk r (new ≡ fed piece old) → OnErr r (new ≡ old) → AreBytes old.held → AreBytes piece → AreBytes new.held
 taken_bytes piece old new (Ok n) ok err h k = subst (λ (f : Framing). AreBytes f.held) (sym ok) (fed_bytes piece old h k)
 taken_bytes piece old new (Err e) ok err h k = subst (λ (f : Framing). AreBytes f.held) (sym err) h
@@ -49,7 +49,7 @@ without_bytes f (Err fault) h = h
 pub first_bytes : (f : Framing) → AreBytes f.held → AreBytes (without_first f).held
 first_bytes f h = without_bytes f (first_of f.held) h
 
--- nothing is whole where nothing is held
+-- nothing is whole if nothing is held
 pub nothing_whole : false ≡ is_whole (first_of [])
 unfolding first_of size_at
 nothing_whole = refl

@@ -25,7 +25,7 @@ returned_same line x xs lent back is put same = returned line x xs lent back is 
 pub changed_on : (f g : Framing → Framing) (h x y : HeldLine) → x ≡ in_framing f h → y ≡ in_framing g x → y.framing ≡ g (f h.framing)
 changed_on f g h x y first second = ap (λ (z : HeldLine). z.framing) (second ∙ ap (in_framing g) first)
 
--- where nothing is dropped the line is what it was
+-- if nothing is dropped the line is what it was
 pub kept_in : (h : HeldLine) → without_first h.framing ≡ h.framing → h ≡ in_framing without_first h
 kept_in h e = ap (λ (f : Framing). let x : HeldLine = record h { framing = f } in x) (sym e)
 

@@ -28,7 +28,7 @@ numbers_last n now (h ∷ held) (l ∷ ls) e =
     let more : map line_of held ≡ map line_number ls = cc in
     rw first (ap (λ ns. l.number ∷ ns) (numbers_last n now held ls more))
 
--- what a link makes of them, where there is one
+-- what a link makes of them, if there is one
 linked_by : (t : Bool) (now : ℕ) (b : Broker) (held : List HeldLine) → IsOfLines held b
     → IsOfLines (with_linked (cond t (Some (suc b.given)) None) held) (done (cond t (Link (suc b.given) ∷ []) []) (at_moment now b))
 linked_by false now b held h = record { linked = h.linked; given = h.given }

@@ -75,7 +75,7 @@ rested_lines now old new held is h = subst (λ (b : Broker). IsOfLines held b) (
 
 -- ---- any other call
 
--- where the lines stay the bytes that they hold are theirs still
+-- if the lines stay the bytes that they hold are theirs still
 pub of_lines_kept : (held : List HeldLine) (old new : Broker) → KeepsLines old new → IsOfLines held old → IsOfLines held new
 of_lines_kept held old new same h = record {
   linked = h.linked ∙ sym (ap (map line_number) same.0);

@@ -13,7 +13,7 @@ pub record Rested {K : Type 0} (now : ℕ) (old : Running K) (result : Result Ou
   pub told : IfOk result (λ out. Tells nothing_told out × (new ≡ record old { broker = at_moment now old.broker }))
   pub memory : IfErr result (λ error. (error ≡ Memory) × (new ≡ old))
 
--- what is asked was called; where nothing is, the engine rested
+-- what is asked was called; if nothing is, the engine rested
 abbrev pub CalledIf : {K : Type 0} (g : Ghosts K) (now : ℕ) (call : Option Call) (old : Running K) (result : Result Outcome EngineError) (new : Running K) → Type 0
 CalledIf g now None old result new = Rested now old result new
 CalledIf g now (Some call) old result new = Called g now call old result new

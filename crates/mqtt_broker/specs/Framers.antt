@@ -20,7 +20,7 @@ line_of h = h.line
 abbrev pub begun : ℕ → HeldLine
 begun line = record { line = line; framing = empty }
 
--- what a line holds, nothing where it isn't among them
+-- what a line holds, nothing if it isn't among them
 abbrev pub framing_of : Option HeldLine → Framing
 framing_of None = empty
 framing_of (Some h) = h.framing

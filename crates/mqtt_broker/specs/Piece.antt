@@ -28,7 +28,7 @@ pub record IsPieceAnswered {K : Type 0} (now line : ℕ) (piece : List ℕ) (old
   -- the line holds what the step leaves, each line that closed nothing, and each other what it held
   pub held : new.held ≡ without_closed out.closed.items (changed_at line (λ framing. after.framing) old.held)
 
--- ---- where nothing is asked, no number is spent and nothing is stored
+-- ---- if nothing is asked, no number is spent and nothing is stored
 
 abbrev pub IsSpentBy : Limits → Broker → ℕ → Option Call → Type 0
 IsSpentBy limits old now None = ⊥
@@ -46,14 +46,14 @@ pub record PieceCalled {K : Type 0} (g : Ghosts K) (now line : ℕ) (piece : Lis
   pub step : IfOk result (λ out. IsPieceAnswered now line piece old out new)
   pub stored : OnOk result ((new.running.stopped ≡ false) × g.holds new.running.keep new.running.broker.records)
   pub limits : new.running.limits ≡ old.running.limits
-  -- where memory is wanting or numbers are spent nothing changed here, nor in what the store holds; of the broker of an engine
+  -- if memory is wanting or numbers are spent nothing changed here, nor in what the store holds; of the broker of an engine
   -- that has stopped it is said only that the same lines are linked, since it may link more; and no refusal takes a byte
   pub same : (IsErrOf result Stopped → ⊥) → OnErr result (new.running.broker ≡ old.running.broker)
   pub lines : OnErr result (KeepsLines old.running.broker new.running.broker)
   pub kept : OnErr result (new.held ≡ old.held)
   pub memory : IsErrOf result Memory → (new.running.stopped ≡ false) × g.holds new.running.keep old.running.broker.records
   pub spent : IsErrOf result Spent → (new ≡ old) × IsSpentBy old.running.limits old.running.broker now (call_by line piece old)
-  -- it stops where the store counted a failure, and stays stopped
+  -- it stops if the store counted a failure, and stays stopped
   pub stopped : IsErrOf result Stopped → new.running.stopped ≡ true
   pub cause : IsErrOf result Stopped → old.running.stopped ≡ false → g.counted new.running.keep ≢ g.counted old.running.keep
   pub still : old.running.stopped ≡ true → IsErrOf result Stopped × (new ≡ old)

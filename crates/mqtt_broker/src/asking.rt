@@ -1,4 +1,4 @@
-//! What comes on a line is asked of the engine: what its first bytes ask, or nothing where the line isn't linked (MQTT
+//! What comes on a line is asked of the engine: what its first bytes ask, or nothing if the line isn't linked (MQTT
 //! 5.0, 2.1, 4.13).
 ghost use Rattle.std.specs.Prelude.{◌≡◌, ◌≤◌, ℕ, List, None, false, true, length, IfOk, IsOkAnd, OnErr, OnOk};
 ghost use Rattle.mqtt_records_rows.specs.Order.{has_row};
@@ -50,7 +50,7 @@ fn drop_answered(held: &mut Held, size: usize, answer: &Result<Outcome, EngineEr
     }
 }
 
-/// What the first bytes of a line ask is done, and a packet that was answered is held no longer; where nothing is whole,
+/// What the first bytes of a line ask is done, and a packet that was answered is held no longer; if nothing is whole,
 /// nothing but that the moment is the greatest handed in. A refusal leaves what is held.
 fn ask<K: Keep>(
     engine: &mut Engine<K>,

@@ -6,7 +6,7 @@ ghost use Rattle.mqtt_broker.specs.Cut.{Coming, IsFrontOf, IsGivenOn, IsGivenWho
 
 /// A stream comes on a line in whatever pieces, each a front of what wasn't taken yet, with whatever calls between them,
 /// until the line closes. What the steps of its pieces answer are the packets that the stream is cut into, and the fault
-/// that ends it: in this order, each once, and nothing else. All of it is answered where all is taken and the last
+/// that ends it: in this order, each once, and nothing else. All of it is answered if all is taken and the last
 /// answer doesn't say to call again.
 pub fn streams_may_come_in_any_pieces()
     ensures front { (line : ℕ) (stream : List ℕ) (items : List Item) (ending : Ending) (b : Broker) (came : List Coming)

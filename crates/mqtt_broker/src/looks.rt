@@ -25,7 +25,7 @@ impl<K: Keep> Engine<K> {
         self.inner.step().may_link()
     }
 
-    /// How many copies wait for the session of a client identifier, or are in flight to it; None where no session has
+    /// How many copies wait for the session of a client identifier, or are in flight to it; None if no session has
     /// it. Takes no memory.
     pub fn queue_len(&self, client: &str) -> Option<usize>
         ensures { result ≡ option_map (λ s. length s.queue)

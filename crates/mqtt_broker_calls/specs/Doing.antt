@@ -7,7 +7,7 @@ use Rattle.mqtt_broker_step.specs.declared.fault.StepFault.{StepFault}
 use Rattle.mqtt_broker_step.specs.declared.fault.StepFault.TheVariants.{Spent}
 use Rattle.mqtt_broker_step.specs.Stepping.{Stepping, at_rest, did, with_broker}
 
--- a step that has begun at a moment, where none was under way
+-- a step that has begun at a moment, if none was under way
 abbrev pub begun : Limits → ℕ → Broker → Stepping
 begun limits now b = with_broker (at_moment now b) (at_rest limits b)
 
@@ -17,7 +17,7 @@ pub record DidCall (now : ℕ) (call : Call) (again : Bool) (s : Stepping) : Typ
   pub is : s ≡ did (deeds s.limits choice now call s.start) (begun s.limits now s.start)
   pub again_is : again ≡ is_again call (deeds s.limits choice now call s.start)
 
--- or it was refused, and numbers are spent only where the call's are
+-- or it was refused, and numbers are spent only if the call's are
 abbrev pub IsCalled : (now : ℕ) (call : Call) (again : Bool) → Result ⊤ StepFault → Stepping → Type 0
 IsCalled now call again (Ok done) s = DidCall now call again s
 IsCalled now call again (Err fault) s = fault ≡ Spent → SpentStep s.limits s.start now call

@@ -77,10 +77,10 @@ fn hear<R: Router>(
     }
 }
 
-/// The step of a packet begins at a moment, in milliseconds, where none was under way, and does the deeds of its call:
+/// The step of a packet begins at a moment, in milliseconds, if none was under way, and does the deeds of its call:
 /// the line is heard, and the packet does what the rules have for the session that is connected on it, which has this
 /// birth (3.1.2.10, 3.3 to 3.14, 4.13). The packet has a spelling, and is no longer than a packet may be. `Memory` (1)
-/// and `Spent` (3), the latter only where a number of the deeds is above 2^62, leave a step that is to be taken back.
+/// and `Spent` (3), the latter only if a number of the deeds is above 2^62, leave a step that is to be taken back.
 pub fn input<R: Router>(
     alloc: Global,
     router: &mut R,

@@ -107,7 +107,7 @@ fn turn_away_at(
     }
 }
 
-/// The step of a CONNECT on a line that has no session begins at a moment, and does its deeds. Where there is no place
+/// The step of a CONNECT on a line that has no session begins at a moment, and does its deeds. If there is no place
 /// for the session of a new client after what came before, nothing of that stays, and the client is refused with
 /// Quota exceeded (3.1.4, 3.2.2.2).
 pub fn connect_at<R: Router>(

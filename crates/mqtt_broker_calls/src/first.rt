@@ -69,7 +69,7 @@ fn close_at<R: Router>(
 
 /// The step of the first packet of a line begins at a moment, and does its deeds: a CONNECT is answered, and at another
 /// packet the line closes without an answer. `Memory` (1) and `Spent` (3): the step is to be taken back. In one corner
-/// `Memory` stands for `Spent`: where more sessions stand than may, as after an opening under lower limits, and what
+/// `Memory` stands for `Spent`: if more sessions stand than may, as after an opening under lower limits, and what
 /// comes before the new connection of a client whose session stands needs a number above 2^62 (3.1, 3.1.4).
 pub fn first_at<R: Router>(
     alloc: Global,

@@ -10,7 +10,7 @@ ghost use Rattle.mqtt_rules.specs.declared.Limits.{Limits as TheLimits};
 ghost use Rattle.mqtt_broker_calls.specs.Sound.{IsSound, IsWithin};
 
 /// Each step of a sound broker on a packet that is lawful and no longer than a packet may be leaves a
-/// sound one, where no number is spent; and so does an opening of lawful records (4.1).
+/// sound one, if no number is spent; and so does an opening of lawful records (4.1).
 pub fn sound_brokers_stay_sound()
     ensures step { (limits : TheLimits) (choice : MemberChoice) (now : ℕ) (call : Call) (b : Broker)
         → is_step_spent limits choice now call b ≡ false → TakesLawful call

@@ -22,7 +22,7 @@ use mqtt_broker_publish::Router;
 use mqtt_broker_step::{Step, StepFault};
 use std::alloc::Global;
 
-/// What is told of a fault in the first packet of a line: CONNACK with the code, where that is of the type of CONNECT
+/// What is told of a fault in the first packet of a line: CONNACK with the code, if that is of the type of CONNECT
 /// (3.1, 3.2.2.2).
 fn tell_first(
     alloc: Global,

@@ -42,7 +42,7 @@ pub record IsSettled (now : ℕ) (s : Session) : Type 0 where
 abbrev pub IsSettledIn : ℕ → Records → ℕ → Type 0
 IsSettledIn now r birth = (s : Session) → session_at birth r ≡ Some s → IsSettled now s
 
--- a change brings nothing that is due where this is what is stored in the end: whose columns or Will it sets is settled
+-- a change brings nothing that is due if this is what is stored in the end: whose columns or Will it sets is settled
 -- then, if it stands
 abbrev pub BringsNothing : ℕ → Records → Change → Type 0
 BringsNothing now r (SetCounter counter value) = Unit {0}

@@ -26,7 +26,7 @@ fn sooner(one: u64, other: u64) -> u64
     if one < other { one } else { other }
 }
 
-/// The moment, or one past each where it is not set.
+/// The moment, or one past each if it is not set.
 fn or_never(moment: Option<u64>) -> u64
     ensures quiet { (now : ℕ) → now < result → is_due now moment ≡ false }
     ensures within { result ≤ LAST_NUMBER + 1 }

@@ -8,7 +8,7 @@ ghost use Rattle.mqtt_broker_close.specs.Ending.{ends, ends_first, finishes, que
 use mqtt_base::Ending;
 use mqtt_broker_step::{Step, StepFault};
 
-/// How many copies a session's queue has; 0 where none stands.
+/// How many copies a session's queue has; 0 if none stands.
 fn copies(step: &Step, birth: u64) -> usize
     ensures exact { result ≡ length (queue_at birth step.now.broker.records) }
     ensures order { IsAscending copy_place (queue_at birth step.now.broker.records) }

@@ -62,7 +62,7 @@ fn leave<R: Router>(
 }
 
 /// DISCONNECT of the client whose session is connected on a line, with its code and the Session Expiry Interval that
-/// came with it, in seconds: one above 0 where CONNECT had 0 breaks the protocol (3.14.2.2.2, 3.14.4).
+/// came with it, in seconds: one above 0 if CONNECT had 0 breaks the protocol (3.14.2.2.2, 3.14.4).
 pub fn disconnect<R: Router>(
     alloc: Global,
     router: &mut R,

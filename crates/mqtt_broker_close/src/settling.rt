@@ -62,7 +62,7 @@ fn settle_end(step: &mut Step, birth: u64, moment: u64) -> Result<(), StepFault>
 }
 
 /// A session's waiting Will that is due is published, then the session ends, if that is due (3.1.2.11.2,
-/// 3.1.3.2.2). Nothing happens where the session doesn't stand.
+/// 3.1.3.2.2). Nothing happens if the session doesn't stand.
 pub fn settle<R: Router>(
     alloc: Global,
     router: &mut R,

@@ -36,7 +36,7 @@ pub fn silent_line(step: &Step) -> Option<&LineState>
         .find(|line| is_line_silent(moment, line))
 }
 
-/// A line that is silent for too long closes, with DISCONNECT where a session is connected on it (3.1.2.10). `session`
+/// A line that is silent for too long closes, with DISCONNECT if a session is connected on it (3.1.2.10). `session`
 /// is its birth.
 pub fn close_silent<R: Router>(
     alloc: Global,

@@ -106,8 +106,8 @@ fn publish_and_drop<R: Router>(
     step.drop_will(birth)
 }
 
-/// The Will of a session is published, or refused where it isn't accepted; then there is none (3.1.2.5).
-/// Nothing happens where the session doesn't stand, or has none.
+/// The Will of a session is published, or refused if it isn't accepted; then there is none (3.1.2.5).
+/// Nothing happens if the session doesn't stand, or has none.
 pub fn publish_will<R: Router>(
     alloc: Global,
     router: &mut R,

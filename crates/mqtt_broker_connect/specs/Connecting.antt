@@ -10,7 +10,7 @@ use Rattle.mqtt_rules.specs.State.{Line}
 use Rattle.mqtt_rules.specs.Deeds.{Deed, Act, Begin, Resume, At, Send, whose}
 use Rattle.mqtt_rules.specs.Connect.{connack_properties, expiry_of, fresh_row, greet, largest_of, refusal_size, will_of}
 
--- CONNACK that refuses, where the client takes so many bytes
+-- CONNACK that refuses, if the client takes so many bytes
 abbrev pub refusal_told : ℕ → Connect → ℕ → List Deed
 refusal_told line c code = cond (nat_lt (largest_of c) refusal_size) [] (Send line (connack false code []) ∷ [])
 

@@ -17,7 +17,7 @@ pub record IsNamedAt (client : List ℕ) (birth : ℕ) (r : Records) : Type 0 wh
   pub named : session_named client r ≡ Some session
   pub at : session_at birth r ≡ Some session
 
--- on what the preparation left, the session is resumed, or a new one begins where there is a place for it
+-- on what the preparation left, the session is resumed, or a new one begins if there is a place for it
 abbrev pub joins_now : Line → Connect → Env → Act
 joins_now l c env b = joins_after env l c b.now [] b.records
 

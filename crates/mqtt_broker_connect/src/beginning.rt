@@ -71,7 +71,7 @@ fn granted(alloc: Global, is_assigned: bool, client: &Text) -> Result<Bytes, All
     }
 }
 
-/// CONNACK 00 tells that a session is new, and its client identifier where that was assigned (3.2.2.3.7).
+/// CONNACK 00 tells that a session is new, and its client identifier if that was assigned (3.2.2.3.7).
 fn tell_begun(
     alloc: Global,
     step: &mut Step,
@@ -154,7 +154,7 @@ fn is_unnamed(connect: &Connect) -> bool
     connect.client_identifier.as_str().is_empty()
 }
 
-/// A new session begins on a line, with what a CONNECT says of it, and CONNACK tells what is granted: where
+/// A new session begins on a line, with what a CONNECT says of it, and CONNACK tells what is granted: if
 /// it has no client identifier, the one that it is given too (3.1.2.4, 3.1.3.1, 3.2.2.3).
 pub(crate) fn begin_named(
     alloc: Global,

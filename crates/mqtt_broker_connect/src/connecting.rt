@@ -60,7 +60,7 @@ pub(crate) fn connect_refused(
     refuse(alloc, step, line, connect, code)
 }
 
-/// A new session begins where there is a place for it; else its client is refused with Quota exceeded (ours).
+/// A new session begins if there is a place for it; else its client is refused with Quota exceeded (ours).
 fn begin_or_refuse(
     alloc: Global,
     step: &mut Step,

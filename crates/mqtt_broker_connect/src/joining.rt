@@ -1,4 +1,4 @@
-//! A CONNECT that isn't refused: its session is resumed, or begins where there is a place for it (MQTT 5.0,
+//! A CONNECT that isn't refused: its session is resumed, or begins if there is a place for it (MQTT 5.0,
 //! 3.1.2.4, 3.2.2.2).
 ghost use Rattle.std.specs.Prelude.{◌≡◌, None, IfSome, IfNone, IfOk, IfErr, OnErr};
 ghost use Rattle.mqtt_rules.specs.Connect.{on_connect};
@@ -35,7 +35,7 @@ pub(crate) fn birth_named(step: &Step, client: &str) -> Option<u64>
     }
 }
 
-/// A new session begins, where there is a place for it.
+/// A new session begins, if there is a place for it.
 fn begin_placed(
     alloc: Global,
     step: &mut Step,
@@ -77,7 +77,7 @@ fn resume_named(
 }
 
 /// What comes after the preparation for a new connection: the client's session is resumed on its line, or a
-/// new one begins there. `NoPlace` where it would be new and there is no place for it: nothing changes then
+/// new one begins there. `NoPlace` if it would be new and there is no place for it: nothing changes then
 /// (3.1.2.4).
 pub(crate) fn join(
     alloc: Global,

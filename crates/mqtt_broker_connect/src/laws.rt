@@ -7,7 +7,7 @@ ghost use Rattle.mqtt_rules.specs.Numbers.{HasGivenBirths};
 ghost use Rattle.mqtt_rules.specs.State.{Broker, Env, session_named};
 ghost use Rattle.mqtt_broker_connect.specs.Joining.{has_place};
 
-/// A client whose session stands finds a place for its new connection, where the sessions are within their limit: what
+/// A client whose session stands finds a place for its new connection, if the sessions are within their limit: what
 /// comes before the connection leaves its session, or a place for one more.
 pub fn known_clients_find_a_place()
     ensures { (env : Env) (c : Connect) (b : Broker)

@@ -1,5 +1,5 @@
 //! What comes before a new connection of a client whose session stands: the old line is told and closes, the
-//! session is settled, and ends where the client starts clean (MQTT 5.0, 3.1.2.4, 3.1.4).
+//! session is settled, and ends if the client starts clean (MQTT 5.0, 3.1.2.4, 3.1.4).
 ghost use Rattle.std.specs.Prelude.{◌≡◌, List, Some, None, option_copied, OnOk, IfErr};
 ghost use Rattle.mqtt_records.specs.declared.session.Session.{Session as TheSession};
 ghost use Rattle.mqtt_routes.specs.Subscriptions.{Subscriber};
@@ -98,7 +98,7 @@ fn publish_and_end<R: Router>(
     end_session(step, birth)
 }
 
-/// A session that stands ends where its client starts clean, and its waiting Will is published before (3.1.2.4).
+/// A session that stands ends if its client starts clean, and its waiting Will is published before (3.1.2.4).
 fn clear_standing<R: Router>(
     alloc: Global,
     router: &mut R,
@@ -128,7 +128,7 @@ fn clear_standing<R: Router>(
     }
 }
 
-/// A session is settled, then ends where its client starts clean, if it stands.
+/// A session is settled, then ends if its client starts clean, if it stands.
 fn settle_and_clear<R: Router>(
     alloc: Global,
     router: &mut R,
@@ -156,7 +156,7 @@ fn settle_and_clear<R: Router>(
 
 /// What comes before a new connection of a client whose session stands, and is the only one of its client
 /// identifier: its line, if it is connected on one, is told and closes as lost; it is settled; and it ends
-/// where the client starts clean, its waiting Will published before (3.1.2.4, 3.1.4).
+/// if the client starts clean, its waiting Will published before (3.1.2.4, 3.1.4).
 pub(crate) fn prepare<R: Router>(
     alloc: Global,
     router: &mut R,

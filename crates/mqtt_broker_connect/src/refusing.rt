@@ -13,7 +13,7 @@ use mqtt_broker_step::{Step, StepFault};
 use mqtt_codec_connect::Connect;
 use std::alloc::Global;
 
-/// CONNACK with the code, where the client takes so many bytes (3.1.2.11.4).
+/// CONNACK with the code, if the client takes so many bytes (3.1.2.11.4).
 fn tell_refusal(
     alloc: Global,
     step: &mut Step,
@@ -32,7 +32,7 @@ fn tell_refusal(
     step.send_spelled(line, connack_refused(alloc, code)?)
 }
 
-/// A CONNECT is refused with a code: CONNACK tells it, where the client takes so many bytes, and the line
+/// A CONNECT is refused with a code: CONNACK tells it, if the client takes so many bytes, and the line
 /// closes (3.1.4, 3.2.2.2).
 pub fn refuse(
     alloc: Global,

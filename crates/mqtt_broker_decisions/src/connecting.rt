@@ -20,14 +20,14 @@ const LEAST_PACKET_SIZE: u32 = 64;
 /// Bytes of a CONNACK that refuses (3.2).
 const REFUSAL_SIZE: u32 = 5;
 
-/// The client's Receive Maximum, 65,535 where it sent none (3.1.2.11.3). Takes no memory.
+/// The client's Receive Maximum, 65,535 if it sent none (3.1.2.11.3). Takes no memory.
 pub fn window_of(connect: &Connect) -> u16
     ensures { result ≡ window_of connect.now }
 {
     u16_at(&connect.properties.lend(), PropName::ReceiveMaximum).unwrap_or(65_535)
 }
 
-/// The client's Maximum Packet Size in bytes; where it sent none, a number above the size of any packet
+/// The client's Maximum Packet Size in bytes; if it sent none, a number above the size of any packet
 /// (3.1.2.11.4). Takes no memory.
 pub fn largest_of(connect: &Connect) -> u32
     ensures { result ≡ largest_of connect.now }
@@ -35,7 +35,7 @@ pub fn largest_of(connect: &Connect) -> u32
     number_at(&connect.properties.lend(), PropName::MaximumPacketSize).unwrap_or(0xffff_ffff)
 }
 
-/// Its Session Expiry Interval in seconds, 0 where it sent none (3.1.2.11.2). Takes no memory.
+/// Its Session Expiry Interval in seconds, 0 if it sent none (3.1.2.11.2). Takes no memory.
 pub fn expiry_of(connect: &Connect) -> u32
     ensures { result ≡ expiry_of connect.now }
 {

@@ -30,7 +30,7 @@ pub fn has_filter(session: &Session, text: &str) -> bool
         .any(|subscription| is_to(subscription.get(), text))
 }
 
-/// The place of a session's subscription to that filter, or the number where it has none yet (3.8.4).
+/// The place of a session's subscription to that filter, or the number if it has none yet (3.8.4).
 /// Takes no memory.
 pub fn place_among(number: u64, text: &str, session: &Session) -> u64
     ensures { result ≡ place_among number text.now session.now.subscriptions }

@@ -12,7 +12,7 @@ use mqtt_base::{CONNECT_TIME, LAST_NUMBER};
 use mqtt_props::PropName;
 use mqtt_records_message::{Content, RetainedMessage};
 
-/// A moment, or the last one where it is above that (ours). Takes no memory.
+/// A moment, or the last one if it is above that (ours). Takes no memory.
 pub fn capped(moment: u64) -> u64
     ensures { result ≡ capped moment }
 {
@@ -73,8 +73,8 @@ pub fn is_stale(now: u64, kept: &RetainedMessage) -> bool
     is_expired(now, &kept.content)
 }
 
-/// When a line closes where no packet comes: ten seconds after it was linked while no session is
-/// connected on it (ours), then one and a half times Keep Alive after its last packet, never where
+/// When a line closes if no packet comes: ten seconds after it was linked while no session is
+/// connected on it (ours), then one and a half times Keep Alive after its last packet, never if
 /// that is 0 (3.1.2.10). Takes no memory.
 pub fn silence_due(heard: u64, keep_alive: u16, is_connected: bool) -> Option<u64>
     ensures { (now : ℕ) (l : Line) (session : Option ℕ) → l.heard ≡ heard → l.keep_alive ≡ keep_alive

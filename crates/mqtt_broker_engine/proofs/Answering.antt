@@ -1,4 +1,4 @@
--- What is answered where a broker is opened, and where it isn't.
+-- What is answered if a broker is opened, and if it isn't.
 use Rattle.std.proofs.Common.{◌≡◌, ◌≢◌, ◌⊎◌, ℕ, false, refl, ap, sym, subst, ◌∙◌, inl, inr}
 use Rattle.std.specs.Prelude.{Result, Ok, Err, OnOk, OnErr}
 use Rattle.mqtt_records_lawful.specs.Lawful.{IsLawful}

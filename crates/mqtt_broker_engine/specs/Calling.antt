@@ -52,13 +52,13 @@ pub record Called {K : Type 0} (g : Ghosts K) (now : ℕ) (call : Call) (old : R
   pub step : IfOk result (λ out. IsAnswered old.limits old.broker now call out new.broker)
   pub stored : OnOk result ((new.stopped ≡ false) × g.holds new.keep new.broker.records)
   pub limits : new.limits ≡ old.limits
-  -- where memory is wanting or numbers are spent nothing changed here, nor in what the store holds; of the broker of an engine
+  -- if memory is wanting or numbers are spent nothing changed here, nor in what the store holds; of the broker of an engine
   -- that has stopped it is said only that the same lines are linked, since it may link more
   pub same : (IsErrOf result Stopped → ⊥) → OnErr result (new.broker ≡ old.broker)
   pub lines : OnErr result (KeepsLines old.broker new.broker)
   pub memory : IsErrOf result Memory → (new.stopped ≡ false) × g.holds new.keep old.broker.records
   pub spent : IsErrOf result Spent → (new ≡ old) × SpentStep old.limits old.broker now call
-  -- it stops where the store counted a failure, and stays stopped
+  -- it stops if the store counted a failure, and stays stopped
   pub stopped : IsErrOf result Stopped → new.stopped ≡ true
   pub cause : IsErrOf result Stopped → old.stopped ≡ false → g.counted new.keep ≢ g.counted old.keep
   pub still : old.stopped ≡ true → IsErrOf result Stopped × (new ≡ old)

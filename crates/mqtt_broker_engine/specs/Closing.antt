@@ -28,7 +28,7 @@ pub record DidOpen (limits : Limits) (now : ℕ) (r : Records) (s : Stepping) : 
   pub choice : MemberChoice
   pub is : s ≡ with_stamp (did (opening_deeds limits choice now r) (resting limits now r))
 
--- a refusal leaves a step that can be taken back, and numbers are spent only where those of an opening are
+-- a refusal leaves a step that can be taken back, and numbers are spent only if those of an opening are
 pub record IsLeftOpen (limits : Limits) (now : ℕ) (r : Records) (fault : StepFault) (s : Stepping) : Type 0 where
   pub start : s.start ≡ unopened now r
   pub limits_are : s.limits ≡ limits

@@ -71,11 +71,11 @@ pub record IsFinished {K : Type 0} (g : Ghosts K) (old : K) (s : Stepping) (agai
   pub unspent : OnOk result (is_spent s.rows ≡ false)
   pub done : OnOk result (new.step ≡ at_rest s.limits s.broker)
   pub stored : OnOk result (g.is_loaded new.keep × g.holds new.keep s.broker.records)
-  -- otherwise nothing changed here, nor in the store where it hasn't failed
+  -- otherwise nothing changed here, nor in the store if it hasn't failed
   pub same : OnErr result (new.step ≡ at_rest s.limits s.start)
   pub memory : IsErrOf result Memory → g.is_loaded new.keep × g.holds new.keep s.start.records
   pub spent : IsErrOf result Spent → ⊥
-  -- it stops where the store counted a failure, and only then
+  -- it stops if the store counted a failure, and only then
   pub cause : IsErrOf result Stopped → g.counted new.keep ≢ g.counted old
   pub stopped : IsErrOf result Stopped → new.stopped ≡ true
   pub runs : (IsErrOf result Stopped → ⊥) → new.stopped ≡ false

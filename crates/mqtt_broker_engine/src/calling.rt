@@ -108,7 +108,7 @@ fn tick_once(
     }
 }
 
-/// The moment before which nothing that is stored is due, after a turn of the clock: where it has come and nothing was
+/// The moment before which nothing that is stored is due, after a turn of the clock: if it has come and nothing was
 /// due, it is sought anew. Takes no memory.
 fn later_quiet(step: &Step, quiet: u64, was_due: bool) -> u64
     requires { AreQuietBefore quiet step.now.broker.records }
@@ -122,7 +122,7 @@ fn later_quiet(step: &Step, quiet: u64, was_due: bool) -> u64
 }
 
 impl<K: Keep> Engine<K> {
-    /// `Stopped` (2) where the store has failed.
+    /// `Stopped` (2) if the store has failed.
     fn runs(&self) -> Result<(), EngineError>
         ensures ok { OnOk result (self.now.stopped ≡ false) }
         ensures fault { IfErr result (λ error. error ≡ EngineError.Stopped) }
@@ -134,7 +134,7 @@ impl<K: Keep> Engine<K> {
         Ok(())
     }
 
-    /// The session that is connected on a line, if the line is linked. `Stopped` (2) where the store has failed.
+    /// The session that is connected on a line, if the line is linked. `Stopped` (2) if the store has failed.
     fn session_on(&self, line: u64) -> Result<Option<Option<u64>>, EngineError>
         ensures session { IfOk result (λ session. session ≡ session_on line self.now.broker) }
         ensures ok { OnOk result (self.now.stopped ≡ false) }

@@ -55,7 +55,7 @@ fn connected(alloc: Global, step: &Step) -> Result<Vec<u64>, StepFault>
     }
 }
 
-/// A session is closed at the moment, and settled: its Will is published and it ends, where that is due.
+/// A session is closed at the moment, and settled: its Will is published and it ends, if that is due.
 fn close(alloc: Global, index: &mut Index, step: &mut Step, birth: u64) -> Result<(), StepFault>
     requires serves { Serves index.old.sessions (subscribers step.old.broker.records) }
     requires lawful { IsWilled (will_at birth step.old.broker.records) }

@@ -69,7 +69,7 @@ impl<K: Keep> Engine<K> {
         Engine { parts }
     }
 
-    /// A line is linked at a moment in milliseconds, and gets the next number, from 1. None where 64 lines
+    /// A line is linked at a moment in milliseconds, and gets the next number, from 1. None if 64 lines
     /// stand or 2^62 were linked. Works after the store has failed too. Takes no memory.
     pub fn link(&mut self, moment: u64) -> Option<u64>
         ensures line { result ≡ next_line self.old.broker }

@@ -54,7 +54,7 @@ fn follow(index: &mut Index, step: &Step, is_stale: bool) -> Result<(), StepFaul
 }
 
 impl<K: Keep> EngineParts<K> {
-    /// The index goes along with the rows of the step under way, and the store is told of them. Where one of them
+    /// The index goes along with the rows of the step under way, and the store is told of them. If one of them
     /// refuses the step is taken back, and the index says nothing any more.
     fn tell(&mut self, again: bool) -> Result<Outcome, EngineError>
         requires mid { IsMidCall K.Keep self.old }

@@ -24,7 +24,7 @@ use std::alloc::Global;
 use std::hash::RandomState;
 
 /// A broker at rest over records that keep their rules, at the greatest of their moment and the one handed in.
-/// `Memory` (1), and `Corrupt` (4) where they don't.
+/// `Memory` (1), and `Corrupt` (4) if they don't.
 fn unopened(alloc: Global, records: Records, now: u64, limits: Limits) -> Result<Step, KeepError>
     ensures step { IfOk result (λ step. step ≡ resting limits now records) }
     ensures lawful { OnOk result (IsLawful records) }
@@ -186,8 +186,8 @@ fn open_step<K: Keep>(
 /// Opens a broker over what a store holds (4.1). No session is connected from then on: each that the records show as
 /// connected is closed at the moment, in the order of births; a Will that is due is published, and a session whose end
 /// is due ends (3.1.2.11.2, 3.1.3.2.2). That is stored before it is answered. A refusal gives the store back, which has
-/// what it had, but where its device failed: `Memory` (1), `Disk` (2), `Size` (3), `Schema` (5), and `Corrupt` (4)
-/// where the records break their rules or a number would be above `LAST_NUMBER` (ours).
+/// what it had, but if its device failed: `Memory` (1), `Disk` (2), `Size` (3), `Schema` (5), and `Corrupt` (4)
+/// if the records break their rules or a number would be above `LAST_NUMBER` (ours).
 pub fn open<K: Keep>(
     alloc: Global,
     mut keep: K,

@@ -45,7 +45,7 @@ pub(crate) fn answered(told: StepOutcome, again: bool) -> Outcome
     }
 }
 
-/// The answer where nothing came about. Takes no memory.
+/// The answer if nothing came about. Takes no memory.
 pub(crate) fn nothing(alloc: Global) -> Outcome
     ensures { Tells nothing_told result }
 {

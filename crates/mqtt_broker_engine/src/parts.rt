@@ -29,7 +29,7 @@ pub(crate) struct EngineParts<K: Keep> {
 }
 
 impl<K: Keep> EngineParts<K> {
-    /// The index is that of the subscriptions that stand: it is made anew where it was thrown away. `Memory` (1) alone
+    /// The index is that of the subscriptions that stand: it is made anew if it was thrown away. `Memory` (1) alone
     /// refuses.
     pub(crate) fn renew(&mut self) -> Result<(), EngineError>
         requires { IsAtRest K.Keep self.old }

@@ -93,7 +93,7 @@ pub indexed_all : (changes : List Change) (r : Records) → CanBeIndexed r → C
 indexed_all [] r h may = h
 indexed_all (change ∷ changes) r h may = indexed_all changes (changed change r) (indexed_changed change r h may.0) may.1
 
--- ---- what a table has, where what it serves has it
+-- ---- what a table has, if what it serves has it
 
 identifiers_routed : (xs : List Subscription) → AllByRecursion IsAskedFor xs → AllByRecursion (λ (x : RoutedSubscription). IsIdentifier x.identifier) (routed_all xs)
 identifiers_routed [] h = tt

@@ -144,7 +144,7 @@ place_again : (number : ℕ) (o : Option Subscription) → sub.place_of (sub.pla
 place_again number None = refl
 place_again number (Some x) = refl
 
--- what a grant subscribes to, where there is room for it
+-- what a grant subscribes to, if there is room for it
 granted_is : (number : ℕ) (s : Session) (w : sub.Wish) (autos : ℕ) → IsCoherentSession autos number s
     → length (without_filter w.filter s.subscriptions) < SUBSCRIPTION_LIMIT → IsGranted (sub.subscription (suc number) s w) s
 granted_is number s w autos its room = record {

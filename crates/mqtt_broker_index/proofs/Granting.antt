@@ -26,7 +26,7 @@ routed_all xs = map routed_subscription xs
 
 -- ---- one goes
 
--- where all are to other filters, none goes
+-- if all are to other filters, none goes
 others_stay : (f : List ℕ) (xs : List Subscription) → AllByRecursion (λ g. f ≢ g) (map filter_of xs) → without_filter f xs ≡ xs
 others_stay f [] differ = refl
 others_stay f (x ∷ xs) differ = elim (cases_Bool (bytes_eq x.filter f)) [
@@ -34,7 +34,7 @@ others_stay f (x ∷ xs) differ = elim (cases_Bool (bytes_eq x.filter f)) [
   | inr other ↦ rw other (ap (λ (ys : List Subscription). x ∷ ys) (others_stay f xs differ.1))
 ]
 
--- likewise where another filter is the same
+-- likewise if another filter is the same
 those_stay : (f g : List ℕ) (xs : List Subscription) → g ≡ f → AllByRecursion (λ h. g ≢ h) (map filter_of xs) → without_filter f xs ≡ xs
 those_stay f g xs same differ = subst (λ (t : List ℕ). without_filter t xs ≡ xs) same (others_stay g xs differ)
 

@@ -1,4 +1,4 @@
--- A subscription that is put finds room in the index: where its row can be followed, and where it is one of those that are stored.
+-- A subscription that is put finds room in the index: if its row can be followed, and if it is one of those that are stored.
 use Rattle.std.proofs.Common.{◌≡◌, ℕ, ◌+◌, ◌≤◌, ◌<◌, Bool, true, false, ◌||◌, List, [], ◌∷◌, ◌++◌, length, map, Option, Some, None, nat_lt, bytes_eq, refl, ap, sym, subst, ◌∙◌, inl, inr, arith}
 use Rattle.std.specs.List.{AllByRecursion}
 use Rattle.std.proofs.lemmas.Bool.{cases_Bool, lt-ltb}

@@ -93,7 +93,7 @@ fn finds_place(step: &Step, message: &Message) -> bool
 }
 
 impl Index {
-    /// The index where no session has a subscription. Filters, which strangers choose, are hashed by
+    /// The index if no session has a subscription. Filters, which strangers choose, are hashed by
     /// `hasher`.
     pub fn new(alloc: Global, hasher: RandomState) -> Index
         ensures serves { (sessions : List Subscriber) → with_some sessions ≡ []
@@ -128,7 +128,7 @@ impl Index {
         self.routes.drop_session(birth);
     }
 
-    /// Where a publication goes; nowhere where a queue that it needs has no room.
+    /// Where a publication goes; nowhere if a queue that it needs has no room.
     fn find(
         &self,
         step: &Step,

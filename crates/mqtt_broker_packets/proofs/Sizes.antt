@@ -77,7 +77,7 @@ first-length ids ps each =
     let parts = parts-length ps each in
     omega (arith, three, parts)
 
--- ---- what is sent at once has a spelling where the identifiers have one, and all is short
+-- ---- what is sent at once has a spelling if the identifiers have one, and all is short
 
 each-append : (ps qs : List Prop) → AllByRecursion IsProp ps → AllByRecursion IsProp qs → AllByRecursion IsProp (ps ++ qs)
 each-append [] qs h g = g
@@ -134,7 +134,7 @@ own-each ids ps each =
     each-rest (map (aged 0) (without UserProperty ps)) (map identified ids)
     (each-front (map (aged 0) (without UserProperty ps) ++ map identified ids) (only UserProperty ps) each)
 
--- where the whole has a spelling, the identifiers have one
+-- if the whole has a spelling, the identifiers have one
 pub own-fits : (ids : List ℕ) (ps : List Prop) → AllByRecursion IsProp ps → FitsBlock (sent_after 0 ids ps) → FitsBlock (map identified ids)
 own-fits ids ps each fits =
     let sum = first-length ids ps each in

@@ -24,7 +24,7 @@ frame first body = first ∷ varint (length body) ++ body
 abbrev pub IsSizeOf : MessageCopy → ℕ → Type 0
 IsSizeOf copy size = (now id : ℕ) (dup : Bool) → size ≡ size_of (publish_of now dup id copy)
 
--- the packet identifier, where the QoS is above 0 (3.3.2.2)
+-- the packet identifier, if the QoS is above 0 (3.3.2.2)
 abbrev pub identifier_bytes : Qos → ℕ → List ℕ
 identifier_bytes AtMostOnce id = []
 identifier_bytes AtLeastOnce id = two_bytes id

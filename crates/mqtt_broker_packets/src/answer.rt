@@ -12,7 +12,7 @@ use bytes::Bytes;
 use mqtt_base::{Reason, u16_push, varint_len};
 use std::alloc::{AllocError, Global};
 
-/// Writes a reason code at the end, where it isn't 00, which goes without (3.4.2.1).
+/// Writes a reason code at the end, if it isn't 00, which goes without (3.4.2.1).
 fn code_push(out: &mut Vec<u8>, code: Reason) -> Result<(), AllocError>
     ensures { OnOk result (out.new.items ≡ out.old.items ++ tail code.0 []) }
 {

@@ -44,7 +44,7 @@ fn first_byte(qos: Qos, dup: bool, retain: bool) -> u8
     }
 }
 
-/// Writes the packet identifier at the end, where the QoS has one (3.3.2.2).
+/// Writes the packet identifier at the end, if the QoS has one (3.3.2.2).
 fn identifier_push(out: &mut Vec<u8>, qos: Qos, identifier: u16) -> Result<(), AllocError>
     ensures { OnOk result (out.new.items ≡ out.old.items ++ identifier_bytes qos identifier) }
 {
@@ -215,7 +215,7 @@ pub fn has_spelling(copy: &MessageCopy) -> bool
 }
 
 /// How many bytes a copy's PUBLISH takes in a form, fixed header included: the same at each moment,
-/// with DUP or without, under each identifier; none where it has no spelling (2.1.4, 3.3). Takes no
+/// with DUP or without, under each identifier; none if it has no spelling (2.1.4, 3.3). Takes no
 /// memory.
 #[tactic(auto, using(crate::proofs::Spelled::size_in_is))]
 pub fn publish_in_len(form: Form, copy: &MessageCopy) -> Option<usize>

@@ -14,7 +14,7 @@ use Rattle.mqtt_broker_publish.specs.Choosing.{DoesSome}
 use Rattle.mqtt_broker_publish.specs.declared.client_publish.Handled.{Handled}
 use Rattle.mqtt_broker_publish.specs.declared.client_publish.Handled.TheVariants as handled
 
--- its Topic Alias was set, where it came with a topic
+-- its Topic Alias was set, if it came with a topic
 abbrev pub alias_set : ℕ → Publish → List ℕ → Act
 alias_set line p topic = always (sets_alias (is_empty p.topic) (number_at TopicAlias p.properties) line topic)
 
@@ -35,7 +35,7 @@ HasPublished l s p old new handled.Done = DoesSome (λ env. on_publish env l s p
 HasPublished l s p old new (handled.Wrong code) = IsWrong code.0 l p old new
 HasPublished l s p old new handled.Over = IsOver l s p old new
 
--- what became of it by its identifier, where its topic is known
+-- what became of it by its identifier, if its topic is known
 abbrev pub HasAnswered : Line → Session → Publish → List ℕ → Stepping → Stepping → Handled → Type 0
 HasAnswered l s p topic old new handled.Done =
     DoesSome (λ env. publish_by (standing p.delivery s.inbound) env l s p (message_of s.client topic p)) old new

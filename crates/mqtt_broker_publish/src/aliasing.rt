@@ -28,7 +28,7 @@ fn alias_of(list: &PropsRef<'_>) -> Option<u16>
     }
 }
 
-/// The Topic Alias of a PUBLISH that means a topic stands for it from now on, where the PUBLISH has both.
+/// The Topic Alias of a PUBLISH that means a topic stands for it from now on, if the PUBLISH has both.
 pub(crate) fn set_alias(
     step: &mut Step,
     line: u64,

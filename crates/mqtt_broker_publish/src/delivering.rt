@@ -25,9 +25,9 @@ fn is_queued(qos: Qos) -> bool
     }
 }
 
-/// A copy, whose PUBLISH has a spelling, enters its session's queue, which has room for it, and where that is full
+/// A copy, whose PUBLISH has a spelling, enters its session's queue, which has room for it, and if that is full
 /// the oldest that wait make way for it; one of QoS 0 goes out at once (4.3), and shares the bytes that were encoded last
-/// where they are the same.
+/// if they are the same.
 fn deliver(
     alloc: Global,
     step: &mut Step,
@@ -73,7 +73,7 @@ fn deliver_each(
 }
 
 /// Copies, whose PUBLISH have spellings, are handed over in order. Each queue has room for those that are
-/// to enter it, and where it is full the oldest that wait make way. Those of QoS 0 that say the same share one encoding.
+/// to enter it, and if it is full the oldest that wait make way. Those of QoS 0 that say the same share one encoding.
 pub fn deliver_all(
     alloc: Global,
     step: &mut Step,

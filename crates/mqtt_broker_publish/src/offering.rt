@@ -29,7 +29,7 @@ fn line_of(step: &Step, birth: u64) -> Option<&LineState>
 }
 
 /// A copy of QoS 0, whose PUBLISH has a spelling, goes out at once, if its session is connected; it is left
-/// out where it is larger than the client takes (3.1.2.11.4, 4.3.1). It shares the bytes that were encoded last where they
+/// out if it is larger than the client takes (3.1.2.11.4, 4.3.1). It shares the bytes that were encoded last if they
 /// are the same.
 pub(crate) fn offer_copy(
     alloc: Global,

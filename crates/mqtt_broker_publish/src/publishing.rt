@@ -15,7 +15,7 @@ use mqtt_broker_step::{Step, StepFault};
 use mqtt_records_message::MessageCopy;
 use std::alloc::Global;
 
-/// A publication is accepted, retained where it is to be, and handed over in these copies, whose PUBLISH
+/// A publication is accepted, retained if it is to be, and handed over in these copies, whose PUBLISH
 /// have spellings (3.3.1.3, 3.3.4). Each queue has room for those that are to enter it.
 pub fn publish(
     alloc: Global,

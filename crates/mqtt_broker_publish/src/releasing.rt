@@ -52,7 +52,7 @@ fn complete(step: &mut Step, line: u64, identifier: u16, reason: Reason) -> Resu
     sent
 }
 
-/// The identifier of a PUBREL is closed, and PUBCOMP answers it, with Packet Identifier not found where it
+/// The identifier of a PUBREL is closed, and PUBCOMP answers it, with Packet Identifier not found if it
 /// wasn't open (4.3.3).
 pub fn pubrel(step: &mut Step, line: u64, birth: u64, identifier: u16) -> Result<(), StepFault>
     requires { 0 < identifier }

@@ -68,7 +68,7 @@ fn forget_message(step: &mut Step, message: &Message) -> Result<(), StepFault>
 }
 
 /// With RETAIN 1 an empty message removes the one that is retained for its topic, and any other takes its
-/// place, or the next one where none is retained (3.3.1.3). `number` is that of the publication.
+/// place, or the next one if none is retained (3.3.1.3). `number` is that of the publication.
 pub fn retain(
     alloc: Global,
     step: &mut Step,

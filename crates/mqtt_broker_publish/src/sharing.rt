@@ -114,7 +114,7 @@ fn keep(last: &mut Option<Encoded>, encoded: Encoded) -> Result<Bytes, AllocErro
     bytes
 }
 
-/// The PUBLISH of a copy of QoS 0, which has a spelling, at a moment in milliseconds (3.3). Where it is the one that was
+/// The PUBLISH of a copy of QoS 0, which has a spelling, at a moment in milliseconds (3.3). If it is the one that was
 /// encoded last, both share their bytes.
 pub(crate) fn encoding(
     alloc: Global,

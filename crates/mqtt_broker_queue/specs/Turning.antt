@@ -26,7 +26,7 @@ is_sending (Repeat id) = false
 is_sending (Unknown id) = false
 is_sending (Leave place ending) = false
 
--- a turn of sending on a line, where a session is connected on it (4.6, 4.9)
+-- a turn of sending on a line, if a session is connected on it (4.6, 4.9)
 abbrev pub pumps : ℕ → Act
 pumps line b = with_line (line_at line b) (λ l. on_pump l l.session) b
 

@@ -16,7 +16,7 @@ use std::alloc::Global;
 /// What came of a receiver's answer.
 #[derive(Clone, Copy, Debug, PartialEq, Eq)]
 pub enum Answered {
-    /// The session took it, or passed it over where no copy has its identifier.
+    /// The session took it, or passed it over if no copy has its identifier.
     Taken,
     /// It came in a wrong phase: nothing changed, and the line is to be dropped (4.3, ours).
     Wrong,

@@ -67,7 +67,7 @@ pub(crate) fn first_new(began: Began, rows: &[Boxed<CopyRow>]) -> Option<u64>
     None
 }
 
-/// The greatest place in a session's queue; 0 where it is empty.
+/// The greatest place in a session's queue; 0 if it is empty.
 fn last_place(session: &Session) -> u64
     ensures { result ≡ greatest (map copy_place session.now.queue) }
 {
@@ -108,7 +108,7 @@ fn of_memory(fault: FlowFault) -> StepFault
     }
 }
 
-/// The turns by which a session's queue makes way for a copy, where it has room for one: none below its limit, where no
+/// The turns by which a session's queue makes way for a copy, if it has room for one: none below its limit, if no
 /// copy is looked at.
 fn way_turns(alloc: Global, step: &Step, session: &Session) -> Result<Vec<Turn>, StepFault>
     requires { (choice : MemberChoice) → 0 < room (env_in choice step.now) session.now }
@@ -153,7 +153,7 @@ fn make_way(alloc: Global, step: &mut Step, birth: u64) -> Result<(), StepFault>
     take_turns(alloc, step, NO_LINE, birth, turns)
 }
 
-/// A copy, whose PUBLISH has a spelling, enters a session's queue, which has room for it, and where that is full
+/// A copy, whose PUBLISH has a spelling, enters a session's queue, which has room for it, and if that is full
 /// the oldest that wait make way for it (4.6, ours). A queue whose last place is 2^64 - 1 refuses it as for want of
 /// memory; no step gives a place above 2^62.
 pub fn enter(alloc: Global, step: &mut Step, birth: u64, copy: MessageCopy) -> Result<(), StepFault>

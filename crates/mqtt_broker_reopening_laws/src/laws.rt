@@ -22,7 +22,7 @@ ghost use Rattle.mqtt_broker_reopening_laws.specs.Written.{AreFair, IsWritten};
 
 /// Births of sessions, places of subscriptions, copies and retained messages are numbers from 1; each close,
 /// and each arrival of what is queued or retained, was at the stored moment or before it. So it is in a new
-/// store, and after each step and each opening where it was so before (4.1).
+/// store, and after each step and each opening if it was so before (4.1).
 pub fn times_stay_in_order()
     ensures nothing { AreTimely 0 nothing }
     ensures step { (limits : TheLimits) (choice : MemberChoice) (now : ℕ) (call : Call) (b : Broker)
@@ -35,7 +35,7 @@ pub fn times_stay_in_order()
 
 /// No two subscriptions have the same place, of whichever sessions: each has the number of a grant, and a
 /// filter that its session has already keeps its place. So it is in a new store, and after each step and each
-/// opening where it was so before (3.8.4).
+/// opening if it was so before (3.8.4).
 pub fn places_stay_apart()
     ensures nothing { HavePlacesApart nothing }
     ensures step { (limits : TheLimits) (choice : MemberChoice) (now : ℕ) (call : Call) (b : Broker)
@@ -46,7 +46,7 @@ pub fn places_stay_apart()
 
 /// Each copy in a queue has a phase that its QoS allows: a packet identifier from 1, and an order of release
 /// from 1 for a copy of QoS 2 alone; and no two copies of a session have the same order of release. So it is
-/// in a new store, and after each step and each opening where it was so before, and tables were in order
+/// in a new store, and after each step and each opening if it was so before, and tables were in order
 /// (4.3, 4.6).
 pub fn phases_fit_their_service()
     ensures nothing { HavePhases nothing }
@@ -59,7 +59,7 @@ pub fn phases_fit_their_service()
 
 /// No two copies in a session's queue have the same identity, and each is of QoS 1 or 2, of a publication that
 /// was accepted, and for a subscribe that was granted if it is of a retained message; no two retained messages
-/// are of the same publication. So it is in a new store, and after each step and each opening where it was so
+/// are of the same publication. So it is in a new store, and after each step and each opening if it was so
 /// before (3.3.1.3, 3.3.4, 4.6).
 pub fn copies_stay_apart()
     ensures nothing { HaveIdentities nothing }
@@ -71,7 +71,7 @@ pub fn copies_stay_apart()
 
 /// Each copy in a queue is for the session that the queue is of; its place, its order of release and the
 /// places of retained messages are at most the last number. So it is in a new store, and after each step and
-/// each opening of coherent records where it was so before, and no number is spent (ours).
+/// each opening of coherent records if it was so before, and no number is spent (ours).
 pub fn numbers_stay_within_the_last()
     ensures nothing { HaveBounds nothing }
     ensures step { (limits : TheLimits) (choice : MemberChoice) (now : ℕ) (call : Call) (b : Broker)
@@ -85,7 +85,7 @@ pub fn numbers_stay_within_the_last()
 
 /// A client identifier that begins as those do that the broker assigns is one that it has assigned, in its
 /// shortest decimal form; and while none is spent, no session has one longer than the limit. So it is in a
-/// new store, and after each step and each opening where it was so before (3.1.3.1).
+/// new store, and after each step and each opening if it was so before (3.1.3.1).
 pub fn client_identifiers_stay_lawful()
     ensures nothing { AreNamed nothing }
     ensures step { (limits : TheLimits) (choice : MemberChoice) (now : ℕ) (call : Call) (b : Broker)
@@ -96,7 +96,7 @@ pub fn client_identifiers_stay_lawful()
 
 /// No session is without a client identifier; open identifiers are from 1, filters are such as packets carry,
 /// and each copy of a group is of one whose filter is such. So it is in a new store, and after each step on a
-/// lawful packet and each opening where it was so before, and copies had identities of their own (2.2.1,
+/// lawful packet and each opening if it was so before, and copies had identities of their own (2.2.1,
 /// 3.8.3, 4.8.2).
 pub fn texts_stay_lawful()
     ensures nothing { HaveTexts nothing }
@@ -109,7 +109,7 @@ pub fn texts_stay_lawful()
 
 /// What a broker has written are lawful records, and it writes such again: a new store is such, and so is
 /// what each step of a sound broker leaves of such, on a packet that is lawful and no longer than a packet
-/// may be, and each opening, where no number is spent. Beyond what lawful records have, its messages are as
+/// may be, and each opening, if no number is spent. Beyond what lawful records have, its messages are as
 /// short as those of packets, its filters such as packets carry, and its retained messages of different
 /// publications: without these a step could make a row too long, a group without a spelling, or two copies
 /// with one identity. So it tells its copies apart, as a world in which each copy enters and ends once asks of
@@ -129,7 +129,7 @@ pub fn what_a_broker_writes_is_lawful()
 
 /// Starting again needs no hand: whatever was asked of a broker since its store was empty, or since it opened
 /// what a broker had written, and whenever it opened what it had stored, what is stored may be opened again,
-/// where limits were within those of the tables, packets lawful and no longer than a packet may be, and no
+/// if limits were within those of the tables, packets lawful and no longer than a packet may be, and no
 /// number was spent (4.1).
 pub fn a_store_may_be_opened_again()
     ensures run { (events : List Event) → AreFair events blank

@@ -25,7 +25,7 @@ counts b = Count (suc b.records.subscribes) ∷ []
 abbrev pub leaves : ℕ → ℕ → Ending → Act
 leaves birth place ending = of_session birth (λ s. always (at_place place s (λ e. At (whose s) (Leave e ending) ∷ [])))
 
--- a line is linked and gets the next number, where one may be
+-- a line is linked and gets the next number, if one may be
 abbrev pub links : Act
 links b = cond (can_link b) (Link (suc b.given) ∷ []) []
 

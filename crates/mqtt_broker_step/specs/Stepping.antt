@@ -50,7 +50,7 @@ pub record Did (act : Act) (old new : Stepping) : Type 0 where
 abbrev pub Does : (Env → Act) → Stepping → Stepping → Type 0
 Does act old new = (choice : MemberChoice) → Did (act (env_in choice old)) old new
 
--- a refusal leaves a step that can be taken back, and numbers are spent only where the act's rows have one above the last
+-- a refusal leaves a step that can be taken back, and numbers are spent only if the act's rows have one above the last
 pub record IsLeft (act : Act) (fault : StepFault) (old new : Stepping) : Type 0 where
   pub start : new.start ≡ old.start
   pub limits : new.limits ≡ old.limits
@@ -101,7 +101,7 @@ sent n bytes s = record s { outputs = s.outputs ++ (n, bytes) ∷ [] }
 abbrev pub with_broker : Broker → Stepping → Stepping
 with_broker b s = record s { broker = b }
 
--- with its moment, where it stores anything
+-- with its moment, if it stores anything
 abbrev pub with_stamp : Stepping → Stepping
 with_stamp s = record s { broker = with_moment s.rows s.broker; rows = stamped (moment_of s.broker) s.rows }
 

@@ -49,7 +49,7 @@ impl Step {
         self.tables.moment()
     }
 
-    /// A step begins at a moment, or at the last one where that is later (ours).
+    /// A step begins at a moment, or at the last one if that is later (ours).
     pub fn begin(&mut self, moment: u64) -> Result<(), StepFault>
         ensures ok { OnOk result (self.new
             ≡ with_broker (at_moment moment self.old.broker) self.old) }
@@ -61,7 +61,7 @@ impl Step {
         Ok(())
     }
 
-    /// The moment is stored with what else is. Where nothing else is, it isn't.
+    /// The moment is stored with what else is. If nothing else is, it isn't.
     pub fn stamp(&mut self) -> Result<(), StepFault>
         ensures ok { OnOk result (self.new ≡ with_stamp self.old) }
         ensures err { OnErr result (self.new ≡ self.old) }
@@ -109,7 +109,7 @@ impl Step {
 }
 
 /// Tells the store of a step that was done in place. The step's rows have to fit, and to be such as can be
-/// said in a table. Where the store refuses, the step is taken back, and the store's own refusal is answered.
+/// said in a table. If the store refuses, the step is taken back, and the store's own refusal is answered.
 /// `Memory` (1) and `Size` (3): nothing changed, here or there. `Disk` (2): the device failed.
 pub fn commit_kept<K: Keep>(keep: &mut K, step: &mut Step) -> Result<Outcome, KeepError>
     requires loaded { K.is_loaded keep.old }
@@ -136,7 +136,7 @@ pub fn commit_kept<K: Keep>(keep: &mut K, step: &mut Step) -> Result<Outcome, Ke
     ensures refused { (IsErrOf result KeepError.Corrupt → ⊥)
         × (IsErrOf result KeepError.Schema → ⊥) }
 
-    // The device is at fault only where the store counted a failure.
+    // The device is at fault only if the store counted a failure.
     ensures cause { IsErrOf result KeepError.Disk ⊎ IsErrOf result KeepError.Size
         → K.counted keep.new ≢ K.counted keep.old }
 
@@ -155,7 +155,7 @@ pub fn commit_kept<K: Keep>(keep: &mut K, step: &mut Step) -> Result<Outcome, Ke
 }
 
 /// Tells the store of a step that was done in place. The step's rows have to fit, and to be such as can be
-/// said in a table. Where the store refuses, the step is taken back.
+/// said in a table. If the store refuses, the step is taken back.
 /// `Memory` (1): nothing changed, here or there. `Stopped` (2): the store failed.
 pub fn commit<K: Keep>(keep: &mut K, step: &mut Step) -> Result<Outcome, EngineError>
     requires loaded { K.is_loaded keep.old }
@@ -181,7 +181,7 @@ pub fn commit<K: Keep>(keep: &mut K, step: &mut Step) -> Result<Outcome, EngineE
         → K.is_loaded keep.new × K.holds keep.new step.old.start.records }
     ensures spent { IsErrOf result EngineError.Spent → ⊥ }
 
-    // It stops only where the store counted a failure.
+    // It stops only if the store counted a failure.
     ensures cause { IsErrOf result EngineError.Stopped
         → K.counted keep.new ≢ K.counted keep.old }
 

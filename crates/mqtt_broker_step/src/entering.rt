@@ -20,7 +20,7 @@ use mqtt_records_rows::Boxed;
 use mqtt_rules::Report;
 use std::alloc::{AllocError, Global};
 
-/// The greatest place in a session's queue; 0 where it is empty.
+/// The greatest place in a session's queue; 0 if it is empty.
 fn last_place(session: &Session) -> u64
     ensures place { result ≡ greatest (map copy_place session.now.queue) }
     ensures tables { HasTables session.now }

@@ -24,7 +24,7 @@ use mqtt_records_message::CopyRow;
 use mqtt_rules::Report;
 use std::alloc::{AllocError, Global};
 
-/// The change of a line by which a place leaves those that went out. It takes memory where they don't ascend.
+/// The change of a line by which a place leaves those that went out. It takes memory if they don't ascend.
 fn parting(alloc: Global, went: &Places, place: u64) -> Result<LineChange, AllocError>
     ensures { IfOk result (Makes (without_went place) went.now) }
 {
@@ -36,7 +36,7 @@ fn parting(alloc: Global, went: &Places, place: u64) -> Result<LineChange, Alloc
     })
 }
 
-/// The change of a line by which that place is back. It takes memory where there would be no room for it.
+/// The change of a line by which that place is back. It takes memory if there would be no room for it.
 fn returning(alloc: Global, went: &Places, place: u64) -> Result<LineChange, AllocError>
     ensures { IfOk result (Unmakes (without_went place) went.now) }
 {

@@ -1,5 +1,5 @@
 //! The broker's tables, and a step under way on them: deeds of the rules done in place, noted for the
-//! store, and taken back whole where the step isn't made (MQTT 5.0, 4.1).
+//! store, and taken back whole if the step isn't made (MQTT 5.0, 4.1).
 #![tactic(auto)]
 
 mod aliasing;

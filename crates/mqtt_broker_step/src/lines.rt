@@ -15,7 +15,7 @@ use crate::places::Places;
 use crate::step::Step;
 use std::alloc::{AllocError, Global};
 
-/// The change of a line by which a place more goes out. It takes memory where there is no room.
+/// The change of a line by which a place more goes out. It takes memory if there is no room.
 fn sending(alloc: Global, went: &Places, place: u64) -> Result<LineChange, AllocError>
     ensures { IfOk result (Makes (with_went place) went.now) }
 {

@@ -51,7 +51,7 @@ impl Step {
     }
 
     /// A line is linked at a moment in milliseconds, while no step is under way, and gets the next number: 1 for the
-    /// first. None where 64 lines stand, or 2^62 were linked. Takes no memory.
+    /// first. None if 64 lines stand, or 2^62 were linked. Takes no memory.
     pub fn link(&mut self, moment: u64) -> Option<u64>
         requires rest { self.old ≡ at_rest self.old.limits self.old.broker }
         requires given { IsBelow line_number (suc self.old.broker.given) self.old.broker.lines }

@@ -31,7 +31,7 @@ fn retained_of<'a>(
     kept.iter().find(|kept| is_topic(kept.get(), topic))
 }
 
-/// The greatest place of a retained message; 0 where none is retained.
+/// The greatest place of a retained message; 0 if none is retained.
 fn last_place(retained: &Rows<Boxed<RetainedMessage>, RETAINED_LIMIT>) -> u64
     ensures { result ≡ greatest (map kept_place retained.now) }
 {
@@ -61,7 +61,7 @@ impl Step {
         }
     }
 
-    /// The next place of a retained message. `Spent` (3) where it would be above `LAST_NUMBER`. Takes no
+    /// The next place of a retained message. `Spent` (3) if it would be above `LAST_NUMBER`. Takes no
     /// memory.
     pub fn next_retained(&self) -> Result<u64, StepFault>
         ensures next { IfOk result (λ place. place
@@ -73,7 +73,7 @@ impl Step {
     }
 
     /// The place that a message of a topic is retained at: that of the one before it, or else the next
-    /// (3.3.1.3). `Spent` (3) where it would be above `LAST_NUMBER`. Takes no memory.
+    /// (3.3.1.3). `Spent` (3) if it would be above `LAST_NUMBER`. Takes no memory.
     pub fn place_for(&self, topic: &[u8]) -> Result<u64, StepFault>
         ensures place { IfOk result (λ place. place
             ≡ place_of_kept (retained_of topic.now self.now.broker.records)

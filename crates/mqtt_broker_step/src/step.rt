@@ -79,7 +79,7 @@ fn number_given(row: &Change) -> u64
     }
 }
 
-/// A row as it is noted for the store, for which there is room then. Spent (3) where it gives a number above the last.
+/// A row as it is noted for the store, for which there is room then. Spent (3) if it gives a number above the last.
 fn row_noted(rows: &mut Vec<Change>, row: &Change) -> Result<Change, StepFault>
     ensures noted { IfOk result (λ noted. noted ≡ row.now) }
     ensures within { OnOk result (number_given row.now ≤ last_number) }

@@ -21,7 +21,7 @@ use mqtt_records_message::RetainedMessage;
 use mqtt_records_rows::Boxed;
 use std::alloc::{AllocError, Global};
 
-/// Each session has each filter once, whatever changes are made of records where it is so. A wish for a filter
+/// Each session has each filter once, whatever changes are made of records if it is so. A wish for a filter
 /// may then be subscribed: one that the session has keeps its place (3.8.4).
 pub fn filters_stay_apart()
     ensures changed { (changes : List TheChange) (r : Records)
@@ -74,7 +74,7 @@ fn removal(birth: u64, filter: &Text) -> Result<Change, AllocError>
 }
 
 /// What takes back that a subscription is put: the one to the same filter, or the one at its place, is put;
-/// where neither stood, it is removed.
+/// if neither stood, it is removed.
 fn subscribed_back(
     alloc: Global,
     session: &Session,

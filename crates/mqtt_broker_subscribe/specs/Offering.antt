@@ -1,4 +1,4 @@
--- Packets that go out where the client takes so many bytes, by the Maximum Packet Size of its line (MQTT 5.0, 3.1.2.11.4).
+-- Packets that go out if the client takes so many bytes, by the Maximum Packet Size of its line (MQTT 5.0, 3.1.2.11.4).
 use Rattle.std.specs.Prelude.{ℕ, cond, nat_le, List, [], ◌∷◌, Option, Some, None, option_map}
 use Rattle.mqtt_codec.specs.declared.packet.Packet.{Packet}
 use Rattle.mqtt_rules.specs.Packets.{size_of}

@@ -69,7 +69,7 @@ fn push_wanted(
 }
 
 /// The retained messages that a filter brings that isn't shared, in the order in which their topics were first
-/// retained: those that match, but for the session's own where No Local is set, and for those that have
+/// retained: those that match, but for the session's own if No Local is set, and for those that have
 /// expired (3.3.1.3, 3.8.3.1).
 pub fn brought(
     alloc: Global,

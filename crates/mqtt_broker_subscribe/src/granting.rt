@@ -1,4 +1,4 @@
-//! One filter of a SUBSCRIBE: it is granted where it is valid and there is room for it and its copies (MQTT 5.0,
+//! One filter of a SUBSCRIBE: it is granted if it is valid and there is room for it and its copies (MQTT 5.0,
 //! 3.8.4, 3.9.3).
 ghost use Rattle.std.specs.Prelude.{◌≡◌, ℕ, true, false, ◌∷◌, ◌++◌, [], Some, IfOk, IfErr, OnOk};
 ghost use Rattle.std.specs.List.{AllByRecursion};
@@ -149,7 +149,7 @@ fn answer_valid(
     }
 }
 
-/// What becomes of a filter of a SUBSCRIBE. Where it is valid, and the session has room for it, and its queue for
+/// What becomes of a filter of a SUBSCRIBE. If it is valid, and the session has room for it, and its queue for
 /// the copies that it brings, beside those that make way for them, it gets its number, the session its
 /// subscription, and the copies of retained messages enter the queue; those of QoS 0 are added to the late ones,
 /// which go out after the SUBACK. Its code is added to the codes (3.8.4, 3.9.3).

@@ -1,4 +1,4 @@
-//! Answers go out where the client takes so many bytes (MQTT 5.0, 3.1.2.11.4, 3.9, 3.11).
+//! Answers go out if the client takes so many bytes (MQTT 5.0, 3.1.2.11.4, 3.9, 3.11).
 ghost use Rattle.std.specs.Prelude.{◌≡◌, ◌<◌, ◌+◌, ◌^◌, length, IfErr, OnOk};
 ghost use Rattle.mqtt_rules.specs.Deeds.{always};
 ghost use Rattle.mqtt_rules.specs.Packets.{suback, unsuback};
@@ -19,7 +19,7 @@ pub(crate) fn largest_on(step: &Step, line: u64) -> Option<u32>
     }
 }
 
-/// An UNSUBACK goes out on a line where the client takes so many bytes (3.11).
+/// An UNSUBACK goes out on a line if the client takes so many bytes (3.11).
 pub(crate) fn offer_unsuback(
     alloc: Global,
     step: &mut Step,
@@ -44,7 +44,7 @@ pub(crate) fn offer_unsuback(
     step.send_spelled(line, unsuback(alloc, identifier, codes)?)
 }
 
-/// A SUBACK goes out on a line where the client takes so many bytes (3.9).
+/// A SUBACK goes out on a line if the client takes so many bytes (3.9).
 pub(crate) fn offer_suback(
     alloc: Global,
     step: &mut Step,

@@ -131,7 +131,7 @@ fn answer_packet(
 
 /// SUBSCRIBE of the session that is connected on a line. Each of its filters that is valid, and that the session
 /// and its queue have room for, is granted: the session has its subscription, and the retained messages that it
-/// brings are queued, those of QoS 0 go out. SUBACK tells of each filter. Nothing is granted where the identifier
+/// brings are queued, those of QoS 0 go out. SUBACK tells of each filter. Nothing is granted if the identifier
 /// is open for a QoS 2 PUBLISH (2.2.1, 3.8.4, 3.9.3). Refused for want of memory or of a number.
 pub fn subscribe(
     alloc: Global,

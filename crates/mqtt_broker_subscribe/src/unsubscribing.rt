@@ -82,7 +82,7 @@ fn drop_all(
 }
 
 /// The filters of an UNSUBSCRIBE that the session has are removed, and UNSUBACK tells of each. Nothing is
-/// removed where the identifier is open for a QoS 2 PUBLISH (2.2.1, 3.10.4).
+/// removed if the identifier is open for a QoS 2 PUBLISH (2.2.1, 3.10.4).
 pub fn unsubscribe(
     alloc: Global,
     step: &mut Step,

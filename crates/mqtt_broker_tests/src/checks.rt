@@ -23,7 +23,7 @@ pub enum What {
     Unread,
     /// Whether scripts tell what they say over a store in SQL, and leave the rows that they leave in memory.
     InSql,
-    /// Whether nothing changes in a store in SQL, where no publication can be numbered any more.
+    /// Whether nothing changes in a store in SQL, if no publication can be numbered any more.
     Spent,
     /// Whether what memory was wanting for is done when it is asked again, and leaves the same rows: to be run with each
     /// growth refused in turn.
@@ -86,7 +86,7 @@ fn judge_what(
     }
 }
 
-/// Fails where memory was wanting, since what was said may be cut short then; else by what was said.
+/// Fails if memory was wanting, since what was said may be cut short then; else by what was said.
 fn verdict_of(wrong: &Telling) -> Result<(), Fail> {
     if wrong.is_short() {
         Err(Fail::from(AllocError))

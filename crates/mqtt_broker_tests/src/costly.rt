@@ -33,7 +33,7 @@ fn tell_messages(script: &mut Telling) {
     script.word(" 1:31080004303031300021");
 }
 
-/// Says where a SUBSCRIBE of 64 KB doesn't get all that is retained for each of its filters.
+/// Says if a SUBSCRIBE of 64 KB doesn't get all that is retained for each of its filters.
 pub(crate) fn judge_costly(
     wrong: &mut Telling,
     script: &mut Telling,

@@ -121,7 +121,7 @@ fn tell_closed(told: &mut Telling, lines: &[u64]) {
 }
 
 impl<K: Keep> Broker for Engine<K> {
-    /// Links a line. Line 0, which no script expects, where the look before it says otherwise.
+    /// Links a line. Line 0, which no script expects, if the look before it says otherwise.
     fn link(&mut self, moment: u64) -> Option<u64> {
         let may = self.may_link();
         let line = self.link(moment);

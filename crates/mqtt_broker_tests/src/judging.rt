@@ -41,7 +41,7 @@ pub fn play_in_memory(
     Ok(played)
 }
 
-/// The same, where the device fails once, after so many steps.
+/// The same, if the device fails once, after so many steps.
 fn play_failing(
     alloc: Global,
     hasher: RandomState,
@@ -75,7 +75,7 @@ fn blame(wrong: &mut Telling, script: &str, played: &Played, why: &str) {
     }
 }
 
-/// Says where a script tells something else than it says, or the store counted a failure.
+/// Says if a script tells something else than it says, or the store counted a failure.
 pub fn judge(wrong: &mut Telling, script: &str, played: &Played) {
     if !played.is_right {
         blame(wrong, script, played, " tells ");
@@ -85,14 +85,14 @@ pub fn judge(wrong: &mut Telling, script: &str, played: &Played) {
     }
 }
 
-/// Says where a script left something else than these rows.
+/// Says if a script left something else than these rows.
 pub fn judge_kept(wrong: &mut Telling, script: &str, played: &Played, kept: &str) {
     if played.kept.as_str() != kept {
         blame(wrong, script, played, " leaves something else, and tells ");
     }
 }
 
-/// The same where there was memory for it.
+/// The same if there was memory for it.
 fn judge_played(wrong: &mut Telling, script: &str, played: &Result<Played, AllocError>) {
     match played {
         Ok(played) => judge(wrong, script, played),
@@ -100,7 +100,7 @@ fn judge_played(wrong: &mut Telling, script: &str, played: &Result<Played, Alloc
     }
 }
 
-/// Says where a script that was told isn't played as it says.
+/// Says if a script that was told isn't played as it says.
 pub(crate) fn judge_script(
     wrong: &mut Telling,
     alloc: Global,
@@ -127,7 +127,7 @@ fn judge_in_memory(
     Ok(())
 }
 
-/// Says where a script without what is refused leaves something else.
+/// Says if a script without what is refused leaves something else.
 fn judge_without(
     wrong: &mut Telling,
     alloc: Global,
@@ -176,7 +176,7 @@ pub fn is_kept_after(
     Ok(is_same)
 }
 
-/// Says where a store that failed has neither the rows before the line that failed nor those after it.
+/// Says if a store that failed has neither the rows before the line that failed nor those after it.
 pub fn judge_failure(
     wrong: &mut Telling,
     alloc: Global,
@@ -197,7 +197,7 @@ pub fn judge_failure(
     Ok(())
 }
 
-/// Says the same where the store has failed; answers whether it has.
+/// Says the same if the store has failed; answers whether it has.
 fn judge_failed(
     wrong: &mut Telling,
     alloc: Global,

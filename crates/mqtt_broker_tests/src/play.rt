@@ -7,7 +7,7 @@ use mqtt_broker::{EngineError, Limits};
 use mqtt_flow::Full;
 use std::alloc::Global;
 
-/// The limits of the tables, where a full queue refuses.
+/// The limits of the tables, if a full queue refuses.
 const LIMITS: Limits = Limits {
     full: Full::Refuse,
     queue: 1000,
@@ -57,7 +57,7 @@ pub(crate) struct Play {
     passed_over: &'static str,
 }
 
-/// Makes a call, and once more where memory was wanting.
+/// Makes a call, and once more if memory was wanting.
 fn ask<B: Broker>(told: &mut Telling, broker: &mut B, call: Call<'_>, moment: u64) -> Answer {
     match broker.call(told, call, moment) {
         Answer::Refused(EngineError::Memory) => broker.call(told, call, moment),
@@ -89,7 +89,7 @@ fn offer<B: Broker>(told: &mut Telling, broker: &mut B, line: u64, bytes: &[u8],
     }
 }
 
-/// A line without its sign; none where it is passed over.
+/// A line without its sign; none if it is passed over.
 fn without_sign<'a>(line: &'a str, passed_over: &str) -> &'a str {
     match line.split_once(' ') {
         Some((sign, _)) if sign == passed_over => "",

@@ -4,12 +4,12 @@ use crate::telling::Telling;
 use mqtt_broker::Limits;
 use mqtt_flow::Full;
 
-/// The words before and behind the first blank; nothing behind where there is none.
+/// The words before and behind the first blank; nothing behind if there is none.
 pub(crate) fn halves(words: &str) -> (&str, &str) {
     words.split_once(' ').unwrap_or((words, ""))
 }
 
-/// A number; 0 where there is none.
+/// A number; 0 if there is none.
 pub(crate) fn number(word: &str) -> u64 {
     word.parse::<u64>().unwrap_or(0)
 }

@@ -63,7 +63,7 @@ fn open<K: Keep>(
     Engine::open(alloc, keep, play.moment, limits, hasher)
 }
 
-/// And once more where memory was wanting.
+/// And once more if memory was wanting.
 fn opened<K: Keep>(
     alloc: Global,
     hasher: RandomState,
@@ -133,7 +133,7 @@ fn play_all<K: Keep>(
     (keep, false)
 }
 
-/// What a store has; asked once more where that fails.
+/// What a store has; asked once more if that fails.
 fn loaded<K: Keep>(alloc: Global, keep: &mut K) -> Result<Records, KeepError> {
     match keep.load(alloc) {
         Err(_) => keep.load(alloc),

@@ -72,7 +72,7 @@ fn play_in_sql(
     }
 }
 
-/// Says where a script over a store in SQL tells something else than it says, or leaves something else than these rows.
+/// Says if a script over a store in SQL tells something else than it says, or leaves something else than these rows.
 fn judge_rows(
     wrong: &mut Telling,
     alloc: Global,
@@ -92,7 +92,7 @@ fn judge_rows(
     }
 }
 
-/// The same, where the rows are those that it leaves in a store in memory.
+/// The same, if the rows are those that it leaves in a store in memory.
 pub(crate) fn judge_in_sql(
     wrong: &mut Telling,
     alloc: Global,
@@ -130,7 +130,7 @@ pump 1
 "
 }
 
-/// Says where a client that comes when the last publication is numbered isn't refused each of its own, or changes a row by it.
+/// Says if a client that comes when the last publication is numbered isn't refused each of its own, or changes a row by it.
 pub(crate) fn judge_spent(wrong: &mut Telling, alloc: Global, hasher: RandomState) {
     let without = Part {
         count: usize::MAX,

@@ -46,7 +46,7 @@ fn first_of(alloc: Global, bytes: &[u8]) -> First {
     first
 }
 
-/// What is told of first bytes of a line, where it doesn't depend on what the broker has.
+/// What is told of first bytes of a line, if it doesn't depend on what the broker has.
 fn tell_first(script: &mut Telling, line: u64, bytes: &[u8], first: First) {
     let is_connect = bytes.first().is_some_and(|byte| byte / 16 == 1);
     match first {

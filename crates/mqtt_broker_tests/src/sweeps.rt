@@ -166,7 +166,7 @@ fn judge_changes(
     count
 }
 
-/// Says where there are more lines than so many, or fewer.
+/// Says if there are more lines than so many, or fewer.
 fn judge_count(wrong: &mut Telling, what: &str, count: u64, want: u64) {
     if count != want {
         wrong.word(what);
@@ -175,7 +175,7 @@ fn judge_count(wrong: &mut Telling, what: &str, count: u64, want: u64) {
     }
 }
 
-/// Says where a front or a changed frame isn't taken as the framer alone takes it.
+/// Says if a front or a changed frame isn't taken as the framer alone takes it.
 pub(crate) fn judge_sweeps(
     wrong: &mut Telling,
     script: &mut Telling,

@@ -46,14 +46,14 @@ pub met_command : (m : ArgMatches) (name : Text) (found : Found) → Some name �
     → subcommand_rows_of m ≡ Some (name, rows_of found)
 met_command m name found named with_rows = both_parts _ (out-ArgMatches m).subcommand name (rows_of found) named with_rows
 
--- the matches of `view`, where that is the subcommand that was met
+-- the matches of `view`, if that is the subcommand that was met
 pub rows_in-view : (m : ArgMatches) (name : Text) (found : Found) → Some name ≡ subcommand_name_of m
     → Some (rows_of found) ≡ option_map (λ p. p.1) (subcommand_rows_of m) → false ≡ not (bytes_eq name (codes "view"))
     → rows_in (subcommand_rows_of m) ≡ Some (rows_of found)
 rows_in-view m name found named with_rows is_view =
     ap rows_in (met_command m name found named with_rows) ∙ view_rows_of name (rows_of found) is_view
 
--- none, where that is another
+-- none, if that is another
 pub rows_in-other : (m : ArgMatches) (name : Text) (found : Found) → Some name ≡ subcommand_name_of m
     → Some (rows_of found) ≡ option_map (λ p. p.1) (subcommand_rows_of m) → true ≡ not (bytes_eq name (codes "view"))
     → rows_in (subcommand_rows_of m) ≡ None
@@ -67,7 +67,7 @@ serve_rows_of name rows is_serve = go (bytes_eq name (codes "serve")) is_serve
     go true e = refl
     go false e = cc
 
--- the matches of `serve`, where that is the subcommand that was met
+-- the matches of `serve`, if that is the subcommand that was met
 pub rows_in-serve : (m : ArgMatches) (name : Text) (found : Found) → Some name ≡ subcommand_name_of m
     → Some (rows_of found) ≡ option_map (λ p. p.1) (subcommand_rows_of m) → true ≡ bytes_eq name (codes "serve")
     → serve_rows_in (subcommand_rows_of m) ≡ Some (rows_of found)
@@ -81,7 +81,7 @@ no_rows_of_serve name rows is_other = go (bytes_eq name (codes "serve")) is_othe
     go true e = cc
     go false e = refl
 
--- none, where that is another
+-- none, if that is another
 pub serve_rows_in-other : (m : ArgMatches) (name : Text) (found : Found) → Some name ≡ subcommand_name_of m
     → Some (rows_of found) ≡ option_map (λ p. p.1) (subcommand_rows_of m) → false ≡ bytes_eq name (codes "serve")
     → serve_rows_in (subcommand_rows_of m) ≡ None
@@ -95,7 +95,7 @@ replay_rows_of name rows is_replay = go (bytes_eq name (codes "replay")) is_repl
     go true e = refl
     go false e = cc
 
--- the matches of `replay`, where that is the subcommand that was met
+-- the matches of `replay`, if that is the subcommand that was met
 pub replay_rows_in-met : (m : ArgMatches) (name : Text) (found : Found) → Some name ≡ subcommand_name_of m
     → Some (rows_of found) ≡ option_map (λ p. p.1) (subcommand_rows_of m) → true ≡ bytes_eq name (codes "replay")
     → replay_rows_in (subcommand_rows_of m) ≡ Some (rows_of found)
@@ -109,7 +109,7 @@ no_rows_of_replay name rows is_other = go (bytes_eq name (codes "replay")) is_ot
     go true e = cc
     go false e = refl
 
--- none, where that is another
+-- none, if that is another
 pub replay_rows_in-other : (m : ArgMatches) (name : Text) (found : Found) → Some name ≡ subcommand_name_of m
     → Some (rows_of found) ≡ option_map (λ p. p.1) (subcommand_rows_of m) → false ≡ bytes_eq name (codes "replay")
     → replay_rows_in (subcommand_rows_of m) ≡ None

@@ -17,12 +17,12 @@ with_limits app =
     with_rule (with_rule (with_rule (with_rule app (choice_rule (codes "full"))) (choice_rule (codes "queue"))) (choice_rule (codes "sessions")))
     (choice_rule (codes "retained"))
 
--- what a full queue does: it refuses, where nothing is said
+-- what a full queue does: it refuses, if nothing is said
 abbrev pub IsFullGiven : Option Text → Full → Type 0
 IsFullGiven None full = full ≡ Refuse
 IsFullGiven (Some text) full = IsFull text full
 
--- the size of a table: the most that it may have, where nothing is said
+-- the size of a table: the most that it may have, if nothing is said
 abbrev pub IsSizeGiven : ℕ → Option Text → ℕ → Type 0
 IsSizeGiven most None size = size ≡ most
 IsSizeGiven most (Some text) size = IsSize most text size

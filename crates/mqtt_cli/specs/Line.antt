@@ -51,7 +51,7 @@ program_app =
     with_subcommand (with_subcommand (with_subcommand (with_subcommand required view_app.top) replay_app.top) vectors_app.top)
     serve_app.top
 
--- the command and its matches, where the words are a lawful command line
+-- the command and its matches, if the words are a lawful command line
 abbrev pub command_of : List Text → Option (Text × List Row)
 command_of words =
     if is_empty (fault_of program_app words) then subcommand_of program_app words else None
@@ -61,17 +61,17 @@ abbrev pub is_vectors : Option (Text × List Row) → Bool
 is_vectors None = false
 is_vectors (Some command) = bytes_eq command.0 (codes "vectors")
 
--- the matches of `view`, where that is the command
+-- the matches of `view`, if that is the command
 abbrev pub rows_in : Option (Text × List Row) → Option (List Row)
 rows_in None = None
 rows_in (Some command) = if bytes_eq command.0 (codes "view") then Some command.1 else None
 
--- the matches of `replay`, where that is the command
+-- the matches of `replay`, if that is the command
 abbrev pub replay_rows_in : Option (Text × List Row) → Option (List Row)
 replay_rows_in None = None
 replay_rows_in (Some command) = if bytes_eq command.0 (codes "replay") then Some command.1 else None
 
--- the matches of `serve`, where that is the command
+-- the matches of `serve`, if that is the command
 abbrev pub serve_rows_in : Option (Text × List Row) → Option (List Row)
 serve_rows_in None = None
 serve_rows_in (Some command) = if bytes_eq command.0 (codes "serve") then Some command.1 else None

@@ -58,7 +58,7 @@ fn choice_arg<'a>(alloc: Global, name: &'a str, value: &'a str, help: &'a str) -
         .help(help)
 }
 
-/// The limits that the matches of a command ask for: nothing, where a value isn't of its form.
+/// The limits that the matches of a command ask for: nothing, if a value isn't of its form.
 pub(crate) fn limits_in(matches: &ArgMatches<'_>) -> Option<Limits>
     ensures { AskForLimits (Some (rows_of (found_of matches.now))) result }
 {
@@ -87,7 +87,7 @@ fn full_in(matches: &ArgMatches<'_>) -> Option<Full>
     }
 }
 
-/// The size of a table that the matches of a command ask for by an option, the most that it may have where that is left out.
+/// The size of a table that the matches of a command ask for by an option, the most that it may have if that is left out.
 fn size_in(matches: &ArgMatches<'_>, name: &str, most: u32) -> Option<u32>
     ensures read { IfSome result (λ size.
         IsSizeGiven most (value_in name.now (Some (rows_of (found_of matches.now)))) size) }

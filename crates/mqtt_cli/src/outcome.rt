@@ -11,13 +11,13 @@ use mqtt_view::{Status, VectorsFault, ViewFault};
 /// The exit status of a command that is done.
 pub const DONE: u8 = 0;
 
-/// The exit status where the input has a fault, or ends inside a packet, or a script has a line that is bad.
+/// The exit status if the input has a fault, or ends inside a packet, or a script has a line that is bad.
 pub const FAULTY: u8 = 1;
 
 /// The exit status of a wrong command line.
 pub const USAGE: u8 = 2;
 
-/// The exit status where a file, a socket or the store failed or memory was wanting.
+/// The exit status if a file, a socket or the store failed or memory was wanting.
 pub const FAILED: u8 = 3;
 
 /// What came of the program's work.

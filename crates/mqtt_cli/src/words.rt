@@ -76,7 +76,7 @@ fn action_in<'a>(matches: &ArgMatches<'a>) -> Option<Action<'a>>
     Some(Action::View { file, payload })
 }
 
-/// What the matches of `serve` ask for: nothing, where a value isn't of its form.
+/// What the matches of `serve` ask for: nothing, if a value isn't of its form.
 fn serve_in<'a>(matches: &ArgMatches<'a>) -> Option<Action<'a>>
     ensures { AskToServe (rows_of (found_of matches.now)) result }
 {
@@ -94,7 +94,7 @@ fn serve_in<'a>(matches: &ArgMatches<'a>) -> Option<Action<'a>>
     })
 }
 
-/// What the matches of `replay` ask for: nothing, where a value isn't of its form.
+/// What the matches of `replay` ask for: nothing, if a value isn't of its form.
 fn replay_in<'a>(matches: &ArgMatches<'a>) -> Option<Action<'a>>
     ensures { AskToReplay (rows_of (found_of matches.now)) result }
 {

@@ -64,7 +64,7 @@ fn a_failed_write_is_told(rt: HostRuntime) {
     }
 }
 
-/// The status of the report on the vectors. Where an allocation is refused, nothing but want of
+/// The status of the report on the vectors. If an allocation is refused, nothing but want of
 /// memory may be told.
 fn status_of_vectors(alloc: Global, written: &mut Vec<u8>) -> Result<Status, &'static str> {
     match vectors(alloc, written) {

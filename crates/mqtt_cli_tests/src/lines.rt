@@ -6,7 +6,7 @@ use std::alloc::Global;
 use std::process::Abort;
 use std::test::Fail;
 
-/// Why there is no view. Where an allocation is refused, nothing but want of memory may be told.
+/// Why there is no view. If an allocation is refused, nothing but want of memory may be told.
 fn why(fault: ViewFault) -> &'static str {
     match fault {
         ViewFault::Read => "a failed read",
@@ -305,7 +305,7 @@ fn a_packet_of_the_greatest_size_is_read(rt: HostRuntime) -> Result<(), Fail> {
     Ok(())
 }
 
-/// Packets, each with its line where payloads are shown.
+/// Packets, each with its line if payloads are shown.
 fn heads() -> &'static [(&'static [u8], &'static str)] {
     &[
         (

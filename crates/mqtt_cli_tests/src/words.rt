@@ -69,7 +69,7 @@ fn a_server_is_asked_for(rt: HostRuntime) -> Result<(), Fail> {
     Ok(())
 }
 
-/// The limits where no option is given.
+/// The limits if no option is given.
 const GREATEST: Limits = Limits {
     full: Full::Refuse,
     queue: 1_000,

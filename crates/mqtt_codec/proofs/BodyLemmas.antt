@@ -32,7 +32,7 @@ use Rattle.mqtt_codec.proofs.SubackLemmas.{suback_reads}
 use Rattle.mqtt_codec_subscribe.proofs.UnsubscribeLemmas.{unsubscribe_reads}
 use Rattle.mqtt_codec.proofs.NoticeLemmas.{disconnect_reads, auth_reads}
 
--- what a body of a packet gives, where its first byte says so
+-- what a body of a packet gives, if its first byte says so
 pub record Bodies (h : Head) (body : List ℕ) (p : Packet) : Type 0 where
   pub fits : Fits p
   pub is : IsBody p body

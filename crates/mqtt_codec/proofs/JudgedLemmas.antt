@@ -52,7 +52,7 @@ judged_is heads.Pingresp body = ping_is Pingresp (empty_at body) refl
 judged_is heads.Disconnect body = judged_made Disconnect (disconnect_at body)
 judged_is heads.Auth body = judged_made Auth (auth_at body)
 
--- where the version is no other
+-- if the version is no other
 pub lawful_is : (h : Head) (body : List ℕ) (u : Unit {0}) → version_at h body ≡ Ok u → judged_at h body ≡ lawful_at h body
 unfolding lawful_at
 lawful_is h body u e = judged_is h body ∙ sym (ap (λ (said : Result (Unit {0}) Fault). said >>= λ v. judged is_lawful (body_at h body)) e)

@@ -41,7 +41,7 @@ delivery_takes dup qos.ExactlyOnce bytes x fits e =
     subst (λ (y : Delivery × List ℕ). Delivers dup qos.ExactlyOnce bytes y.0 y.1) (ok_is (ExactlyOnce dup b.0.0, b.0.1) x b.2)
     (record { takes = t.0; fits = t.1; heads = λ retain h. refl })
 
--- what a body gives, where its first byte says that it is a PUBLISH
+-- what a body gives, if its first byte says that it is a PUBLISH
 pub record Published (dup : Bool) (q : Qos) (retain : Bool) (body : List ℕ) (p : Publish) : Type 0 where
   pub fits : FitsPublish p
   pub is : body ≡ publish_body p

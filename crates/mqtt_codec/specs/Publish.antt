@@ -42,7 +42,7 @@ delivery_identifier AtMostOnce = None
 delivery_identifier (AtLeastOnce dup id) = Some id
 delivery_identifier (ExactlyOnce dup id) = Some id
 
--- the packet identifier, where the QoS is above 0 (3.3.2.2)
+-- the packet identifier, if the QoS is above 0 (3.3.2.2)
 abbrev pub identifier_field : Delivery → List ℕ
 identifier_field AtMostOnce = []
 identifier_field (AtLeastOnce dup id) = two_bytes id

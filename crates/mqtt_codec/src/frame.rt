@@ -169,8 +169,8 @@ fn packet_read(frame: &[u8]) -> Result<PacketRef<'_>, Fault>
 
 /// Reads the packet that the whole frame spells (2.1, 4.13). Takes no memory.
 ///
-/// `Malformed` (1) where the bytes have no layout, `Protocol` (2) where they have one and a law is
-/// broken, `Version` (4) where they are a CONNECT of another protocol or version; never `TooLarge`
+/// `Malformed` (1) if the bytes have no layout, `Protocol` (2) if they have one and a law is
+/// broken, `Version` (4) if they are a CONNECT of another protocol or version; never `TooLarge`
 /// or `Memory`.
 #[inline(always)]
 pub fn look_at(frame: &[u8]) -> Result<PacketRef<'_>, Fault>

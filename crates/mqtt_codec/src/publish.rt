@@ -14,7 +14,7 @@ use mqtt_codec_parts::{Fault, both, stands};
 use mqtt_props::{Place, PropList, PropName, PropsRef, layout_read};
 use std::alloc::{AllocError, Global};
 
-/// The QoS of a PUBLISH, with its packet identifier where it has one (3.3.1.2, 3.3.2.2).
+/// The QoS of a PUBLISH, with its packet identifier if it has one (3.3.1.2, 3.3.2.2).
 #[derive(Clone, Copy, Debug, PartialEq, Eq)]
 pub enum Delivery {
     /// QoS 0: no handshake, no DUP.
@@ -42,7 +42,7 @@ pub struct Publish {
     pub delivery: Delivery,
     /// Whether it is to be retained, or was (3.3.1.3).
     pub retain: bool,
-    /// The topic name; empty where a Topic Alias stands for it (3.3.2.1).
+    /// The topic name; empty if a Topic Alias stands for it (3.3.2.1).
     pub topic: Text,
     /// The properties of its block, in their order (2.2.2).
     pub properties: PropList,
@@ -57,7 +57,7 @@ pub struct PublishRef<'a> {
     pub delivery: Delivery,
     /// Whether it is to be retained, or was (3.3.1.3).
     pub retain: bool,
-    /// The topic name; empty where a Topic Alias stands for it (3.3.2.1).
+    /// The topic name; empty if a Topic Alias stands for it (3.3.2.1).
     pub topic: &'a str,
     /// The properties of its block, in their order (2.2.2).
     pub properties: PropsRef<'a>,

@@ -54,7 +54,7 @@ pub struct Connect {
     pub keep_alive: u16,
     /// The properties of its block, in their order (2.2.2).
     pub properties: PropList,
-    /// The client's name; empty where the broker is to choose one (3.1.3.1).
+    /// The client's name; empty if the broker is to choose one (3.1.3.1).
     pub client_identifier: Text,
     /// The Will, if there is one (3.1.2.5).
     pub will: Option<Will>,
@@ -73,7 +73,7 @@ pub struct ConnectRef<'a> {
     pub keep_alive: u16,
     /// The properties of its block, in their order (2.2.2).
     pub properties: PropsRef<'a>,
-    /// The client's name; empty where the broker is to choose one (3.1.3.1).
+    /// The client's name; empty if the broker is to choose one (3.1.3.1).
     pub client_identifier: &'a str,
     /// The Will, if there is one (3.1.2.5).
     pub will: Option<WillRef<'a>>,

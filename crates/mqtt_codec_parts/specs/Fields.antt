@@ -11,7 +11,7 @@ both_at first second bytes = do
   y ← second x.1
   Ok ((x.0, y.0), y.1)
 
--- a field, where a flag says that it is there
+-- a field, if a flag says that it is there
 abbrev pub optional_at : {A : Type 0} → Bool → (List ℕ → Result (A × List ℕ) Fault) → List ℕ → Result (Option A × List ℕ) Fault
 optional_at false at bytes = Ok (None, bytes)
 optional_at true at bytes = do

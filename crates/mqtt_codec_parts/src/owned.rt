@@ -4,7 +4,7 @@ ghost use Rattle.std.specs.Prelude.{◌≡◌, IfOk, Ok};
 
 use std::alloc::AllocError;
 
-/// Both parts, where the second was made; else the first is let go.
+/// Both parts, if the second was made; else the first is let go.
 #[inline(always)]
 pub fn both<A: Drop, B>(first: A, second: Result<B, AllocError>) -> Result<(A, B), AllocError>
     ensures first { IfOk result (λ parts. parts.0 ≡ first) }

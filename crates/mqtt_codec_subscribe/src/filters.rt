@@ -76,7 +76,7 @@ impl<'a> FiltersRef<'a> {
         FiltersRef { bytes: self.bytes }
     }
 
-    /// The first and those after it; none where the list is empty. Takes no memory.
+    /// The first and those after it; none if the list is empty. Takes no memory.
     pub fn split_first(&self) -> Option<(&'a str, FiltersRef<'a>)>
         ensures { MatchOption result (self.now ≡ []) (λ x. self.now ≡ x.0.now ∷ x.1) }
     {

@@ -31,7 +31,7 @@ fn options_of(byte: u8) -> Option<SubscriptionOptions>
     })
 }
 
-/// The options that the byte says; none where a maximum QoS or a Retain Handling of 3 or one of the
+/// The options that the byte says; none if a maximum QoS or a Retain Handling of 3 or one of the
 /// bits 6 and 7 stands in it (3.8.3.1). Takes no memory.
 pub fn options_read(byte: u8) -> Option<SubscriptionOptions>
     ensures found { IfSome result (λ options. byte ≡ options_byte options) }

@@ -65,7 +65,7 @@ fn subscription_read(bytes: &[u8]) -> Result<(SubscriptionRef<'_>, usize), Fault
 }
 
 impl SubscriptionRef<'_> {
-    /// What its options say; none where they break a law, as a maximum QoS of 3 (3.8.3.1). Takes no
+    /// What its options say; none if they break a law, as a maximum QoS of 3 (3.8.3.1). Takes no
     /// memory.
     pub fn options(&self) -> Option<SubscriptionOptions>
         ensures found { IfSome result (λ options. self.now.options ≡ options_byte options) }
@@ -122,7 +122,7 @@ impl<'a> SubscriptionsRef<'a> {
         SubscriptionsRef { bytes: self.bytes }
     }
 
-    /// The first and those after it; none where the list is empty. Takes no memory.
+    /// The first and those after it; none if the list is empty. Takes no memory.
     pub fn split_first(&self) -> Option<(SubscriptionRef<'a>, SubscriptionsRef<'a>)>
         ensures { MatchOption result (self.now ≡ []) (λ x. self.now ≡ subscription_of x.0 ∷ x.1) }
     {

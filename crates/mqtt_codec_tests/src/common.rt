@@ -8,7 +8,7 @@ use mqtt_codec::{Fault, Packet, decode, encode, lawful, look_at};
 use std::alloc::Global;
 use std::process::Abort;
 
-/// The fault of a frame that is looked at, or `None` where it gives a packet.
+/// The fault of a frame that is looked at, or `None` if it gives a packet.
 pub(crate) fn fault_of(frame: &[u8]) -> Option<Fault> {
     match look_at(frame) {
         Ok(packet) => {

@@ -255,7 +255,7 @@ fn owned_told(packet: Packet) -> (Kind, usize) {
     found
 }
 
-/// What a frame's packet tells, looked at and owned; `None` where there is none.
+/// What a frame's packet tells, looked at and owned; `None` if there is none.
 fn both_told(alloc: Global, frame: &[u8]) -> Option<((Kind, usize), (Kind, usize))> {
     let packet = look_at(frame).ok()?;
     let looked_at = told(&packet);
@@ -325,7 +325,7 @@ fn a_fault_tells_its_reason_code(rt: HostRuntime) -> Result<(), Fail> {
 
 // 3.8.3.1: bits 0 and 1 the maximum QoS, 2 No Local, 3 Retain As Published, 4 and 5 Retain Handling.
 
-/// Whether options are read exactly where the bits of the byte are lawful, with its flags.
+/// Whether options are read exactly if the bits of the byte are lawful, with its flags.
 fn tells_its_flags(byte: u8) -> bool {
     let stands = byte % 4 != 3 && byte < 0x30;
     match options_read(byte) {

@@ -5,7 +5,7 @@ use mqtt_codec::{Fault, Packet, decode, encode_into, lawful, spelled_len};
 use std::alloc::Global;
 
 /// How many bytes the packet is said to take, and what is there once it is written behind the byte 7.
-/// `TooLarge`, which no call here answers, where a refusal leaves anything but that byte.
+/// `TooLarge`, which no call here answers, if a refusal leaves anything but that byte.
 fn written_behind(alloc: Global, packet: &Packet) -> Result<(usize, Vec<u8>), Fault> {
     if !lawful(packet) {
         return Err(Fault::Protocol);
@@ -42,7 +42,7 @@ fn is_behind(len: usize, bytes: &[u8], frame: &[u8]) -> bool {
 }
 
 /// Whether the frame's packet is told to take as many bytes, and is written behind the byte 7; the
-/// fault where it is refused.
+/// fault if it is refused.
 pub(crate) fn is_written(alloc: Global, frame: &[u8]) -> Result<bool, Fault> {
     let (len, bytes) = frame_behind(alloc, frame)?;
     let found = is_behind(len, &bytes, frame);

@@ -63,7 +63,7 @@ abbrev pub send_all : List Qos → World → World
 send_all [] w = w
 send_all (qos ∷ rest) w = send_all rest (send_one qos rest w)
 
--- unsent messages go out in order, where CONNACK was read
+-- unsent messages go out in order, if CONNACK was read
 abbrev pub send_unsent : Link → World → World
 send_unsent away w = w
 send_unsent asked w = w
@@ -169,7 +169,7 @@ spared (PUBLISH_1 id n dup ∷ rest) = []
 spared (PUBLISH_2 id n dup ∷ rest) = []
 spared (PUBREL id ∷ rest) = []
 
--- CONNECT on the publisher's line: the session that stands is resumed or begun anew by Clean Start, and where none stands
+-- CONNECT on the publisher's line: the session that stands is resumed or begun anew by Clean Start, and if none stands
 -- a new one is begun or refused (3.1.2.4, 3.1.4)
 abbrev pub on_connect : Bool → Bool → Choice → List FromPublisher → World → World
 on_connect true false choice rest w =
@@ -182,11 +182,11 @@ on_connect false clean takes_unheard rest w =
     record w { up = rest; old = spared w.old; linked = true; stands = true; ids = []; down = w.down ++ CONNACK false ∷ [] }
 on_connect false clean refuses rest w = record w { up = rest; down = w.down ++ CONNACK_REFUSED quota_exceeded ∷ [] }
 
--- the broker closes the publisher's line, with DISCONNECT where the session is connected there
+-- the broker closes the publisher's line, with DISCONNECT if the session is connected there
 abbrev pub closed_by : ℕ → World → World
 closed_by code w = record w { linked = false; up = []; down = sent_on w.linked w.down (DISCONNECT code ∷ []) }
 
--- CONNECT on the line that was given up: where the session is connected on the publisher's line, that is closed (3.1.4)
+-- CONNECT on the line that was given up: if the session is connected on the publisher's line, that is closed (3.1.4)
 abbrev pub taken_over : Bool → World → World
 taken_over true w = closed_by session_taken_over w
 taken_over false w = w

@@ -7,7 +7,7 @@ pub data Link : Type 0 where
   asked : Link
   live : Link
 
--- packets that go out are under way where the session is connected on the line, and are lost where it isn't
+-- packets that go out are under way if the session is connected on the line, and are lost if it isn't
 abbrev pub sent_on : {P : Type 0} → Bool → List P → List P → List P
 sent_on true under_way packets = under_way ++ packets
 sent_on false under_way packets = under_way

@@ -45,7 +45,7 @@ IsConnectAlone (PUBLISH_1 id n dup ∷ rest) = HasNoConnect rest
 IsConnectAlone (PUBLISH_2 id n dup ∷ rest) = HasNoConnect rest
 IsConnectAlone (PUBREL id ∷ rest) = HasNoConnect rest
 
--- by whether the session is connected there: a PUBLISH or PUBREL is under way only where it is, a CONNECT only where it
+-- by whether the session is connected there: a PUBLISH or PUBREL is under way only if it is, a CONNECT only if it
 -- isn't yet
 abbrev pub IsHeard : Bool → List FromPublisher → Type 0
 IsHeard linked [] = ⊤

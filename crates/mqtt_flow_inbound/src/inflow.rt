@@ -88,7 +88,7 @@ impl Inflow {
         ensures same { self.new.ids ≡ self.old.ids }
         ensures ok { OnOk result (0 < self.new.room) }
 
-        // Want of memory is the only refusal, and only where there was no room.
+        // Want of memory is the only refusal, and only if there was no room.
         ensures fault { IfErr result (λ fault. fault ≡ FlowFault.Memory) }
         ensures memory { OnErr result (self.old.room ≡ 0) }
     {

@@ -113,7 +113,7 @@ fn a_stored_session_goes_on(rt: HostRuntime) -> Result<(), FlowFault> {
     done
 }
 
-/// Opens an identifier, at the second time where the first was want of memory.
+/// Opens an identifier, at the second time if the first was want of memory.
 fn open_at_last(rt: &impl Abort, flow: &mut Inflow, id: u16) {
     let open = flow.ids().len();
     if let Err(fault) = flow.publish(id) {
@@ -135,7 +135,7 @@ fn want_of_memory_changes_nothing(rt: HostRuntime) {
     drop(flow);
 }
 
-/// Makes room, at the second time where the first was refused, and publishes.
+/// Makes room, at the second time if the first was refused, and publishes.
 fn publish_with_room(rt: &impl Abort, flow: &mut Inflow, id: u16) {
     if flow.make_room().is_err() {
         assert!(rt; !flow.is_open(id), "it is not open");

@@ -28,7 +28,7 @@ and_then told more = option_map (λ bytes. bytes ++ more) told
 abbrev pub one_more : Option ℕ → Option ℕ
 one_more told = option_map (λ count. (count + 1) % 2 ^ 64) told
 
--- a count of writes: one more where bytes wait
+-- a count of writes: one more if bytes wait
 abbrev pub one_more_if_any : List ℕ → Option ℕ → Option ℕ
 one_more_if_any [] told = told
 one_more_if_any (b ∷ bytes) told = one_more told

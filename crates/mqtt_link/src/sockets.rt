@@ -29,7 +29,7 @@ impl<R: Net> NetLink<R> {
     }
 }
 
-/// What a call of a socket that didn't wait gave: nothing where it would have waited or was interrupted, the end where
+/// What a call of a socket that didn't wait gave: nothing if it would have waited or was interrupted, the end if
 /// it moved no byte. Takes no memory.
 pub fn got(count: io::Result<usize>) -> Got<usize>
     ensures end { count ≡ Ok 0 → result ≡ Got.End }

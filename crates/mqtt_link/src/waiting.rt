@@ -72,7 +72,7 @@ impl Waiting {
         self.bytes.len()
     }
 
-    /// Puts bytes behind those that wait. `Full` (1) comes where more than `WAITING_LIMIT` would wait, `Memory`
+    /// Puts bytes behind those that wait. `Full` (1) comes if more than `WAITING_LIMIT` would wait, `Memory`
     /// (2) for want of memory; both change nothing.
     pub fn push(&mut self, bytes: &[u8]) -> Result<(), WaitingFault>
         ensures ok { OnOk result (self.new ≡ self.old ++ bytes.now) }
@@ -87,7 +87,7 @@ impl Waiting {
         Ok(())
     }
 
-    /// Writes once what waits, if anything does: what the connection took waits no longer. False where the
+    /// Writes once what waits, if anything does: what the connection took waits no longer. False if the
     /// connection ended or failed. Takes no memory.
     pub fn write<L: Link>(&mut self, link: &mut L, peer: &mut L::Peer) -> bool
         ensures moved { and_then (L.written peer.new) self.new ≡ and_then (L.written peer.old) self.old }

@@ -24,7 +24,7 @@ abbrev pub with_more : List ℕ → Read → Read
 with_more t (Ok x) = Ok (x.0, x.1 ++ t)
 with_more t (Err e) = Err e
 
--- where a reader does not want more bytes, they are left over
+-- if a reader does not want more bytes, they are left over
 abbrev pub LeavesMore : List ℕ → Read → Read → Type 0
 LeavesMore t before after = (before ≡ Err Short) ⊎ (after ≡ with_more t before)
 
@@ -137,7 +137,7 @@ varint_wants (a ∷ bytes) = either_wants 3 (suc (length bytes)) (ltb a 128) (a,
 
 -- ---- sizes
 
--- where the first answer is not `none`, more bytes do not change it
+-- if the first answer is not `none`, more bytes do not change it
 abbrev pub Stays : {A : Type 0} → A → A → A → Type 0
 Stays none before after = (before ≡ none) ⊎ (after ≡ before)
 

@@ -15,7 +15,7 @@ use Rattle.mqtt_packet.specs.Front.{size_by, size_behind, size_at, with_size, fi
 use Rattle.mqtt_packet.specs.Stream.{Item, place_after, IsCut}
 use Rattle.mqtt_packet.proofs.Fronts.{Read, LeavesMore, next_group, varint_more, Within, groups_within, varint_within, size_stays, size_within, found_size, first_within}
 
--- ---- where a number wants more bytes, it ends among those that follow
+-- ---- if a number wants more bytes, it ends among those that follow
 
 group_keeps : (n a : ℕ) (r : Read) → Within n r → Within n (next_group a r)
 group_keeps n a (Ok x) h = h
@@ -53,7 +53,7 @@ varint_end (a ∷ bytes) t e =
     wants_either (length t) (ltb a 128) (a, bytes) (a, bytes ++ t) (next_group a (groups_at 2 bytes)) (next_group a (groups_at 2 (bytes ++ t)))
     (wants_group (length t) a (groups_at 2 bytes) (groups_at 2 (bytes ++ t)) (λ s. groups_end 2 bytes t s)) e
 
--- ---- where a packet is not whole, it is longer than what has come
+-- ---- if a packet is not whole, it is longer than what has come
 
 size_is_by : (large few : Bool) (size n : ℕ) → cond large (Err TooLarge) (cond few (Ok None) (Ok (Some size))) ≡ Ok (Some n) → size ≡ n
 size_is_by true few size n e = absurd cc

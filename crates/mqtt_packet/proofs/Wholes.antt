@@ -154,7 +154,7 @@ found_ends {X} view bytes (Ok None) fits given = tt
 found_ends {X} view bytes (Ok (Some x)) fits given = first_ends bytes (view x.0) x.1 fits given
 found_ends {X} view bytes (Err f) fits given = tt
 
--- where a fault stands, no stream that goes on so begins with a packet
+-- if a fault stands, no stream that goes on so begins with a packet
 pub fault_final : (bytes later spelling more : List ℕ) (f : Fault) (p : Packet) → first_of bytes ≡ Err f → Spells p spelling → length spelling ≤ PACKET_LIMIT
     → bytes ++ later ≢ spelling ++ more
 fault_final bytes later spelling more f p e s small = λ same.

@@ -75,7 +75,7 @@ impl Framer {
     /// Whether a packet, or a fault, stands first. The fixed header tells it (2.1.1, 2.1.4): no packet
     /// is read, however long it is. Takes no memory.
     pub fn is_whole(&self) -> bool
-        // Not exactly where nothing is whole yet.
+        // Not exactly if nothing is whole yet.
         ensures waits { result ≡ false → first_of self.now.held ≡ Ok None }
         ensures whole { first_of self.now.held ≡ Ok None → result ≡ false }
     {
@@ -88,7 +88,7 @@ impl Framer {
         ensures ok { IfOk result (λ n.
             self.new ≡ record self.old { held = self.old.held ++ take n piece.now }) }
 
-        // Where a fault stands first, it is answered, and nothing is taken.
+        // If a fault stands first, it is answered, and nothing is taken.
         ensures clear { OnOk result (IsOk (first_of self.old.held)) }
         ensures stands { (fault : Fault) → first_of self.old.held ≡ Err fault
             → result ≡ Err (fault, self.old.place) }
@@ -123,7 +123,7 @@ impl Framer {
     pub fn look_sized(&self) -> Result<Option<(PacketRef<'_>, u64, usize)>, (Fault, u64)>
         ensures found { IfOk result (FindsSized packet_of self.now) }
 
-        // Where no packet is whole, at least one more byte fits. A packet is among the held bytes.
+        // If no packet is whole, at least one more byte fits. A packet is among the held bytes.
         ensures partial { IfOk result (λ found. IfNone found (length self.now.held < PACKET_LIMIT)) }
         ensures within { IfOk result (λ found. IfSome found (λ x.
             (0 < x.2) × (x.2 ≤ length self.now.held))) }
@@ -146,10 +146,10 @@ impl Framer {
         ensures found { IfOk result (FindsSized (λ packet. packet) self.old) }
         ensures same { self.new ≡ self.old }
 
-        // Nothing is answered exactly where no packet is whole: then no memory is wanted.
+        // Nothing is answered exactly if no packet is whole: then no memory is wanted.
         ensures waits { first_of self.old.held ≡ Ok None → result ≡ Ok None }
 
-        // Where no packet is whole, at least one more byte fits. A packet is among the held bytes.
+        // If no packet is whole, at least one more byte fits. A packet is among the held bytes.
         ensures partial { IfOk result (λ found. IfNone found (length self.old.held < PACKET_LIMIT)) }
         ensures within { IfOk result (λ found. IfSome found (λ x.
             (0 < x.2) × (x.2 ≤ length self.old.held))) }
@@ -170,10 +170,10 @@ impl Framer {
     pub fn next(&mut self) -> Result<Option<(Packet, u64)>, (Fault, u64)>
         ensures found { IfOk result (λ found. Gives self.old found self.new) }
 
-        // Nothing is answered exactly where no packet is whole: then no memory is wanted.
+        // Nothing is answered exactly if no packet is whole: then no memory is wanted.
         ensures waits { first_of self.old.held ≡ Ok None → result ≡ Ok None }
 
-        // Where no packet is whole, at least one more byte fits. With a packet there is less to hold.
+        // If no packet is whole, at least one more byte fits. With a packet there is less to hold.
         ensures partial { IfOk result (λ found. IfNone found (length self.new.held < PACKET_LIMIT)) }
         ensures shorter { IfOk result (λ found. OnSome found (length self.new.held < length self.old.held)) }
         ensures stands { (fault : Fault) → first_of self.old.held ≡ Err fault
@@ -193,7 +193,7 @@ impl Framer {
         }
     }
 
-    /// Takes the first `count` held bytes away, and all of them where fewer are held. Takes no
+    /// Takes the first `count` held bytes away, and all of them if fewer are held. Takes no
     /// memory.
     #[inline(always)]
     pub fn skip(&mut self, count: usize)

@@ -39,7 +39,7 @@ fn size_read(bytes: &[u8]) -> Result<Option<usize>, Fault>
     }
 }
 
-/// Whether a packet, or a fault, stands at the front. The fixed header alone is looked at: where a
+/// Whether a packet, or a fault, stands at the front. The fixed header alone is looked at: if a
 /// packet has come whole, it or a fault stands there.
 #[tactic(auto, using(crate::proofs::Waits::waits_sized, crate::proofs::Waits::sized_waits))]
 pub(crate) fn is_whole(bytes: &[u8]) -> bool

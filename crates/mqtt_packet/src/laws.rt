@@ -13,7 +13,7 @@ ghost use Rattle.mqtt_codec.specs.Heads.{head_of};
 ghost use Rattle.mqtt_packet.specs.Front.{first_of, size_at};
 ghost use Rattle.mqtt_packet.specs.Stream.{AreSpelled, joined_bytes, items_from, end_from, Item, Ending, short_at, fault_at, IsCut, IsStream, Framing, Call, IsRun, taken_of, given_of, empty};
 
-/// A stream begins with a packet where it begins with a spelling, and where a fault stands no stream
+/// A stream begins with a packet if it begins with a spelling, and if a fault stands no stream
 /// that goes on so begins with one.
 pub fn first_spelled()
     ensures whole { (packet : Packet) (bytes more : List ℕ)

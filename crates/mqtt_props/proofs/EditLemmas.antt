@@ -45,7 +45,7 @@ joined old more ps qs h e parts each =
       fits = λ lt. record { each = each-append ps qs (pairs_fit old ps h e).each each; short = omega (arith, lt, ap length is, length-append old more) };
     }
 
--- where they are too long, the two lists together have no spelling
+-- if they are too long, the two lists together have no spelling
 pub add_refused : (old more : List ℕ) (ps qs : List Prop) (fault : PropFault) → AreJoined old more ps qs → IsTooLong (length old + length more) fault → AddRefuses (ps ++ qs) fault
 add_refused old more ps qs Malformed h long = λ fits. omega (arith, fits.short, long, ap length h.is, length-append old more)
 add_refused old more ps qs Twice h long = long

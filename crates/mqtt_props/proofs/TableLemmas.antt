@@ -31,7 +31,7 @@ id_is m n e =
     let same : Some m ≡ Some n = sym (name_again m) ∙ ap name_of e ∙ name_again n in
     cc same
 
--- ---- a row of the list allows the place exactly where that of the name does
+-- ---- a row of the list allows the place exactly if that of the name does
 
 allows_found : (id : ℕ) (place : Place) (ns : List PropName) (n : PropName) → named id ns ≡ Some n → may_stand n place ≡ true → list_any (λ r. eqb r.id id && has_place place r.places) (map property_row ns) ≡ true
 allows_found id place [] n e may = absurd cc
@@ -60,7 +60,7 @@ allows_was id place (m ∷ ns) e =
       | inr t ↦ allows_was id place ns t
     ]
 
--- what the table says of the name, where there is one
+-- what the table says of the name, if there is one
 abbrev pub stands : Place → Option PropName → Bool
 stands place None = false
 stands place (Some n) = may_stand n place

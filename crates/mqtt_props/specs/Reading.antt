@@ -66,7 +66,7 @@ block_at bytes = do
 
 -- ---- bytes that are the pairs of a block
 
--- the properties, where the bytes are such
+-- the properties, if the bytes are such
 abbrev pub props_of : List ℕ → List Prop
 props_of bytes = items_of Malformed prop_at bytes
 

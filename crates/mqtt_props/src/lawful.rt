@@ -94,8 +94,8 @@ impl<'a> PropsRef<'a> {
         self.is_empty() || self.reborrow().laws_test(place).is_ok()
     }
 
-    /// Tests the laws: `Twice` where a property stands twice that may stand once, and else `BadValue`
-    /// where a value breaks a law.
+    /// Tests the laws: `Twice` if a property stands twice that may stand once, and else `BadValue`
+    /// if a value breaks a law.
     pub(crate) fn laws_test(&self, place: Place) -> Result<(), PropFault>
         ensures { result ≡ laws_of place self.now }
     {

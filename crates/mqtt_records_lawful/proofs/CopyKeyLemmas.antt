@@ -1,4 +1,4 @@
--- Copies have the same key exactly where they are the same.
+-- Copies have the same key exactly if they are the same.
 use Rattle.std.proofs.Common.{◌≡◌, ◌≢◌, ℕ, true, false, List, [], ◌∷◌, map, Bor, refl, sym, ap, subst}
 use Rattle.std.specs.Prelude.{◌↔◌}
 use Rattle.std.specs.Bool.{Decides}

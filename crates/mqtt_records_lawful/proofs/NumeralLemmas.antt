@@ -20,7 +20,7 @@ numeral_is_read last text digits r fits same parsed h =
     let within = h.1.1 in
     parse-decimal 64 h.0 digits r (omega (arith, within, fits)) (omega (arith, within, fits)) (same ∙ h.2) parsed
 
--- what was read is the number of a numeral exactly where its shortest form is the text
+-- what was read is the number of a numeral exactly if its shortest form is the text
 pub shortest_says : (number : ℕ) (text digits shortest : List ℕ) (b : Bool) → digits ≡ text → shortest ≡ decimal number → b ≡ bytes_eq shortest digits → b ≡ true → text ≡ decimal number
 shortest_says number text digits shortest b same is test so =
     sym same ∙ sym ((bytes_eq-Decides shortest digits).0 (sym test ∙ so)) ∙ is

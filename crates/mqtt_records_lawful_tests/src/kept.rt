@@ -16,7 +16,7 @@ pub struct Copied {
     pub place: u64,
     pub publication: u64,
     pub birth: u64,
-    /// The group; none where the copy is of a retained message.
+    /// The group; none if the copy is of a retained message.
     pub group: Option<&'static str>,
     pub subscribe: u64,
     pub identifier: u32,

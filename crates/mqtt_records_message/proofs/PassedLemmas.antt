@@ -91,7 +91,7 @@ front-refuses xs ys all Memory is h = tt
 
 -- ---- the parts of what is sent
 
--- what is added next stands in the whole, where what was added and what is left are the whole
+-- what is added next stands in the whole, if what was added and what is left are the whole
 next-refuses : (list rest all : List Prop) (x : Prop) (left : List Prop) (fault : PropFault) → left ≡ x ∷ rest → list ++ left ≡ all → AddRefuses (list ++ x ∷ []) fault → AddRefuses all fault
 next-refuses list rest all x left fault is whole h =
     front-refuses (list ++ x ∷ []) rest all fault (append_assoc list (x ∷ []) rest ∙ ap (λ (ys : List Prop). list ++ ys) (sym is) ∙ whole) h

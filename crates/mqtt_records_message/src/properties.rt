@@ -58,7 +58,7 @@ fn rises(props: &PropsRef<'_>) -> bool
     true
 }
 
-/// The number of a value, 0 where it has none (2.2.2.2). Takes no memory.
+/// The number of a value, 0 if it has none (2.2.2.2). Takes no memory.
 pub fn number_in(value: ValueRef<'_>) -> u32
     ensures { result ≡ number_in (value_of value.entry) }
 {
@@ -201,7 +201,7 @@ impl PassedOn {
     }
 
     /// The properties of a copy that has waited so many seconds, with its Subscription Identifiers
-    /// before its User Properties (3.3.2.3). `Malformed` where they have no spelling as a block.
+    /// before its User Properties (3.3.2.3). `Malformed` if they have no spelling as a block.
     pub fn sent(
         &self,
         alloc: Global,

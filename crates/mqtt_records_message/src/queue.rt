@@ -82,7 +82,7 @@ fn size_of(alloc: Global, copy: &MessageCopy) -> Result<u32, CopyFault>
 }
 
 impl CopyRow {
-    /// A row at a place, with the size of its copy's PUBLISH. `Unspelled` (1) where that has no
+    /// A row at a place, with the size of its copy's PUBLISH. `Unspelled` (1) if that has no
     /// spelling: a Subscription Identifier or the whole is too large (2.1.4).
     pub fn new(
         alloc: Global,

@@ -44,7 +44,7 @@ module _ {X : Type 0} (key : X → ℕ) where
     ]
   ]
 
-  -- after a row is put where there is room it is found by its key, and every other as before
+  -- after a row is put if there is room it is found by its key, and every other as before
   pub row_at-put_row : (limit k : ℕ) (row : X) (xs : List X) → HasRoomFor key limit (key row) xs → row_at key k (put_row key limit row xs) ≡ cond (nat_eq (key row) k) (Some row) (row_at key k xs)
   row_at-put_row limit k row xs room = rw room (row_at-insert_row k row xs)
 

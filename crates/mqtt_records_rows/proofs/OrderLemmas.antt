@@ -296,7 +296,7 @@ module _ {X : Type 0} (key : X → ℕ) where
   put_found limit row xs i up found =
       rw (found.2, found.0) (sym (insert-found row xs up found.2))
 
-  -- to insert a row where none was found is to put it, if there is room
+  -- to insert a row if none was found is to put it, if there is room
   pub put_new : (limit : ℕ) (row : X) (xs : List X) (i : ℕ) → IsFound key (key row) xs (Err i) → length xs < limit → insert xs i row ≡ put_row key limit row xs
   put_new limit row xs i missed less =
       rw (missed.1, lt-ltb (length xs) limit less, missed.0) (sym (insert-none row xs missed.1))

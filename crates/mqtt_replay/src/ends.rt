@@ -25,7 +25,7 @@ pub enum End {
     },
 }
 
-/// The end that an event makes, where it makes one.
+/// The end that an event makes, if it makes one.
 fn end_of(event: &Event) -> Result<Option<End>, AllocError>
     ensures { IfOk result (λ end. end ≡ made_by event.now) }
 {
@@ -40,7 +40,7 @@ fn end_of(event: &Event) -> Result<Option<End>, AllocError>
     }
 }
 
-/// Adds the end that an event makes, where it makes one.
+/// Adds the end that an event makes, if it makes one.
 pub fn push_made(ends: &mut Vec<End>, event: &Event) -> Result<(), AllocError>
     ensures { OnOk result (ends.new.items ≡ ends.old.items ++ option_to_list (made_by event.now)) }
 {

@@ -40,7 +40,7 @@ pub fn replay<P: Runs, R: Read, W: Write>(
     played
 }
 
-/// The same, by reads of at most a chunk, where no byte is held.
+/// The same, by reads of at most a chunk, if no byte is held.
 fn replay_by<P: Runs, R: Read, W: Write>(
     alloc: Global,
     script: &mut Script<P>,

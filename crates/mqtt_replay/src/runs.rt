@@ -13,7 +13,7 @@ pub trait Runs: Drop {
     // What can happen there, and what is seen.
     ghost play: { Play Self };
 
-    /// An event happens, and this is told of it. `BadEvent` where it can't happen there; after another fault the world
+    /// An event happens, and this is told of it. `BadEvent` if it can't happen there; after another fault the world
     /// is over.
     fn happen(&mut self, event: &Event) -> Result<Told, RunFault>
         ensures happens { IfOk result (λ told. play.happens self.old event.now told self.new) }
@@ -21,19 +21,19 @@ pub trait Runs: Drop {
             → play.is_bad self.old event.now }
         ensures cause { IsErrOf result RunFault.Store → play.due };
 
-    /// How many messages a publisher has; 0 where there is no such publisher. Takes no memory.
+    /// How many messages a publisher has; 0 if there is no such publisher. Takes no memory.
     fn sent(&self, client: &str) -> u64
         ensures { result ≡ play.sent self.now client.now };
 
-    /// How many handshakes of a publisher are completed; 0 where there is no such publisher. Takes no memory.
+    /// How many handshakes of a publisher are completed; 0 if there is no such publisher. Takes no memory.
     fn done(&self, client: &str) -> u64
         ensures { result ≡ play.done self.now client.now };
 
-    /// The publications of the QoS 2 copies that a receiver was handed, in order; none where there is no such receiver.
+    /// The publications of the QoS 2 copies that a receiver was handed, in order; none if there is no such receiver.
     fn handed(&self, alloc: Global, client: &str) -> Result<Vec<u64>, AllocError>
         ensures { IfOk result (λ handed. handed.items ≡ play.handed self.now client.now) };
 
-    /// How many copies are in the queue of a receiver's session; 0 where there is none. Takes no memory.
+    /// How many copies are in the queue of a receiver's session; 0 if there is none. Takes no memory.
     fn queue(&self, client: &str) -> u64
         ensures { result ≡ play.queue self.now client.now };
 

@@ -101,7 +101,7 @@ impl<P: Runs> Script<P> {
         )
     }
 
-    /// Adds the line of the next event, where that is none.
+    /// Adds the line of the next event, if that is none.
     pub fn push_bad(&self, text: &mut String) -> Result<(), AllocError>
         ensures { OnOk result (string_bytes text.new
             ≡ string_bytes text.old ++ bad_text (self.now.number + 1)) }

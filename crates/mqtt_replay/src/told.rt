@@ -45,7 +45,7 @@ fn push_reports(text: &mut String, reports: &[Report]) -> Result<(), AllocError>
 }
 
 /// Adds the whole line of an event: its number, from 1, its first word, its reports in order, and how
-/// many packets went out, where some did. Fails only for want of memory.
+/// many packets went out, if some did. Fails only for want of memory.
 #[tactic(auto, using(std::proofs::lemmas::List::append_assoc))]
 pub fn push_told(
     text: &mut String,

@@ -91,7 +91,7 @@ fn is_front(written: &[u8], lines: usize) -> bool {
     ends && count == lines && TEXT.as_bytes().starts_with(written)
 }
 
-/// What the script comes to where a read fails, and whether these many lines were written.
+/// What the script comes to if a read fails, and whether these many lines were written.
 fn read_to(alloc: Global, fails_at: usize, lines: usize) -> (Result<Played, ReplayFault>, bool) {
     let Ok(toy) = toy_of(alloc, 1_000, RunFault::Store) else {
         return (Err(ReplayFault::Memory), false);
@@ -115,7 +115,7 @@ fn a_read_that_fails_leaves_the_lines_of_what_came(rt: HostRuntime) {
     }
 }
 
-/// What the script comes to where a write fails, and whether these many lines were written.
+/// What the script comes to if a write fails, and whether these many lines were written.
 fn written_to(alloc: Global, fails_at: usize, lines: usize) -> (Result<Played, ReplayFault>, bool) {
     let Ok(toy) = toy_of(alloc, 1_000, RunFault::Store) else {
         return (Err(ReplayFault::Memory), false);

@@ -62,7 +62,7 @@ abbrev pub last_lines_in : List Event → World → List ℕ
 last_lines_in es w =
     flat_map (end_line_in es w) (ends_made es) ++ broker_text w.broker.records.publications (length w.broker.records.sessions)
 
--- ---- lines of a script run from one world to another, and are told so; and exactly-once delivery holds of it, where nobody was
+-- ---- lines of a script run from one world to another, and are told so; and exactly-once delivery holds of it, if nobody was
 -- there at first and their ends begin clean (3.1.2.4, 3.3.4, 4.3, 4.4, 4.6, 4.8, 4.9)
 
 pub record RunsLines (limits : Limits) (lines : List (List ℕ)) (w : World) (text : List ℕ) (events : List Event) (after : World) : Type 0 where

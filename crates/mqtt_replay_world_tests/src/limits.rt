@@ -8,7 +8,7 @@ use std::alloc::Global;
 use std::hash::RandomState;
 use std::test::Fail;
 
-/// Whether a script comes to this text where queues hold two copies, over each store.
+/// Whether a script comes to this text if queues hold two copies, over each store.
 pub(crate) fn is_so_in_queues_of_two(
     alloc: Global,
     hasher: RandomState,

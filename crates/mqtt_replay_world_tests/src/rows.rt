@@ -29,7 +29,7 @@ const OLD_FIRST_TEXT: &str = "1 publisher\n2 connect\n3 tobroker out=1\n4 toend\
     6 tobroker accepted=1 out=1\n7 toend\n8 giveup\n9 connect\n10 tobroker released=1 out=1\n11 tobroker out=2\n\
     12 toend\n13 tobroker out=1\n14 toend\np1 sent=1 done=1\nbroker publications=1 sessions=1\n";
 
-/// The same, where the CONNECT is read first: the broker closes the old line, and drops the rest of it.
+/// The same, if the CONNECT is read first: the broker closes the old line, and drops the rest of it.
 const NEW_FIRST: &str =
     "publisher p1\nconnect p1 0\ntobroker p1\ntoend p1\npublish p1 2 0 a/b 6869\ntobroker p1\n\
     toend p1\ngiveup p1\nconnect p1 0\ntobroker p1\ntobroker p1 old\ntoend p1\ntobroker p1\ntoend p1\n";

@@ -73,7 +73,7 @@ chosen n (m ∷ ms) = Some (slice_index_or (m ∷ ms) n m)
 abbrev pub shared_copy : Publication → Member → Copy
 shared_copy p m = copy_for p m.birth (m.sub ∷ [])
 
--- a group and its chosen member; without an eligible one it gets nothing, and where one lacks nothing but
+-- a group and its chosen member; without an eligible one it gets nothing, and if one lacks nothing but
 -- room the publication isn't accepted
 abbrev pub outcome : Publication → List ℕ → List Member → Option Member → Option Served
 outcome p text all (Some m) = Some (served_by text (Some (shared_copy p m)))
@@ -131,7 +131,7 @@ IsRouting at p sessions r = (choices : List ℕ) × (routed at p choices session
 abbrev pub IsUnrouted : Answers → Publication → List Subscriber → Type 0
 IsUnrouted at p sessions = (choices : List ℕ) × (routed at p choices sessions ≡ None)
 
--- Full is answered where a queue that is needed has no room; of want of memory nothing is said
+-- Full is answered if a queue that is needed has no room; of want of memory nothing is said
 abbrev pub RefusesRoute : Answers → Publication → List Subscriber → RoutesFault → Type 0
 RefusesRoute at p sessions Full = IsUnrouted at p sessions
 RefusesRoute at p sessions Memory = ⊤
@@ -150,7 +150,7 @@ RefusesOne at p direct before text all Memory = ⊤
 
 -- ---- laws
 
--- a routing has takers exactly where somebody is there
+-- a routing has takers exactly if somebody is there
 abbrev pub TellsTakers : Answers → Publication → List ℕ → List Subscriber → Routed → Type 0
 TellsTakers at p choices sessions r = routed at p choices sessions ≡ Some r → is_wanted at p sessions ≡ has_takers r
 

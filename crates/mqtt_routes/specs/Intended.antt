@@ -59,7 +59,7 @@ greatest [] = 0
 greatest (n ∷ ns) = max n (greatest ns)
 
 -- one copy for subscriptions of a session: at their greatest granted QoS, with all their identifiers in
--- the order subscribed, and with the publication's RETAIN where one of them has Retain As Published
+-- the order subscribed, and with the publication's RETAIN if one of them has Retain As Published
 abbrev pub copy_for : Publication → ℕ → List Subscription → Copy
 copy_for p birth subs = record {
   birth = birth;

@@ -110,7 +110,7 @@ abbrev pub with_some : List Subscriber → List Subscriber
 with_some [] = []
 with_some (x ∷ xs) = beside x.subs x (with_some xs)
 
--- where there are filters to come, their session stands in the list with the subscriptions that it has, be it none
+-- if there are filters to come, their session stands in the list with the subscriptions that it has, be it none
 abbrev pub standing : ℕ → List (List ℕ) → List Subscriber → List Subscriber
 standing birth [] xs = xs
 standing birth (f ∷ fs) xs = with_subs birth (subs_of birth xs) xs

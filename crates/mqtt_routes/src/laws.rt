@@ -4,7 +4,7 @@ ghost use Rattle.mqtt_routes.specs.Subscriptions.{Subscriber, AreInOrder, standi
 ghost use Rattle.mqtt_routes.specs.Intended.{Answers, Publication};
 ghost use Rattle.mqtt_routes.specs.Acceptance.{RouteAlike, Routed, TellsTakers};
 
-/// Sessions without subscriptions change nothing: where they alone tell two lists apart, a
+/// Sessions without subscriptions change nothing: if they alone tell two lists apart, a
 /// publication goes the same ways.
 pub fn empty_sessions_change_nothing()
     ensures { (at : Answers) (p : Publication) (choices : List ℕ) (xs ys : List Subscriber)
@@ -24,7 +24,7 @@ pub fn a_standing_session_is_nothing_more()
         → with_some (standing birth filters xs) ≡ with_some xs }
 {}
 
-/// A routing has a direct copy or a group exactly where somebody is there for the publication.
+/// A routing has a direct copy or a group exactly if somebody is there for the publication.
 pub fn takers_are_told()
     ensures { (at : Answers) (p : Publication) (choices : List ℕ) (sessions : List Subscriber) (r : Routed)
         → TellsTakers at p choices sessions r }

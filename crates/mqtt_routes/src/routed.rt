@@ -6,7 +6,7 @@ use crate::copy::RoutedCopy;
 use mqtt_base::Text;
 use std::marker::Model;
 
-/// The turn that a group took; without members where nobody was chosen.
+/// The turn that a group took; without members if nobody was chosen.
 #[derive(Drop)]
 pub(crate) struct Turn {
     /// The births of the group's members, each of which notes it.

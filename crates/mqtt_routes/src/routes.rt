@@ -57,7 +57,7 @@ impl<M: Drop> Routes<M> {
 
     /// Makes room for subscriptions of a session, so that `subscribe` of each takes no memory. The
     /// session stands in the table from then on, if need be without subscriptions. Its only fault is
-    /// 2 (Memory), and only where there was no room.
+    /// 2 (Memory), and only if there was no room.
     pub fn make_room(&mut self, birth: u64, new: &[Subscription]) -> Result<(), RoutesFault>
         ensures ok { OnOk result (self.new.table
             ≡ record self.old.table {
@@ -72,7 +72,7 @@ impl<M: Drop> Routes<M> {
     }
 
     /// Puts a subscription of a session: one to the same filter is replaced and keeps its place
-    /// (3.8.4). 1 (Full) where `SUBSCRIPTION_LIMIT` stand and this one is new, and only there.
+    /// (3.8.4). 1 (Full) if `SUBSCRIPTION_LIMIT` stand and this one is new, and only there.
     pub fn subscribe(&mut self, birth: u64, subscription: Subscription) -> Result<(), RoutesFault>
         ensures ok { OnOk result (self.new.table ≡ record self.old.table {
           sessions = subscribed birth subscription self.old.table.sessions;
@@ -118,7 +118,7 @@ impl<M: Drop> Routes<M> {
         self.subscribers.drop_session(birth);
     }
 
-    /// Where a publication of a client goes (3.3.4, 4.8.2). 1 (Full) where a queue that it needs
+    /// Where a publication of a client goes (3.3.4, 4.8.2). 1 (Full) if a queue that it needs
     /// has no room.
     pub fn route<S: Sessions>(
         &self,
@@ -194,7 +194,7 @@ impl<M: Drop> Routes<M> {
     }
 
     /// Makes room for retained messages of topics, so that `retain` of each takes no memory. Its only
-    /// fault is 2 (Memory), and only where there was no room.
+    /// fault is 2 (Memory), and only if there was no room.
     pub fn make_topic_room(&mut self, topics: &[&TopicName]) -> Result<(), RoutesFault>
         ensures same { self.new.table ≡ self.old.table }
         ensures room { OnOk result (has_room_of (names_of topics.now) self.new ≡ true) }
@@ -205,7 +205,7 @@ impl<M: Drop> Routes<M> {
     }
 
     /// Retains a message for a topic in place of the one before, or with none removes that one
-    /// (3.3.1.3). 1 (Full) where `RETAINED_LIMIT` topics have one and this topic hasn't, and only there.
+    /// (3.3.1.3). 1 (Full) if `RETAINED_LIMIT` topics have one and this topic hasn't, and only there.
     pub fn retain(&mut self, topic: TopicName, message: Option<M>) -> Result<(), RoutesFault>
         ensures ok { OnOk result (self.new.table
             ≡ record self.old.table { retained = retain topic message self.old.table.retained }) }

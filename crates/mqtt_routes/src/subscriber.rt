@@ -119,7 +119,7 @@ impl Subscriptions {
         self.rows.get_index_of(filter)
     }
 
-    /// The filter by which the subscription of a number is matched; none where there is none. Takes
+    /// The filter by which the subscription of a number is matched; none if there is none. Takes
     /// no memory.
     pub(crate) fn matched(&self, at: usize) -> &str
         ensures { result.now ≡ matched_at self.now.subs at }

@@ -154,7 +154,7 @@ impl Subscribers {
         }
     }
 
-    /// The filter by which a session's subscription of a number is matched; none where it has none.
+    /// The filter by which a session's subscription of a number is matched; none if it has none.
     /// Takes no memory.
     pub(crate) fn matched(&self, birth: u64, at: usize) -> &str
         ensures { result.now ≡ matched_at (subs_of birth self.now.sessions) at }

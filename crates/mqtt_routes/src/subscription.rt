@@ -11,6 +11,6 @@ pub struct Subscription {
     pub place: u64,
     /// Maximum QoS, No Local and Retain As Published; Retain Handling has no part in routing.
     pub options: SubscriptionOptions,
-    /// Subscription Identifier, from 1; none where there was none.
+    /// Subscription Identifier, from 1; none if there was none.
     pub identifier: Option<u32>,
 }

@@ -67,9 +67,9 @@ pub(crate) const NONE: Copied = (0, ZERO, false, 0);
 /// What is seen of a routing.
 #[derive(Clone, Copy, Debug, PartialEq, Eq)]
 pub(crate) struct Seen {
-    /// The direct copies, if there are one or two; the last is `NONE` where there is one.
+    /// The direct copies, if there are one or two; the last is `NONE` if there is one.
     pub(crate) direct: [Copied; 2],
-    /// The birth of the member that each of at most two groups chose; 0 where it chose none.
+    /// The birth of the member that each of at most two groups chose; 0 if it chose none.
     pub(crate) chosen: [u64; 2],
     /// The QoS of the first group's copy.
     pub(crate) qos: Qos,
@@ -127,7 +127,7 @@ impl Bed {
         Ok(answer)
     }
 
-    /// The QoS and the identifiers of the first direct copy; no identifier where it hasn't three.
+    /// The QoS and the identifiers of the first direct copy; no identifier if it hasn't three.
     pub(crate) fn identifiers(&self) -> Result<(Qos, [u32; 3]), RoutesFault> {
         let routed = self.routes.route("p", &self.topic, 2, false, &ALL)?;
         let mut seen = (ZERO, [0; 3]);

@@ -48,7 +48,7 @@ fn put_all(alloc: Global, routes: &mut Routes<u8>) -> Result<(), Fail> {
     Ok(())
 }
 
-/// How many identifiers the first copy for a name has; none where there is no copy.
+/// How many identifiers the first copy for a name has; none if there is no copy.
 fn count(routes: &Routes<u8>, name: &TopicName) -> Result<Option<usize>, RoutesFault> {
     let routed = routes.route("p", name, 2, false, &ALL)?;
     let count = match routed.direct().first() {

@@ -17,7 +17,7 @@ fn retain(
     Ok(routes.retain(topic, message)?)
 }
 
-/// The first two messages that a filter matches, 0 where there are fewer, and how many there are.
+/// The first two messages that a filter matches, 0 if there are fewer, and how many there are.
 fn look(alloc: Global, routes: &Routes<u16>, filter: &str) -> Result<([u16; 2], usize), Fail> {
     let filter = SubFilter::parse(alloc, filter)?;
     let found = routes.retained_for(&filter);

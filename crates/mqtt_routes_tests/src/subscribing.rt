@@ -56,7 +56,7 @@ fn room_is_made_beforehand(rt: HostRuntime) -> Result<(), Fail> {
     done
 }
 
-/// What the publication brings, asked again where memory was wanting.
+/// What the publication brings, asked again if memory was wanting.
 fn asked(bed: &Bed) -> Result<Seen, RoutesFault> {
     match bed.ask("p", 2, &ALL) {
         Ok(seen) => Ok(seen),
@@ -64,7 +64,7 @@ fn asked(bed: &Bed) -> Result<Seen, RoutesFault> {
     }
 }
 
-/// A subscription, made again where memory was wanting.
+/// A subscription, made again if memory was wanting.
 fn made(alloc: Global, filter: &str, place: u64) -> Result<Subscription, TopicFault> {
     match subscription(alloc, filter, place, ONE) {
         Ok(new) => Ok(new),
@@ -72,7 +72,7 @@ fn made(alloc: Global, filter: &str, place: u64) -> Result<Subscription, TopicFa
     }
 }
 
-/// Subscribes, again where memory was wanting, which changed nothing.
+/// Subscribes, again if memory was wanting, which changed nothing.
 fn subscribe_at_last(
     rt: &impl Abort,
     alloc: Global,

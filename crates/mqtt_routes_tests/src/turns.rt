@@ -23,7 +23,7 @@ fn members_take_their_turns(rt: HostRuntime) -> Result<(), Fail> {
     done
 }
 
-/// Whom each of five publications goes to in two groups, where the second group isn't served by the
+/// Whom each of five publications goes to in two groups, if the second group isn't served by the
 /// second one: it has two members at QoS 0, of which none is connected then.
 fn miss_a_turn(rt: &impl Abort, alloc: Global, bed: &mut Bed) -> Result<(), Fail> {
     bed.subscribe(alloc, 3, "$share/g/a/b", 1, TWO)?;

@@ -95,7 +95,7 @@ pub begins_within : (end : Option ℕ) (l text : List ℕ) → begins_with l (le
 begins_within None l text h = let s = begins_short l text h in omega (arith, s)
 begins_within (Some k) l text h = ends_by (nat_lt k (length text)) k l text refl h
 
--- what is left of a text where its next level was taken off
+-- what is left of a text if its next level was taken off
 pub next_begins : (at : Option ℕ) (l text : List ℕ) (old new : List (List ℕ)) → old ≡ levels_behind at text → old ≡ l ∷ new → begins_with l (levels_behind at text) ≡ true
 next_begins at l text old new is next = subst (λ ls. begins_with l ls ≡ true) (sym next ∙ is) ((bytes_eq-Decides l l).1 refl)
 

@@ -75,7 +75,7 @@ ArePlain (l ∷ ls) = (has_wildcard l ≡ false) × ArePlain ls
 
 -- ---- what matches
 
--- how often something is found: once where a test holds, or not at all
+-- how often something is found: once if a test holds, or not at all
 abbrev pub once : Bool → ℕ
 once holds = cond holds 1 0
 
@@ -87,7 +87,7 @@ abbrev pub found_in_all : List (List ℕ) → List (List ℕ) → ℕ → List R
 found_in_all texts ls i [] = 0
 found_in_all texts ls i (r ∷ rs) = found_in texts ls i r + found_in_all texts ls i rs
 
--- how often a number is to be found: once where a filter of this number matches the name
+-- how often a number is to be found: once if a filter of this number matches the name
 abbrev pub is_found : List (List ℕ) → List ℕ → ℕ → ℕ
 is_found texts name i = once (nat_lt i (length texts) && is_match (get_or texts i []) name)
 

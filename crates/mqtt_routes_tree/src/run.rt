@@ -86,7 +86,7 @@ pub(crate) fn push_all(numbers: &mut Vec<usize>, run: Run) -> Result<(), TreeFau
     Ok(())
 }
 
-/// Adds a number to others where it was found.
+/// Adds a number to others if it was found.
 pub(crate) fn push_if(
     found: &mut Vec<usize>,
     number: usize,

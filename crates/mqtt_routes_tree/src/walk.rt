@@ -136,7 +136,7 @@ fn try_each<F: Filters>(
     Ok(())
 }
 
-/// Adds a run to others, or where it has few filters, those of them that match the levels of a name
+/// Adds a run to others, or if it has few filters, those of them that match the levels of a name
 /// behind a byte.
 fn settle_one<F: Filters>(
     filters: &F,

@@ -66,7 +66,7 @@ refusal c r = first_case (
 abbrev pub refusal_size : ℕ
 refusal_size = 5
 
--- CONNACK with the code, where the client takes so many bytes, and the line closes
+-- CONNACK with the code, if the client takes so many bytes, and the line closes
 abbrev pub refused : Line → Connect → ℕ → List Deed
 refused l c code =
     cond (nat_lt (largest_of c) refusal_size) [] (Send l.number (connack false code []) ∷ []) ++ Gone l.number ∷ []
@@ -154,7 +154,7 @@ abbrev pub begin_named : Bool → Line → Connect → Records → List Deed
 begin_named false l c r = begin l c false c.client_identifier (suc r.births)
 begin_named true l c r = Name (suc r.autos) ∷ begin l c true (auto ++ decimal (suc r.autos)) (suc r.births)
 
--- after the preparation the session is resumed, or a new one begins where there is a place for it; else nothing changes
+-- after the preparation the session is resumed, or a new one begins if there is a place for it; else nothing changes
 abbrev pub joins : Env → Line → Connect → ℕ → List Deed → Records → Option Session → List Deed
 joins env l c now ds r (Some s) = ds ++ resume l c now s
 joins env l c now ds r None =

@@ -229,7 +229,7 @@ abbrev pub with_line : Option Line → (Line → Act) → Act
 with_line None f b = []
 with_line (Some l) f b = f l b
 
--- a packet that is left out where it is larger than the client takes (3.1.2.11.4)
+-- a packet that is left out if it is larger than the client takes (3.1.2.11.4)
 abbrev pub offer : Option Line → Packet → List Deed
 offer None packet = []
 offer (Some l) packet = cond (nat_le (size_of packet) l.largest) (Send l.number packet ∷ []) []

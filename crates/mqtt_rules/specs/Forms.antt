@@ -44,7 +44,7 @@ abbrev pub first_within : ℕ → Publish → List Form → Option Form
 first_within largest p [] = None
 first_within largest p (f ∷ fs) = cond (is_within largest p f) (Some f) (first_within largest p fs)
 
--- the form in which a PUBLISH goes out, to a client that takes so many bytes and was told this; none where it is too large
+-- the form in which a PUBLISH goes out, to a client that takes so many bytes and was told this; none if it is too large
 abbrev pub form_for : ℕ → ToldTopics → Publish → Option Form
 form_for largest told p = first_within largest p (forms told p.topic)
 

@@ -179,7 +179,7 @@ pump_deeds l now s = all_turn_deeds now l.number s (pump_turns l now s)
 
 -- ---- DISCONNECT (3.14)
 
--- a Session Expiry Interval above 0 where CONNECT had 0 (3.14.2.2.2)
+-- a Session Expiry Interval above 0 if CONNECT had 0 (3.14.2.2.2)
 abbrev pub is_late_expiry : Option ℕ → ℕ → Bool
 is_late_expiry None expiry = false
 is_late_expiry (Some n) expiry = nat_lt 0 n && nat_eq expiry 0

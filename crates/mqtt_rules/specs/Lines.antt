@@ -15,7 +15,7 @@ session_on n b = option_map (λ l. l.session) (line_at n b)
 abbrev pub closed_at : ℕ → Records → Option (Option ℕ)
 closed_at birth r = option_map (λ s. s.closed) (session_at birth r)
 
--- line numbers ascend and were given; a session stands on at most one line, and on one exactly where it is connected
+-- line numbers ascend and were given; a session stands on at most one line, and on one exactly if it is connected
 pub record HasUniqueLines (b : Broker) : Type 0 where
   pub ascending : IsAscending line_number b.lines
   pub given : IsBelow line_number (suc b.given) b.lines

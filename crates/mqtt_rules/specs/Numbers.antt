@@ -10,7 +10,7 @@ use Rattle.mqtt_records.specs.Records.{kept_place}
 use Rattle.mqtt_rules.specs.State.{Broker}
 use Rattle.mqtt_rules.specs.Deeds.{Deed, Accept, Begin, Name, Count}
 
--- each is one above the one before it, the first one above n, and m is the last of them, or n where there is none
+-- each is one above the one before it, the first one above n, and m is the last of them, or n if there is none
 abbrev pub CountsOn : ℕ → List ℕ → ℕ → Type 0
 CountsOn n [] m = m ≡ n
 CountsOn n (x ∷ xs) m = (x ≡ suc n) × CountsOn x xs m

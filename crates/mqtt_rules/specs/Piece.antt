@@ -64,7 +64,7 @@ is_whole (Ok None) = false
 is_whole (Ok (Some x)) = true
 is_whole (Err fault) = true
 
--- ---- the step on what is asked; where nothing is, the moment alone is new
+-- ---- the step on what is asked; if nothing is, the moment alone is new
 
 abbrev pub stepped_if : Limits → MemberChoice → ℕ → Option Call → Broker → Broker
 stepped_if limits choice now None b = at_moment now b
@@ -92,7 +92,7 @@ abbrev pub held_on : Option Line → List ℕ → Framing → Framing
 held_on None piece f = f
 held_on (Some l) piece f = without_first (fed piece f)
 
--- the state, and what the line holds, after the step; and what it answers: call again where the line stands and more is
+-- the state, and what the line holds, after the step; and what it answers: call again if the line stands and more is
 -- whole
 pub record Pieced : Type 0 where
   pub broker : Broker

@@ -39,7 +39,7 @@ abbrev pub stored : Broker → Records
 stored b = b.records
 
 -- the free choice, for the publication of a number by a sender, of a member for each group in order; a Will that is
--- refused takes no number, so where several sessions close in one step the number alone doesn't tell their publications
+-- refused takes no number, so if several sessions close in one step the number alone doesn't tell their publications
 -- apart (ours)
 abbrev pub MemberChoice : Type 0
 MemberChoice = ℕ → List ℕ → List ℕ

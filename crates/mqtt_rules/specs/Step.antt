@@ -62,7 +62,7 @@ abbrev pub on_packet : Env → Line → Packet → Option ℕ → Act
 on_packet env l packet None b = first_packet env l packet b
 on_packet env l packet (Some birth) b = of_session birth (next_packet env l packet) b
 
--- a fault in a CONNECT is answered by CONNACK, in another first packet by nothing, later by DISCONNECT (4.13), where
+-- a fault in a CONNECT is answered by CONNACK, in another first packet by nothing, later by DISCONNECT (4.13), if
 -- another version is a protocol error
 abbrev pub late_code : ℕ → ℕ
 late_code code = cond (nat_eq code unsupported_protocol_version) protocol_error code

@@ -8,7 +8,7 @@ ghost use Rattle.mqtt_rules.specs.State.{Broker, MemberChoice, stored};
 ghost use Rattle.mqtt_rules.specs.Step.{Call, at_moment, deeds, is_opening_spent, is_step_spent, opened, opening_deeds, rows_written, stepped, unopened};
 ghost use Rattle.mqtt_rules.specs.declared.Limits.{Limits as TheLimits};
 
-/// The rows of a step fit what is stored, and so do those of an opening, where no number is spent and the
+/// The rows of a step fit what is stored, and so do those of an opening, if no number is spent and the
 /// broker's limits are within those of the tables: no number falls, no table outgrows its limit, what a
 /// row refers to stands, and client identifiers, retained topics and places stay apart. For that the
 /// records have to be coherent, as they are at first and after each such step and opening (4.1).

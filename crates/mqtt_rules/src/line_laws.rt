@@ -11,8 +11,8 @@ ghost use Rattle.mqtt_rules.specs.Step.{Call, is_step_spent, opened, stepped};
 ghost use Rattle.mqtt_rules.specs.declared.Limits.{Limits as TheLimits};
 
 /// The numbers of lines ascend, and none is above the last one given; a session stands on at most one
-/// line, and on one exactly where it stands and isn't closed. So it is before the first event and after
-/// each opening, and each step keeps it where no number is spent and the records are coherent (for one
+/// line, and on one exactly if it stands and isn't closed. So it is before the first event and after
+/// each opening, and each step keeps it if no number is spent and the records are coherent (for one
 /// client identifier has one session then, so that its takeover leaves no other one on a line).
 pub fn lines_are_unique()
     ensures nothing { HasUniqueLines blank }

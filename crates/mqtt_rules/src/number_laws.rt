@@ -41,7 +41,7 @@ pub fn counted_numbers_are_apart()
 {}
 
 /// No counter falls, whatever is asked of the broker, nor when it opens. The stored moment doesn't fall
-/// where it isn't above the greatest moment handed in, as it never is once the broker is open on what a
+/// if it isn't above the greatest moment handed in, as it never is once the broker is open on what a
 /// store has, whose moment is at most the last one.
 pub fn counters_never_fall()
     ensures step { (limits : TheLimits) (choice : MemberChoice) (now : ℕ) (call : Call) (b : Broker)
@@ -58,8 +58,8 @@ pub fn counters_never_fall()
         × IsTimed (opened limits choice now r) }
 {}
 
-/// No session that stands has a birth above the last one given, after any step of a broker where none
-/// had, and after its opening, and none has where nothing is stored; so the birth of a new session is
+/// No session that stands has a birth above the last one given, after any step of a broker if none
+/// had, and after its opening, and none has if nothing is stored; so the birth of a new session is
 /// that of none that stands.
 pub fn births_are_new()
     ensures step { (limits : TheLimits) (choice : MemberChoice) (now : ℕ) (call : Call) (b : Broker)
@@ -71,7 +71,7 @@ pub fn births_are_new()
 {}
 
 /// No copy in a queue and no retained message has a number above that of the last publication accepted,
-/// after any step of a broker where none had, and after its opening, and none has where nothing is stored;
+/// after any step of a broker if none had, and after its opening, and none has if nothing is stored;
 /// so a new publication's number is above those of all copies and retained messages that stand.
 pub fn copies_are_of_accepted_publications()
     ensures step { (limits : TheLimits) (choice : MemberChoice) (now : ℕ) (call : Call) (b : Broker)
@@ -83,7 +83,7 @@ pub fn copies_are_of_accepted_publications()
 {}
 
 /// Sessions stand in the order of their births, retained messages and the subscriptions and copies of each
-/// session in that of their places, and open identifiers ascend, after any step of a broker where they did,
+/// session in that of their places, and open identifiers ascend, after any step of a broker if they did,
 /// and after its opening; so no birth, no place and no open identifier comes twice.
 pub fn births_and_places_are_unique()
     ensures step { (limits : TheLimits) (choice : MemberChoice) (now : ℕ) (call : Call) (b : Broker)

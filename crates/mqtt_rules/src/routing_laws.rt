@@ -1,4 +1,4 @@
-//! Laws of routing: each member of a group can be chosen, and copies enter where there is room.
+//! Laws of routing: each member of a group can be chosen, and copies enter if there is room.
 ghost use Rattle.std.specs.Prelude.{◌≡◌, ℕ, ◌<◌, ◌≤◌, ◌++◌, List, [], ◌∷◌, filter, length, Some, true};
 ghost use Rattle.std.specs.Option.{option_and_then};
 ghost use Rattle.mqtt_records_message.specs.declared.message.MessageCopy.{MessageCopy};

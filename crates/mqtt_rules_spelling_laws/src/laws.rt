@@ -15,8 +15,8 @@ ghost use Rattle.mqtt_rules.specs.declared.Limits.{Limits as TheLimits};
 ghost use Rattle.mqtt_rules_spelling_laws.specs.Sending.{HaveSentPhases, IsAsked, SendsWell, TellsFault};
 
 /// Each packet that the broker sends in a step has a spelling: whoever reads its bytes gets that packet, and it is
-/// lawful MQTT. So it is where no number is spent, the packet that came is lawful and no longer than a packet may
-/// be, or the code of a bad one is that of a fault; and where the broker's contents are lawful, its tables in
+/// lawful MQTT. So it is if no number is spent, the packet that came is lawful and no longer than a packet may
+/// be, or the code of a bad one is that of a fault; and if the broker's contents are lawful, its tables in
 /// order, and each packet identifier in flight is from 1 and has two bytes, as is so of every broker that began
 /// with an empty store. The code of what bytes of a line ask for is always that of a fault (2.1, 2.2.1, 3.2 to
 /// 3.14, 4.13).
@@ -30,7 +30,7 @@ pub fn what_goes_out_has_a_spelling()
 {}
 
 /// Each packet identifier in flight is from 1 and has two bytes. So it is in a new store, and after each step and
-/// each opening where it was so before, under the same premises (2.2.1).
+/// each opening if it was so before, under the same premises (2.2.1).
 pub fn identifiers_stay_two_bytes()
     ensures nothing { HaveSentPhases nothing }
     ensures step { (limits : TheLimits) (choice : MemberChoice) (now : ℕ) (call : Call) (b : Broker)

@@ -41,7 +41,7 @@ first_word (Drain client) = codes "drain"
 abbrev pub IsOneName : List ℕ → List (List ℕ) → Type 0
 IsOneName client words = (words ≡ client ∷ []) × IsName client
 
--- one name, and `old` where the line given up is meant
+-- one name, and `old` if the line given up is meant
 abbrev pub IsLineName : List ℕ → Bool → List (List ℕ) → Type 0
 IsLineName client false words = (words ≡ client ∷ []) × IsName client
 IsLineName client true words = (words ≡ client ∷ codes "old" ∷ []) × IsName client

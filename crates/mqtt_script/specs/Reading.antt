@@ -22,7 +22,7 @@ use Rattle.mqtt_script.specs.declared.event.Wish.{Wish}
 use Rattle.mqtt_script.specs.declared.fault.ScriptFault.{ScriptFault}
 use Rattle.mqtt_script.specs.declared.fault.ScriptFault.TheVariants.{Memory}
 
--- what was read is this value, and it was refused where there is none; want of memory says nothing of it
+-- what was read is this value, and it was refused if there is none; want of memory says nothing of it
 abbrev pub IsReadAs : {X : Type 0} → Option X → Result X ScriptFault → Type 0
 IsReadAs value result = IfOk result (λ x. value ≡ Some x) × IfErr result (λ fault. fault ≢ Memory → value ≡ None)
 

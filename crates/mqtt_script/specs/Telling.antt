@@ -46,7 +46,7 @@ ended_text publication client ending =
 abbrev pub will_refused_text : List ℕ → List ℕ
 will_refused_text client = codes " willrefused=" ++ escaped client
 
--- packets that went out, where there are some
+-- packets that went out, if there are some
 abbrev pub out_text : ℕ → List ℕ
 out_text count = if count == 0 then [] else codes " out=" ++ decimal count
 

@@ -45,7 +45,7 @@ handling_word DoNotSend = codes "2"
 abbrev pub IsHex : List ℕ → List ℕ → Type 0
 IsHex bytes word = (0 < length word) × (decode_of word ≡ Ok bytes)
 
--- a payload: its bytes, or - where it has none
+-- a payload: its bytes, or - if it has none
 abbrev pub IsPayload : List ℕ → List ℕ → Type 0
 IsPayload payload word = ((word ≡ codes "-") × (payload ≡ [])) ⊎ IsHex payload word
 

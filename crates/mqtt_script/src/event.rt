@@ -33,7 +33,7 @@ pub struct Wish {
     pub filter: Text,
     /// Its options (3.8.3.1).
     pub options: SubscriptionOptions,
-    /// The Subscription Identifier, from 1, where it has one (3.8.2.1.2).
+    /// The Subscription Identifier, from 1, if it has one (3.8.2.1.2).
     pub identifier: Option<u32>,
 }
 

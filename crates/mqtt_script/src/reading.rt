@@ -32,7 +32,7 @@ pub fn is_passed_over(line: &[u8]) -> bool
 /// - `stopbefore EVENT` and `stopafter EVENT`, of `tobroker`, `break`, `pump`, `tick` or `stranger`.
 ///
 /// Names, topics and filters are texts of one byte or more; numbers are decimal, without sign or
-/// leading zeros; HEX has two digits of either case for each byte. It answers `NoEvent` (1) where
+/// leading zeros; HEX has two digits of either case for each byte. It answers `NoEvent` (1) if
 /// the line is that of no event.
 pub fn event_of(alloc: Global, line: &[u8]) -> Result<Event, ScriptFault>
     ensures read { IfOk result (λ event. IsLineOf event line.now) }

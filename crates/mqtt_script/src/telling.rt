@@ -77,7 +77,7 @@ pub fn push_will_refused(text: &mut String, client: &str) -> Result<(), AllocErr
     write!(text, " willrefused={}", Escaped(client))
 }
 
-/// Adds how many packets went out, where some did.
+/// Adds how many packets went out, if some did.
 pub fn push_out(text: &mut String, count: u64) -> Result<(), AllocError>
     ensures { OnOk result (string_bytes text.new ≡ string_bytes text.old ++ out_text count) }
 {

@@ -137,7 +137,7 @@ pub(crate) fn bytes_read(alloc: Global, word: &str) -> Result<Bytes, ScriptFault
     }
 }
 
-/// Reads a payload: its bytes, or `-` where it has none.
+/// Reads a payload: its bytes, or `-` if it has none.
 #[tactic(auto, unfolding(crate::specs::Reading::payload_at))]
 pub(crate) fn payload_read(alloc: Global, word: &str) -> Result<Bytes, ScriptFault>
     ensures { IsReadAs (payload_at word.now) result }

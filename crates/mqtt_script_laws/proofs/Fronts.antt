@@ -180,7 +180,7 @@ pub script_fronts : (limits : Limits) (es : List Event) (tells : List Telling) (
     → RunsTo limits es tells w after → (x : world.Event) → HasBadFront x after → ⊥
 script_fronts limits es tells w after nobody sends say runs x bad = fronts_taken x after (script_takes limits es tells w after nobody sends say runs) bad
 
--- so an event is refused only where it is bad
+-- so an event is refused only if it is bad
 pub script_refuses : (limits : Limits) (es : List Event) (tells : List Telling) (w after : World) → IsUninhabited w → SendsWell w.broker → AreSayableEvents es
     → RunsTo limits es tells w after → (e : Event) → IsBadHere e after → IsBad e after
 script_refuses limits es tells w after nobody sends say runs e bad = only_bad e after (script_takes limits es tells w after nobody sends say runs) bad

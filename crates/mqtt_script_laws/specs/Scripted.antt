@@ -59,7 +59,7 @@ event_of (Drain client) = None
 
 -- ---- what an event comes to
 
--- the broker's packets are lost, and nobody hears of what it did, where it stops or restarts
+-- the broker's packets are lost, and nobody hears of what it did, if it stops or restarts
 abbrev pub is_heard : world.Event → Bool
 is_heard (world.publisher client) = true
 is_heard (world.receiver client window) = true

@@ -38,7 +38,7 @@ pub fn scripts_follow_one_another()
 {}
 
 /// Exactly-once delivery, of scripts: whatever turns a script's events come to, all that is proved of every run of the world
-/// holds of them, where no number is spent and ends begin clean: in these turns (`delivers`), or by the script's events
+/// holds of them, if no number is spent and ends begin clean: in these turns (`delivers`), or by the script's events
 /// (`all`). Of where the script begins is asked what every run asks (3.1.2.4, 3.3.4, 4.3, 4.4, 4.6, 4.8, 4.9).
 pub fn whatever_a_script_does()
     ensures delivers { (limits : Limits) (es : List Event) (turns : List Turn) (w : World)

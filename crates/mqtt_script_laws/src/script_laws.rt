@@ -49,7 +49,7 @@ pub fn strangers_hold_no_packet()
 {}
 
 /// Where a script has come to, the broker takes each packet that it may be asked to read next: so it refuses an event only
-/// where that is bad as the world's that it means, or as a drain. Asked: nobody was there at first, the broker sent well then,
+/// if that is bad as the world's that it means, or as a drain. Asked: nobody was there at first, the broker sent well then,
 /// texts that the events so far brought are texts, and strangers sent bytes; so from nothing stored that alone (1.5.4, 2.1.4,
 /// 2.2.1).
 pub fn what_is_in_front_is_taken()

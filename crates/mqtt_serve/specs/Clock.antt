@@ -14,7 +14,7 @@ milliseconds time = min (system_time_nanos time / 1_000_000) LAST_NUMBER
 abbrev pub milliseconds_of : Duration → ℕ
 milliseconds_of time = min (as_nanos time / 1_000_000) LAST_NUMBER
 
--- the moment that lies as far behind the one at the beginning as a reading lies behind the first, at most 2^62; where this is the
+-- the moment that lies as far behind the one at the beginning as a reading lies behind the first, at most 2^62; if this is the
 -- first reading, that at the beginning
 abbrev pub moment_after : ℕ → Option ℕ → ℕ → ℕ
 moment_after begin None reading = min begin LAST_NUMBER

@@ -21,7 +21,7 @@ fn milliseconds(time: SystemTime) -> u64
     }
 }
 
-/// The moment of a reading: never one before the last, and the last where the clock failed.
+/// The moment of a reading: never one before the last, and the last if the clock failed.
 fn moment_of(reading: io::Result<SystemTime>, last: u64) -> u64
     ensures read { IfOk reading (λ time. result ≡ max last (milliseconds time)) }
     ensures failed { IfErr reading (λ _. result ≡ last) }
@@ -32,7 +32,7 @@ fn moment_of(reading: io::Result<SystemTime>, last: u64) -> u64
     }
 }
 
-/// Whole milliseconds since 1970 by the wall clock, at most 2^62 and never before the last moment, which stays where the
+/// Whole milliseconds since 1970 by the wall clock, at most 2^62 and never before the last moment, which stays if the
 /// clock fails.
 pub(crate) fn moment(rt: &impl Clock, last: u64) -> u64
     ensures late { last ≤ result }
@@ -60,7 +60,7 @@ struct Steady {
 }
 
 impl Steady {
-    /// The moment of a reading; where the clock failed the last one.
+    /// The moment of a reading; if the clock failed the last one.
     fn tell(&mut self, reading: io::Result<Duration>) -> u64
         ensures read { IfOk reading (λ time. (result ≡ moment_after self.old.begin self.old.first (milliseconds_of time))
             × (self.new.first ≡ Some (first_reading self.old.first (milliseconds_of time)))) }

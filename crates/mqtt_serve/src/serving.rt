@@ -119,7 +119,7 @@ fn serve_engine<K: Keep, W: Write>(
 
 /// Serves at an address, over any store, for so many turns from a moment on, and gives the store back (4.1, 4.2): the broker
 /// begins with what the store holds, with these limits, then it listens, and writes `listening` and the address. `Write` (2),
-/// `Memory` (3), `Store` (4) and `Socket` (5), where nothing was written.
+/// `Memory` (3), `Store` (4) and `Socket` (5), if nothing was written.
 pub fn serve_over<K: Keep, W: Write>(
     rt: &HostRuntime,
     listen: SocketAddr,
@@ -170,7 +170,7 @@ fn serve_database<S: Alter + Drop, W: Write>(
 /// Serves MQTT 5.0 at an address, over the database in the file at a path, for so many turns, with these limits (4.1, 4.2): it
 /// writes `listening` and the address, with the port that was bound, and at the end `done`. The database is opened first, then
 /// the socket. `S` stands for what the database's files held: `main` passes `Unknown`. `Write` (2), `Memory` (3), `Store` (4),
-/// where `:memory:` was asked for too, and `Socket` (5), where nothing was written.
+/// if `:memory:` was asked for too, and `Socket` (5), if nothing was written.
 pub fn serve<W: Write, S: Start>(
     rt: &HostRuntime,
     listen: SocketAddr,

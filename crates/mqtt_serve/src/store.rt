@@ -82,7 +82,7 @@ pub(crate) fn store_over<S: Alter + Drop>(
     }
 }
 
-/// The moment of the newest step that a database has, in milliseconds; 0 where it has none that can be read.
+/// The moment of the newest step that a database has, in milliseconds; 0 if it has none that can be read.
 pub(crate) fn stored_moment<S: Alter + Drop>(conn: &mut Connection<S>) -> u64
     ensures { IsAsked (state S.Store conn.old) (state S.Store conn.new) }
 {

@@ -95,7 +95,7 @@ pub fn is_answered(
 pub type Run = (&'static str, &'static [u8], &'static [u8]);
 
 /// The first run of twelve turns each, over one database and under these limits, in which a client is sent something else than it
-/// should; none where there is no such run.
+/// should; none if there is no such run.
 pub fn first_wrong(
     rt: &HostRuntime,
     db: &str,
@@ -112,7 +112,7 @@ pub fn first_wrong(
     Ok("")
 }
 
-/// Removes a database and its log, where they are there.
+/// Removes a database and its log, if they are there.
 pub fn forget(rt: &HostRuntime, db: &str, log: &str) {
     let _ = fs::remove_file(rt, db);
     let _ = fs::remove_file(rt, log);

@@ -12,7 +12,7 @@ const DROP: Limits = Limits {
     retained: 1,
 };
 
-/// The same, where a full queue refuses.
+/// The same, if a full queue refuses.
 const REFUSE: Limits = Limits {
     full: Full::Refuse,
     ..DROP

@@ -40,7 +40,7 @@ hosting engine links = record { engine = engine; links = links }
 
 -- ---- an answer reaches the connections
 
--- for want of memory the connection that was asked for is lost; where the engine stopped or a number is spent there is no
+-- for want of memory the connection that was asked for is lost; if the engine stopped or a number is spent there is no
 -- turn
 abbrev pub Tells : ℕ → Result Outcome EngineError → List Wire → List Wire → Type 0
 Tells number (Ok out) old new = Related (Reaches out.outputs.items out.closed.items) old new
@@ -140,7 +140,7 @@ ReadsAt place room bytes old new = RelatedAt (λ x y. Reads x.fate room bytes x 
 abbrev pub WritesAt : ℕ → Bool → List Wire → List Wire → Type 0
 WritesAt place wrote old new = RelatedAt (WritesAnd wrote) place old new
 
--- where bytes came they are given to the broker
+-- if bytes came they are given to the broker
 abbrev pub GivesIf : {K : Type 0} → Ghosts K → ℕ → ℕ → ℕ → List ℕ → Server (Serving K) → Server (Serving K) → Type 0
 GivesIf g now place number [] old new = new ≡ old
 GivesIf g now place number (b ∷ bytes) old new = Gives g now place number (b ∷ bytes) old new
@@ -153,14 +153,14 @@ abbrev pub LosesIf : {K : Type 0} → Ghosts K → ℕ → ℕ → Bool → Serv
 LosesIf g now number false old new = new ≡ old
 LosesIf g now number true old new = Loses g now number old new
 
--- it is read once where it stands, and these bytes come
+-- it is read once if it stands, and these bytes come
 pub record IsRead (place number : ℕ) (bytes : List ℕ) (old heard : List Wire) : Type 0 where
   pub is_its : option_map (λ w. w.number) (slice_get old place) ≡ Some number
   pub within : length bytes ≤ READ_LIMIT
   pub reads : ReadsAt place READ_LIMIT bytes old heard
 
--- it is read, and the broker is given what came; where it stands and the last write took all that waited, the broker sends;
--- what waits is written once; and where it is lost the broker is told. Whether bytes came or went
+-- it is read, and the broker is given what came; if it stands and the last write took all that waited, the broker sends;
+-- what waits is written once; and if it is lost the broker is told. Whether bytes came or went
 pub record ServesLine {K : Type 0} (g : Ghosts K) (now place : ℕ) (moved : Bool) (old new : Server (Serving K)) : Type 0 where
   pub number : ℕ
   pub bytes : List ℕ

@@ -64,7 +64,7 @@ pub record IsOpened (number : ℕ) (w : Wire) : Type 0 where
 abbrev pub hearing : ℕ → List ℕ → Wire → Wire
 hearing room bytes w = record w { reads = one_more w.reads; room = now_told room w.room; heard = and_then w.heard bytes }
 
--- one that stands is read once, with room for so many bytes, and bytes come, or none; where the read gives the end or a failure
+-- one that stands is read once, with room for so many bytes, and bytes come, or none; if the read gives the end or a failure
 -- it is lost; another isn't read
 abbrev pub Reads : Fate → ℕ → List ℕ → Wire → Wire → Type 0
 Reads Stands room bytes old new =
@@ -74,7 +74,7 @@ Reads Closed room bytes old new = (bytes ≡ []) × (new ≡ old)
 
 -- ---- writing: what was written, and then what waits, stays
 
--- a write took all; where nothing waits there is none
+-- a write took all; if nothing waits there is none
 abbrev pub clear_after : List ℕ → List ℕ → Bool → Bool
 clear_after [] rest clear = clear
 clear_after (b ∷ waits) [] clear = true
@@ -85,7 +85,7 @@ abbrev pub writing : List ℕ → Wire → Wire
 writing rest w =
     record w { writes = one_more_if_any w.waits w.writes; waits = rest; clear = clear_after w.waits rest w.clear }
 
--- one that stands is lost where the write gives the end or a failure; one that is lost isn't written to
+-- one that stands is lost if the write gives the end or a failure; one that is lost isn't written to
 abbrev pub Writes : Fate → Wire → Wire → Type 0
 Writes Stands old new = (new ≡ writing new.waits old) ⊎ (new ≡ lost (ending (writing new.waits old)))
 Writes Lost old new = new ≡ old
@@ -108,7 +108,7 @@ WritesLast Closed old new = (new ≡ writing new.waits old) ⊎ (new ≡ ending 
 
 -- ---- what the broker says to a line
 
--- the bytes of an output, where it is to this line
+-- the bytes of an output, if it is to this line
 abbrev pub bytes_if : ℕ → ℕ × List ℕ → List ℕ
 bytes_if number output = cond (nat_eq output.0 number) output.1 []
 

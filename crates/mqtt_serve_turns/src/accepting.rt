@@ -11,7 +11,7 @@ use mqtt_link::{Got, Link};
 use mqtt_records::Keep;
 use std::alloc::Global;
 
-/// At most one connection is accepted, and linked; it is dropped where as many are here as may be, or the broker links no
+/// At most one connection is accepted, and linked; it is dropped if as many are here as may be, or the broker links no
 /// more. Whether one came. Takes no memory: there is room for as many as may be.
 pub(crate) fn accept<L: Link, K: Keep>(
     alloc: Global,

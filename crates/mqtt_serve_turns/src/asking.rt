@@ -44,7 +44,7 @@ fn is_lost_at<L: Link>(lines: &[Connection<L>], place: usize) -> bool
     lines[place].is_lost()
 }
 
-/// An answer reaches the connections; where memory was wanting, the connection on the line that was asked for is lost.
+/// An answer reaches the connections; if memory was wanting, the connection on the line that was asked for is lost.
 /// Another refusal is handed on.
 pub(crate) fn tell<L: Link>(
     lines: &mut [Connection<L>],
@@ -69,7 +69,7 @@ pub(crate) fn tell<L: Link>(
     }
 }
 
-/// A turn of sending for the line at a place, where it stands and the last write took all that waited: so what a slow
+/// A turn of sending for the line at a place, if it stands and the last write took all that waited: so what a slow
 /// connection is sent waits in the broker, and not here.
 pub(crate) fn pump_at<L: Link, K: Keep>(
     lines: &mut [Connection<L>],
@@ -93,7 +93,7 @@ pub(crate) fn pump_at<L: Link, K: Keep>(
     tell(lines, number, &answer)
 }
 
-/// The broker is told of the line at a place, where it is lost. Where memory is wanting it is told again in the next turn.
+/// The broker is told of the line at a place, if it is lost. If memory is wanting it is told again in the next turn.
 pub(crate) fn report_at<L: Link, K: Keep>(
     lines: &mut [Connection<L>],
     engine: &mut Engine<K>,

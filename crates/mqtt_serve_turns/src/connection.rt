@@ -123,7 +123,7 @@ impl<L: Link> Connection<L> {
         matches!(self.fate, Fate::Closed)
     }
 
-    /// Reads once, where it stands; a read that ends or fails makes it lost. How many bytes came.
+    /// Reads once, if it stands; a read that ends or fails makes it lost. How many bytes came.
     pub fn read(&mut self, link: &mut L, buffer: &mut [u8]) -> usize
         ensures bound { result ≤ length buffer.new }
         ensures reads { Reads self.old.fate (length buffer.new) (take result buffer.new) self.old self.new }
@@ -160,7 +160,7 @@ impl<L: Link> Connection<L> {
         self.waiting.len() < before
     }
 
-    /// Writes once more what waits, where the broker has closed its line.
+    /// Writes once more what waits, if the broker has closed its line.
     pub fn write_last(&mut self, link: &mut L)
         ensures writes { WritesLast self.old.fate self.old self.new }
         ensures same { L.calls link.new ≡ L.calls link.old }
@@ -170,7 +170,7 @@ impl<L: Link> Connection<L> {
         }
     }
 
-    /// Puts the outputs to its line behind what waits, where it stands. It is lost where too much would wait or memory is
+    /// Puts the outputs to its line behind what waits, if it stands. It is lost if too much would wait or memory is
     /// wanting: then those before the one that finds no room wait, and no other.
     pub fn tell(&mut self, outputs: &[(u64, Bytes)])
         ensures { Hears self.old.fate outputs.now self.old self.new }
@@ -183,7 +183,7 @@ impl<L: Link> Connection<L> {
         }
     }
 
-    /// It is closed, where its line is among those that the broker closed.
+    /// It is closed, if its line is among those that the broker closed.
     pub fn close(&mut self, closed: &[u64])
         ensures { self.new ≡ closing closed.now self.old }
     {

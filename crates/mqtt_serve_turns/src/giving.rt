@@ -86,7 +86,7 @@ fn give<L: Link, K: Keep>(
     Ok(())
 }
 
-/// Where bytes came on the line at a place, they are given to the broker.
+/// If bytes came on the line at a place, they are given to the broker.
 pub(crate) fn give_at<L: Link, K: Keep>(
     lines: &mut [Connection<L>],
     engine: &mut Engine<K>,

@@ -1,4 +1,4 @@
-//! Whose turn it is in a group, where memory is wanting for a step (MQTT 5.0, 4.8.2).
+//! Whose turn it is in a group, if memory is wanting for a step (MQTT 5.0, 4.8.2).
 use crate::turns::LIMITS;
 use mqtt_broker::Engine;
 use mqtt_records::{Change, Keep, KeepError, MemKeep, Records};

@@ -188,7 +188,7 @@ fn is_apart(clients: &Clients, place: usize) -> bool {
     are(taken, CONNACK, PINGRESP)
 }
 
-/// What comes of it where a call goes wrong: whether none did, and whether each other client is served, and the connection of
+/// What comes of it if a call goes wrong: whether none did, and whether each other client is served, and the connection of
 /// that client is lost if the call gave the end or a failure.
 fn fails_apart(alloc: Global, hasher: RandomState, fault: Fault) -> Result<(bool, bool), Fail> {
     let clients = Clients::new(alloc, &PINGING, 7, Some(fault))?;

@@ -15,15 +15,15 @@ use Rattle.mqtt_store_laws.specs.Written.{KeepsRows}
 abbrev pub ShowsKept : Database → Records → Type 0
 ShowsKept db r = ((db.schema ≡ keep_schema) × KeepsRows db.trees r) ⊎ ((db.schema ≡ first 0) × (r ≡ nothing))
 
--- an open that finds these trees finds these records; where the tables keep none, it begins with nothing
+-- an open that finds these trees finds these records; if the tables keep none, it begins with nothing
 abbrev pub Finds : Trees → Records → Type 0
 Finds db r = HasRecords db r ⊎ (((q : Records) → KeepsRows db q → ⊥) × (r ≡ nothing))
 
--- where it is open, nothing is written that isn't committed
+-- if it is open, nothing is written that isn't committed
 abbrev pub IsTidy : State → Type 0
 IsTidy s = IsTrue s.is_open → IsSettled s
 
--- it has these records: no crash leaves others, and where it is open it shows them
+-- it has these records: no crash leaves others, and if it is open it shows them
 pub record Has (s : State) (r : Records) : Type 0 where
   pub left : (db : Trees) (q : Records) → s.may_leave db → Finds db q → q ≡ r
   pub shows : IsTrue s.is_open → ShowsKept s.now r
@@ -51,13 +51,13 @@ pub record HasKept (s : State) (r : Records) : Type 0 where
   pub ready : IsReady s
   pub keeps : KeepsRows s.now.trees r
 
--- a load commits the tables of a new store at the most; where it is open then, it was open before, and is left as it was or
+-- a load commits the tables of a new store at the most; if it is open then, it was open before, and is left as it was or
 -- with these tables
 pub record OnlyLoads (old new : State) : Type 0 where
   pub survives : Survives old new (MakesNew old)
   pub left : HasCleanDisk new → IsTrue new.is_open → IsTrue old.is_open × IsLeft old.now new.now
 
--- a step from these records to those after it commits the rows of those at the most; where it is open then, it shows the one
+-- a step from these records to those after it commits the rows of those at the most; if it is open then, it shows the one
 -- or the other
 pub record OnlySteps (old new : State) (r after : Records) : Type 0 where
   pub survives : Survives old new (λ db. KeepsRows db after)

@@ -1,4 +1,4 @@
--- What a connection that is opened anew shows, and what is handed back where that fails (4.1).
+-- What a connection that is opened anew shows, and what is handed back if that fails (4.1).
 use Rattle.std.specs.Prelude.{◌≡◌, ◌⊎◌, false, IsTrue}
 use Rattle.sqlite_disk.specs.Disk.{MoreFaults}
 use Rattle.sqlite_trees.specs.Tree.{Trees}
@@ -18,7 +18,7 @@ pub record OpensAnew (old new : State) : Type 0 where
   pub committed : new.committed ≡ old.committed
   pub autocommit : new.in_transaction ≡ false
 
--- a crash of the store that is handed back leaves nothing else than before, and where it is open it has what was committed
+-- a crash of the store that is handed back leaves nothing else than before, and if it is open it has what was committed
 pub record IsUnharmed {S : Type 0} (g : Ghosts S) (conn : Held S) (store : S) : Type 0 where
   pub crash : (db : Trees) → g.recovers store db → (state g conn).may_leave db
   pub was_open : IsClean (g.view store) → IsTrue (g.view store).is_open → IsTrue (state g conn).is_open

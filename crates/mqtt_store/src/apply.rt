@@ -28,7 +28,7 @@ fn fault_of(error: &Error) -> KeepError
     }
 }
 
-/// Makes all changes, in order, or none. Want of memory and of room are told where the connection
+/// Makes all changes, in order, or none. Want of memory and of room are told if the connection
 /// is open still; else it is Disk.
 pub(crate) fn apply_all<S: Alter>(
     alloc: Global,

@@ -37,7 +37,7 @@ fn cause_number(cause: &Cause) -> u8
     }
 }
 
-/// The group of a copy's cause; no text where it has none.
+/// The group of a copy's cause; no text if it has none.
 fn cause_text(cause: &Cause) -> &str
     ensures { result.now ≡ cause_text cause.now }
 {
@@ -47,7 +47,7 @@ fn cause_text(cause: &Cause) -> &str
     }
 }
 
-/// The number of the subscribe for which a copy is sent; 0 where there is none.
+/// The number of the subscribe for which a copy is sent; 0 if there is none.
 fn cause_n(cause: &Cause) -> u64
     ensures { result ≡ cause_n cause.now }
 {

@@ -19,7 +19,7 @@ use mqtt_store_write::write;
 use sqlite::{Alter, Connection, Error, ErrorCode, Transaction};
 use std::alloc::Global;
 
-/// Writes what a change says, whose parts these are. `TooBig` where SQL has no such number.
+/// Writes what a change says, whose parts these are. `TooBig` if SQL has no such number.
 fn write_parts<S: Alter>(
     tx: &mut Transaction<'_, S>,
     change: &Change,

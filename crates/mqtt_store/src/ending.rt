@@ -31,7 +31,7 @@ fn ends_session(birth: u64, changes: &[Change]) -> bool
     false
 }
 
-/// What is known behind a change, where this was known before it: copies of a session are looked through once.
+/// What is known behind a change, if this was known before it: copies of a session are looked through once.
 pub(crate) fn known_behind(known: Option<Known>, change: &Change, after: &[Change]) -> Option<Known>
     requires { KnowsEnd known (change.now ∷ after.now) }
     ensures known { KnowsEnd result after.now }

@@ -28,7 +28,7 @@ pub struct SqlKeep<S: Alter + Drop> {
 
 impl<S: Alter + Drop> SqlKeep<S> {
     /// A store over the database of a connection, which it opens anew: what isn't committed is rolled
-    /// back. Where that fails, the database's store is handed back.
+    /// back. If that fails, the database's store is handed back.
     pub fn new(alloc: Global, conn: Connection<S>) -> Result<SqlKeep<S>, (Error, S)>
         ensures counted { IfOk result (λ keep. keep.failures ≡ 0) }
 
@@ -73,7 +73,7 @@ impl<S: Alter + Drop> SqlKeep<S> {
         conn.set_step_limit(limit);
     }
 
-    /// Counts a failure of the device, where an answer tells of one.
+    /// Counts a failure of the device, if an answer tells of one.
     fn note<T>(&mut self, answer: &Result<T, KeepError>)
         ensures conn { self.new.conn ≡ self.old.conn }
         ensures alloc { self.new.alloc ≡ self.old.alloc }

@@ -21,7 +21,7 @@ pub fn load_finds_what_is_kept()
     ensures { (db : Database) (q r : Records) → Keeps db q → ShowsKept db r → q ≡ r }
 {}
 
-/// What a load has found is what the store keeps from then on, where the tables obey their schema
+/// What a load has found is what the store keeps from then on, if the tables obey their schema
 /// and their rows rise by their numbers.
 pub fn loaded_rows_are_kept<S: Alter>()
     ensures { (conn : Held S) (r : Records)
@@ -37,7 +37,7 @@ pub fn loaded_store_has<S: Alter>()
 {}
 
 /// What a store has stays through a load: a load commits the tables of a new store at the most, and
-/// only where the store has nothing.
+/// only if the store has nothing.
 pub fn load_keeps_what_it_has<S: Alter>()
     ensures { (old new : Held S) (r : Records)
         → OnlyLoads (state S.Store old) (state S.Store new)

@@ -12,7 +12,7 @@ use mqtt_store_read::load_from;
 use sqlite::{Alter, Connection};
 use std::alloc::Global;
 
-/// Reads all records of a database; where it is empty, makes the tables of a new store.
+/// Reads all records of a database; if it is empty, makes the tables of a new store.
 pub(crate) fn load_records<S: Alter>(
     alloc: Global,
     conn: &mut Connection<S>,

@@ -9,7 +9,7 @@ ghost use Rattle.mqtt_store.specs.Ordered.{IsOrdered};
 use sqlite::{Alter, Connection, Error, ErrorCode};
 use std::alloc::Global;
 
-/// Opens the database of a connection anew: what isn't committed is rolled back. Where that fails,
+/// Opens the database of a connection anew: what isn't committed is rolled back. If that fails,
 /// the database's store is handed back.
 pub(crate) fn reopen<S: Alter + Drop>(
     alloc: Global,

@@ -11,9 +11,9 @@ use std::alloc::{AllocError, Global};
 /// The columns of a session that is put, and the block of properties of a row that has one.
 #[derive(Drop)]
 pub(crate) struct Parts {
-    /// What a session's own row says; none where another row is put.
+    /// What a session's own row says; none if another row is put.
     pub(crate) columns: Option<Columns>,
-    /// The block of properties; no bytes where the row has none.
+    /// The block of properties; no bytes if the row has none.
     pub(crate) block: Vec<u8>,
 }
 
@@ -47,7 +47,7 @@ fn push_block(alloc: Global, out: &mut Vec<u8>, change: &Change) -> Result<(), A
     }
 }
 
-/// The block of properties of the row that a change puts; no bytes where it has none.
+/// The block of properties of the row that a change puts; no bytes if it has none.
 fn block_of(alloc: Global, change: &Change) -> Result<Vec<u8>, AllocError>
     ensures { IfOk result (λ block. block.items ≡ block_in change.now) }
 {
@@ -61,7 +61,7 @@ fn block_of(alloc: Global, change: &Change) -> Result<Vec<u8>, AllocError>
     }
 }
 
-/// The columns of the session that a change puts; none where it puts another row.
+/// The columns of the session that a change puts; none if it puts another row.
 fn columns_of(change: &Change) -> Result<Option<Columns>, AllocError>
     ensures { IfOk result (λ columns. columns ≡ columns_in change.now) }
 {

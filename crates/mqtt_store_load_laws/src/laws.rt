@@ -10,7 +10,7 @@ ghost use Rattle.mqtt_store_schema.specs.Creation.{IsNewStore};
 ghost use Rattle.mqtt_store_read.specs.Kept.{HasRecords};
 ghost use Rattle.mqtt_store_laws.specs.Written.{KeepsRows, AreInOrder};
 
-/// What a load finds is what the database keeps, where its tables obey their schema and their rows
+/// What a load finds is what the database keeps, if its tables obey their schema and their rows
 /// rise by their numbers.
 pub fn found_is_kept()
     ensures { (db : Trees) (q : Records)

@@ -24,7 +24,7 @@ not_some : (n : ℕ) → is_true (unary Not (Int (pos (min 1 (suc n))))) ≡ fal
 unfolding unary
 not_some n = let one : min 1 (suc n) ≡ 1 = omega arith in rw one refl
 
--- NOT EXISTS holds where no row passes
+-- NOT EXISTS holds if no row passes
 pub none_passes : (f p : Row → Bool) → ((r : Row) → f r ≡ p r) → (g : Row → Env) (rows : List Row)
     → is_true (unary Not (Int (pos (min 1 (length (flat_map (λ r. cond (f r) (g r ∷ []) []) rows)))))) ≡ not (list_any p rows)
 unfolding unary

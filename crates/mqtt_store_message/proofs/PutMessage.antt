@@ -127,7 +127,7 @@ module _ (making : Making) (number : ℕ) (m : MessageColumns) (db : Trees) (sha
   rows_are : (b : Bool) → stands ≡ b → (after : List Row) → after ≡ (if b then rows_there else put_row put rows_there) → after ≡ with_missing (pos number) put rows_there
   rows_are b is after h = rw is h
 
-  -- what is written is the row where none of its number stands
+  -- what is written is the row if none of its number stands
   goes : (b : Bool) → stands ≡ b → (after : Trees) → Writes (schema_of (second_layout making)) Enforced db (edit_of db table [] Chosen 0 (news b put)) (Ok after) → PutsMessage making (pos number) put db after
   goes b is after h =
       let edit : Edit = record { table = table; gone = []; news = news b put } in
@@ -149,7 +149,7 @@ module _ (making : Making) (number : ℕ) (m : MessageColumns) (db : Trees) (sha
           let both = IsShaped-put_row put rows_there refl (shaped.up, shaped.ints) in
           record { up = rw same both.0; ints = rw same both.1 }
 
--- the INSERT of a message puts its row where none of its number stands, and leaves the transaction whole
+-- the INSERT of a message puts its row if none of its number stands, and leaves the transaction whole
 pub puts : (making : Making) (number : ℕ) (m : MessageColumns) (old new : State) (r : Result ℕ Error) → IsWhole (second_layout making) old
     → ExecutesInside 0 put_text (Int (pos number) ∷ Text m.topic ∷ Blob m.props ∷ Blob m.payload ∷ []) old new r
     → OnOk r (PutsMessage making (pos number) (message_row number m) old.now.trees new.now.trees) × OnOk r (IsWhole (second_layout making) new)

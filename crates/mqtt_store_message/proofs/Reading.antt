@@ -80,7 +80,7 @@ whole_same l old new h whole =
     }
 
 module _ (rows : List Row) (p : Row → Bool) (alike : (r x : Row) → Has rows r → Has rows x → p r ≡ true → p x ≡ true → r ≡ x) where
-  -- of rows that can't differ where they pass, none passes, or one
+  -- of rows that can't differ if they pass, none passes, or one
   pub one_or_none : (db : Trees) (tree : ℕ) → IsShapedAt db tree → db tree ≡ rows → (filter p rows ≡ []) ⊎ ((one : Row) × (filter p rows ≡ one ∷ []))
   one_or_none db tree shaped is = elim (cases_Bool (list_any p rows)) [
     | inl stands ↦

@@ -171,7 +171,7 @@ module _ (making : Making) (birth : ℤ) (old : State) (whole : IsWhole (second_
       }
 
   module _ (none : (p : Row) → Has (db 2) p → is_of 0 birth p ≡ true → ⊥) where
-    -- where it does not stand no row names it
+    -- if it does not stand no row names it
     no_child : (c : Child) → Has (schema_of (second_layout making)).tables c.0 → (more : List Reference) → c.0.references ≡ to_session c.1 ∷ more → (r : Row) → Has (db c.0.tree) r → is_of c.1 birth r ≡ false
     unfolding first_key
     no_child c listed more refs r has = false_from_ne_true _ (λ mine.

@@ -25,7 +25,7 @@ pub(crate) fn whole_or_none(n: Option<u64>) -> Option<i64>
     }
 }
 
-/// The number of the one row that there is, or none where there is no row.
+/// The number of the one row that there is, or none if there is no row.
 pub(crate) fn number_of(rows: &[Row]) -> Result<Option<u64>, Error>
     ensures { length rows.now ≤ 1 → IfOk result (λ it. map (λ r. column r 0) rows.now ≡ as_row it) }
 {

@@ -130,7 +130,7 @@ pub fn set_queued<S: Alter>(
         → Writes S.Store tx.old.conn.now tx.new.conn.now result (IsWhole (second_layout making))
         (SetsQueued making birth place phase pid rel id c) }
 
-    // Where no copy has that place nothing is set.
+    // If no copy has that place nothing is set.
     ensures whole { (making : Making) → StaysWhole (second_layout making) S.Store tx.old.conn.now tx.new.conn.now result }
     ensures inside { StaysInside (state S.Store tx.old.conn.now) (state S.Store tx.new.conn.now) }
 {

@@ -68,7 +68,7 @@ pub record HasNow (s : State) (r : Records) : Type 0 where
   pub schema : s.now.schema ≡ keep_schema
   pub has : HasRecords s.now.trees r
 
--- what may be committed where a new store is made: the connection is open
+-- what may be committed if a new store is made: the connection is open
 abbrev pub BeginsStore : State → Trees → Type 0
 BeginsStore s db = IsTrue s.is_open × MakesStore s db
 

@@ -70,7 +70,7 @@ fn read_all<S: Alter>(conn: &mut Connection<S>, tables: &mut Tables) -> Result<(
     read_into(conn, StoreTable::Retained, &mut tables.retained)
 }
 
-/// The records of a database that has the store's tables. `Corrupt` where its rows give none.
+/// The records of a database that has the store's tables. `Corrupt` if its rows give none.
 pub fn records_in<S: Alter>(alloc: Global, conn: &mut Connection<S>) -> Result<Records, KeepError>
     ensures ok { HasCleanDisk (state S.Store conn.new) → (state S.Store conn.old).now.schema ≡ keep_schema → IsSettled (state S.Store conn.old)
         → IfOk result (HasRecords (state S.Store conn.old).now.trees) }
@@ -99,7 +99,7 @@ pub fn records_in<S: Alter>(alloc: Global, conn: &mut Connection<S>) -> Result<R
     answer
 }
 
-/// Why a database that has no records is refused: `Corrupt` where it says that its schema is 1.
+/// Why a database that has no records is refused: `Corrupt` if it says that its schema is 1.
 fn refusal_of<S: Alter>(conn: &mut Connection<S>) -> KeepError
     ensures corrupt { HasCleanDisk (state S.Store conn.new) → result ≡ KeepError.Corrupt
         → SaysOne (state S.Store conn.old) (state S.Store conn.new) }
@@ -115,7 +115,7 @@ fn refusal_of<S: Alter>(conn: &mut Connection<S>) -> KeepError
     }
 }
 
-/// The records of a database that has the store's tables. Where its rows give none it is `Corrupt`,
+/// The records of a database that has the store's tables. If its rows give none it is `Corrupt`,
 /// or of another schema.
 pub fn records_or_refusal<S: Alter>(
     alloc: Global,

@@ -1,4 +1,4 @@
-//! A load: the schema looked at, the tables made where there are none, and the records read (4.1).
+//! A load: the schema looked at, the tables made if there are none, and the records read (4.1).
 ghost use Rattle.std.specs.Prelude.{◌≡◌, ◌⊎◌, false, IfOk, IfErr, OnOk, OnErr, IsTrue};
 ghost use Rattle.sqlite.specs.Held.{state};
 ghost use Rattle.sqlite.specs.State.{HasCleanDisk, IsUnchanged, Survives};
@@ -57,7 +57,7 @@ pub fn probe<S: Alter>(conn: &mut Connection<S>) -> Result<(), Error>
     }
 }
 
-/// The records of a new store, made where the connection is open.
+/// The records of a new store, made if the connection is open.
 fn begin_store<S: Alter>(alloc: Global, conn: &mut Connection<S>) -> Result<Records, KeepError>
     requires autocommit { conn.old.in_transaction ≡ false }
     ensures autocommit { conn.new.in_transaction ≡ false }
@@ -79,7 +79,7 @@ fn begin_store<S: Alter>(alloc: Global, conn: &mut Connection<S>) -> Result<Reco
     }
 }
 
-/// The records that a database has; where it is empty, the tables of a new store are made first.
+/// The records that a database has; if it is empty, the tables of a new store are made first.
 pub fn load_from<S: Alter>(alloc: Global, conn: &mut Connection<S>) -> Result<Records, KeepError>
     requires autocommit { conn.old.in_transaction ≡ false }
     ensures autocommit { conn.new.in_transaction ≡ false }

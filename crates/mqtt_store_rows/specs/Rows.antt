@@ -108,7 +108,7 @@ pub record SaysId (id : CopyId) (row : Row) : Type 0 where
   pub publication_range : IsCounted id.publication
   pub cause : SaysCause id.cause (column row 3) (column row 4) (column row 5)
 
--- pid, phase, rel: NULL where the phase has none; only a copy of QoS 2 is released (4.3.3)
+-- pid, phase, rel: NULL if the phase has none; only a copy of QoS 2 is released (4.3.3)
 abbrev pub SaysPhase : Qos → Phase → Value → Value → Value → Type 0
 SaysPhase qos Waiting pid phase rel = (pid ≡ Null) × (phase ≡ number 0) × (rel ≡ Null)
 SaysPhase qos (Sent id) pid phase rel = (pid ≡ number id) × (phase ≡ number 1) × (rel ≡ Null) × IsPacketIdentifier id

@@ -94,7 +94,7 @@ fn message_of(alloc: Global, row: &Row) -> Result<MessageCopy, KeepError>
     }
 }
 
-/// A copy in a queue. `Corrupt` where the row says none.
+/// A copy in a queue. `Corrupt` if the row says none.
 pub fn copy_of(alloc: Global, row: &Row) -> Result<CopyRow, KeepError>
     ensures ok { IfOk result (λ x. SaysCopy x row.now) }
     ensures err { IsErrOf result KeepError.Corrupt → (x : CopyRow) → SaysCopy x row.now → ⊥ }

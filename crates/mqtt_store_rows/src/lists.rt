@@ -16,7 +16,7 @@ use mqtt_records_rows::{Rows, newest_comes_last};
 use sqlite::Row;
 use std::alloc::Global;
 
-/// The items of rows, whose keys ascend. `Corrupt` where no such list has the rows.
+/// The items of rows, whose keys ascend. `Corrupt` if no such list has the rows.
 pub fn all_of<P: Stored, const LIMIT: usize>(
     alloc: Global,
     rows: &[Row],
@@ -61,7 +61,7 @@ fn front_of(rows: &[Row], birth: u64) -> usize
     count
 }
 
-/// The items of the session's rows at the front, and the rows behind them. `Corrupt` where the
+/// The items of the session's rows at the front, and the rows behind them. `Corrupt` if the
 /// session has no such list.
 pub fn part_of<'a, P: Stored, const LIMIT: usize>(
     alloc: Global,
@@ -81,7 +81,7 @@ pub fn part_of<'a, P: Stored, const LIMIT: usize>(
     }
 }
 
-/// The session's Will, if the rows at the front have one, and the rows behind it. `Corrupt` where
+/// The session's Will, if the rows at the front have one, and the rows behind it. `Corrupt` if
 /// they have none that says a Will.
 pub(crate) fn will_part<'a>(
     alloc: Global,

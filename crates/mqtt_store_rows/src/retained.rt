@@ -35,7 +35,7 @@ fn content_of(alloc: Global, row: &Row) -> Result<Content, KeepError>
     })
 }
 
-/// A retained message. `Corrupt` where the row says none.
+/// A retained message. `Corrupt` if the row says none.
 pub fn retained_of(alloc: Global, row: &Row) -> Result<RetainedMessage, KeepError>
     ensures ok { IfOk result (λ kept. SaysRetained kept row.now) }
     ensures err { IsErrOf result KeepError.Corrupt

@@ -9,7 +9,7 @@ use mqtt_records::{Columns, KeepError};
 use sqlite::Row;
 use std::alloc::Global;
 
-/// A session's own row. `Corrupt` where it says none.
+/// A session's own row. `Corrupt` if it says none.
 pub fn columns_of(alloc: Global, row: &Row) -> Result<Columns, KeepError>
     ensures ok { IfOk result (λ s. SaysSession s row.now) }
     ensures err { IsErrOf result KeepError.Corrupt → (s : Columns) → SaysSession s row.now → ⊥ }

@@ -205,7 +205,7 @@ impl<'a> PartRows<'a> {
 }
 
 /// The sessions that the rows of `session`, by birth, and the rows of what sessions have say.
-/// `Corrupt` where they say none.
+/// `Corrupt` if they say none.
 pub fn sessions_of(
     alloc: Global,
     rows: &[Row],

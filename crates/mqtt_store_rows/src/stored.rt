@@ -11,7 +11,7 @@ pub trait Stored: Row {
     // The row says this.
     ghost says: { Self → SqlRow → Type 0 };
 
-    /// Reads a row. `Corrupt` where it says nothing of this kind.
+    /// Reads a row. `Corrupt` if it says nothing of this kind.
     fn read(alloc: Global, row: &sqlite::Row) -> Result<Self, KeepError>
         ensures ok { IfOk result (λ x. says x row.now) }
         ensures err { IsErrOf result KeepError.Corrupt → (x : Self) → says x row.now → ⊥ }

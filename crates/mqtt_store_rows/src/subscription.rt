@@ -80,7 +80,7 @@ fn options(row: &Row) -> Option<SubscriptionOptions>
     })
 }
 
-/// A subscription. `Corrupt` where the row says none.
+/// A subscription. `Corrupt` if the row says none.
 pub fn subscription_of(alloc: Global, row: &Row) -> Result<Subscription, KeepError>
     ensures ok { IfOk result (λ s. SaysSubscription s row.now) }
     ensures err { IsErrOf result KeepError.Corrupt

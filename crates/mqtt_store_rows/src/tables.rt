@@ -49,7 +49,7 @@ impl Tables {
     }
 }
 
-/// The records that the rows give. `Corrupt` where they give none whose lists are in order and
+/// The records that the rows give. `Corrupt` if they give none whose lists are in order and
 /// within their limits.
 pub fn records_of(alloc: Global, tables: &Tables) -> Result<Records, KeepError>
     ensures ok { IfOk result (λ r. Gives (rows_in tables.now) r) }
@@ -82,7 +82,7 @@ pub fn records_of(alloc: Global, tables: &Tables) -> Result<Records, KeepError>
     }
 }
 
-/// The lawful records that the rows give. `Corrupt` where they give none.
+/// The lawful records that the rows give. `Corrupt` if they give none.
 pub fn lawful_records_of(alloc: Global, tables: &Tables) -> Result<Records, KeepError>
     ensures ok { IfOk result (λ r. Gives (rows_in tables.now) r) }
     ensures lawful { IfOk result (λ r. IsLawful r) }

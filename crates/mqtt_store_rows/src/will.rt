@@ -10,7 +10,7 @@ use mqtt_records_message::Will;
 use sqlite::Row;
 use std::alloc::Global;
 
-/// A Will. `Corrupt` where the row says none.
+/// A Will. `Corrupt` if the row says none.
 pub fn will_of(alloc: Global, row: &Row) -> Result<Will, KeepError>
     ensures ok { IfOk result (λ will. SaysWill will row.now) }
     ensures err { IsErrOf result KeepError.Corrupt → (will : Will) → SaysWill will row.now → ⊥ }

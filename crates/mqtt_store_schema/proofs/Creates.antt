@@ -28,7 +28,7 @@ table_called Inbound = inbound
 table_called Copy = copy
 table_called Retained = retained
 
--- the text makes this table, where those of the one schema stand, and so those of the other
+-- the text makes this table, if those of the one schema stand, and so those of the other
 pub record Makes (before : Schema) (text : List ℕ) (table : Table) (after : Schema) : Type 0 where
   pub command : command_of (understood before text) ≡ CreateTable
   pub statement : statement_of text (understood before text) ≡ text

@@ -1,4 +1,4 @@
--- What a database says where it is asked for its schema.
+-- What a database says when it is asked for its schema.
 use Rattle.std.specs.Prelude.{◌≢◌, ◌⊎◌, ℤ, pos, ℕ, List, [], ◌∷◌, Option, Some, None, codes}
 use Rattle.sqlite_value.specs.declared.value.Value.TheVariants.{Int}
 use Rattle.sqlite_value.specs.Order.{Row}

@@ -7,7 +7,7 @@ pub record IsSettled (s : State) : Type 0 where
   pub committed : s.committed ≡ s.now
   pub autocommit : s.in_transaction ≡ false
 
--- where the connection is open still, it was open, and what was settled is as it was
+-- if the connection is open still, it was open, and what was settled is as it was
 pub record Stays (old new : State) : Type 0 where
   pub was_open : IsTrue new.is_open → IsTrue old.is_open
   pub same : IsTrue new.is_open → IsSettled old → (new.now ≡ old.now) × (new.committed ≡ old.committed)

@@ -30,7 +30,7 @@ fn text_of(table: StoreTable) -> &'static str
     }
 }
 
-/// Makes a table, where those before it stand.
+/// Makes a table, if those before it stand.
 fn make_table<S: Alter>(tx: &mut Transaction<'_, S>, table: StoreTable) -> Result<usize, Error>
     ensures same_reference { tx.new.conn.ghost_name ≡ tx.old.conn.ghost_name }
     ensures made { HasCleanDisk (state S.Store tx.new.conn.now) → HasTables (place_of table) (state S.Store tx.old.conn.now)
@@ -40,7 +40,7 @@ fn make_table<S: Alter>(tx: &mut Transaction<'_, S>, table: StoreTable) -> Resul
     tx.execute(text_of(table), &[])
 }
 
-/// Writes a new store's numbers, where all tables stand empty.
+/// Writes a new store's numbers, if all tables stand empty.
 fn fill_meta<S: Alter>(tx: &mut Transaction<'_, S>) -> Result<usize, Error>
     ensures same_reference { tx.new.conn.ghost_name ≡ tx.old.conn.ghost_name }
     ensures made { HasCleanDisk (state S.Store tx.new.conn.now) → HasTables 7 (state S.Store tx.old.conn.now)
@@ -69,7 +69,7 @@ fn table_at(at: usize) -> StoreTable
     }
 }
 
-/// Makes so many tables, the first of them, where there are none.
+/// Makes so many tables, the first of them, if there are none.
 pub fn make_tables<S: Alter>(tx: &mut Transaction<'_, S>, count: usize) -> Result<(), Error>
     requires { count ≤ 7 }
     ensures same_reference { tx.new.conn.ghost_name ≡ tx.old.conn.ghost_name }

@@ -73,7 +73,7 @@ both_empty (t ∷ first) second db one two = (one.0, both_empty first second db 
 abbrev added_by : Making → ℕ → List Table
 added_by making n = take n (tables_from (free_tree making))
 
--- what was so stays so, where no row changes
+-- what was so stays so, if no row changes
 module _ (making : Making) (n : ℕ) (was : Trees) (old new : State) (has : HasAdded making n was old) (same : KeepsRows (with_first making n).tables old.now.trees new.now.trees) where
   base_stays : KeepsRows (base_of making).tables was new.now.trees
   base_stays = kept_then (base_of making).tables was old.now.trees new.now.trees has.kept (kept_front (base_of making).tables (added_by making n) old.now.trees new.now.trees same)

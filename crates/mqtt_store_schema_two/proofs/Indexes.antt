@@ -14,7 +14,7 @@ use Rattle.sqlite.specs.State.{State, mode_of, ExecutesInside}
 use Rattle.sqlite.proofs.Callers.{IsPlain, command_of, statement_of, runs_as}
 use Rattle.mqtt_store_schema.proofs.Creates.{went, same_value}
 
--- the text makes this index of the table in that place, where the one schema stands, and so the other
+-- the text makes this index of the table in that place, if the one schema stands, and so the other
 pub record MakesIndex (before : Schema) (text : List ℕ) (at : ℕ) (table : Table) (index : Index) (after : Schema) : Type 0 where
   pub command : command_of (understood before text) ≡ CreateIndex at
   pub statement : statement_of text (understood before text) ≡ text

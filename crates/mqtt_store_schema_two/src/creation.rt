@@ -43,7 +43,7 @@ fn text_of(added: Added) -> &'static str
     }
 }
 
-/// Adds one, where those before it stand.
+/// Adds one, if those before it stand.
 fn add<S: Alter>(tx: &mut Transaction<'_, S>, added: Added) -> Result<usize, Error>
     ensures same_reference { tx.new.conn.ghost_name ≡ tx.old.conn.ghost_name }
     ensures made { HasCleanDisk (state S.Store tx.new.conn.now) → (making : Making) (was : Trees) → HasAdded making (place_of added) was (state S.Store tx.old.conn.now)
@@ -67,7 +67,7 @@ fn added_at(at: usize) -> Added
     }
 }
 
-/// Adds what schema 2 has beside schema 1, where the tables stand that it is added to. No row of
+/// Adds what schema 2 has beside schema 1, if the tables stand that it is added to. No row of
 /// theirs changes.
 #[tactic(auto, using(crate::proofs::Adding::none_added))]
 pub fn add_tables<S: Alter>(tx: &mut Transaction<'_, S>) -> Result<(), Error>
@@ -82,7 +82,7 @@ pub fn add_tables<S: Alter>(tx: &mut Transaction<'_, S>) -> Result<(), Error>
     Ok(())
 }
 
-/// Writes a new store's numbers, where all tables stand empty.
+/// Writes a new store's numbers, if all tables stand empty.
 fn fill_meta<S: Alter>(tx: &mut Transaction<'_, S>) -> Result<usize, Error>
     ensures same_reference { tx.new.conn.ghost_name ≡ tx.old.conn.ghost_name }
     ensures made { HasCleanDisk (state S.Store tx.new.conn.now) → IsBare (state S.Store tx.old.conn.now)

@@ -101,7 +101,7 @@ const NEW_TABLES: [TableForm; 3] = [
     },
 ];
 
-/// The same where the database had schema 1.
+/// The same if the database had schema 1.
 const LATE_TABLES: [TableForm; 3] = [
     TableForm {
         name: b"message",
@@ -164,7 +164,7 @@ const NEW_INDEXES: [IndexForm; 4] = [
     },
 ];
 
-/// The same where the database had schema 1.
+/// The same if the database had schema 1.
 const LATE_INDEXES: [IndexForm; 4] = [
     IndexForm {
         name: b"sqlite_autoindex_queued_1",

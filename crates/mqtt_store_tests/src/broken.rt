@@ -30,7 +30,7 @@ fn change<S: Alter>(
 }
 
 /// Why a load refuses the database after so many steps of the course and a change, and how many failures it counted. Disk
-/// where the change isn't made.
+/// if the change isn't made.
 fn refused_after(
     alloc: Global,
     steps: usize,
@@ -46,7 +46,7 @@ fn refused_after(
     Ok((answer.err(), failures))
 }
 
-/// The first change after which a load answers something else, or counts a failure; empty where none does. A line with two
+/// The first change after which a load answers something else, or counts a failure; empty if none does. A line with two
 /// dashes names the next.
 fn first_wrong(
     alloc: Global,

@@ -123,7 +123,7 @@ fn files_after(conn: Connection<FileStore<Device>>, is_closed: bool) -> Files<De
     conn.into_store().close()
 }
 
-/// What comes about over a file and its log, and the files that are left. Nothing does where they can't be opened.
+/// What comes about over a file and its log, and the files that are left. Nothing does if they can't be opened.
 fn act_on(
     alloc: Global,
     log: &[u8],
@@ -165,7 +165,7 @@ fn begin(alloc: Global, image: &mut Image, steps: usize, is_closed: bool) -> Res
     }
 }
 
-/// What is found in a file and its log; Disk where they can't be opened.
+/// What is found in a file and its log; Disk if they can't be opened.
 fn found_in(alloc: Global, log: &[u8], db: &[u8]) -> Result<Seen, KeepError> {
     match act_on(alloc, log, db, u64::MAX, LOAD, false) {
         Ok((told, files)) => {

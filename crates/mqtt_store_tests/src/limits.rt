@@ -11,7 +11,7 @@ use std::alloc::Global;
 use std::process::Abort;
 use std::test::Fail;
 
-/// What a store in memory that has the long course answers, where the next step and a load before it may take so many steps.
+/// What a store in memory that has the long course answers, if the next step and a load before it may take so many steps.
 fn limited(alloc: Global, limit: u64) -> Result<Told, KeepError> {
     let deed = Deed {
         from: LONG,
@@ -57,7 +57,7 @@ fn what_is_interrupted_is_made_or_not(rt: HostRuntime) -> Result<(), Fail> {
     Ok(())
 }
 
-/// Loads, a second time where memory was wanting.
+/// Loads, a second time if memory was wanting.
 fn load_in_the_end<K: Keep>(keep: &mut K, alloc: Global) -> Result<Seen, KeepError>
     ensures { OnOk result (K.Keep.is_loaded keep.new) }
 {
@@ -67,7 +67,7 @@ fn load_in_the_end<K: Keep>(keep: &mut K, alloc: Global) -> Result<Seen, KeepErr
     }
 }
 
-/// Makes a step of the course, a second time where memory was wanting and nothing changed.
+/// Makes a step of the course, a second time if memory was wanting and nothing changed.
 fn step_in_the_end<K: Keep>(
     rt: &impl Abort,
     keep: &mut K,

@@ -79,7 +79,7 @@ fn number<S: Alter>(conn: &mut Connection<S>, sql: &str) -> Result<i64, Error> {
     conn.query_row(sql, &[])?.get(0)
 }
 
-/// The first query that finds something else than it says; empty where none does.
+/// The first query that finds something else than it says; empty if none does.
 fn first_wrong<S: Alter>(conn: &mut Connection<S>, queries: &'static str) -> &'static str {
     for line in queries.lines() {
         let (query, want) = line.split_once(" -> ").unwrap_or((line, ""));

@@ -123,7 +123,7 @@ fn act<S: Alter + Drop>(keep: &mut SqlKeep<S>, alloc: Global, deed: Deed) -> Tol
     }
 }
 
-/// What comes about by a deed in the database of a connection, which is given back; its store alone, where the connection
+/// What comes about by a deed in the database of a connection, which is given back; its store alone, if the connection
 /// can't be opened anew.
 pub(crate) fn act_over<S: Alter + Drop>(
     alloc: Global,
@@ -147,7 +147,7 @@ pub(crate) fn told_over<S: Alter + Drop>(alloc: Global, conn: Connection<S>, dee
     told
 }
 
-/// A database in memory after so many steps of the course; Disk where one isn't made.
+/// A database in memory after so many steps of the course; Disk if one isn't made.
 pub(crate) fn database(alloc: Global, steps: usize) -> Result<Connection<MemStore>, KeepError> {
     let conn = Connection::open_in_memory(alloc)?;
     let deed = Deed {

@@ -23,7 +23,7 @@ pub record Layout : Type 0 where
 abbrev pub schema_of : Layout → Schema
 schema_of l = record { tables = (first 5).tables ++ l.tables; indexes = (first 5).indexes ++ l.indexes; views = [] }
 
--- what is set off in the tables behind, where rows leave a tree or others come into it
+-- what is set off in the tables behind, if rows leave a tree or others come into it
 abbrev pub sets_off : Layout → ℕ → ℕ → List Row → List Row → List Work
 sets_off l depth tree olds news = flat_map (λ child. filter_map (work_for (schema_of l) Enforced depth tree olds news child) child.references) l.tables
 

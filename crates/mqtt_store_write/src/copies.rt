@@ -99,7 +99,7 @@ pub fn set_copy<S: Alter>(
         → Writes S.Store tx.old.conn.now tx.new.conn.now result (IsWhole first_layout)
         (SetsCopy birth place phase pid rel id c) }
 
-    // Where no copy has that place nothing is set.
+    // If no copy has that place nothing is set.
     ensures whole { StaysWhole first_layout S.Store tx.old.conn.now tx.new.conn.now result }
     ensures inside { StaysInside (state S.Store tx.old.conn.now) (state S.Store tx.new.conn.now) }
 {
@@ -155,7 +155,7 @@ pub fn remove_open<S: Alter>(
     )
 }
 
-/// Puts an open identifier, in place of itself where it stands.
+/// Puts an open identifier, in place of itself if it stands.
 pub fn put_open<S: Alter>(
     tx: &mut Transaction<'_, S>,
     birth: u64,

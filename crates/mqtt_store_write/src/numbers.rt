@@ -25,7 +25,7 @@ pub fn set_number<S: Alter>(
         → Writes S.Store tx.old.conn.now tx.new.conn.now result (IsWhole l)
         (SetsNumber l name.now value id) }
 
-    // Where no row has that name nothing is set.
+    // If no row has that name nothing is set.
     ensures whole { (l : Layout) → IsLayout l → StaysWhole l S.Store tx.old.conn.now tx.new.conn.now result }
     ensures inside { StaysInside (state S.Store tx.old.conn.now) (state S.Store tx.new.conn.now) }
 {

@@ -45,7 +45,7 @@ pub record IsInRange (max alias : ℕ) : Type 0 where
   pub above : 0 < alias
   pub within : alias ≤ max
 
--- the name that a PUBLISH means: its own topic, or where that is empty the alias's
+-- the name that a PUBLISH means: its own topic, or if that is empty the alias's
 abbrev pub Resolves : AliasTable → List ℕ → Option ℕ → List ℕ → Type 0
 Resolves table topic None name = (name ≡ topic) × IsTopicName topic
 Resolves table [] (Some alias) name = IsInRange table.max alias × (topic_of alias table.topics ≡ Some name)

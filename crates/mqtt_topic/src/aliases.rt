@@ -69,7 +69,7 @@ impl Aliases {
         Ok(())
     }
 
-    /// The topic that a PUBLISH with this text and alias would mean, where nothing is set. The name
+    /// The topic that a PUBLISH with this text and alias would mean, if nothing is set. The name
     /// shares its bytes with the text or with the table.
     pub fn would_resolve(&self, topic: &Text, alias: Option<u16>) -> Result<TopicName, TopicFault>
         ensures found { IfOk result (Resolves self.now.table topic.now alias) }
@@ -117,7 +117,7 @@ impl Aliases {
         }
     }
 
-    /// The topic that a PUBLISH with this text and alias means, where a text with an alias makes
+    /// The topic that a PUBLISH with this text and alias means, if a text with an alias makes
     /// the alias stand for it.
     pub fn resolve(&mut self, topic: &str, alias: Option<u16>) -> Result<TopicName, TopicFault>
         ensures found { IfOk result (Resolves self.old.table topic.now alias) }
@@ -140,7 +140,7 @@ impl Aliases {
         ensures same { self.new.table ≡ self.old.table }
         ensures ok { OnOk result (0 < self.new.room) }
 
-        // Want of memory is the only refusal, and only where there was no room.
+        // Want of memory is the only refusal, and only if there was no room.
         ensures fault { IfErr result (λ fault. fault ≡ TopicFault.Memory) }
         ensures memory { OnErr result (self.old.room ≡ 0) }
     {

@@ -3,7 +3,7 @@ ghost use Rattle.std.specs.Prelude.{◌≡◌, ◌↔◌, ℕ, List, true};
 ghost use Rattle.mqtt_topic.specs.Filters.{is_filter, IsFilter};
 ghost use Rattle.mqtt_topic.specs.Aliases.{restored, topic_of, with_topic};
 
-/// A text is a filter by the test exactly where it is one by the standard's words.
+/// A text is a filter by the test exactly if it is one by the standard's words.
 pub fn filter_by_words()
     ensures { (text : List ℕ) → (is_filter text ≡ true) ↔ IsFilter text }
 {}

@@ -27,7 +27,7 @@ impl<'a> Levels<'a> {
         Levels { rest: Some(text) }
     }
 
-    /// Takes the next level off; none where no level is left. Takes no memory.
+    /// Takes the next level off; none if no level is left. Takes no memory.
     pub fn next(&mut self) -> Option<&'a str>
         ensures none { IfNone result (self.old ≡ []) }
         ensures after { IfNone result (self.new ≡ []) }

@@ -29,7 +29,7 @@ is_spelled remaining = nat_lt remaining (2 ^ 28)
 abbrev pub whole_size : ℕ → ℕ
 whole_size remaining = 1 + length (varint remaining) + remaining
 
--- the size of a PUBLISH in a form; none where it has no spelling
+-- the size of a PUBLISH in a form; none if it has no spelling
 abbrev pub size_in : Form → List ℕ → OtherBytes → Option ℕ
 size_in form topic other =
     cond (is_spelled (remaining_in form topic other)) (Some (whole_size (remaining_in form topic other))) None
@@ -47,7 +47,7 @@ abbrev pub first_within : ℕ → List ℕ → OtherBytes → List Form → Opti
 first_within largest topic other [] = None
 first_within largest topic other (f ∷ fs) = cond (is_within largest topic other f) (Some f) (first_within largest topic other fs)
 
--- the form in which a PUBLISH goes out, to a client that takes so many bytes and was told this; none where it is too large
+-- the form in which a PUBLISH goes out, to a client that takes so many bytes and was told this; none if it is too large
 abbrev pub form_for : ℕ → ToldTopics → List ℕ → OtherBytes → Option Form
 form_for largest told topic other = first_within largest topic other (forms told topic)
 
@@ -61,7 +61,7 @@ IsAmong x (y ∷ ys) = (x ≡ y) ⊎ IsAmong x ys
 abbrev pub NoneIsWithin : ℕ → List ℕ → OtherBytes → List Form → Type 0
 NoneIsWithin largest topic other fs = (f : Form) → IsAmong f fs → is_within largest topic other f ≡ false
 
--- a form that is taken is one of these, and within; where none is taken none is within
+-- a form that is taken is one of these, and within; if none is taken none is within
 abbrev pub IsFirstWithin : ℕ → List ℕ → OtherBytes → List Form → Option Form → Type 0
 IsFirstWithin largest topic other fs None = NoneIsWithin largest topic other fs
 IsFirstWithin largest topic other fs (Some f) = IsAmong f fs × (is_within largest topic other f ≡ true)

@@ -9,7 +9,7 @@ pub record ToldTopics : Type 0 where
   pub max : ℕ
   pub topics : List (List ℕ)
 
--- how many aliases are given at most, by the Topic Alias Maximum of the CONNECT; none where it has none (3.1.2.11.5)
+-- how many aliases are given at most, by the Topic Alias Maximum of the CONNECT; none if it has none (3.1.2.11.5)
 abbrev pub most_of : Option ℕ → ℕ
 most_of None = 0
 most_of (Some most) = min most ALIAS_LIMIT
@@ -34,7 +34,7 @@ next_alias told = cond (nat_lt (length told.topics) told.max) (Some (suc (length
 abbrev pub with_told : List ℕ → ToldTopics → ToldTopics
 with_told topic told = record { max = told.max; topics = told.topics ++ topic ∷ [] }
 
--- the same, where an alias is free for it
+-- the same, if an alias is free for it
 abbrev pub told_if : Option ℕ → List ℕ → ToldTopics → ToldTopics
 told_if None topic told = told
 told_if (Some alias) topic told = with_told topic told

@@ -20,7 +20,7 @@ pub fn what_goes_out_means_its_topic()
         → MeanTheirTopics (no_aliases most) (said largest (none_told max) ms) }
 {}
 
-/// The form that a PUBLISH gets is one of its forms and within what the client takes; it is too large only where none of
+/// The form that a PUBLISH gets is one of its forms and within what the client takes; it is too large only if none of
 /// its forms is within.
 pub fn too_large_only_where_no_form_is_within()
     ensures { (largest : ℕ) (told : ToldTopics) (topic : List ℕ) (other : OtherBytes)

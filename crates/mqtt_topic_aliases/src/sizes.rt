@@ -65,7 +65,7 @@ fn remaining_in(form: Form, topic: &TopicName, other: OtherBytes) -> Option<u32>
     }
 }
 
-/// Bytes of a PUBLISH in a form, fixed header included; none where it has no spelling, since more
+/// Bytes of a PUBLISH in a form, fixed header included; none if it has no spelling, since more
 /// than 268,435,455 bytes would follow the fixed header (2.1.4). Takes no memory.
 pub fn size_in(form: Form, topic: &TopicName, other: OtherBytes) -> Option<usize>
     ensures { result ≡ size_in form topic.now other }

@@ -80,13 +80,13 @@ impl OutAliases {
         }
     }
 
-    /// Tells a further topic, and answers its alias; none where none is free.
+    /// Tells a further topic, and answers its alias; none if none is free.
     pub fn add(&mut self, topic: &TopicName) -> Result<Option<u16>, TopicFault>
         requires new { alias_of topic.now self.old ≡ None }
         ensures number { IfOk result (λ number. number ≡ next_alias self.old) }
         ensures ok { OnOk result (self.new ≡ told_if (next_alias self.old) topic.now self.old) }
 
-        // Want of memory is the only refusal, only where an alias is free, and changes nothing.
+        // Want of memory is the only refusal, only if an alias is free, and changes nothing.
         ensures fault { IfErr result (λ fault. fault ≡ TopicFault.Memory) }
         ensures only { OnErr result (IsSome (next_alias self.old)) }
         ensures err { OnErr result (self.new ≡ self.old) }
@@ -109,7 +109,7 @@ impl OutAliases {
     }
 
     /// The form in which a PUBLISH goes out, to a client that takes so many bytes (3.1.2.11.4): the
-    /// first that is within; none where it is too large in each. Takes no memory.
+    /// first that is within; none if it is too large in each. Takes no memory.
     pub fn form_for(&self, largest: u32, topic: &TopicName, other: OtherBytes) -> Option<Form>
         ensures { result ≡ form_for largest self.now topic.now other }
     {

@@ -45,7 +45,7 @@ fn an_alias_stands_for_its_last_topic(rt: HostRuntime) {
     drop(aliases);
 }
 
-/// The text that an alias stands for; empty where it stands for none.
+/// The text that an alias stands for; empty if it stands for none.
 fn shown(aliases: &Aliases, alias: u16) -> &str {
     match aliases.look(alias) {
         Some(name) => name.as_str(),

@@ -56,7 +56,7 @@ packet_stands frame held rest packet n e f =
 pub fault_stands : (frame held rest : List ℕ) (fault : Fault) → held ++ rest ≡ frame → first_of held ≡ Err fault → first_of frame ≡ Err fault
 fault_stands frame held rest fault e f = sym (ap first_of e) ∙ fault_stays held rest fault f
 
--- the frame is the packet where nothing is left behind it, held or to come
+-- the frame is the packet if nothing is left behind it, held or to come
 pub is_whole : (frame held rest : List ℕ) (packet : Packet) (n : ℕ) → held ++ rest ≡ frame → first_of held ≡ Ok (Some (packet, n))
     → length rest ≡ 0 → length (drop n held) ≡ 0 → first_of frame ≡ Ok (Some (packet, length frame))
 is_whole frame held rest packet n e f none gone =
@@ -64,7 +64,7 @@ is_whole frame held rest packet n e f none gone =
     let all : n ≡ length frame = omega (arith, within.0, none, gone, length-drop n held, length-append held rest, ap length e) in
     subst (λ (k : ℕ). first_of frame ≡ Ok (Some (packet, k))) all (packet_stands frame held rest packet n e f)
 
--- and is not where something is
+-- and is not if something is
 pub is_part : (frame held rest : List ℕ) (packet : Packet) (n : ℕ) → held ++ rest ≡ frame → first_of held ≡ Ok (Some (packet, n))
     → 0 < length rest + length (drop n held) → (other : Packet) → first_of frame ≢ Ok (Some (other, length frame))
 is_part frame held rest packet n e f more other = λ whole.

@@ -124,11 +124,11 @@ fields_text packets.Pingresp = []
 fields_text (packets.Disconnect n) = notice_text n
 fields_text (packets.Auth n) = notice_text n
 
--- how many properties the packet's own block has, and not a Will's, where there are some
+-- how many properties the packet's own block has, and not a Will's, if there are some
 abbrev pub count_text : ℕ → List ℕ
 count_text n = if n == 0 then [] else codes " props=" ++ decimal n
 
--- the first bytes of a payload, in hexadecimal, where they are asked for
+-- the first bytes of a payload, in hexadecimal, if they are asked for
 abbrev pub head_text : Bool → List ℕ → List ℕ
 head_text false payload = []
 head_text true payload = codes " head=" ++ encode_lower (take HEAD_SIZE payload)

@@ -72,7 +72,7 @@ abbrev pub report : List Bool → List ℕ
 report rights =
     lines_from 1 rights ++ decimal (how_many rights) ++ codes " of " ++ decimal (length rights) ++ line_feed ∷ []
 
--- The report on 22 vectors was written, each judged by what its frame gives, and the status is 0 where all of them are right.
+-- The report on 22 vectors was written, each judged by what its frame gives, and the status is 0 if all of them are right.
 pub record Reports (before after : Option (List ℕ)) (status : Status) : Type 0 where
   pub vectors : List Vector
   pub rights : List Bool

@@ -10,7 +10,7 @@ use Rattle.mqtt_view.specs.declared.viewer.Status.{Status}
 use Rattle.mqtt_view.specs.declared.viewer.Status.TheVariants.{Whole, Faulty}
 use Rattle.mqtt_view.specs.View.{line, view_text}
 
--- a stream is whole where nothing is left behind its packets
+-- a stream is whole if nothing is left behind its packets
 abbrev pub status_of : Ending → Status
 status_of (short_at place left) = if length left == 0 then Whole else Faulty
 status_of (fault_at place fault) = Faulty
@@ -46,7 +46,7 @@ pub record AddsLines (with_payload : Bool) (old : Framing) (more : List ℕ) (ne
   pub cut : IsCut old.place (old.held ++ more) items new.place new.held
   pub text : new_text ≡ old_text ++ flat_map (line with_payload) items
 
--- the same, where the lines went to a writer
+-- the same, if the lines went to a writer
 pub record WritesLines (with_payload : Bool) (old : Framing) (more : List ℕ) (new : Framing) (before after : Option (List ℕ)) : Type 0 where
   pub items : List Item
   pub cut : IsCut old.place (old.held ++ more) items new.place new.held

@@ -382,7 +382,7 @@ fn push_shown(alloc: Global, text: &mut Vec<u8>, bytes: &[u8]) -> Result<(), All
     text.extend_from_slice(shown.as_bytes())
 }
 
-/// Adds the first bytes of a payload, where they are asked for.
+/// Adds the first bytes of a payload, if they are asked for.
 fn push_head(
     alloc: Global,
     text: &mut Vec<u8>,

@@ -41,7 +41,7 @@ impl From<AllocError> for VectorsFault {
 }
 
 /// Checks each vector in one piece and byte by byte, and writes a line for each and one that counts
-/// the right ones. The status is `Whole` exactly where all are right.
+/// the right ones. The status is `Whole` exactly if all are right.
 pub fn vectors<W: Write>(alloc: Global, writer: &mut W) -> Result<Status, VectorsFault>
     ensures ok { IfOk result (λ status. Reports (W.contents writer.old) (W.contents writer.new) status) }
     ensures memory { IfErr result (λ fault. fault ≢ VectorsFault.Write
@@ -130,7 +130,7 @@ fn is_right_in_pieces(alloc: Global, vector: &Vector, step: usize) -> Result<boo
     }
 }
 
-/// The packet that a frame is by a framer that holds nothing, in pieces of so many bytes; none where it
+/// The packet that a frame is by a framer that holds nothing, in pieces of so many bytes; none if it
 /// ends inside a packet or goes on behind one.
 fn whole_of(framer: &mut Framer, frame: &[u8], step: usize) -> Result<Option<Packet>, Fault>
     requires start { framer.old ≡ empty }

@@ -21,7 +21,7 @@ pub enum Gives {
 /// A frame, and what it is known to give.
 #[derive(Clone, Copy)]
 pub struct Vector {
-    /// The bytes of the frame, or its first where they are refused.
+    /// The bytes of the frame, or its first if they are refused.
     pub frame: &'static [u8],
     /// What they give.
     pub gives: Gives,

@@ -24,7 +24,7 @@ impl Read for Bytewise<'_> {
     }
 }
 
-/// Why there is no view. Where an allocation is refused, nothing but want of memory may be told.
+/// Why there is no view. If an allocation is refused, nothing but want of memory may be told.
 pub(crate) fn why(fault: ViewFault) -> &'static str {
     match fault {
         ViewFault::Read => "a failed read",
@@ -41,7 +41,7 @@ fn view_bytewise(alloc: Global, input: &[u8], written: &mut Vec<u8>) -> Result<S
     status
 }
 
-/// The status of an input's view, whose text is written, or none where it isn't the same a byte a read: text, and with
+/// The status of an input's view, whose text is written, or none if it isn't the same a byte a read: text, and with
 /// it each place, or status.
 pub(crate) fn one_view(
     alloc: Global,

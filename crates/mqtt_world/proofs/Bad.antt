@@ -108,7 +108,7 @@ module _ {K : Type 0} (g : Ghosts K) where
 
   -- ---- a run
 
-  -- where a run stopped its events are kept, but for the one at which it did, and that one is bad
+  -- if a run stopped its events are kept, but for the one at which it did, and that one is bad
   stopped_at_bad : (start : World) (es : List Event) (place : ℕ) (old new : Lasting K) → (s : Stops g es (fault.BadEvent place) old new)
       → HasCome g start old → (to : Staged K) → new.stage ≡ Ok to → IsSoundAt g to → IsUninhabited start → SendsWell start.broker
       → StopsAtBad es old new (world_at to) × (place ≡ length new.events)

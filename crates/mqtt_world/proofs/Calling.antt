@@ -162,7 +162,7 @@ module _ {K : Type 0} (g : Ghosts K) (name : List ℕ) where
 
 -- ---- a piece is one turn
 
--- where nothing whole was held, bytes come till one is
+-- if nothing whole was held, bytes come till one is
 further_on : (held bytes : List ℕ) (taken : ℕ) → first_of held ≡ Ok None
     → (drop taken bytes ≡ []) ⊎ IsWhole (held ++ take taken bytes) → (drop taken bytes ≡ []) ⊎ (0 < taken)
 further_on held bytes taken waits (inl none) = inl none

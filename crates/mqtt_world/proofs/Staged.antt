@@ -182,7 +182,7 @@ module _ {K : Type 0} (g : Ghosts K) where
     within = stands.within;
   }
 
-  -- where something is taken off it can go on
+  -- if something is taken off it can go on
   pub off_standing : (a : Asking) (old mid : Staged K) → IsStanding g old → mid ≡ record old { played = mid.played }
       → IsTakenOff a old.played mid.played → IsStanding g mid
   off_standing a old mid stands same off = subst (IsStanding g) (sym same) (off_stands a old mid.played stands off)

@@ -13,7 +13,7 @@ use Rattle.mqtt_world_scene.specs.Events.{IsReached, SpellsAll}
 use Rattle.mqtt_world_scene.specs.Scenes.{WasSound}
 use Rattle.mqtt_world.specs.Stages.{IsStanding, Staged, broker_of, world_at}
 
--- ---- a stranger is there, as if it had been linked before, and had sent nothing, where it comes first
+-- ---- a stranger is there, as if it had been linked before, and had sent nothing, if it comes first
 
 pub record Welcomes {K : Type 0} (g : Ghosts K) (name : List ℕ) (old new : Staged K) : Type 0 where
   pub standing : IsStanding g new

@@ -129,7 +129,7 @@ pub record Stops {K : Type 0} (g : Ghosts K) (es : List Event) (f : RunFault) (o
 
 -- ---- what holds of all that a world keeps
 
--- exactly-once delivery, of all of them, whatever turns they came to: where nobody was there at first, what was stored is as a
+-- exactly-once delivery, of all of them, whatever turns they came to: if nobody was there at first, what was stored is as a
 -- broker leaves it, and their ends begin clean (3.1.2.4, 3.3.4, 4.3, 4.4, 4.6, 4.8, 4.9)
 abbrev pub HasDelivered : {K : Type 0} → Ghosts K → World → Lasting K → Type 0
 HasDelivered {K} g start w = (s : Staged K) → w.stage ≡ Ok s → IsSoundAt g s → BeginsWell s.limits start

@@ -31,7 +31,7 @@ impl<K: Keep> World<K> {
         Ok(Event::Drain { client })
     }
 
-    /// A receiver was drained, and that is kept. Where there was room, there is now.
+    /// A receiver was drained, and that is kept. If there was room, there is now.
     fn keep_drain(
         &mut self,
         stage: Stage<K>,
@@ -84,7 +84,7 @@ impl<K: Keep> World<K> {
         }
     }
 
-    /// The same, where room is made first.
+    /// The same, if room is made first.
     fn drain_on(&mut self, stage: Stage<K>, client: &Text) -> Result<u32, RunFault>
         requires standing { IsStanding K.Keep stage }
         ensures drained { IfOk result (λ n.
@@ -103,7 +103,7 @@ impl<K: Keep> World<K> {
     }
 
     /// A receiver is drained, which is kept as an event of a script: rounds until nothing waits for it or the broker has
-    /// closed its line, and how many. `Memory` (1) and `Store` (2): the world is over; `Memory` also where there are more
+    /// closed its line, and how many. `Memory` (1) and `Store` (2): the world is over; `Memory` also if there are more
     /// rounds than a `u32` counts. `BadEvent` (3): it is no receiver, or the broker doesn't have its line, and nothing
     /// changed; its place is behind the events that are kept.
     pub fn drain(&mut self, client: &Text) -> Result<u32, RunFault>

@@ -14,7 +14,7 @@ fn are_bytes(bytes: &[u8])
     ensures { AreBytes bytes.now }
 {}
 
-/// What is asked brings bytes alone, where a stranger sends some. Takes no memory.
+/// What is asked brings bytes alone, if a stranger sends some. Takes no memory.
 fn brings_bytes(asking: &Asking)
     ensures { BringsBytes (asking_of asking.now) }
 {
@@ -83,7 +83,7 @@ impl Kept {
         self.events.reserve(1)
     }
 
-    /// One more, behind the others. Where there was room, there is now.
+    /// One more, behind the others. If there was room, there is now.
     pub(crate) fn push(&mut self, event: Event) -> Result<(), AllocError>
         ensures more { OnOk result (self.new ≡ self.old ++ event ∷ []) }
         ensures same { OnErr result (self.new ≡ self.old) }

@@ -66,7 +66,7 @@ impl<K: Keep> Stage<K> {
 }
 
 impl<K: Keep> World<K> {
-    /// How many messages a publisher was given, of any QoS, whether they went out or not. None where no publisher has the
+    /// How many messages a publisher was given, of any QoS, whether they went out or not. None if no publisher has the
     /// name, or the world is over. Takes no memory.
     pub fn sent(&self, client: &str) -> Option<u64>
         ensures { result ≡ seen (sent_in client.now self.now.events) self.now }
@@ -77,7 +77,7 @@ impl<K: Keep> World<K> {
         }
     }
 
-    /// How many messages of a publisher were completed (4.3.2, 4.3.3). None where no publisher has the name, or the world
+    /// How many messages of a publisher were completed (4.3.2, 4.3.3). None if no publisher has the name, or the world
     /// is over. Takes no memory.
     pub fn done(&self, client: &str) -> Option<u64>
         ensures { result ≡ seen (done_in client.now) self.now }
@@ -88,7 +88,7 @@ impl<K: Keep> World<K> {
         }
     }
 
-    /// The publications of the copies of QoS 2 that a receiver was handed, in order (4.3.3). None where no receiver has the
+    /// The publications of the copies of QoS 2 that a receiver was handed, in order (4.3.3). None if no receiver has the
     /// name, or the world is over.
     pub fn handed(&self, alloc: Global, client: &str) -> Result<Option<Vec<u64>>, AllocError>
         ensures { IfOk result (λ handed. option_map vec_items handed ≡ seen (handed_in client.now) self.now) }
@@ -99,7 +99,7 @@ impl<K: Keep> World<K> {
         }
     }
 
-    /// How many copies wait for the session of an end, or are in flight to it (4.6). None where no end has the name, or the
+    /// How many copies wait for the session of an end, or are in flight to it (4.6). None if no end has the name, or the
     /// world is over. Takes no memory.
     pub fn queue(&self, client: &str) -> Option<u64>
         ensures { result ≡ seen (queue_in client.now) self.now }
@@ -110,7 +110,7 @@ impl<K: Keep> World<K> {
         }
     }
 
-    /// How many publications the broker accepted. None where the world is over. Takes no memory.
+    /// How many publications the broker accepted. None if the world is over. Takes no memory.
     pub fn publications(&self) -> Option<u64>
         ensures { result ≡ seen publications_in self.now }
     {
@@ -120,7 +120,7 @@ impl<K: Keep> World<K> {
         }
     }
 
-    /// How many sessions the broker has. None where the world is over. Takes no memory.
+    /// How many sessions the broker has. None if the world is over. Takes no memory.
     pub fn sessions(&self) -> Option<u64>
         ensures { result ≡ seen sessions_in self.now }
     {

@@ -24,7 +24,7 @@ impl<K: Keep> Stage<K> {
         self.scene.ask(self.alloc, asking, self.now)
     }
 
-    /// What is asked of the broker, by no stranger, is lost before its commit. False where it can't be asked.
+    /// What is asked of the broker, by no stranger, is lost before its commit. False if it can't be asked.
     fn take_off(&mut self, asking: &Asking) -> Result<bool, Halt<K>>
         requires { IsPlain (asking_of asking.now) }
         ensures same { self.new ≡ record self.old { played = self.new.played } }

@@ -107,7 +107,7 @@ impl<K: Keep> Stage<K> {
         }
     }
 
-    /// Bytes come from a stranger, on a line that is linked where it comes first; each packet is answered before the next
+    /// Bytes come from a stranger, on a line that is linked if it comes first; each packet is answered before the next
     /// is read.
     pub(crate) fn visit(&mut self, name: &Text, bytes: &[u8]) -> Result<Option<Told>, Halt<K>>
         requires { IsStanding K.Keep self.old }

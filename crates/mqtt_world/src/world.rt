@@ -123,7 +123,7 @@ impl<K: Keep> World<K> {
         event.clone()
     }
 
-    /// An event happened, and is kept. Where there was room, there is now.
+    /// An event happened, and is kept. If there was room, there is now.
     pub(crate) fn keep(
         &mut self,
         stage: Stage<K>,
@@ -204,7 +204,7 @@ impl<K: Keep> World<K> {
         }
     }
 
-    /// The same, where room is made first.
+    /// The same, if room is made first.
     fn go_on(&mut self, stage: Stage<K>, event: &Event) -> Result<Told, RunFault>
         requires standing { IsStanding K.Keep stage }
         ensures happened { IfOk result (λ t.

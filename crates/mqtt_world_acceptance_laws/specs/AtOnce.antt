@@ -16,7 +16,7 @@ use Rattle.mqtt_world_model.specs.Run.{Turn}
 use Rattle.mqtt_world_acceptance_laws.specs.Entries.{Moment, moments_of}
 use Rattle.mqtt_world_acceptance_laws.specs.Steps.{Step, steps_over}
 
--- a packet on a session's line: none without a line, nor where it is larger than the client takes (3.1.2.11.4)
+-- a packet on a session's line: none without a line, nor if it is larger than the client takes (3.1.2.11.4)
 abbrev pub put_on : Option Line → Packet → List (ℕ × Packet)
 put_on None packet = []
 put_on (Some l) packet = cond (nat_le (size_of packet) l.largest) ((l.number, packet) ∷ []) []

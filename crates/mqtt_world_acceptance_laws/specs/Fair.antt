@@ -36,7 +36,7 @@ opened_world limits choice now r = record {
   strangers = [];
 }
 
--- what may be opened so: tables in order, and opening them spends no number; more sessions may stand than the limit, where they
+-- what may be opened so: tables in order, and opening them spends no number; more sessions may stand than the limit, if they
 -- were stored under a larger one
 pub record MayOpen (limits : Limits) (choice : MemberChoice) (now : ℕ) (r : Records) : Type 0 where
   pub coherent : IsCoherent r

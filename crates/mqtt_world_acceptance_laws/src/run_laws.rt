@@ -80,7 +80,7 @@ pub fn copies_of_qos_0_go_out_at_once()
 {}
 
 /// So a world may begin: with nothing stored, or opened on tables in order, such as `mqtt_rules` proves lawful
-/// records to be, also where more sessions stand than the limit (4.1); copies are told apart then, if they were
+/// records to be, also if more sessions stand than the limit (4.1); copies are told apart then, if they were
 /// in what was stored.
 pub fn a_world_may_begin()
     ensures empty { IsNew start }

@@ -117,7 +117,7 @@ pub record HasSessionEnded (x : EndAt) (s : Session) : Type 0 where
   pub why : (has_due_end x.broker.now s ≡ true) ⊎ StartsClean x
   pub ends : IsAmong (Finish x.who) x.behind
 
--- ---- Dropped: it waits and is not of this step, its queue is full, and where a full queue drops a copy enters it behind
+-- ---- Dropped: it waits and is not of this step, its queue is full, and if a full queue drops a copy enters it behind
 -- (ours)
 
 pub record HasGivenWay (x : EndAt) (s : Session) : Type 0 where

@@ -30,7 +30,7 @@ asked_of : (old : Bool) (client : List ℕ) (set : Setting) (w : World) (call : 
 asked_of false client set w call is = is
 asked_of true client set w call is = is
 
--- where a publisher has the name
+-- if a publisher has the name
 pub publisher_is_asked : (old : Bool) (client : List ℕ) (e : Ends) (ps : List Publisher) (p : Publisher) (call : Option Call)
     → Some p ≡ find (λ p. bytes_eq p.client client) ps → ps ≡ e.publishers → call ≡ asked_by old (view_publisher p)
     → (set : Setting) (w : World) → call ≡ call_of set (reading old client) (in_world e w)

@@ -70,7 +70,7 @@ receiver_reads_at b r = receiver_reads (stands r.line.number b) r.line.down r
 
 -- ---- what is under way
 
--- what is asked of the broker where the first packet of an end's line is read, or of the line that it gave up last
+-- what is asked of the broker when the first packet of an end's line is read, or of the line that it gave up last
 abbrev pub reading : Bool → List ℕ → Asking
 reading false client = to_broker client
 reading true client = old_to_broker client

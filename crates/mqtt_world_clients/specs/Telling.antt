@@ -36,7 +36,7 @@ with_packet number b packet l =
 abbrev pub with_packets : {U : Type 0} → ℕ → Broker → List (ℕ × Packet) → Line U → Line U
 with_packets number b packets l = record l { down = l.down ++ filter_map (down_on number b) packets }
 
--- what a step tells reached all ends, where it left this broker
+-- what a step tells reached all ends, if it left this broker
 abbrev pub ends_told : Broker → Outcome → Ends → Ends
 ends_told b out e = record {
   publishers = map (publisher_told b out) e.publishers;

@@ -122,7 +122,7 @@ impl Clients {
         receivers::join_named(&mut self.receivers, client, number, clean)
     }
 
-    /// A publisher has a new message (3.3). What may go out goes out, and is lost where the broker no longer has its
+    /// A publisher has a new message (3.3). What may go out goes out, and is lost if the broker no longer has its
     /// line.
     pub fn publish<K: Keep>(
         &mut self,
@@ -136,7 +136,7 @@ impl Clients {
         publishers::publish_named(&mut self.publishers, client, draft, engine)
     }
 
-    /// A receiver sends SUBSCRIBE (3.8), which is lost where the broker no longer has its line.
+    /// A receiver sends SUBSCRIBE (3.8), which is lost if the broker no longer has its line.
     pub fn subscribe<K: Keep>(
         &mut self,
         client: &str,
@@ -149,7 +149,7 @@ impl Clients {
         receivers::ask_named(&mut self.receivers, client, wish, engine)
     }
 
-    /// An end reads the first packet under way to it. What goes out for it is lost where the broker no longer has its
+    /// An end reads the first packet under way to it. What goes out for it is lost if the broker no longer has its
     /// line.
     pub fn read<K: Keep>(&mut self, client: &str, engine: &Engine<K>) -> Result<(), AllocError>
         ensures { OnOk result ((set : Setting) → BecomeAt engine.now.running.broker

@@ -69,7 +69,7 @@ impl Clients {
         }
     }
 
-    /// What is asked of the broker where the first packet under way from an end is read, or of the line that it gave
+    /// What is asked of the broker when the first packet under way from an end is read, or of the line that it gave
     /// up last: the packet, with its line.
     pub fn front(&self, client: &str, old: bool) -> Result<Option<(u64, Packet)>, AllocError>
         ensures { IfOk result (λ x. (set : Setting) (w : World) → option_map input_of x
@@ -84,7 +84,7 @@ impl Clients {
         }
     }
 
-    /// Whether the broker still has a receiver's line. None where no receiver has the name. Takes no memory.
+    /// Whether the broker still has a receiver's line. None if no receiver has the name. Takes no memory.
     pub fn stands<K: Keep>(&self, client: &str, engine: &Engine<K>) -> Option<bool>
         ensures { (w : World) → result ≡ option_map (λ r. stands r.line.number engine.now.running.broker)
             (receiver_named client.now (in_world self.now w)) }
@@ -95,7 +95,7 @@ impl Clients {
         }
     }
 
-    /// How many packets are under way to a receiver. None where no receiver has the name. Takes no memory.
+    /// How many packets are under way to a receiver. None if no receiver has the name. Takes no memory.
     pub fn downs(&self, client: &str) -> Option<usize>
         ensures { (w : World) → result ≡ option_map (λ r. length r.line.down)
             (receiver_named client.now (in_world self.now w)) }
@@ -106,7 +106,7 @@ impl Clients {
         }
     }
 
-    /// How many packets are under way from a receiver. None where no receiver has the name. Takes no memory.
+    /// How many packets are under way from a receiver. None if no receiver has the name. Takes no memory.
     pub fn ups(&self, client: &str) -> Option<usize>
         ensures { (w : World) → result ≡ option_map (λ r. length r.line.up)
             (receiver_named client.now (in_world self.now w)) }
@@ -117,7 +117,7 @@ impl Clients {
         }
     }
 
-    /// How many messages of a publisher were completed (4.3.2, 4.3.3). None where no publisher has the name. Takes no
+    /// How many messages of a publisher were completed (4.3.2, 4.3.3). None if no publisher has the name. Takes no
     /// memory.
     pub fn done(&self, client: &str) -> Option<u64>
         ensures { (w : World) → result ≡ option_map (λ p. done_by (Some p))
@@ -129,7 +129,7 @@ impl Clients {
         }
     }
 
-    /// The publications of the copies of QoS 2 that a receiver was handed, in order (4.3.3). None where no receiver has
+    /// The publications of the copies of QoS 2 that a receiver was handed, in order (4.3.3). None if no receiver has
     /// the name.
     pub fn handed(&self, alloc: Global, client: &str) -> Result<Option<Vec<u64>>, AllocError>
         ensures { IfOk result (λ x. (w : World) → option_map vec_items x ≡ option_map (λ r. handed_by (Some r))

@@ -19,7 +19,7 @@ use Rattle.mqtt_rules.specs.declared.Limits.{Limits}
 use Rattle.mqtt_world_acceptance_laws.specs.Fair.{IsSteady}
 use Rattle.mqtt_world_acceptance_laws.specs.LineNumbers.{HasApart, IsApartFrom}
 
--- ---- its lines, as those of a publisher that sends the same CONNECTs, and something else where it sends something else
+-- ---- its lines, as those of a publisher that sends the same CONNECTs, and something else if it sends something else
 
 abbrev pub packet_like : Back → Sent
 packet_like (answers (connect clean)) = shake (CONNECT clean)
@@ -52,7 +52,7 @@ GoesAlong (Some birth) largest ids ns r b = IsInStep largest ids birth ns r b
 -- what it sees is a run of its hop, with copies of these identities; these are the numbers of the lines that it had
 pub record IsPlaced (largest : ℕ) (ids : List CopyId) (ns : List ℕ) (r : Receiver) (b : Broker) : Type 0 where
   pub birth : Option ℕ
-  pub line : ℕ  -- the one that its session may be connected on; 0, which no line has, where it never was
+  pub line : ℕ  -- the one that its session may be connected on; 0, which no line has, if it never was
   pub along : GoesAlong birth largest ids ns r b
   pub seat : Seat birth line (publisher_like r) b
   pub its_line : is_one_of (Some line) (0 ∷ ns) ≡ true

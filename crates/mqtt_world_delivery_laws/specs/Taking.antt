@@ -1,4 +1,4 @@
--- What a receiver's line takes where a session is connected on it: what the CONNECT of a conforming receiver says (MQTT 5.0,
+-- What a receiver's line takes if a session is connected on it: what the CONNECT of a conforming receiver says (MQTT 5.0,
 -- 3.1.2.11.3, 3.1.2.11.4).
 use Rattle.std.specs.Prelude.{◌≡◌, ℕ, ⊤, true, List, Option, Some, None}
 use Rattle.std.specs.List.{AllByRecursion}
@@ -14,7 +14,7 @@ any_size = 0xffffffff
 abbrev pub TakesAsAsked : ℕ → BrokerLine → Type 0
 TakesAsAsked window l = (l.window ≡ window) × (l.largest ≡ any_size)
 
--- where this is the line of the number, and a session is connected on it
+-- if this is the line of the number, and a session is connected on it
 abbrev pub TakesThere : ℕ → ℕ → BrokerLine → Type 0
 TakesThere window n l = l.number ≡ n → (birth : ℕ) → l.session ≡ Some birth → TakesAsAsked window l
 

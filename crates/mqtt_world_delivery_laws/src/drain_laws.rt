@@ -32,9 +32,9 @@ pub fn a_drain_takes_its_copies()
         → is_over client (drained limits choice client most (run limits ts w)) ≡ true }
 {}
 
-/// From wherever a fair run comes to, where a drain is not over at its start: each copy that ends in it has been taken, had
-/// expired at the moment of the drain, which is that of all its rounds, or is larger than its receiver takes; where a SUBSCRIBE
-/// was under way it may also have been dropped, to make way in a full queue; and where a CONNECT with Clean Start was, each that
+/// From wherever a fair run comes to, if a drain is not over at its start: each copy that ends in it has been taken, had
+/// expired at the moment of the drain, which is that of all its rounds, or is larger than its receiver takes; if a SUBSCRIBE
+/// was under way it may also have been dropped, to make way in a full queue; and if a CONNECT with Clean Start was, each that
 /// stood has ended with its session. All others stand still, and copies only enter behind. Asked: that the first round spends
 /// no number, that at most one SUBSCRIBE is under way from the receiver, and nothing to it while its CONNECT is. After the first
 /// round, whatever was under way, the drain is over, or each copy that ends was taken, had expired or is too large (3.1.2.4,

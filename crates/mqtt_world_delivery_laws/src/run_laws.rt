@@ -56,9 +56,9 @@ pub fn every_run_hands_over_once()
         → WasHandedOver r (run limits ts w).broker }
 {}
 
-/// So a world may begin: with nothing stored, or opened on tables in order, where no two copies in flight have one identifier
+/// So a world may begin: with nothing stored, or opened on tables in order, if no two copies in flight have one identifier
 /// and no two retained messages are of one publication; such are those that any run of such a world leaves, under whatever
-/// limits. More sessions may stand than the limit, and queues may be longer, where they were stored under larger ones (4.1).
+/// limits. More sessions may stand than the limit, and queues may be longer, if they were stored under larger ones (4.1).
 pub fn a_world_may_begin_untouched()
     ensures empty { (limits : Limits) → AreWithin limits → IsUntouched limits start }
     ensures stored { (limits : Limits) (choice : MemberChoice) (now : ℕ) (r : Records)
@@ -69,7 +69,7 @@ pub fn a_world_may_begin_untouched()
         → is_opening_spent limits choice now (run limits ts w).broker.records ≡ false
         → IsUntouched limits (opened_world limits choice now (run limits ts w).broker.records) }
 
-    // Also where the broker is opened under other limits than those of the run.
+    // Also if the broker is opened under other limits than those of the run.
     ensures under_others { (limits others : Limits) (ts : List Turn) (choice : MemberChoice) (now : ℕ) (w : World)
         → IsUntouched limits w → IsFair limits ts w → AreWithin others
         → is_opening_spent others choice now (run limits ts w).broker.records ≡ false
@@ -93,7 +93,7 @@ pub fn every_drain_ends()
         → is_over client (drained limits choice client most (run limits ts w)) ≡ true }
 {}
 
-/// At the end of any fair run: where the broker reads a receiver's PUBACK, on its line or on the one that it gave up, and
+/// At the end of any fair run: if the broker reads a receiver's PUBACK, on its line or on the one that it gave up, and
 /// whether it stops after the commit of that step or not, whatever copy of QoS 1 ends as taken in it was read by the
 /// receiver, at least once (4.3.2).
 pub fn what_is_acknowledged_was_read()
@@ -109,7 +109,7 @@ pub fn what_is_acknowledged_was_read()
 
 /// Over any events of a run, from any moment at which a receiver has come: of all the copies that stood in its queue at that
 /// moment or after any of the events, those that it was handed by their end stand in its ledger in the order in which they came to
-/// the queue, also where two of them never stood there together; and so they entered, in that order, behind those that stood
+/// the queue, also if two of them never stood there together; and so they entered, in that order, behind those that stood
 /// there at that moment; none does when the receiver comes, if no session of its name stands. So the whole ledger of each receiver is in the order in which the
 /// copies entered over the run (4.3.3, 4.6).
 pub fn copies_are_handed_over_as_they_entered()

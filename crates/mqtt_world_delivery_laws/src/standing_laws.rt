@@ -86,7 +86,7 @@ pub fn a_restart_leaves_a_receiver_standing()
         → Stands first client largest set.limits (happens set (stop_before a) w) }
 {}
 
-/// The broker stops after the commit of what it was asked for, where that was made for others or was the loss of a line, and
+/// The broker stops after the commit of what it was asked for, if that was made for others or was the loss of a line, and
 /// restarts before anything goes out: a receiver stands as before, on no line (4.1, 4.4).
 pub fn a_stop_after_the_commit_leaves_a_receiver_standing()
     ensures stops { (first : List CopyId) (client : List ℕ) (a : Asking) (largest : ℕ) (set : Setting) (w : World)
@@ -95,7 +95,7 @@ pub fn a_stop_after_the_commit_leaves_a_receiver_standing()
         → Stands first client largest set.limits (happens set (stop_after a) w) }
 {}
 
-/// The broker sends what waits for a receiver on its own line, or nothing where nobody is connected there: the receiver
+/// The broker sends what waits for a receiver on its own line, or nothing if nobody is connected there: the receiver
 /// stands as before. Asked: that line has the Maximum Packet Size of its hop, and no two copies in flight have one
 /// identifier, as after each step (4.4, 4.6, 4.9).
 pub fn sending_leaves_a_receiver_standing()
@@ -115,7 +115,7 @@ pub fn a_tick_leaves_a_receiver_standing()
 {}
 
 /// The broker reads a receiver's answer, PUBACK, PUBREC or PUBCOMP, on its line or on the one that it gave up: the receiver
-/// stands as before, with its session connected there still, or nowhere where the answer breaks the protocol (4.3.2, 4.3.3,
+/// stands as before, with its session connected there still, or nowhere if the answer breaks the protocol (4.3.2, 4.3.3,
 /// 4.4, 4.13).
 pub fn an_answer_leaves_a_receiver_standing()
     ensures reads { (first : List CopyId) (client : List ℕ) (a : Answer) (rest : List Back) (largest : ℕ) (set : Setting) (r : Receiver)

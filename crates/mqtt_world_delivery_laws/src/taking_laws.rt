@@ -10,7 +10,7 @@ ghost use Rattle.mqtt_rules.specs.State.{Line, line_at};
 ghost use Rattle.mqtt_rules.specs.declared.Limits.{Limits};
 ghost use Rattle.mqtt_world_acceptance_laws.specs.Fair.{IsNew};
 
-/// Where a session is connected on a receiver's line, the line has what the receiver's CONNECT says: its Receive Maximum,
+/// If a session is connected on a receiver's line, the line has what the receiver's CONNECT says: its Receive Maximum,
 /// and packets of any size, since it names no Maximum Packet Size. It is so in a new world, and after each turn, whatever
 /// happens in it: no other CONNECT is read there (3.1.2.11.3, 3.1.2.11.4).
 pub fn its_line_takes_what_its_connect_says()

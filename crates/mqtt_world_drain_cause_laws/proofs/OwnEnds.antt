@@ -29,7 +29,7 @@ use Rattle.mqtt_rules.specs.Step.{Call}
 use Rattle.mqtt_world_cause_laws.specs.Endings.{Asked, EndAt, end_at, ends_of}
 use Rattle.mqtt_world_drain_cause_laws.specs.DrainEnds.{EndsBy, StartsClean, Subscribes}
 
--- as a drain has it, where a copy ends as too large only if this holds
+-- as a drain has it, if a copy ends as too large only if this holds
 abbrev pub Ends : Type 0 → List ℕ → Option Call → Ending → Type 0
 Ends large client call Taken = ⊤
 Ends large client call Refused = ⊥

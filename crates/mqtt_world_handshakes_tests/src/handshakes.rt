@@ -5,7 +5,7 @@ use std::alloc::{AllocError, Global};
 use std::process::Abort;
 use std::test::*;
 
-/// A message goes out, where fewer than the Receive Maximum are in flight.
+/// A message goes out, if fewer than the Receive Maximum are in flight.
 fn send(
     rt: &impl Abort,
     alloc: Global,

@@ -51,7 +51,7 @@ pub fn messages_are_delivered_exactly_once()
 {}
 
 /// So a run may begin: with nothing stored, or when the broker is opened on what any fair run has left that began so, under
-/// the limits of that run or under others, also where these are smaller than what stands (4.1).
+/// the limits of that run or under others, also if these are smaller than what stands (4.1).
 pub fn what_a_run_leaves_may_begin_another()
     ensures nothing { (limits : Limits) → AreWithin limits → BeginsWell limits start }
     ensures again { (limits : Limits) (ts : List Turn) (choice : MemberChoice) (now : ℕ) (w : World) → BeginsWell limits w

@@ -100,7 +100,7 @@ message_in (plain c) = None
 
 -- ---- what it does
 
--- what goes out is lost where the line no longer stands
+-- what goes out is lost if the line no longer stands
 abbrev pub goes : {U : Type 0} → Bool → List U → Line U → Line U
 goes stands packets l = record l { up = sent_on stands l.up packets }
 
@@ -128,7 +128,7 @@ abbrev pub send_all : Bool → List Draft → Publisher → Publisher
 send_all stands [] p = p
 send_all stands (d ∷ rest) p = send_all stands rest (send_one stands d rest p)
 
--- unsent messages go out in order, where CONNACK was read
+-- unsent messages go out in order, if CONNACK was read
 abbrev pub send_unsent : Bool → Link → Publisher → Publisher
 send_unsent stands away p = p
 send_unsent stands asked p = p
@@ -249,7 +249,7 @@ entry_of twice copy p = record { copy = copy; body = body_of twice p }
 abbrev pub answers_with : Bool → Answer → Receiver → Receiver
 answers_with stands a r = record r { line = goes stands (answers a ∷ []) r.line }
 
--- a PUBLISH of QoS 2 is handed over where its identifier isn't kept (4.3.3)
+-- a PUBLISH of QoS 2 is handed over if its identifier isn't kept (4.3.3)
 abbrev pub reads_publish : Bool → Option CopyId → Publication → Delivery → Receiver → Receiver
 reads_publish stands copy p delivery.AtMostOnce r = r
 reads_publish stands copy p (delivery.AtLeastOnce dup i) r =

@@ -177,7 +177,7 @@ abbrev pub lines_left : Option BrokerLine → List ℕ
 lines_left None = []
 lines_left (Some l) = l.number ∷ []
 
--- the session's line, where it has one, and it isn't the line of the CONNECT
+-- the session's line, if it has one, and it isn't the line of the CONNECT
 pub record IsTaken (o : Option BrokerLine) (birth n : ℕ) : Type 0 where
   pub connected : (l : BrokerLine) → o ≡ Some l → l.session ≡ Some birth
   pub another : (l : BrokerLine) → o ≡ Some l → nat_eq l.number n ≡ false

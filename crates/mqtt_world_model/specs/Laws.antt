@@ -31,7 +31,7 @@ abbrev pub fate_by : ℕ → Option Publisher → Option Fate
 fate_by n None = None
 fate_by n (Some p) = slice_get p.fates n
 
--- what became of a message of a publisher; None where it has not gone out
+-- what became of a message of a publisher; None if it has not gone out
 abbrev pub fate_of : List ℕ → ℕ → World → Option Fate
 fate_of client n w = fate_by n (publisher_named client w)
 

@@ -95,7 +95,7 @@ IsFull p = nat_lt (length (in_flight p.fates)) OPEN_LIMIT ≡ false
 abbrev pub IsSettled : Publisher → Type 0
 IsSettled p = p.line.link ≡ live → (p.unsent ≡ []) ⊎ IsFull p
 
--- where a session of this client stands, the table of sessions is within its limit: its session began where there was a place,
+-- if a session of this client stands, the table of sessions is within its limit: its session began where there was a place,
 -- and a table above its limit, stored under a larger one, only shrinks
 abbrev pub HasPlace : Limits → List ℕ → Records → Type 0
 HasPlace limits client r = is_some (session_named client r) ≡ true → length r.sessions ≤ limits.sessions

@@ -13,7 +13,7 @@ use Rattle.mqtt_world_model.specs.World.{to_end, clock, ask, restart, stop_befor
 use Rattle.mqtt_world_model.specs.Run.{deeds_at}
 use Rattle.mqtt_world_model.specs.Laws.{copies_in}
 
--- ---- what an event tells: reports, and how many of the broker's packets went out; nothing where the broker stops or
+-- ---- what an event tells: reports, and how many of the broker's packets went out; nothing if the broker stops or
 -- restarts
 
 pub record Telling : Type 0 where

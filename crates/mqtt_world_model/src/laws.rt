@@ -68,7 +68,7 @@ pub fn own_packets_are_steps_of_the_hop()
         (stepped limits choice now (Input l.number (connect_packet true p)) b)
         ≡ step (seen accepted p b) (to_broker takes) }
 
-    // CONNECT, with or without Clean Start, where no session of its name stands: one begins, or the table is full.
+    // CONNECT, with or without Clean Start, if no session of its name stands: one begins, or the table is full.
     ensures first { (limits : Limits) (choice : MemberChoice) (now : ℕ) (clean : Bool) (p : Publisher)
         → (l : Line) (b : Broker) (accepted : List ℕ)
         → p.line.up ≡ shake (CONNECT clean) ∷ [] → IsFirst limits p l b
@@ -85,7 +85,7 @@ pub fn own_packets_are_steps_of_the_hop()
         ≡ step (seen accepted p b) break }
 {}
 
-/// The broker reads what a publisher left on the line that it gave up, where its session is connected still,
+/// The broker reads what a publisher left on the line that it gave up, if its session is connected still,
 /// or a late CONNECT: what the publisher sees of it is that event of its hop, and no answer (3.1.4, 4.3, 4.4).
 pub fn packets_of_the_line_given_up_are_steps_of_the_hop()
     ensures publish { (limits : Limits) (choice : MemberChoice) (now : ℕ) (p : Publisher) (rest : List Sent)
@@ -116,7 +116,7 @@ pub fn packets_of_the_line_given_up_are_steps_of_the_hop()
 {}
 
 /// After a publisher's CONNECT the session and its line are its own, and after the loss of its line the
-/// session is, where sessions and lines are in order, which they are after each step (3.1.2.4, 3.1.4).
+/// session is, if sessions and lines are in order, which they are after each step (3.1.2.4, 3.1.4).
 pub fn a_connected_session_is_its_own()
     ensures resumed { (limits : Limits) (choice : MemberChoice) (now : ℕ) (p : Publisher) (l : Line) (s : Session)
         → (b : Broker) → IsAsking p l s b → l.keep_alive ≡ 0 → IsInOrder b
@@ -191,7 +191,7 @@ pub fn steps_of_others_are_unseen()
         → Own client birth n (stepped limits choice now call b) }
 {}
 
-/// Where what a publisher sees of the world is a run of its hop, the law of the hop holds of its messages:
+/// If what a publisher sees of the world is a run of its hop, the law of the hop holds of its messages:
 /// each of QoS 2 was accepted at most once, once if it is completed, not at all if it was refused or has
 /// not gone out; one of QoS 1 that was acknowledged at least once (4.3.2, 4.3.3).
 pub fn a_run_of_the_hop_accepts_once()
@@ -207,7 +207,7 @@ pub fn a_run_of_the_hop_accepts_once()
         → slice_get p.fates n ≡ Some (ended_1 completed) → 1 ≤ count_by (nat_eq n) accepted }
 {}
 
-/// What a publisher does and reads is what the publisher of its hop does and reads, where its line stands
+/// What a publisher does and reads is what the publisher of its hop does and reads, if its line stands
 /// exactly if its session is connected there; a packet that it passes over is no event (4.3, 4.4, 4.9).
 pub fn own_doings_are_steps_of_the_hop()
     ensures publish { (accepted : List ℕ) (b : Broker) (t : Bool) (d : Draft) (q : Qos) (p : Publisher)

@@ -76,7 +76,7 @@ pub fn every_doing_is_some_steps_of_the_hop()
         accepted accepted }
 {}
 
-/// A session begins only where there is a place, so while it stands the table of sessions is within its limit: one that was
+/// A session begins only if there is a place, so while it stands the table of sessions is within its limit: one that was
 /// stored under a larger limit only shrinks until it is within this one (3.1.4, 3.2.2.2, ours).
 pub fn a_session_that_began_has_a_place()
     ensures steps { (limits : Limits) (choice : MemberChoice) (now : ℕ) (call : Call) (client : List ℕ) (b : Broker)

@@ -24,7 +24,7 @@ taken_of p fits is =
     let whole = length-append (varint (length (shortest_body p))) (shortest_body p) in
     record { spelled = (fits, omega (arith, short, whole), both.0); short = short }
 
--- what code says of a packet is what the definitions say, where these make it one that is taken
+-- what code says of a packet is what the definitions say, if these make it one that is taken
 decided : (p : Packet) (b is : Bool) → (IsTrue b ↔ IsTaken p) → is_input p ≡ is → (is ≡ true → IsTaken p) → b ≡ is
 decided p true true h eq good = refl
 decided p true false h eq good = sym (input_of p (h.0 refl)) ∙ eq
@@ -41,7 +41,7 @@ pub message_is : (d : Draft) (b : Bool) → (IsTrue b ↔ IsTaken (message_packe
 message_is d b h topic =
     decided (message_packet d) b (is_input (message_packet d)) h refl (λ is. publish_tested d.qos d.content is topic.1)
 
--- where the identifier fits
+-- if the identifier fits
 pub wish_is : (w : Wish) (b : Bool) → (IsTrue b ↔ IsTaken (subscribe_with w)) → fits_number w.identifier ≡ true
     → FitsText w.filter → b ≡ is_wish w
 wish_is w b h fits filter =

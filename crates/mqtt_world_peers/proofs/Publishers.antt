@@ -37,7 +37,7 @@ none_goes stands (d ∷ ds) p full =
     let one : send_one stands d ds p ≡ p = rw full refl in
     ap (send_all stands ds) one ∙ none_goes stands ds p full
 
--- where none may go, all have gone
+-- if none may go, all have gone
 pub all_gone : (stands : Bool) (ds : List Draft) (p : Publisher) → may_go ds p ≡ false → send_all stands ds p ≡ p
 all_gone stands [] p none = refl
 all_gone stands (d ∷ ds) p none = none_goes stands (d ∷ ds) p none
@@ -48,7 +48,7 @@ unsent_after stands AtMostOnce c rest p = refl
 unsent_after stands AtLeastOnce c rest p = refl
 unsent_after stands ExactlyOnce c rest p = refl
 
--- where one may go, it goes first
+-- if one may go, it goes first
 pub one_gone : (stands : Bool) (ds : List Draft) (p : Publisher) → may_go ds p ≡ true → p.unsent ≡ ds
     → send_all stands (front_out stands ds p).unsent (front_out stands ds p) ≡ send_all stands ds p
 one_gone stands [] p may is = ap (λ (us : List Draft). send_all stands us p) is

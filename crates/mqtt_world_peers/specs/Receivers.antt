@@ -24,7 +24,7 @@ back_of (Pubrec identifier code) = ends.answers (flow.pubrec identifier code)
 back_of (Pubcomp identifier code) = ends.answers (flow.pubcomp identifier code)
 back_of (Subscribe wish) = ends.asks_for (wish_of wish)
 
--- the property of a CONNECT that tells a Receive Maximum, where it has one (3.1.2.11.3)
+-- the property of a CONNECT that tells a Receive Maximum, if it has one (3.1.2.11.3)
 abbrev pub windowed : Option ℕ → List Prop
 windowed None = []
 windowed (Some window) = property ReceiveMaximum (U16 window) ∷ []

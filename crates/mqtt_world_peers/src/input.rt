@@ -34,7 +34,7 @@ pub fn is_input(packet: &Packet) -> bool
     is_taken(packet)
 }
 
-/// How a message is delivered that has not gone out: under an identifier where it needs one (2.2.1).
+/// How a message is delivered that has not gone out: under an identifier if it needs one (2.2.1).
 fn delivery_at(qos: Qos) -> Delivery
     ensures { result ≡ delivery_at qos }
 {

@@ -199,7 +199,7 @@ impl<U: Drop> Line<U> {
         self.leave();
     }
 
-    /// A packet goes out, and is lost where the line no longer stands. Without memory nothing changes.
+    /// A packet goes out, and is lost if the line no longer stands. Without memory nothing changes.
     pub(crate) fn send(&mut self, packet: U, stands: bool) -> Result<(), AllocError>
         ensures ok { OnOk result (self.exit.now ≡ goes stands (packet ∷ []) self.entry.now) }
         ensures err { OnErr result (self.exit.now ≡ self.entry.now) }

@@ -94,7 +94,7 @@ impl PublisherEnd {
         self.handshakes.completed() as u64
     }
 
-    /// It has a new message. What may go out goes out, and is lost where its line no longer stands.
+    /// It has a new message. What may go out goes out, and is lost if its line no longer stands.
     pub fn publish(&mut self, draft: Draft, stands: bool) -> Result<(), AllocError>
         ensures { OnOk result (self.new ≡ published stands (draft_of draft) self.old) }
     {
@@ -102,7 +102,7 @@ impl PublisherEnd {
         self.send_unsent(stands)
     }
 
-    /// It reads the first packet under way to it; what goes out for it is lost where its line no longer stands.
+    /// It reads the first packet under way to it; what goes out for it is lost if its line no longer stands.
     pub fn read(&mut self, stands: bool) -> Result<(), AllocError>
         ensures { OnOk result (self.new ≡ publisher_reads stands self.old.line.down self.old) }
     {
@@ -202,7 +202,7 @@ impl PublisherEnd {
         send_shakes(&mut self.line, &packets, stands)
     }
 
-    /// Unsent messages go out in order, where CONNACK was read.
+    /// Unsent messages go out in order, if CONNACK was read.
     fn send_unsent(&mut self, stands: bool) -> Result<(), AllocError>
         ensures { OnOk result (self.new ≡ send_unsent stands self.old.line.link self.old) }
     {

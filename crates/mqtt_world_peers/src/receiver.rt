@@ -186,7 +186,7 @@ impl ReceiverEnd {
         publications(alloc, &self.ledger)
     }
 
-    /// SUBSCRIBE goes out (3.8), and is lost where its line no longer stands.
+    /// SUBSCRIBE goes out (3.8), and is lost if its line no longer stands.
     pub fn ask(&mut self, wish: Wish, stands: bool) -> Result<(), AllocError>
         ensures { OnOk result (self.new ≡ asks_wish stands (wish_of wish) self.old) }
     {
@@ -194,7 +194,7 @@ impl ReceiverEnd {
         self.line.send(Back::subscribe(wish), stands)
     }
 
-    /// It reads the first packet under way to it; its answer is lost where its line no longer stands.
+    /// It reads the first packet under way to it; its answer is lost if its line no longer stands.
     pub fn read(&mut self, stands: bool) -> Result<(), AllocError>
         ensures { OnOk result (self.new ≡ receiver_reads stands self.old.line.down self.old) }
     {
@@ -310,7 +310,7 @@ impl ReceiverEnd {
             .send(Back::puback(identifier, Reason::SUCCESS.0), stands)
     }
 
-    /// A message of QoS 2 is answered by PUBREC, and handed over where its identifier isn't kept (4.3.3).
+    /// A message of QoS 2 is answered by PUBREC, and handed over if its identifier isn't kept (4.3.3).
     fn take_twice(&mut self, identifier: u16, entry: Entry, stands: bool) -> Result<(), AllocError>
         ensures { OnOk result (self.new ≡ answers_with stands (pubrec identifier success) (record self.old {
           kept = kept_after identifier self.old.kept;

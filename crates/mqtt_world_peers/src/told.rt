@@ -11,7 +11,7 @@ use thiserror::Error;
 /// What one event told: what the broker reports, and how many of its packets went out.
 #[derive(Debug, Drop)]
 pub struct Told {
-    /// In the order of what they tell; none where the broker stops or restarts.
+    /// In the order of what they tell; none if the broker stops or restarts.
     pub reports: Vec<Report>,
     /// The packets that went out.
     pub out: u64,

@@ -129,7 +129,7 @@ fn add_all(alloc: Global, properties: &mut PropList, window: Option<u16>) -> Res
     }
 }
 
-/// CONNECT with Keep Alive 0 and no Will, of a session that doesn't expire, with its Receive Maximum where it has one
+/// CONNECT with Keep Alive 0 and no Will, of a session that doesn't expire, with its Receive Maximum if it has one
 /// (3.1).
 pub(crate) fn connect(
     alloc: Global,
@@ -152,7 +152,7 @@ pub(crate) fn connect(
     }))
 }
 
-/// The properties of a SUBSCRIBE: its Subscription Identifier, where it has one (3.8.2.1.2).
+/// The properties of a SUBSCRIBE: its Subscription Identifier, if it has one (3.8.2.1.2).
 fn subscribe_properties(alloc: Global, identifier: Option<u32>) -> Result<PropList, AllocError>
     ensures { IfOk result (λ properties. properties ≡ identified identifier) }
 {

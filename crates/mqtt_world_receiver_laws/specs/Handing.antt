@@ -1,4 +1,4 @@
--- What a receiver has read of its copies, where what it sees of the world is a run of its hop; and its own doings (MQTT
+-- What a receiver has read of its copies, if what it sees of the world is a run of its hop; and its own doings (MQTT
 -- 5.0, 4.3.2, 4.3.3, 4.6).
 use Rattle.std.specs.Prelude.{◌≡◌, ℕ, suc, Bool, false, List, [], ◌∷◌, map, Some, None}
 use Rattle.std.specs.Prelude.{slice_get, option_map}

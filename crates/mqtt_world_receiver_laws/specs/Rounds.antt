@@ -102,8 +102,8 @@ rounds_taken largest window [] w = 0
 rounds_taken largest window (now ∷ moments) w =
     cond (is_over w) 0 (suc (rounds_taken largest window moments (after_round largest window now w)))
 
--- ---- by which causes copies end in a drain, of rounds at these moments: one is taken; it expires only where its Message
--- Expiry Interval had passed at one of them (3.3.2.3.3); it is too large only where its PUBLISH is larger than the receiver's
+-- ---- by which causes copies end in a drain, of rounds at these moments: one is taken; it expires only if its Message
+-- Expiry Interval had passed at one of them (3.3.2.3.3); it is too large only if its PUBLISH is larger than the receiver's
 -- Maximum Packet Size (3.1.2.11.4)
 
 abbrev pub IsDrainCause : ℕ → List ℕ → QueuedCopy → Ending → Type 0

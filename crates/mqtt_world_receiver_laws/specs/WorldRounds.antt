@@ -96,7 +96,7 @@ pub record DrainsWith (largest window : ℕ) (ids : List CopyId) (birth : ℕ) (
   pub may : MayDrain largest window (ids ++ more) birth ns client receiver w
   pub few : copies_left client w ≤ stood + length more
 
--- where a filter is granted meanwhile, one that stood may also have been dropped, to make way in a full queue
+-- if a filter is granted meanwhile, one that stood may also have been dropped, to make way in a full queue
 abbrev pub EndsOrDrops : ℕ → List ℕ → Option Lot → Option Lot → Type 0
 EndsOrDrops largest moments None later = ⊤
 EndsOrDrops largest moments (Some (standing e m)) None = ⊥

@@ -20,7 +20,7 @@ ghost use Rattle.mqtt_rules.specs.declared.Limits.{Limits};
 
 /// A receiver's copies stay told apart, each from every other, whatever enters behind them: copies of publications that were
 /// accepted meanwhile, or those of retained messages that a filter brings, on the receiver's line or on the one that it gave
-/// up, where no two retained messages are of one publication (3.3.1.3, 3.3.4, 3.8.4).
+/// up, if no two retained messages are of one publication (3.3.1.3, 3.3.4, 3.8.4).
 pub fn copies_that_enter_are_told_apart()
     ensures stay { (ids : List CopyId) (old new : Records) → AreToldApart ids old → NoneFell old new → AreToldApart ids new }
     ensures enter { (birth : ℕ) (ids more : List CopyId) (old new : Records) → AreToldApart ids old → NoneFell old new

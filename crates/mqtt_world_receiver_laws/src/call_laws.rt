@@ -24,7 +24,7 @@ pub fn sending_is_a_step_of_the_hop()
         (stepped limits choice now (Pump l.number) b) }
 {}
 
-/// The broker reads an answer that a receiver left on the line that it gave up, where its session is connected
+/// The broker reads an answer that a receiver left on the line that it gave up, if its session is connected
 /// still: what the receiver and its session see of the world stays a run of their hop, with the same copies;
 /// nothing of it comes to the receiver, on whatever line it is now (4.3.2, 4.3.3, 4.4, 4.13).
 pub fn answers_on_the_line_given_up_are_steps_of_the_hop()

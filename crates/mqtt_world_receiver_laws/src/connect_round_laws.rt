@@ -15,11 +15,11 @@ ghost use Rattle.mqtt_records_rows.specs.Distinct.{AllDiffer};
 ghost use Rattle.mqtt_rules.specs.State.{Line, MemberChoice, session_named};
 ghost use Rattle.mqtt_rules.specs.declared.Limits.{Limits};
 
-/// Where a receiver's CONNECT is under way, it may be drained after the first round. If the session is resumed, its copies are
+/// If a receiver's CONNECT is under way, it may be drained after the first round. If the session is resumed, its copies are
 /// those that stood, each sent on no line yet; with Clean Start each copy that stood has ended with the session
 /// (SessionEnded), and one round is all. So of the copies that stand at the start, twice their number and one of rounds are
 /// enough: then its queue is empty, or the broker has closed its line. Each copy that ended in the drain of a session that is
-/// resumed was taken, had expired at its moment already, or is too large. Where no session of its name stands there is nothing
+/// resumed was taken, had expired at its moment already, or is too large. If no session of its name stands there is nothing
 /// to drain, and no round is taken (3.1.2.4, 3.1.4, 4.4).
 pub fn a_drain_with_a_connect_ends()
     ensures resumes { (number : Numbering) (ids : List CopyId) (birth : ℕ) (ns : List ℕ) (limits : Limits)

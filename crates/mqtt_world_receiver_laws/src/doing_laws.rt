@@ -31,7 +31,7 @@ pub fn own_doings_leave_a_receiver_in_step()
         (stepped limits choice now NewLine b) }
 {}
 
-/// A receiver awaits its session when it comes, where no session of its name stands, with no copies and no lines, and
+/// A receiver awaits its session when it comes, if no session of its name stands, with no copies and no lines, and
 /// goes on so whatever it does or reads (4.3.2, 4.3.3, 4.4).
 pub fn own_doings_leave_a_receiver_awaiting()
     ensures comes { (largest : ℕ) (client : List ℕ) (window since : ℕ) (b : Broker)

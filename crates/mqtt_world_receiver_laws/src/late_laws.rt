@@ -37,9 +37,9 @@ pub fn calls_of_others_leave_a_receiver_awaiting()
         × (session_named r.client (stepped limits choice now Tick b).records ≡ None) }
 {}
 
-/// The broker reads a receiver's CONNECT on the line that it gave up: the two stay in step where its session is resumed
+/// The broker reads a receiver's CONNECT on the line that it gave up: the two stay in step if its session is resumed
 /// there, and are in step with the session that begins there, be it the first of its name or instead of the one before; its
-/// birth is the next one, and the copies and lines are the same. Where there is no place for a session, that line closes, and
+/// birth is the next one, and the copies and lines are the same. If there is no place for a session, that line closes, and
 /// the receiver awaits one as before (3.1.2.4, 3.1.4, 3.2.2.2).
 pub fn a_connect_on_the_line_given_up_puts_a_receiver_in_step()
     ensures resumes { (largest : ℕ) (ids : List CopyId) (birth : ℕ) (ns : List ℕ) (limits : Limits)
@@ -73,7 +73,7 @@ pub fn a_connect_on_the_line_given_up_puts_a_receiver_in_step()
         (after_answer limits choice now l.number (connect clean) r b) }
 {}
 
-/// The broker reads a receiver's SUBSCRIBE on the line that it gave up, where its session is connected still: the two stay in
+/// The broker reads a receiver's SUBSCRIBE on the line that it gave up, if its session is connected still: the two stay in
 /// step, with the copies of retained messages that its filter brings behind those that entered before, or with none; its
 /// SUBACK goes nowhere (3.3.1.3, 3.8.4).
 pub fn a_subscribe_on_the_line_given_up_leaves_a_receiver_in_step()
@@ -112,7 +112,7 @@ pub fn a_line_without_session_leaves_a_receiver_as_it_is()
 {}
 
 /// A line on which nobody is connected stays as it is at each call on other lines, whatever that does, and at a pump of any
-/// line: where a line of its number stands after it, it is the same one. So nothing has gone out on a line that waits for
+/// line: if a line of its number stands after it, it is the same one. So nothing has gone out on a line that waits for
 /// CONNECT (3.1, 4.4).
 pub fn a_line_without_session_stays_as_it_is()
     ensures stays { (limits : Limits) (choice : MemberChoice) (now n : ℕ) (call : Call) (l : Line) (b : Broker)

@@ -22,9 +22,9 @@ ghost use Rattle.mqtt_rules.specs.State.{Broker, Line, MemberChoice, session_nam
 ghost use Rattle.mqtt_rules.specs.Step.{Lost, NewLine, stepped};
 ghost use Rattle.mqtt_rules.specs.declared.Limits.{Limits};
 
-/// What a receiver and its session see of the world is a run of their hop when the receiver comes, where no
+/// What a receiver and its session see of the world is a run of their hop when the receiver comes, if no
 /// session of its name stands, and stays one whatever it does or reads: it reads the first packet under way to
-/// it, where its line stands exactly if its session is connected there, gives its line up, asks for a
+/// it, if its line stands exactly if its session is connected there, gives its line up, asks for a
 /// subscription, or joins by a new line (4.3.2, 4.3.3, 4.4).
 pub fn own_doings_of_a_receiver_are_steps_of_the_hop()
     ensures comes { (number : Numbering) (largest : ℕ) (client : List ℕ) (window since : ℕ) (b : Broker)
@@ -45,7 +45,7 @@ pub fn own_doings_of_a_receiver_are_steps_of_the_hop()
         (stepped limits choice now NewLine b) }
 {}
 
-/// Where what a receiver and its session see of the world is a run of their hop, the law of the hop holds of
+/// If what a receiver and its session see of the world is a run of their hop, the law of the hop holds of
 /// what it has read, whatever was lost: each copy of QoS 2 was handed over at most once, in the order in which
 /// the copies entered, and once if its PUBREC was taken, also when it has ended; what was read is what its
 /// copy carries; a copy of QoS 1 that was taken was read (4.3.2, 4.3.3, 4.6).

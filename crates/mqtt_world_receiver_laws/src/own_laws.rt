@@ -50,9 +50,9 @@ pub fn its_line_leaves_a_receiver_in_step()
         (stepped limits choice now (Lost l.number) b) }
 {}
 
-/// The broker reads a receiver's CONNECT on its line: the two stay in step where its session is resumed, and are in step
+/// The broker reads a receiver's CONNECT on its line: the two stay in step if its session is resumed, and are in step
 /// with the session that begins, be it the first of its name or instead of the one before; its birth is the next one,
-/// and the copies and lines are the same. Where there is no place for a session, the receiver awaits one as before: the
+/// and the copies and lines are the same. If there is no place for a session, the receiver awaits one as before: the
 /// line closes, and what is under way on it is not read (3.1.2.4, 3.1.4, 3.2.2.1.1, 3.2.2.2).
 pub fn a_connect_puts_a_receiver_in_step()
     ensures resumes { (largest : ℕ) (ids : List CopyId) (birth : ℕ) (ns : List ℕ) (limits : Limits)
@@ -97,7 +97,7 @@ pub fn calls_of_others_leave_a_receiver_in_step()
         (stepped limits choice now Tick b) }
 {}
 
-/// Where a receiver is in step and its line is connected at the broker, it listens: the session of its birth is the
+/// If a receiver is in step and its line is connected at the broker, it listens: the session of its birth is the
 /// one that is connected there, alone, with all that the laws of answers, of sending and of a lost line ask; and so on
 /// the line that it gave up. Lines and sessions are in order, as they are after each step of the broker (3.1.4, 4.1).
 pub fn a_connected_receiver_listens()
@@ -112,7 +112,7 @@ pub fn a_connected_receiver_listens()
 {}
 
 /// The broker reads a receiver's SUBSCRIBE on the line that its session is connected on: the two stay in step, with
-/// the copies of retained messages that its filter brings behind those that entered before, or with none where the
+/// the copies of retained messages that its filter brings behind those that entered before, or with none if the
 /// filter is refused or brings none (3.3.1.3, 3.8.4).
 pub fn a_subscribe_leaves_a_receiver_in_step()
     ensures subscribes { (largest : ℕ) (ids : List CopyId) (limits : Limits) (choice : MemberChoice) (now birth : ℕ)

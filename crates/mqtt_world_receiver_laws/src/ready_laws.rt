@@ -13,7 +13,7 @@ ghost use Rattle.mqtt_rules.specs.State.{Broker, Line, MemberChoice};
 ghost use Rattle.mqtt_rules.specs.Step.{Lost, Pump, stepped};
 ghost use Rattle.mqtt_rules.specs.declared.Limits.{Limits};
 
-/// Where what went out on the line of a receiver's session are copies that stand in its queue, so that it may
+/// If what went out on the line of a receiver's session are copies that stand in its queue, so that it may
 /// receive more, it is so again after the broker has sent what waits for it, has read its answer on that line or on
 /// the one that it gave up, or has lost its line (4.4, 4.6, 4.9).
 pub fn a_receivers_session_may_receive_more()

@@ -35,7 +35,7 @@ pub fn a_restart_is_a_step_of_the_receivers_hop()
 {}
 
 /// A broker whose tables are in order, under limits within the tables' own, is so after each call and each restart, also
-/// where queues stand that are longer than it allows (4.1).
+/// if queues stand that are longer than it allows (4.1).
 pub fn a_tidy_broker_stays_tidy()
     ensures steps { (limits : Limits) (choice : MemberChoice) (now : ℕ) (call : Call) (b : Broker) → IsTidy limits b
         → IsTidy limits (stepped limits choice now call b) }
@@ -52,7 +52,7 @@ pub fn a_stop_before_the_commit_is_a_restart()
 {}
 
 /// The broker stops after the commit, and restarts before anything goes out: of what was asked for nothing reaches a
-/// receiver. Where it was a call made for others, what a receiver and its session see of both is a run of their hop,
+/// receiver. If it was a call made for others, what a receiver and its session see of both is a run of their hop,
 /// with the copies that entered by either behind those that entered before (4.1, 4.4).
 pub fn a_stop_after_the_commit_is_a_step_of_the_receivers_hop()
     ensures receivers { (set : Setting) (a : Asking) (w : World)
@@ -64,7 +64,7 @@ pub fn a_stop_after_the_commit_is_a_step_of_the_receivers_hop()
         → GoesOn largest ids birth [] b.records.publications
         (receiver_restarted r) (stopped_after limits choice now call b) }
 
-    // Where it was a call that leaves the two in step with the same copies.
+    // If it was a call that leaves the two in step with the same copies.
     ensures own { (largest : ℕ) (ids : List CopyId) (limits : Limits) (choice : MemberChoice) (now : ℕ) (call : Call)
         → (birth : ℕ) (ns : List ℕ) (r : Receiver) (b : Broker)
         → IsInStep largest ids birth ns r (stepped limits choice now call b) → IsTidy limits b

@@ -11,7 +11,7 @@ pub fn what_is_due_is_under_way()
         (run largest events start).linked ≡ true → IsUnderWay (run largest events start) }
 {}
 
-/// After any run of a hop, where copies are left and the session is connected on the receiver's line, a round takes
+/// After any run of a hop, if copies are left and the session is connected on the receiver's line, a round takes
 /// them further, whatever the receiver's Receive Maximum (`window`, at least 1) and the moment: a pump, all packets to
 /// the receiver, and all of its answers to the session. The session stays connected there.
 pub fn a_round_takes_a_copy_further()
@@ -21,7 +21,7 @@ pub fn a_round_takes_a_copy_further()
 {}
 
 /// So a drain of a hop takes at most two rounds for each copy that stands in the queue, each at a moment of its own; and
-/// where the session is connected on the receiver's line, the queue is empty after so many, and it is connected still.
+/// if the session is connected on the receiver's line, the queue is empty after so many, and it is connected still.
 /// Each copy that ends in it was taken, had expired at the moment of one of its rounds, or is too large for the receiver.
 pub fn a_drain_of_a_hop_ends()
     ensures is_within { (largest window : ℕ) (moments : List ℕ) (events : List Event) →

@@ -23,7 +23,7 @@ pub fn calls_of_others_are_steps_of_the_hop()
         (receiver_called limits choice now call r b) (stepped limits choice now call b) }
 {}
 
-/// A tick closes a line on which CONNECT didn't come in time, be it the receiver's or the one that it gave up, where
+/// A tick closes a line on which CONNECT didn't come in time, be it the receiver's or the one that it gave up, if
 /// its session stands: what is under way there isn't read, and what the two see of it stays a run of their hop, with
 /// the same copies; its session and its lines are its own as before (3.1, 4.1).
 pub fn a_late_connect_is_a_step_of_the_hop()

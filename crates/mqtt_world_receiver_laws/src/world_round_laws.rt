@@ -14,7 +14,7 @@ ghost use Rattle.mqtt_records_rows.specs.Distinct.{AllDiffer};
 ghost use Rattle.mqtt_rules.specs.State.{MemberChoice};
 ghost use Rattle.mqtt_rules.specs.declared.Limits.{Limits};
 
-/// A round of a drain of the world is, as the receiver sees it, a round of a drain of its hop: where the two are in step, its
+/// A round of a drain of the world is, as the receiver sees it, a round of a drain of its hop: if the two are in step, its
 /// line is connected, and only answers are under way from it. The hop's round is taken at the moment of the world, through
 /// the receiver's window, and all of that is so again after it, with the same copies (4.3, 4.4, 4.9).
 pub fn a_round_of_a_drain_is_one_of_the_hop()
@@ -30,7 +30,7 @@ pub fn a_round_of_a_drain_is_one_of_the_hop()
 /// after so many, whatever its Receive Maximum (`window`, at least 1). It may be drained again: the two are in step, and its
 /// line is connected, with the same copies. Each copy that ended in the drain was taken, had expired at its moment already, or is
 /// too large.
-/// Where it may be drained so only after the first round, one round more is enough: then its queue is empty, or the broker
+/// If it may be drained so only after the first round, one round more is enough: then its queue is empty, or the broker
 /// has closed its line.
 pub fn a_drain_ends()
     ensures is_within { (largest window : ℕ) (ids : List CopyId) (birth : ℕ) (ns : List ℕ) (limits : Limits)
@@ -58,9 +58,9 @@ pub fn a_drain_ends()
         → is_over client (drained limits choice client most w) ≡ true }
 {}
 
-/// Where one SUBSCRIBE is under way from it too, a receiver that is in step and connected may be drained after the first
+/// If one SUBSCRIBE is under way from it too, a receiver that is in step and connected may be drained after the first
 /// round, and the copies of retained messages that the filter brings stand behind those that entered before; no two copies
-/// are one, where none were and no two retained messages are of one publication. So of the copies that stand after the
+/// are one, if none were and no two retained messages are of one publication. So of the copies that stand after the
 /// first round, twice their number and one of rounds are enough: then its queue is empty, or the broker has closed its line.
 /// Those are no more than the copies that stood at the start and those that the filter brings (3.3.1.3, 3.8.4).
 pub fn a_drain_with_a_subscribe_ends()
@@ -80,7 +80,7 @@ pub fn a_drain_with_a_subscribe_ends()
         → enough_rounds (copies_left client (after_round limits choice client w)) ≤ most
         → is_over client (drained limits choice client most w) ≡ true }
 
-    // A copy that ended in that round was taken, had expired at the moment already, is too large, or was dropped, where what the
+    // A copy that ended in that round was taken, had expired at the moment already, is too large, or was dropped, if what the
     // filter brings makes the oldest that wait give way in a full queue.
     ensures causes { (number : Numbering) (largest window : ℕ) (ids : List CopyId) (birth : ℕ) (ns : List ℕ)
         → (limits : Limits) (choice : MemberChoice) (client : List ℕ) (copies : List Lot) (r : Receiver) (w : World)
@@ -88,7 +88,7 @@ pub fn a_drain_with_a_subscribe_ends()
         → DrainsBehind largest window ids birth ns client (suc w.broker.records.subscribes) (copies_left client w)
         (moment_of w) copies (after_round limits choice client w) }
 
-    // So it is after any number of rounds, where the drain is not over at its start.
+    // So it is after any number of rounds, if the drain is not over at its start.
     ensures is_drained { (number : Numbering) (largest window : ℕ) (ids : List CopyId) (birth : ℕ) (ns : List ℕ)
         → (limits : Limits) (choice : MemberChoice) (client : List ℕ) (copies : List Lot) (most : ℕ) (r : Receiver)
         → (w : World) → 1 ≤ window → MayAsk limits largest window ids birth ns client r w → map id_of copies ≡ ids

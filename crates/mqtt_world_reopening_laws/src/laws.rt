@@ -31,7 +31,7 @@ pub fn what_a_broker_left_has_identifiers_of_two_bytes()
     ensures identifiers { (r : Records) → WasLeft r → HaveSentPhases r }
 {}
 
-/// So a run may begin when the broker is opened on what any broker wrote, under whatever limits, also where more sessions stand
+/// So a run may begin when the broker is opened on what any broker wrote, under whatever limits, also if more sessions stand
 /// and queues are longer than these allow: its contents are lawful, and all of exactly-once delivery holds of every fair script
 /// from there. Opened on what a broker has left after any fair openings and calls from nothing stored it sends well, so that
 /// what is read in a run from there is lawful. So it does on whatever else is as a broker writes it, if each packet identifier

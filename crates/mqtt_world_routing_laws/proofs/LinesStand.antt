@@ -1,4 +1,4 @@
--- Where a publication is accepted in a call, lines are unique: a session that is connected stands on one (MQTT 5.0, 3.1.4).
+-- If a publication is accepted in a call, lines are unique: a session that is connected stands on one (MQTT 5.0, 3.1.4).
 use Rattle.std.proofs.Common.{◌≡◌, ℕ, suc, ◌≤◌, Bool, true, false, List, [], ◌∷◌, ◌++◌, map, Option, Some, None, refl, sym, ap, subst, ◌∙◌, arith, inl, inr}
 use Rattle.std.specs.Prelude.{⊤, option_map, decimal, filter}
 use Rattle.std.specs.List.{AllByRecursion}

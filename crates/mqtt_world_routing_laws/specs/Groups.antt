@@ -23,8 +23,8 @@ abbrev pub has_member : Publication → List ℕ → List Subscriber → Bool
 has_member p text sessions = list_any (λ (x : Subscriber). list_any (is_of_group p text) x.subs) sessions
 
 module _ (at : Answers) (p : Publication) (all : List Member) (direct : List Copy) where
-  -- what becomes of a group, beside the direct copies and the groups before it: where a member is eligible there is one
-  -- copy, for one of those, and where none is there is none
+  -- what becomes of a group, beside the direct copies and the groups before it: if a member is eligible there is one
+  -- copy, for one of those, and if none is there is none
   pub record IsServedOnce (before : List Served) (text : List ℕ) (s : Served) : Type 0 where
     pub named : s.group ≡ group_of text
     pub one : list_any (is_eligible at p direct before) (in_group text all) ≡ true

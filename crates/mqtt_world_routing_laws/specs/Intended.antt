@@ -31,7 +31,7 @@ abbrev pub enters_queue : Option Copy → Bool
 enters_queue None = false
 enters_queue (Some c) = nat_lt 0 c.qos
 
--- of a group's copies of the publication there entered one, or none where none of its members got one with QoS 1 or 2
+-- of a group's copies of the publication there entered one, or none if none of its members got one with QoS 1 or 2
 abbrev pub EntersForGroup : Limits → List Turn → World → ℕ → Served → Type 0
 EntersForGroup limits ts w number s =
     count_by (is_groups number s.group) (entered_from limits ts w) ≡ cond (enters_queue s.copy) 1 0

@@ -9,7 +9,7 @@ use Rattle.mqtt_world_model.specs.World.{World}
 use Rattle.mqtt_world_model.specs.Run.{Turn, Acceptance, acceptances_over}
 use Rattle.mqtt_world_model.specs.Laws.{is_direct}
 
--- where a copy of a publication is a group's and has QoS 0, its session stands on a line
+-- if a copy of a publication is a group's and has QoS 0, its session stands on a line
 abbrev pub HasLine : Broker → CopyTo → Type 0
 HasLine b d = is_queued d ≡ false → is_direct d.copy.id.cause ≡ false → (l : Line) × (line_of d.birth b ≡ Some l)
 

@@ -47,7 +47,7 @@ none_asked : (line : Option ℕ) → call_on line [] ≡ None
 none_asked None = refl
 none_asked (Some n) = nothing_asked n
 
--- where nothing is left of some bytes they ask for something
+-- if nothing is left of some bytes they ask for something
 some_asked : (line : ℕ) (bytes : List ℕ) → AreBytes bytes → held_after bytes ≡ [] → (bytes ≡ [] → ⊥)
     → (call : Call) × (first_call line bytes ≡ Some call) × TakesPacket call
 some_asked line bytes each left some = by (first_of bytes) refl

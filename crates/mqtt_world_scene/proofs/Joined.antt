@@ -16,11 +16,11 @@ use Rattle.mqtt_world_scene.proofs.Eventful.{any_setting, playable_still, reache
 
 -- ---- whether there is a line for it
 
--- where none may be linked there is no next one
+-- if none may be linked there is no next one
 pub none_next : (b : Broker) → can_link b ≡ false → next_line b ≡ None
 none_next b is = ap (λ (free : Bool). cond free (Some (suc b.given)) None) is
 
--- and where one may there is, as a scene is seen
+-- and if one may there is, as a scene is seen
 pub next_there : {K : Type 0} (E : Serving K) (O : Ends) (s : Played K) → played E O ≡ s → can_link E.running.broker ≡ true
     → next_line s.engine.running.broker ≡ Some (suc E.running.broker.given)
 next_there E O s view is =
@@ -33,7 +33,7 @@ module _ {K : Type 0} (g : Ghosts K) (now : ℕ) (client : List ℕ) (clean : Bo
   abbrev is_good : Type 0
   is_good = (ss : List Stranger) → is_bad (connect_end client clean) (world_of now ss (played E O)) ≡ false
 
-  -- where there is a line for it
+  -- if there is a line for it
   pub joined : (F : Serving K) (P N : Ends) (f : Played K) (line : ℕ) → t ≡ silent → played E O ≡ s → played F P ≡ f → is_good
       → Some line ≡ next_line s.engine.running.broker → Calls g now NewLine s silent f → Become (joins line client clean) P N
       → Does g now (connect_end client clean) s (Some t) (played F N)
@@ -57,7 +57,7 @@ module _ {K : Type 0} (g : Ghosts K) (now : ℕ) (client : List ℕ) (clean : Bo
             (at ∙ ap (λ (o : Option ℕ). links set o client clean w) next));
       }
 
-  -- where there is none
+  -- if there is none
   pub left_alone : t ≡ silent → played E O ≡ s → IsPlayable g s → is_good → next_line E.running.broker ≡ None
       → Does g now (connect_end client clean) s (Some t) s
   left_alone told before playable good none = record {

@@ -32,7 +32,7 @@ pub record IsUnopened {K : Type 0} (g : Ghosts K) (limits : Limits) (now : ℕ) 
 abbrev pub IsShortOfMemory : {K : Type 0} → Ghosts K → Limits → ℕ → K → Type 0
 IsShortOfMemory {K} g limits now keep = (left : K) × IsRefused g limits now keep refusal.Memory left
 
--- Memory where the opening answers 1; Store where it answers 2 to 5
+-- Memory if the opening answers 1; Store if it answers 2 to 5
 abbrev pub IsUnbegun : {K : Type 0} → Ghosts K → Limits → ℕ → K → Over → Type 0
 IsUnbegun g limits now keep over.Memory = IsShortOfMemory g limits now keep
 IsUnbegun g limits now keep over.Store = IsUnopened g limits now keep
@@ -51,7 +51,7 @@ over_for refusal.Corrupt = over.Store
 over_for refusal.Schema = over.Store
 
 -- ---- why Store is answered, by what a store promises alone, whichever it is: over one that counts no failure, only for numbers
--- that are spent, or for what it holds where a broker is opened
+-- that are spent, or for what it holds if a broker is opened
 
 pub data IsStoreDue {K : Type 0} (g : Ghosts K) : Type 0 where
   -- in a call of a broker that ran, its store counted a failure

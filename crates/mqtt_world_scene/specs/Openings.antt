@@ -33,7 +33,7 @@ pub record Begins {K : Type 0} (g : Ghosts K) (limits : Limits) (now : ℕ) (kee
   pub opens : Opens g limits now records s
   pub ends : s.ends ≡ no_ends
 
--- ---- and again: on what is stored, where the device returns what was written, and each end's lines are lost
+-- ---- and again: on what is stored, if the device returns what was written, and each end's lines are lost
 
 abbrev pub ends_restarted : Ends → Ends
 ends_restarted e = record {

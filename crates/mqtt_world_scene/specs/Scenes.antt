@@ -31,7 +31,7 @@ pub record IsPlayable {K : Type 0} (g : Ghosts K) (s : Played K) : Type 0 where
 abbrev pub WasSound : {K : Type 0} → Ghosts K → Played K → Played K → Type 0
 WasSound g old new = g.is_sound new.engine.running.keep → g.is_sound old.engine.running.keep
 
--- A call was a step of the broker, for some choice of members, that spends no number; each end was told, where the packets
+-- A call was a step of the broker, for some choice of members, that spends no number; each end was told, if the packets
 -- that went out have spellings; and this is what it told.
 pub record Calls {K : Type 0} (g : Ghosts K) (now : ℕ) (call : Call) (old : Played K) (t : Telling) (new : Played K) : Type 0 where
   pub choice : MemberChoice

@@ -28,7 +28,7 @@ pub(crate) fn join<K: Keep>(told: &mut Told, more: Told) -> Result<(), Halt<K>>
 }
 
 impl<K: Keep> Scene<K> {
-    /// The broker is given what came on a line, of which nothing is left: nothing, where nothing came, or no line is
+    /// The broker is given what came on a line, of which nothing is left: nothing, if nothing came, or no line is
     /// linked.
     pub fn hear(
         &mut self,

@@ -22,7 +22,7 @@ fn is_away(link: Option<Link>) -> bool
 }
 
 impl<K: Keep> Scene<K> {
-    /// An end that has no line sends CONNECT on a new one (3.1). Where as many lines stand as may, it stays without.
+    /// An end that has no line sends CONNECT on a new one (3.1). If as many lines stand as may, it stays without.
     pub(crate) fn connect(
         &mut self,
         alloc: Global,

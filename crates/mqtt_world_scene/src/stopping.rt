@@ -1,4 +1,4 @@
-//! What ends ask of the broker happens, or is lost where the broker stops before its commit (MQTT 5.0, 4.1).
+//! What ends ask of the broker happens, or is lost if the broker stops before its commit (MQTT 5.0, 4.1).
 
 ghost use Rattle.std.specs.Prelude.{◌≡◌, ℕ, IfOk, List, MatchBool};
 ghost use Rattle.mqtt_world_model.specs.World.{Stranger, ask};
@@ -64,7 +64,7 @@ impl<K: Keep> Scene<K> {
         Ok(true)
     }
 
-    /// What is asked of the broker, by no stranger, is lost before its commit. False where it can't be asked.
+    /// What is asked of the broker, by no stranger, is lost before its commit. False if it can't be asked.
     pub fn take_off(&mut self, asking: &Asking) -> Result<bool, Halt<K>>
         requires { IsPlain (asking_of asking.now) }
         ensures { IfOk result (λ is. TakesOff (asking_of asking.now) is self.old self.new) }

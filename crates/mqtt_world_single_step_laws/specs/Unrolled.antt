@@ -47,7 +47,7 @@ IsOneStep (stranger name bytes) w = AreAlike name w × (first_of (held_after (by
 
 -- ---- events of one step each
 
--- Pieces that come where these bytes are held: each but the last ends with a packet, and of the last no more than one is
+-- Pieces that come if these bytes are held: each but the last ends with a packet, and of the last no more than one is
 -- whole.
 abbrev pub AreCut : List ℕ → List (List ℕ) → Type 0
 AreCut held [] = ⊥

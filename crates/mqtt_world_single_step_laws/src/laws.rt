@@ -16,7 +16,7 @@ pub fn bytes_come_packet_by_packet()
         ≡ step set (ask (stranger name more)) (step set (ask (stranger name part)) w) }
 {}
 
-/// A stop after the commit of what is asked for is that, with all that goes out, and then a restart, where it is
+/// A stop after the commit of what is asked for is that, with all that goes out, and then a restart, if it is
 /// one step of the broker; and of a stranger's bytes those behind the first packet do nothing to it (4.1).
 pub fn a_stop_after_is_a_step_and_a_restart()
     ensures is { (set : Setting) (a : Asking) (w : World)
@@ -28,7 +28,7 @@ pub fn a_stop_after_is_a_step_and_a_restart()
         → step set (stop_after (stranger name (part ++ more))) w ≡ step set (stop_after (stranger name part)) w }
 {}
 
-/// An event that is not bad does what the events of one step each do to which it comes, where the broker chooses
+/// An event that is not bad does what the events of one step each do to which it comes, if the broker chooses
 /// alike in all of them. So who tells a run by events of one step, each with a choice of its own, tells no more
 /// than what events may do.
 pub fn an_event_is_its_steps()
@@ -37,7 +37,7 @@ pub fn an_event_is_its_steps()
         → run limits (map (turn choice) es) w ≡ turned limits (turn choice e) w }
 {}
 
-/// Each event comes to some events of one step each, where nothing whole is held of a stranger's bytes; and so it
+/// Each event comes to some events of one step each, if nothing whole is held of a stranger's bytes; and so it
 /// is in every run that begins with nobody (2.1).
 pub fn every_event_comes_to_steps()
     ensures some { (e : Event) (w : World) → HoldNoPacket w → (es : List Event) × Unrolls e w es }

@@ -26,11 +26,11 @@ pub one_look : (bytes : List ℕ) (w : World)
     → bytes_name (length bytes) bytes w ≡ (front_names (first_of bytes) w || bytes_name (length bytes) (held_after bytes) w)
 one_look bytes w = enough_looks (length bytes) (suc (length bytes)) bytes w (omega arith) (omega arith)
 
--- where nothing is whole
+-- if nothing is whole
 none_names : (bytes : List ℕ) → first_of bytes ≡ Ok None → NamesFirst bytes None
 none_names bytes e w = none_named (length bytes) bytes w e
 
--- and where a fault is at the front
+-- and if a fault is at the front
 fault_names : (bytes : List ℕ) (fault : Fault) → first_of bytes ≡ Err fault → NamesFirst bytes None
 fault_names bytes fault e w =
     let left : held_after bytes ≡ [] = ap (λ (f : Front). held_behind f bytes) e in
@@ -56,11 +56,11 @@ packet_names bytes packet n name e names =
 
 -- by the first of the bytes, which decide
 
--- where no packet is whole none is named
+-- if no packet is whole none is named
 pub none_found : (held bytes : List ℕ) → Decides held bytes → first_of held ≡ Ok None → NamesFirst bytes None
 none_found held bytes d e = none_names bytes (d.same ∙ e)
 
--- nor where one is faulty
+-- nor if one is faulty
 pub fault_found : (held bytes : List ℕ) → Decides held bytes → is_err (first_of held) ≡ true → NamesFirst bytes None
 fault_found held bytes d e = by (first_of held) refl
   where

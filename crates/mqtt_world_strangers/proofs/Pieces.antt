@@ -18,7 +18,7 @@ use Rattle.mqtt_world_strangers.specs.Fronts.{AsksFor, BeginsFaulty, BeginsWhole
 pub none_left : (bytes : List ℕ) → first_of bytes ≡ Ok None → held_after bytes ≡ bytes
 none_left bytes e = ap (λ (f : Front). held_behind f bytes) e
 
--- of all bytes a piece, where nothing whole is left
+-- of all bytes a piece, if nothing whole is left
 all_taken : (held bytes : List ℕ) → first_of (held_after (held ++ bytes)) ≡ Ok None
     → IsNextPiece held (take (length bytes) bytes) (drop (length bytes) bytes)
 all_taken held bytes one =

@@ -42,7 +42,7 @@ IsFront bytes (Faulty size) = BeginsFaulty bytes size
 
 -- ---- the next piece
 
--- of bytes that come where these are held a piece, and more behind it: it ends with the first packet, or nothing is
+-- of bytes that come if these are held a piece, and more behind it: it ends with the first packet, or nothing is
 -- behind it
 pub record IsNextPiece (held piece more : List ℕ) : Type 0 where
   pub ends : (more ≡ []) ⊎ IsWhole (held ++ piece)
@@ -55,7 +55,7 @@ pub record AsksFor (bytes given : List ℕ) : Type 0 where
   pub left : held_after given ≡ []
   pub within : length given ≤ PACKET_LIMIT
 
--- what is given to the broker of bytes that have come: nothing where nothing is whole
+-- what is given to the broker of bytes that have come: nothing if nothing is whole
 abbrev pub IsGiven : List ℕ → Option (List ℕ) → Type 0
 IsGiven bytes None = first_of bytes ≡ Ok None
 IsGiven bytes (Some given) = AsksFor bytes given
@@ -66,11 +66,11 @@ IsGiven bytes (Some given) = AsksFor bytes given
 abbrev pub is_end_among : List (List ℕ) → World → Bool
 is_end_among names w = list_any (λ name. is_end name w) names
 
--- the packets of these bytes name an end where one of these names is an end's
+-- the packets of these bytes name an end if one of these names is an end's
 abbrev pub NamesThese : List ℕ → List (List ℕ) → Type 0
 NamesThese bytes names = (w : World) → bytes_name (length bytes) bytes w ≡ is_end_among names w
 
--- the packet at the front, of so many bytes, names this client, if it names one; there is none where nothing of these
+-- the packet at the front, of so many bytes, names this client, if it names one; there is none if nothing of these
 -- bytes names anyone
 abbrev pub NamesFirst : List ℕ → Option (ℕ × Option (List ℕ)) → Type 0
 NamesFirst bytes None = (w : World) → bytes_name (length bytes) bytes w ≡ is_end_among [] w

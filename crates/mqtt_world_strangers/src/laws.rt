@@ -32,7 +32,7 @@ pub fn a_stranger_is_welcomed_first()
         ≡ deeds_at set (ask (stranger name piece)) (welcomes set name w) }
 {}
 
-/// Where bytes name no end, neither do those up to the end of their first packet, nor those behind it when these have
+/// If bytes name no end, neither do those up to the end of their first packet, nor those behind it when these have
 /// come; and nothing is held then.
 pub fn pieces_are_good()
     ensures first { (name piece more : List ℕ) (w : World) → IsWhole (bytes_come name piece w)

@@ -187,7 +187,7 @@ impl Strangers {
         Ok(())
     }
 
-    /// Bytes come from a stranger: the next piece of them is taken, which ends with the first packet where one is whole.
+    /// Bytes come from a stranger: the next piece of them is taken, which ends with the first packet if one is whole.
     /// What is whole, a packet or a fault, is to be given to the broker, and is held no longer; a part of a packet is
     /// held. Without memory nothing changes. (2.1, 4.13)
     #[tactic(auto, using(crate::proofs::Places::size_past))]

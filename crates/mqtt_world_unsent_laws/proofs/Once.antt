@@ -1,4 +1,4 @@
--- Where a row of a copy stands that doesn't wait, none waits: a copy stands once, or has ended, or can come yet (MQTT 5.0, 3.3.4, 4.6).
+-- If a row of a copy stands that doesn't wait, none waits: a copy stands once, or has ended, or can come yet (MQTT 5.0, 3.3.4, 4.6).
 use Rattle.std.proofs.Common.{◌≡◌, ◌+◌, ◌≤◌, List, [], ◌∷◌, map, refl, sym, ap, subst, ◌∙◌, arith, inl, inr}
 use Rattle.std.specs.Prelude.{flat_map}
 use Rattle.std.specs.List.{AllByRecursion}

@@ -37,7 +37,7 @@ rises least (x ∷ y ∷ ys) h = rises_at x y ys h.1.0 (rises (suc x) (y ∷ ys)
     rises_at x y ys le r zero lt = omega arith
     rises_at x y ys le r (suc k) lt = let e : suc k + 1 ≡ suc (k + 1) = omega arith in rw e (r k (omega arith))
 
--- rows that are in the order of their keys, where the key is the row: the same lists
+-- rows that are in the order of their keys, if the key is the row: the same lists
 abbrev pub IsAbove : ℕ → List ℕ → Type 0
 IsAbove n [] = Unit {0}
 IsAbove n (x ∷ xs) = (n < x) × IsAbove n xs

@@ -89,7 +89,7 @@ impl PropsRef<'_> {
 impl PropList {
     /// Adds the property at the end.
     ///
-    /// The bytes are copied, so that lists which share them stay as they are. `Malformed` where the
+    /// The bytes are copied, so that lists which share them stay as they are. `Malformed` if the
     /// longer list has no spelling as a block: the value is not of its kind or passes its limits,
     /// or the pairs would have more than 268,435,455 bytes.
     pub fn push(&mut self, alloc: Global, prop: PropRef<'_>) -> Result<(), PropFault>
@@ -108,7 +108,7 @@ impl PropList {
 
     /// Adds the properties of the other list at the end.
     ///
-    /// The bytes are copied, so that lists which share them stay as they are. `Malformed` where the
+    /// The bytes are copied, so that lists which share them stay as they are. `Malformed` if the
     /// pairs would have more than 268,435,455 bytes.
     pub fn append(&mut self, alloc: Global, list: &PropsRef<'_>) -> Result<(), PropFault>
         ensures ok { OnOk result (self.new ≡ self.old ++ list.now) }

@@ -29,7 +29,7 @@ use Rattle.mqtt_records_message.specs.PassedOn.{property}
 use Rattle.mqtt_rules.specs.Step.{NewLine, Input, BadInput, Pump, Outcome}
 use Rattle.mqtt_rules.proofs.examples.Play.{Event, at, asks, out, hello, in_line, wants_with, wish, options, wants, topic, message, sends, copy_out, direct, subscribed, bytes, sends_again, published}
 
--- Where a moment is named `now`, the call may come at any.
+-- If a moment is named `now`, the call may come at any.
 
 -- ---- CONNECT
 

@@ -67,7 +67,7 @@ too_large_in_each : goes_out 11 (none_told 1) (three false) ≡ []
 unfolding varint
 too_large_in_each = refl
 
--- ---- one form is too large where another isn't
+-- ---- one form is too large if another isn't
 
 abbrev told : List ℕ → ToldTopics
 told topic = with_told topic (none_told 1)

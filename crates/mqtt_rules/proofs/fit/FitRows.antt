@@ -1,4 +1,4 @@
--- The rows of deeds that fit, where room is, and what leaves or is marked stands, and no number is spent.
+-- The rows of deeds that fit, if room is, and what leaves or is marked stands, and no number is spent.
 use Rattle.std.proofs.Common.{◌≡◌, ℕ, zero, suc, ◌<◌, Bool, true, false, ◌||◌, List, [], ◌∷◌, ◌++◌, length, Option, Some, None, nat_lt, refl, sym, ap, subst, ◌∙◌, arith, inl, inr}
 use Rattle.std.specs.Prelude.{slice_index_or, is_some, option_map}
 use Rattle.std.specs.List.{All}

@@ -185,7 +185,7 @@ free_over env client n b h u free = over (IsFree n) (free_stays n) env client b 
         absurd cc) in
         on_gone l.number n b ∙ ap (λ (t : Bool). cond t None (session_on n b)) other ∙ free
 
--- ---- where the session of a client is cleared, and where all is prepared
+-- ---- if the session of a client is cleared, and if all is prepared
 
 module _ (Keep : Broker → Type 0) (coheres : (b : Broker) → Keep b → Coheres b.records) (unique : (b : Broker) → Keep b → b.records.autos ≤ LAST_NUMBER → HasUniqueLines b) where
   -- a session that was cleared is not connected

@@ -45,7 +45,7 @@ uncounted_gives : (b x : Bool) (P Q : Type 0) → b ≡ false → MatchBool (if 
 uncounted_gives true x P Q e h = absurd (true≢false e)
 uncounted_gives false x P Q e h = h
 
--- what is known of a table that counts no rows, where a row is put
+-- what is known of a table that counts no rows, if a row is put
 pub record IsPutOf (l : Layout) (table : Table) (put : Row) : Type 0 where
   pub uncounted : table.is_counted ≡ false
   pub kept : cast_row table put ≡ put

@@ -30,7 +30,7 @@ behind_after : (l : Layout) (tables : List Table) (tree : ℕ) (old new : Trees)
 behind_after l [] tree old new others own spared was = tt
 behind_after l (t ∷ tables) tree old new others own spared was = (kept_shape l tree t.tree old new others own spared.0 was.0, behind_after l tables tree old new others own spared.1 was.1)
 
--- what a statement on one table leaves is whole where it was
+-- what a statement on one table leaves is whole if it was
 pub whole_after : (l : Layout) → IsLayout l → (tree : ℕ) (old new : State) → IsWhole l old → Spares l tree old.now.trees new.now.trees → IsShapedAt new.now.trees tree → new.now.schema ≡ schema_of l → IsTrue new.in_transaction
     → Obeys (schema_of l) new.now.trees → IsWhole l new
 whole_after l asked tree old new whole others own schema inside obeys =

@@ -78,7 +78,7 @@ module _ (largest : ℕ) (ids : List CopyId) (ns : List ℕ) (limits : Limits) (
   its_line : is_one_of (Some l.number) (0 ∷ ns) ≡ true
   its_line = listed l.number ns ((lines_of placed.birth largest ids ns r b placed.along).old l.number here.number)
 
-  -- where its own line is, by what becomes of it where its session is connected there
+  -- where its own line is, by what becomes of it if its session is connected there
   own_line : (o p : Option ℕ) (k j : ℕ) → ((birth : ℕ) → o ≡ Some birth → r.line.number ≡ Some k → session_on k b.lines ≡ Some (Some birth) → Present p j (told_by new out taken) new) → Present o k (line_like r.line) b
       → Present p j (told_by new out taken) new
   own_line o p k j there present =

@@ -101,7 +101,7 @@ module _ (env : Env) (client : List ℕ) (birth : ℕ) where
       let c = after_all first b in
       begin_append client birth first (series (map (λ y. close_if (is_connected y) env y) xs) c) (begin_closed (is_connected x) x b) (begin_opening xs c)
 
--- ---- no session has the name, where each that has it would have two births
+-- ---- no session has the name, if each that has it would have two births
 
 none_of : (client : List ℕ) (ss : List Session) → AllByRecursion (IsIts client 0) ss → AllByRecursion (IsIts client 1) ss → find (λ (x : Session). bytes_eq x.client client) ss ≡ None
 none_of client [] p q = refl

@@ -1,4 +1,4 @@
--- Where what a receiver sees of the world is a run of its hop, the law of the hop holds of what it has read.
+-- If what a receiver sees of the world is a run of its hop, the law of the hop holds of what it has read.
 use Rattle.std.proofs.Common.{◌≡◌, ℕ, zero, suc, ◌+◌, ◌<◌, ◌≤◌, Bool, true, false, cond, ◌&&◌, List, [], ◌∷◌, map, Option, Some, None, nat_eq, eqb-true, refl, sym, ap, subst, ◌∙◌, arith, inl, inr}
 use Rattle.std.specs.Prelude.{⊤, All, filter, option_map, slice_get, is_some}
 use Rattle.std.specs.List.{AllByRecursion, cons_option}

@@ -1,4 +1,4 @@
--- What is counted and what is left are the whole; the whole has a spelling where what is left has one (3.3.2.3.8).
+-- What is counted and what is left are the whole; the whole has a spelling if what is left has one (3.3.2.3.8).
 use Rattle.std.proofs.Common.{◌≡◌, ◌<◌, ◌^◌, ◌+◌, map, length}
 use Rattle.std.specs.List.{AllByRecursion}
 use Rattle.mqtt_props.specs.Properties.{IsProp, props}

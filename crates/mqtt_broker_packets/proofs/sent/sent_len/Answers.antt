@@ -1,4 +1,4 @@
--- The whole has a spelling where the identifiers have one and all is short (MQTT 5.0, 2.2.2, 3.3.2.3).
+-- The whole has a spelling if the identifiers have one and all is short (MQTT 5.0, 2.2.2, 3.3.2.3).
 use Rattle.std.proofs.Common.{◌^◌, ◌<◌, ◌+◌, length, map, arith}
 use Rattle.mqtt_props.specs.Properties.{props}
 use Rattle.mqtt_records_message.specs.PassedOn.{identified}

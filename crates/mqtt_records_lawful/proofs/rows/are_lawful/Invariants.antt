@@ -1,4 +1,4 @@
--- The rest keeps its rules exactly where all do.
+-- The rest keeps its rules exactly if all do.
 use Rattle.std.proofs.Common.{◌↔◌, length}
 use Rattle.std.specs.List.{AllByRecursion}
 use Rattle.mqtt_records_lawful.proofs.rows.are_lawful.Given as goal

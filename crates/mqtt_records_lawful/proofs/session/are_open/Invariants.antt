@@ -1,4 +1,4 @@
--- The rest are from 1 exactly where all are.
+-- The rest are from 1 exactly if all are.
 use Rattle.std.proofs.Common.{◌↔◌, ◌≤◌, length}
 use Rattle.std.specs.List.{AllByRecursion}
 use Rattle.mqtt_records_lawful.proofs.session.are_open.Given as goal

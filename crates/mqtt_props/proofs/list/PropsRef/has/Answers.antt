@@ -1,4 +1,4 @@
--- A test passes where something is found (MQTT 5.0, 2.2.2).
+-- A test passes if something is found (MQTT 5.0, 2.2.2).
 use Rattle.std.proofs.Common.{◌≡◌, Bool, List, [], ◌∷◌, true, false, cond, ◌||◌, Option, Some, None, refl, sym, ap, ◌∙◌}
 use Rattle.std.specs.Prelude.{find, is_some, option_map}
 use Rattle.std.specs.List.{list_any}

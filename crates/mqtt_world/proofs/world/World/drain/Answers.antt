@@ -7,7 +7,7 @@ use Rattle.mqtt_world.proofs.Course.{answers_why, delivered, drain_comes, drain_
 use Rattle.mqtt_world.proofs.Course.{stage_as, still_over}
 use Rattle.mqtt_world.proofs.world.World.drain.Goals as goal
 
--- ---- where it stands
+-- ---- if it stands
 
 pub returns-in-Ok-clause-drained : goal.returns-in-Ok-clause-drained
 returns-in-Ok-clause-drained g c =
@@ -57,7 +57,7 @@ pub returns-in-Ok-clause-delivers : goal.returns-in-Ok-clause-delivers
 returns-in-Ok-clause-delivers g c =
     λ start come. delivered g.K.Keep start c.drain_on.new.self (returns-in-Ok-clause-goes_on g c start come)
 
--- ---- where it is over
+-- ---- if it is over
 
 pub returns-in-Err-clause-drained : goal.returns-in-Err-clause-drained
 returns-in-Err-clause-drained g c = tt

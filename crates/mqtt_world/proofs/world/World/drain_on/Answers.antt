@@ -1,4 +1,4 @@
--- By what is done where there is room.
+-- By what is done if there is room.
 use Rattle.std.proofs.Common.{◌∙◌, ap}
 use Rattle.mqtt_script.specs.declared.event.Event.TheVariants.{Drain}
 use Rattle.mqtt_world.specs.Worlds.{Lasting, over_by}
