@@ -141,6 +141,13 @@ impl<K: Keep> Engine<K> {
         self.inner.copy_of(line, identifier)
     }
 
+    /// The engine without the bytes of its lines, to be looked at. Takes no memory.
+    pub fn inner(&self) -> &Inner<K>
+        ensures { result.now ≡ self.now.running }
+    {
+        &self.inner
+    }
+
     /// How many failures its store has counted, modulo 2^64. Takes no memory.
     pub fn failures(&self) -> u64
         ensures { result ≡ K.counted self.now.running.keep }

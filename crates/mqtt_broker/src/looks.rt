@@ -8,14 +8,10 @@ use mqtt_records::Keep;
 
 impl<K: Keep> Engine<K> {
     /// Whether a line is linked. Takes no memory.
-    #[tactic(auto, using(mqtt_broker_engine::proofs::Holders::row_of))]
     pub fn is_linked(&self, line: u64) -> bool
         ensures { result ≡ is_some (line_at line self.now.running.broker) }
     {
-        match self.inner.step().line(line) {
-            Some(_) => true,
-            None => false,
-        }
+        self.inner.is_linked(line)
     }
 
     /// Whether a further line may be linked: fewer than 64 stand, and fewer than 2^62 were linked (ours). Takes no memory.

@@ -1,5 +1,5 @@
 //! The engine: a broker over a store, one call after the other (MQTT 5.0, 4.1).
-ghost use Rattle.std.specs.Prelude.{◌≡◌, None, false, option_copied};
+ghost use Rattle.std.specs.Prelude.{◌≡◌, None, false, is_some, option_copied};
 ghost use Rattle.mqtt_broker_index.specs.Indexing.{Serves};
 ghost use Rattle.mqtt_rules.specs.Routing.{subscribers};
 ghost use Rattle.mqtt_rules.specs.State.{line_at};
@@ -136,6 +136,17 @@ impl<K: Keep> Engine<K> {
         ensures { result.now ≡ at_rest self.now.limits self.now.broker }
     {
         &self.parts.step
+    }
+
+    /// Whether a line is linked. Takes no memory.
+    #[tactic(auto, using(crate::proofs::Holders::row_of))]
+    pub fn is_linked(&self, line: u64) -> bool
+        ensures { result ≡ is_some (line_at line self.now.broker) }
+    {
+        match self.parts.step.line(line) {
+            Some(_) => true,
+            None => false,
+        }
     }
 
     /// The copy that has a packet identifier in the queue of a line's session. Takes no memory.

@@ -16,8 +16,7 @@ ghost use Rattle.mqtt_world_clients.specs.Telling.{AreSpelled, ends_told};
 use crate::lines::Change;
 use crate::{publishers, receivers};
 use mqtt_base::Text;
-use mqtt_broker::Engine;
-use mqtt_broker_engine::Outcome;
+use mqtt_broker_engine::{Engine, Outcome};
 use mqtt_records::Keep;
 use mqtt_script::{Draft, Wish};
 use mqtt_world_peers::{PublisherEnd, ReceiverEnd};
@@ -130,7 +129,7 @@ impl Clients {
         draft: &Draft,
         engine: &Engine<K>,
     ) -> Result<(), AllocError>
-        ensures { OnOk result ((set : Setting) → BecomeAt engine.now.running.broker
+        ensures { OnOk result ((set : Setting) → BecomeAt engine.now.broker
             (happens set (publish client.now (draft_of draft.now))) self.old self.new) }
     {
         publishers::publish_named(&mut self.publishers, client, draft, engine)
@@ -143,7 +142,7 @@ impl Clients {
         wish: &Wish,
         engine: &Engine<K>,
     ) -> Result<(), AllocError>
-        ensures { OnOk result ((set : Setting) → BecomeAt engine.now.running.broker
+        ensures { OnOk result ((set : Setting) → BecomeAt engine.now.broker
             (happens set (subscribe client.now (wish_of wish.now))) self.old self.new) }
     {
         receivers::ask_named(&mut self.receivers, client, wish, engine)
@@ -152,7 +151,7 @@ impl Clients {
     /// An end reads the first packet under way to it. What goes out for it is lost if the broker no longer has its
     /// line.
     pub fn read<K: Keep>(&mut self, client: &str, engine: &Engine<K>) -> Result<(), AllocError>
-        ensures { OnOk result ((set : Setting) → BecomeAt engine.now.running.broker
+        ensures { OnOk result ((set : Setting) → BecomeAt engine.now.broker
             (happens set (to_end client.now)) self.old self.new) }
     {
         publishers::read_named(&mut self.publishers, client, engine)?;
@@ -162,7 +161,7 @@ impl Clients {
     /// What the broker answered reaches all ends. The engine is as the call left it.
     pub fn tell<K: Keep>(&mut self, engine: &Engine<K>, outcome: &Outcome) -> Result<(), AllocError>
         ensures told { (told : Told) → Tells told outcome.now → AreSpelled told
-            → OnOk result (self.new ≡ ends_told engine.now.running.broker told self.old) }
+            → OnOk result (self.new ≡ ends_told engine.now.broker told self.old) }
     {
         publishers::tell(self.alloc, &mut self.publishers, engine, outcome)?;
         receivers::tell(self.alloc, &mut self.receivers, engine, outcome)

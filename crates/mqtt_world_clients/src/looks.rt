@@ -11,7 +11,7 @@ ghost use Rattle.mqtt_world_clients.specs.Ends.{in_world, input_of, reading};
 use crate::clients::Clients;
 use crate::telling::stands;
 use crate::{publishers, receivers};
-use mqtt_broker::Engine;
+use mqtt_broker_engine::Engine;
 use mqtt_codec::Packet;
 use mqtt_records::Keep;
 use mqtt_world_peers::Link;
@@ -86,7 +86,7 @@ impl Clients {
 
     /// Whether the broker still has a receiver's line. None if no receiver has the name. Takes no memory.
     pub fn stands<K: Keep>(&self, client: &str, engine: &Engine<K>) -> Option<bool>
-        ensures { (w : World) → result ≡ option_map (λ r. stands r.line.number engine.now.running.broker)
+        ensures { (w : World) → result ≡ option_map (λ r. stands r.line.number engine.now.broker)
             (receiver_named client.now (in_world self.now w)) }
     {
         match receivers::named(&self.receivers, client) {

@@ -12,8 +12,7 @@ ghost use Rattle.mqtt_world_clients.specs.Telling.{AreSpelled};
 
 use crate::lines::{Change, change_line, number_on, paired};
 use crate::telling::{stands, tell_line};
-use mqtt_broker::Engine;
-use mqtt_broker_engine::Outcome;
+use mqtt_broker_engine::{Engine, Outcome};
 use mqtt_codec::Packet;
 use mqtt_records::Keep;
 use mqtt_script::Draft;
@@ -126,7 +125,7 @@ fn publish_if<K: Keep>(
     engine: &Engine<K>,
 ) -> Result<(), AllocError>
     ensures { OnOk result (publisher.new ≡ if_publisher client.now
-        (published_at (draft_of draft.now) engine.now.running.broker) publisher.old) }
+        (published_at (draft_of draft.now) engine.now.broker) publisher.old) }
 {
     if !is_named(publisher, client) {
         return Ok(());
@@ -144,7 +143,7 @@ pub(crate) fn publish_named<K: Keep>(
     engine: &Engine<K>,
 ) -> Result<(), AllocError>
     ensures { OnOk result (publishers.new.items ≡ map (if_publisher client.now
-        (published_at (draft_of draft.now) engine.now.running.broker)) publishers.old.items) }
+        (published_at (draft_of draft.now) engine.now.broker)) publishers.old.items) }
 {
     for publisher in publishers.iter_mut() {
         publish_if(publisher, client, draft, engine)?;
@@ -158,7 +157,7 @@ fn read_if<K: Keep>(
     engine: &Engine<K>,
 ) -> Result<(), AllocError>
     ensures { OnOk result (publisher.new
-        ≡ if_publisher client.now (publisher_reads_at engine.now.running.broker) publisher.old) }
+        ≡ if_publisher client.now (publisher_reads_at engine.now.broker) publisher.old) }
 {
     if !is_named(publisher, client) {
         return Ok(());
@@ -174,7 +173,7 @@ pub(crate) fn read_named<K: Keep>(
     engine: &Engine<K>,
 ) -> Result<(), AllocError>
     ensures { OnOk result (publishers.new.items ≡ map
-        (if_publisher client.now (publisher_reads_at engine.now.running.broker)) publishers.old.items) }
+        (if_publisher client.now (publisher_reads_at engine.now.broker)) publishers.old.items) }
 {
     for publisher in publishers.iter_mut() {
         read_if(publisher, client, engine)?;
@@ -189,7 +188,7 @@ fn tell_one<K: Keep>(
     outcome: &Outcome,
 ) -> Result<(), AllocError>
     ensures { (told : Told) → Tells told outcome.now → AreSpelled told
-        → OnOk result (publisher.new ≡ publisher_told engine.now.running.broker told publisher.old) }
+        → OnOk result (publisher.new ≡ publisher_told engine.now.broker told publisher.old) }
 {
     tell_line(alloc, &mut publisher.line, engine, outcome)
 }
@@ -203,7 +202,7 @@ pub(crate) fn tell<K: Keep>(
 ) -> Result<(), AllocError>
     ensures { (told : Told) → Tells told outcome.now → AreSpelled told
         → OnOk result (publishers.new.items
-        ≡ map (publisher_told engine.now.running.broker told) publishers.old.items) }
+        ≡ map (publisher_told engine.now.broker told) publishers.old.items) }
 {
     for publisher in publishers.iter_mut() {
         tell_one(alloc, publisher, engine, outcome)?;

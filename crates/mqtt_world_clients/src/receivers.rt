@@ -12,8 +12,7 @@ ghost use Rattle.mqtt_world_clients.specs.Telling.{AreSpelled};
 
 use crate::lines::{Change, change_line, number_on, paired};
 use crate::telling::{stands, tell_line};
-use mqtt_broker::Engine;
-use mqtt_broker_engine::Outcome;
+use mqtt_broker_engine::{Engine, Outcome};
 use mqtt_codec::Packet;
 use mqtt_records::Keep;
 use mqtt_script::Wish;
@@ -131,7 +130,7 @@ fn ask_if<K: Keep>(
     engine: &Engine<K>,
 ) -> Result<(), AllocError>
     ensures { OnOk result (receiver.new ≡ if_receiver client.now
-        (asks_at (wish_of wish.now) engine.now.running.broker) receiver.old) }
+        (asks_at (wish_of wish.now) engine.now.broker) receiver.old) }
 {
     if !is_named(receiver, client) {
         return Ok(());
@@ -149,7 +148,7 @@ pub(crate) fn ask_named<K: Keep>(
     engine: &Engine<K>,
 ) -> Result<(), AllocError>
     ensures { OnOk result (receivers.new.items ≡ map (if_receiver client.now
-        (asks_at (wish_of wish.now) engine.now.running.broker)) receivers.old.items) }
+        (asks_at (wish_of wish.now) engine.now.broker)) receivers.old.items) }
 {
     for receiver in receivers.iter_mut() {
         ask_if(receiver, client, wish, engine)?;
@@ -163,7 +162,7 @@ fn read_if<K: Keep>(
     engine: &Engine<K>,
 ) -> Result<(), AllocError>
     ensures { OnOk result (receiver.new
-        ≡ if_receiver client.now (receiver_reads_at engine.now.running.broker) receiver.old) }
+        ≡ if_receiver client.now (receiver_reads_at engine.now.broker) receiver.old) }
 {
     if !is_named(receiver, client) {
         return Ok(());
@@ -179,7 +178,7 @@ pub(crate) fn read_named<K: Keep>(
     engine: &Engine<K>,
 ) -> Result<(), AllocError>
     ensures { OnOk result (receivers.new.items ≡ map
-        (if_receiver client.now (receiver_reads_at engine.now.running.broker)) receivers.old.items) }
+        (if_receiver client.now (receiver_reads_at engine.now.broker)) receivers.old.items) }
 {
     for receiver in receivers.iter_mut() {
         read_if(receiver, client, engine)?;
@@ -194,7 +193,7 @@ fn tell_one<K: Keep>(
     outcome: &Outcome,
 ) -> Result<(), AllocError>
     ensures { (told : Told) → Tells told outcome.now → AreSpelled told
-        → OnOk result (receiver.new ≡ receiver_told engine.now.running.broker told receiver.old) }
+        → OnOk result (receiver.new ≡ receiver_told engine.now.broker told receiver.old) }
 {
     tell_line(alloc, &mut receiver.line, engine, outcome)
 }
@@ -208,7 +207,7 @@ pub(crate) fn tell<K: Keep>(
 ) -> Result<(), AllocError>
     ensures { (told : Told) → Tells told outcome.now → AreSpelled told
         → OnOk result (receivers.new.items
-        ≡ map (receiver_told engine.now.running.broker told) receivers.old.items) }
+        ≡ map (receiver_told engine.now.broker told) receivers.old.items) }
 {
     for receiver in receivers.iter_mut() {
         tell_one(alloc, receiver, engine, outcome)?;

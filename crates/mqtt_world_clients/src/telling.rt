@@ -11,8 +11,7 @@ ghost use Rattle.mqtt_world_clients.specs.Telling.{AreSpelled, HaveSpellings, co
 
 use bytes::Bytes;
 use mqtt_base::CopyId;
-use mqtt_broker::Engine;
-use mqtt_broker_engine::Outcome;
+use mqtt_broker_engine::{Engine, Outcome};
 use mqtt_codec::{Delivery, Packet, decode};
 use mqtt_records::Keep;
 use mqtt_world_peers::{Down, Line};
@@ -20,7 +19,7 @@ use std::alloc::{AllocError, Global};
 
 /// Whether the broker still has the line, if there is one. Takes no memory.
 pub(crate) fn stands<K: Keep>(engine: &Engine<K>, number: Option<u64>) -> bool
-    ensures { result ≡ stands number engine.now.running.broker }
+    ensures { result ≡ stands number engine.now.broker }
 {
     match number {
         None => false,
@@ -62,7 +61,7 @@ fn copy_of<K: Keep>(
     number: u64,
     packet: &Packet,
 ) -> Result<Option<CopyId>, AllocError>
-    ensures { IfOk result (λ copy. copy ≡ copy_in number engine.now.running.broker packet.now) }
+    ensures { IfOk result (λ copy. copy ≡ copy_in number engine.now.broker packet.now) }
 {
     let Some(identifier) = identifier_in(packet) else {
         return Ok(None);
@@ -76,7 +75,7 @@ fn copy_of<K: Keep>(
 /// A packet to a line, with its copy.
 fn tagged<K: Keep>(engine: &Engine<K>, number: u64, packet: Packet) -> Result<Down, AllocError>
     ensures { IfOk result (λ down. down
-        ≡ record { packet = packet; copy = copy_in number engine.now.running.broker packet }) }
+        ≡ record { packet = packet; copy = copy_in number engine.now.broker packet }) }
 {
     match copy_of(engine, number, &packet) {
         Ok(copy) => Ok(Down { packet, copy }),
@@ -106,7 +105,7 @@ fn push_bytes<K: Keep, U: Drop>(
     bytes: &[u8],
 ) -> Result<(), AllocError>
     ensures { (p : ThePacket) → HasSpelling p → bytes.now ≡ shortest_of p
-        → OnOk result (line.exit.now ≡ with_packet number engine.now.running.broker p line.entry.now) }
+        → OnOk result (line.exit.now ≡ with_packet number engine.now.broker p line.entry.now) }
 {
     let packet = packet_in(alloc, bytes)?;
     let down = tagged(engine, number, packet)?;
@@ -123,7 +122,7 @@ fn push_if<K: Keep, U: Drop>(
 ) -> Result<(), AllocError>
     ensures { (x : ℕ × ThePacket) → HasSpelling x.1 → output.now ≡ (x.0, shortest_of x.1)
         → OnOk result (line.exit.now
-        ≡ with_packets number engine.now.running.broker (x ∷ []) line.entry.now) }
+        ≡ with_packets number engine.now.broker (x ∷ []) line.entry.now) }
 {
     let (at, bytes) = output;
     if *at == number {
@@ -142,7 +141,7 @@ fn push_all<K: Keep, U: Drop>(
 ) -> Result<(), AllocError>
     ensures { (packets : List (ℕ × ThePacket)) → outputs.now ≡ spelled packets → HaveSpellings packets
         → OnOk result (line.exit.now
-        ≡ with_packets number engine.now.running.broker packets line.entry.now) }
+        ≡ with_packets number engine.now.broker packets line.entry.now) }
 {
     for output in outputs {
         push_if(alloc, line, engine, number, output)?;
@@ -159,7 +158,7 @@ pub(crate) fn tell_line<K: Keep, U: Drop>(
     outcome: &Outcome,
 ) -> Result<(), AllocError>
     ensures { (told : Told) → Tells told outcome.now → AreSpelled told
-        → OnOk result (line.exit.now ≡ told_by engine.now.running.broker told line.entry.now) }
+        → OnOk result (line.exit.now ≡ told_by engine.now.broker told line.entry.now) }
 {
     if let Some(number) = line.number() {
         push_all(alloc, line, engine, number, &outcome.outputs)?;

@@ -63,7 +63,7 @@ fn tell<K: Keep>(
     let Ok(outcome) = answer else {
         return Err(Fail::from("the broker refuses"));
     };
-    let told = ends.tell(engine, &outcome);
+    let told = ends.tell(engine.inner(), &outcome);
     drop(outcome);
     Ok(told?)
 }
@@ -114,7 +114,7 @@ fn rounds<K: Keep>(
     for _ in 0..count {
         to_broker(ends, engine, client)?;
         pump(ends, engine, client)?;
-        ends.read(client, engine)?;
+        ends.read(client, engine.inner())?;
     }
     Ok(())
 }
@@ -135,7 +135,7 @@ fn subscribe<K: Keep>(
     engine: &mut Engine<K>,
 ) -> Result<(), Fail> {
     let wish = wish(alloc)?;
-    let asked = ends.subscribe("r", &wish, engine);
+    let asked = ends.subscribe("r", &wish, engine.inner());
     drop(wish);
     asked?;
     rounds(ends, engine, "r", 1)
@@ -144,7 +144,7 @@ fn subscribe<K: Keep>(
 /// The publisher sends its message.
 fn publish<K: Keep>(alloc: Global, ends: &mut Clients, engine: &mut Engine<K>) -> Result<(), Fail> {
     let draft = draft(alloc)?;
-    let sent = ends.publish("p", &draft, engine);
+    let sent = ends.publish("p", &draft, engine.inner());
     drop(draft);
     sent?;
     rounds(ends, engine, "p", 2)

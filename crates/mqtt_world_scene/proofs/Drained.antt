@@ -8,6 +8,7 @@ use Rattle.mqtt_world_model.specs.Tellings.{Telling, silent}
 use Rattle.mqtt_world_model.specs.World.{Event, Stranger, World, ask, pump, receiver_named, to_broker, to_end}
 use Rattle.mqtt_world_receiver_laws.specs.Drains.{copies_left, downs_by, is_bad_drain, is_none_left, is_over, line_stands, ups_by}
 use Rattle.mqtt_broker.specs.Serving.{Serving}
+use Rattle.mqtt_broker_engine.specs.Running.{Running}
 use Rattle.mqtt_rules.specs.declared.Limits.{Limits}
 use Rattle.mqtt_world_clients.specs.Ends.{Ends, in_world}
 use Rattle.mqtt_world_scene.specs.declared.over.Over.{Over}
@@ -76,6 +77,13 @@ module _ {K : Type 0} (client : List ℕ) (s : Played K) (E : Serving K) (O : En
   bad_where_some o b view tells is now ss =
       let w = world_of now ss s in
       bad_some (receiver_named client w) w b (sym is ∙ line_of o view tells now ss)
+
+  -- a line stands as it does by the engine without the bytes of its lines
+  pub stands_by : (o : Option Bool) (r : Running K) → r ≡ E.running
+      → ((w : World) → o ≡ option_map (λ x. stands x.line.number r.broker) (receiver_named client (in_world O w)))
+      → (w : World) → o ≡ option_map (λ x. stands x.line.number E.running.broker) (receiver_named client (in_world O w))
+  stands_by o r inner tells w =
+      subst (λ (x : Running K). o ≡ option_map (λ y. stands y.line.number x.broker) (receiver_named client (in_world O w))) inner (tells w)
 
   -- if no receiver has this name, it can't be drained
   pub bad_where_none : (o : Option Bool) → played E O ≡ s

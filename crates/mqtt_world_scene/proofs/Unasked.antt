@@ -6,6 +6,7 @@ use Rattle.mqtt_world_model.specs.Ends.{new_publisher, new_receiver}
 use Rattle.mqtt_world_model.specs.Tellings.{Telling, silent}
 use Rattle.mqtt_world_model.specs.World.{Event, Setting, Stranger, World, happens, is_bad, is_window, publisher, receiver}
 use Rattle.mqtt_broker.specs.Serving.{Serving}
+use Rattle.mqtt_broker_engine.specs.Running.{Running}
 use Rattle.mqtt_rules.specs.State.{Broker}
 use Rattle.mqtt_world_clients.specs.Ends.{BecomeAt, Ends, in_world}
 use Rattle.mqtt_script_laws.specs.Turns.{IsQuiet}
@@ -86,3 +87,12 @@ module _ {K : Type 0} (g : Ghosts K) (e : Event) where
       (quiet_done g now e E O N t quiet told (subst (IsPlayable g) view playable)
       (λ ss. ap (λ (x : Played K). is_bad e (world_of now ss x)) (sym view) ∙ (sym (tells now ss) ∙ is))
       (λ set ss. become set (world_of now ss (played E O)) refl))
+
+  -- the same, if the engine was looked at without the bytes of its lines
+  pub done_on : (s : Played K) (E : Serving K) (r : Running K) (O N : Ends) (test : Bool) (t : Telling) → r ≡ E.running → s ≡ played E O → IsQuiet e → t ≡ silent → IsPlayable g s
+      → ((now : ℕ) (ss : List Stranger) → test ≡ is_bad e (world_of now ss s)) → test ≡ false
+      → ((set : Setting) → BecomeAt r.broker (happens set e) O N)
+      → (now : ℕ) → Does g now e s (Some t) (played E N)
+  done_on s E r O N test t inner view quiet told playable tells is become =
+      done_at s E O N test t view quiet told playable tells is
+      (λ set. subst (λ (x : Running K). BecomeAt x.broker (happens set e) O N) inner (become set))

@@ -44,7 +44,7 @@ impl<K: Keep> Scene<K> {
         ensures { (now : ℕ) (ss : List Stranger) → result
             ≡ is_bad_drain client.now (world_of now ss self.now) }
     {
-        match self.clients.stands(client, &self.engine) {
+        match self.clients.stands(client, self.engine.inner()) {
             Some(stands) => !stands,
             None => true,
         }

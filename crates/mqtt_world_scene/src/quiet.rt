@@ -121,7 +121,7 @@ impl<K: Keep> Scene<K> {
         if self.is_bad_publish(client, draft)? {
             return Ok(None);
         }
-        self.clients.publish(client, draft, &self.engine)?;
+        self.clients.publish(client, draft, self.engine.inner())?;
         Ok(Some(Told::silent(alloc)))
     }
 
@@ -139,7 +139,7 @@ impl<K: Keep> Scene<K> {
         if self.is_bad_subscribe(alloc, client, wish)? {
             return Ok(None);
         }
-        self.clients.subscribe(client, wish, &self.engine)?;
+        self.clients.subscribe(client, wish, self.engine.inner())?;
         Ok(Some(Told::silent(alloc)))
     }
 
@@ -151,7 +151,7 @@ impl<K: Keep> Scene<K> {
         if !self.clients.is_end(client) {
             return Ok(None);
         }
-        self.clients.read(client, &self.engine)?;
+        self.clients.read(client, self.engine.inner())?;
         Ok(Some(Told::silent(alloc)))
     }
 }

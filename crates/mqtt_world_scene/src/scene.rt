@@ -70,7 +70,7 @@ impl<K: Keep> Scene<K> {
         ensures told { (told : Answer) → Tells told outcome
             → IfOk result (λ t. t ≡ record { reports = told.reports; out = length told.outputs }) }
     {
-        let reached = self.clients.tell(&self.engine, &outcome);
+        let reached = self.clients.tell(self.engine.inner(), &outcome);
         let told = told_by(outcome);
         match reached {
             Ok(()) => Ok(told),

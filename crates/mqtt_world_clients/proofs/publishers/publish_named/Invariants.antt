@@ -6,4 +6,4 @@ use Rattle.mqtt_world_clients.proofs.publishers.publish_named.Given as goal
 abbrev pub invariant-loop-publisher : goal.invariant-loop-publisher
 invariant-loop-publisher g l =
     l.publisher-items
-    ≡ map (if_publisher l.client (published_at (draft_of l.draft) l.engine.running.broker)) (take l.publisher-index l.fn.publishers.items) ++ drop l.publisher-index l.fn.publishers.items
+    ≡ map (if_publisher l.client (published_at (draft_of l.draft) l.engine.broker)) (take l.publisher-index l.fn.publishers.items) ++ drop l.publisher-index l.fn.publishers.items

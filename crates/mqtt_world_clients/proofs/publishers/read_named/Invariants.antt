@@ -5,4 +5,4 @@ use Rattle.mqtt_world_clients.proofs.publishers.read_named.Given as goal
 abbrev pub invariant-loop-publisher : goal.invariant-loop-publisher
 invariant-loop-publisher g l =
     l.publisher-items
-    ≡ map (if_publisher l.client (publisher_reads_at l.engine.running.broker)) (take l.publisher-index l.fn.publishers.items) ++ drop l.publisher-index l.fn.publishers.items
+    ≡ map (if_publisher l.client (publisher_reads_at l.engine.broker)) (take l.publisher-index l.fn.publishers.items) ++ drop l.publisher-index l.fn.publishers.items

@@ -6,6 +6,6 @@ pub loop-publisher-preserved : goal.loop-publisher-preserved
 loop-publisher-preserved g c = λ told tells spelled.
     let l = c.loop-publisher in
     let from = c.deref_mut-publisher-items in
-    one_more (publisher_told c.args.engine.now.running.broker told) c.args.publishers.now.items from.result.now l.publisher-items l.publisher-index
+    one_more (publisher_told c.args.engine.now.broker told) c.args.publishers.now.items from.result.now l.publisher-items l.publisher-index
     c.publisher-item.result c.tell_one.new.publisher from.ensures.value l.auto.publisher-items c.loop-publisher-test.true
     (l.invariant told tells spelled) (c.in_ok-tell_one.ensures told tells spelled)

@@ -9,4 +9,4 @@ abbrev pub invariant-loop-publisher : goal.invariant-loop-publisher
 invariant-loop-publisher g l =
     (told : Told) → Tells told l.outcome → AreSpelled told
     → l.publisher-items
-    ≡ map (publisher_told l.engine.running.broker told) (take l.publisher-index l.fn.publishers.items) ++ drop l.publisher-index l.fn.publishers.items
+    ≡ map (publisher_told l.engine.broker told) (take l.publisher-index l.fn.publishers.items) ++ drop l.publisher-index l.fn.publishers.items

@@ -5,4 +5,4 @@ use Rattle.mqtt_world_clients.proofs.receivers.read_named.Given as goal
 abbrev pub invariant-loop-receiver : goal.invariant-loop-receiver
 invariant-loop-receiver g l =
     l.receiver-items
-    ≡ map (if_receiver l.client (receiver_reads_at l.engine.running.broker)) (take l.receiver-index l.fn.receivers.items) ++ drop l.receiver-index l.fn.receivers.items
+    ≡ map (if_receiver l.client (receiver_reads_at l.engine.broker)) (take l.receiver-index l.fn.receivers.items) ++ drop l.receiver-index l.fn.receivers.items

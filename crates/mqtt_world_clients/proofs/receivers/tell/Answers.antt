@@ -6,6 +6,6 @@ pub loop-receiver-preserved : goal.loop-receiver-preserved
 loop-receiver-preserved g c = λ told tells spelled.
     let l = c.loop-receiver in
     let from = c.deref_mut-receiver-items in
-    one_more (receiver_told c.args.engine.now.running.broker told) c.args.receivers.now.items from.result.now l.receiver-items l.receiver-index
+    one_more (receiver_told c.args.engine.now.broker told) c.args.receivers.now.items from.result.now l.receiver-items l.receiver-index
     c.receiver-item.result c.tell_one.new.receiver from.ensures.value l.auto.receiver-items c.loop-receiver-test.true
     (l.invariant told tells spelled) (c.in_ok-tell_one.ensures told tells spelled)

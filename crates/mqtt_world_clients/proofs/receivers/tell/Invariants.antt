@@ -9,4 +9,4 @@ abbrev pub invariant-loop-receiver : goal.invariant-loop-receiver
 invariant-loop-receiver g l =
     (told : Told) → Tells told l.outcome → AreSpelled told
     → l.receiver-items
-    ≡ map (receiver_told l.engine.running.broker told) (take l.receiver-index l.fn.receivers.items) ++ drop l.receiver-index l.fn.receivers.items
+    ≡ map (receiver_told l.engine.broker told) (take l.receiver-index l.fn.receivers.items) ++ drop l.receiver-index l.fn.receivers.items

@@ -6,4 +6,4 @@ use Rattle.mqtt_world_clients.proofs.telling.push_all.Given as goal
 abbrev pub invariant-loop-output : goal.invariant-loop-output
 invariant-loop-output g l =
     (packets : List (ℕ × Packet)) → l.outputs ≡ spelled packets → HaveSpellings packets
-    → l.line ≡ with_packets l.number l.engine.running.broker (take l.output-index packets) l.fn.line
+    → l.line ≡ with_packets l.number l.engine.broker (take l.output-index packets) l.fn.line

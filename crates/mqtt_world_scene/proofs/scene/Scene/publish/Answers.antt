@@ -1,7 +1,7 @@
 use Rattle.std.proofs.Common.{sym}
 use Rattle.mqtt_world_model.specs.World.{publish}
 use Rattle.mqtt_world_peers.specs.Publishers.{draft_of}
-use Rattle.mqtt_world_scene.proofs.Unasked.{done_at, refused}
+use Rattle.mqtt_world_scene.proofs.Unasked.{done_on, refused}
 use Rattle.mqtt_world_scene.proofs.scene.Scene.publish.Goals as goal
 
 pub returns-then-branch : goal.returns-then-branch
@@ -11,6 +11,6 @@ returns-then-branch g c =
 
 pub returns : goal.returns
 returns g c =
-    done_at g.K.Keep (publish c.args.client.now (draft_of c.args.draft.now)) c.args.self.now c.self.inside.engine c.self.inside.clients
-    c.publish.new.self c.in_ok-is_bad_publish.field-0 c.silent.result (sym c.self.view_is) tt c.silent.ensures c.requires c.in_ok-is_bad_publish.ensures
+    done_on g.K.Keep (publish c.args.client.now (draft_of c.args.draft.now)) c.args.self.now c.self.inside.engine c.inner.result.now c.self.inside.clients
+    c.publish.new.self c.in_ok-is_bad_publish.field-0 c.silent.result c.inner.ensures (sym c.self.view_is) tt c.silent.ensures c.requires c.in_ok-is_bad_publish.ensures
     c.if-branch.false c.in_ok-publish.ensures
