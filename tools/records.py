@@ -4,8 +4,8 @@ crates/NAME/wrong/tried has a first line 'SUM WHEN SECONDS', and then the names 
 sum: WHEN in seconds since 1970, SECONDS of a processor for those that were tried last. crates/NAME/proved has such a first line alone, and is the
 record of a crate of tests or a bench that was proved whole.
 
-A sum covers the kit (of a wrong body the kit's logic: a false contract has a proof in no kit of that logic), the tools that do it, the crate's own sources, definitions and proofs (and its wrong bodies), its line of crates.txt, and of
-each crate below what that one states: its items with their contracts and without bodies, and its definitions, as rattle wrote them into its library.
+A sum covers the kit (of a wrong body the kit's logic: a false contract has a proof in no kit of that logic), the tools that do it, the crate's own
+sources, definitions and proofs without lines of comments (and its wrong bodies), its line of crates.txt, and of each crate below what that one states: its items with their contracts and without bodies, and its definitions, as rattle wrote them into its library.
 A wrong body is refused since its function's contract is false of it, and what a function below promises is its contract: so a body or a proof that
 changes below makes no record stale, and a clause or a definition does.
 """
@@ -16,10 +16,13 @@ import re
 import subprocess
 import time
 
+from edits import OPAQUE
 from repository import ROOT, check_words, kit
 
-# A line of specs/ that is a comment.
+# A line of specs/ or proofs/ that is a comment.
 COMMENT = re.compile(r"(?m)^[ \t]*--(?:[ \t][^\n]*)?\n")
+# A line of src/ that is a comment; or what else may hold two slashes, so that none is sought in it.
+COMMENT_OR_TEXT = re.compile(r"(?m:^[ \t]*//[^\n]*\n)|" + OPAQUE.pattern, re.S)
 # In each run those crates are done again whatever their records say whose turn it is: one in so many.
 TURNS = 10
 WRONG, PROVED = "wrong/tried", "proved"
@@ -38,6 +41,19 @@ def files_in(folder):
 
 def texts_of(folder, parts):
     return [(os.path.relpath(it, folder), read(it)) for part in parts for it in files_in(f"{folder}/{part}")]
+
+
+def without_comments(file, text):
+    """Returns the text of a source, definition or proof without the lines that are comments: on these nothing rests that is recorded."""
+    if file.endswith(".antt"):
+        return COMMENT.sub("", text)
+    if file.endswith(".rt"):
+        return COMMENT_OR_TEXT.sub(lambda it: "" if it[0].endswith("\n") and it[0].lstrip(" \t").startswith("//") else it[0], text)
+    return text
+
+
+def own_texts(folder, parts):
+    return [(it, without_comments(it, text)) for it, text in texts_of(folder, parts)]
 
 
 def sum_of(*parts):
@@ -79,13 +95,13 @@ def name_of(path):
 def sum_of_wrong(crate):
     """Returns the sum under which the wrong bodies of a crate are recorded, or None where a library below it is not built."""
     edits = [it for part in ("wrong", "must-fail") for it in files_in(f"{crate.folder}/{part}") if it.endswith(".edit")]
-    own = [texts_of(crate.folder, ("src", "specs", "proofs")), sorted((name_of(it), read(it)) for it in edits)]
+    own = [own_texts(crate.folder, ("src", "specs", "proofs")), sorted((name_of(it), read(it)) for it in edits)]
     return sum_over(crate, ("trials.py", "edits.py", "records.py"), logic_of(read(f"{kit()}/KIT-ID")), own)
 
 
 def texts_for_proof(crate):
     """Returns the files of a crate of tests, or of a bench, that its proof and its run rest on."""
-    return texts_of(crate.folder, ("src", "specs", "proofs", "data", "stdin", "stdout", "args", "status"))
+    return own_texts(crate.folder, ("src", "specs", "proofs")) + texts_of(crate.folder, ("data", "stdin", "stdout", "args", "status"))
 
 
 def sum_of_proof(crate, handles):

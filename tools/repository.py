@@ -88,6 +88,7 @@ def quick_rt():
     loader.exec_module(made)
     rt = made.load()
     made.quick(rt.rtlib)
+    rt.over = made.over
     return rt
 
 
