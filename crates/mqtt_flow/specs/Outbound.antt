@@ -137,7 +137,7 @@ first_step way e p = step_on (first_time (is_late way.now e.copy) (is_large way 
 abbrev pub later_step : Way → ℕ → Entry → Pacing → Step
 later_step way i e p = step_on (once_more e.here (is_large way e.copy) e.copy.qos i) e.place p
 
--- a pump stops where no PUBLISH is left to it
+-- a pump stops if no PUBLISH is left to it
 abbrev pub step_by : ℕ → Verdict → ℕ → Pacing → Step
 step_by zero v place p = Stop
 step_by (suc k) v place p = step_on v place p
@@ -174,7 +174,7 @@ pump_from way (e ∷ es) p = then_on (pump_step way p e) e.phase p (pump_from wa
 abbrev pub pace : Way → List Entry → Pacing
 pace way queue = record { left = PUMP_LIMIT; room = way.window - in_window queue; used = identifiers queue; order = next_order queue }
 
--- the same where this much of the window is known to be filled, and this is known as the greatest order
+-- the same if this much of the window is known to be filled, and this is known as the greatest order
 abbrev pub pace_known : Way → ℕ → ℕ → List Entry → Pacing
 pace_known way window order queue = record { left = PUMP_LIMIT; room = way.window - window; used = identifiers queue; order = order + 1 }
 
@@ -271,7 +271,7 @@ pubcomp_at (Some e) = pubcomp_by e.phase e.place
 abbrev pub pubcomp : ℕ → List Entry → Answer
 pubcomp i queue = pubcomp_at (holder i queue)
 
--- the queue after an answer: as it was where that is a protocol error
+-- the queue after an answer: as it was if that is a protocol error
 abbrev pub after_turn : Option Turn → List Entry → List Entry
 after_turn None queue = queue
 after_turn (Some t) queue = after t queue

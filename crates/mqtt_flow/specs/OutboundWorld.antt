@@ -134,7 +134,7 @@ connects false c false rest w = made_new rest w
 connects true true r rest w = made_new rest w
 connects true false r rest w = resumed rest w
 
--- the same from the line that was given up. The receiver's line is closed where the session is connected there
+-- the same from the line that was given up. The receiver's line is closed if the session is connected there
 abbrev pub connects_old : Bool → Bool → Bool → List Answer → World → World
 connects_old false c true rest w = record w { old = rest }
 connects_old false c false rest w = record w { old = rest; stands = true; copies = map cut w.copies }

@@ -72,7 +72,7 @@ IsConnectAlone (puback i code ∷ rest) = HasNoConnect rest
 IsConnectAlone (pubrec i code ∷ rest) = HasNoConnect rest
 IsConnectAlone (pubcomp i code ∷ rest) = HasNoConnect rest
 
--- by whether the session is connected there: an answer is under way only where it is, a CONNECT only where it isn't yet
+-- by whether the session is connected there: an answer is under way only if it is, a CONNECT only if it isn't yet
 abbrev pub IsHeard : Bool → List Answer → Type 0
 IsHeard linked [] = ⊤
 IsHeard linked (connect c ∷ rest) = linked ≡ false

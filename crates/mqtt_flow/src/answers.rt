@@ -86,7 +86,7 @@ pub(crate) fn pubcomp_by(phase: Phase, place: u64) -> Result<Option<Turn>, FlowF
 }
 
 impl Outflow {
-    /// What a PUBACK asks for: a turn, or none where no copy has the identifier (4.3.2). Takes no
+    /// What a PUBACK asks for: a turn, or none if no copy has the identifier (4.3.2). Takes no
     /// memory.
     pub fn look_puback(&self, identifier: u16, code: Reason) -> Result<Option<Turn>, FlowFault>
         ensures { result ≡ puback identifier code.0 self.now.queue }
@@ -101,7 +101,7 @@ impl Outflow {
         look_pubrec::<Entries>(self.entries(), identifier, code)
     }
 
-    /// What a PUBCOMP asks for: a turn, or none where no copy has the identifier (4.3.3). Takes no
+    /// What a PUBCOMP asks for: a turn, or none if no copy has the identifier (4.3.3). Takes no
     /// memory.
     pub fn look_pubcomp(&self, identifier: u16) -> Result<Option<Turn>, FlowFault>
         ensures { result ≡ pubcomp identifier self.now.queue }
@@ -120,7 +120,7 @@ impl Outflow {
         }
     }
 
-    /// Takes a PUBACK (4.3.2): the turn taken, or none where no copy has the identifier. Takes no
+    /// Takes a PUBACK (4.3.2): the turn taken, or none if no copy has the identifier. Takes no
     /// memory.
     pub fn puback(&mut self, identifier: u16, code: Reason) -> Result<Option<Turn>, FlowFault>
         ensures answer { result ≡ puback identifier code.0 self.old.queue }
@@ -142,7 +142,7 @@ impl Outflow {
         answer
     }
 
-    /// Takes a PUBCOMP (4.3.3): the turn taken, or none where no copy has the identifier. Takes no
+    /// Takes a PUBCOMP (4.3.3): the turn taken, or none if no copy has the identifier. Takes no
     /// memory.
     pub fn pubcomp(&mut self, identifier: u16) -> Result<Option<Turn>, FlowFault>
         ensures answer { result ≡ pubcomp identifier self.old.queue }

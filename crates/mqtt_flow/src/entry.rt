@@ -51,7 +51,7 @@ pub struct QueueLimits {
 /// What a connection lets through.
 #[derive(Clone, Copy, Debug, PartialEq, Eq)]
 pub struct Way {
-    /// The client's Receive Maximum, 65,535 where it sent none (3.1.2.11.3).
+    /// The client's Receive Maximum, 65,535 if it sent none (3.1.2.11.3).
     pub window: u16,
     /// The client's Maximum Packet Size, in bytes (3.1.2.11.4).
     pub largest: u32,

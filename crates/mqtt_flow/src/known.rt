@@ -20,7 +20,7 @@ pub struct Known {
     pub still: usize,
     /// How many rows fill the client's window.
     pub window: usize,
-    /// The greatest order of release that stands, 0 where none does.
+    /// The greatest order of release that stands, 0 if none does.
     pub order: u64,
 }
 
@@ -35,7 +35,7 @@ pub fn know<V: QueueView>(view: &V, rows: &[V::Row]) -> Known
     }
 }
 
-/// The turns of one pump, by a look at the rows behind those that stand still (4.6, 4.9). Where all of them do, it looks
+/// The turns of one pump, by a look at the rows behind those that stand still (4.6, 4.9). If all of them do, it looks
 /// at nothing and takes no memory.
 pub fn pump_known<V: QueueView>(
     alloc: Global,

@@ -39,7 +39,7 @@ pub fn look_enter<V: QueueView>(
     Ok(turns)
 }
 
-/// The turns of one pump (4.6, 4.9). Where the front of the queue tells that there is none, it looks at no row behind it
+/// The turns of one pump (4.6, 4.9). If the front of the queue tells that there is none, it looks at no row behind it
 /// and takes no memory.
 pub fn look_pump<V: QueueView>(
     alloc: Global,
@@ -100,7 +100,7 @@ pub fn holder<V: QueueView>(rows: &[V::Row], identifier: u16) -> Option<&V::Row>
     None
 }
 
-/// What a PUBACK asks for: a turn, or none where no copy has the identifier (4.3.2). Takes no memory.
+/// What a PUBACK asks for: a turn, or none if no copy has the identifier (4.3.2). Takes no memory.
 pub fn look_puback<V: QueueView>(
     rows: &[V::Row],
     identifier: u16,
@@ -135,7 +135,7 @@ pub fn look_pubrec<V: QueueView>(
     }
 }
 
-/// What a PUBCOMP asks for: a turn, or none where no copy has the identifier (4.3.3). Takes no memory.
+/// What a PUBCOMP asks for: a turn, or none if no copy has the identifier (4.3.3). Takes no memory.
 pub fn look_pubcomp<V: QueueView>(
     rows: &[V::Row],
     identifier: u16,

@@ -22,7 +22,7 @@ pub fn pump_in_order()
 {}
 
 /// What is known of the numbers that a step gives without the step: those of a pump and of a PUBREC go on from the next
-/// order, and a copy enters at the next place or, where others made way, at a lower one (ours).
+/// order, and a copy enters at the next place or, if others made way, at a lower one (ours).
 pub fn numbers_go_on()
     ensures pump { (way : Way) (queue : List Entry) →
         greatest_given (pump way queue) ≤ next_order queue + length queue }

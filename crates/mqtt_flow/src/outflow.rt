@@ -123,7 +123,7 @@ impl Outflow {
         ensures queue { self.new.queue ≡ self.old.queue }
         ensures fault { IfErr result (λ fault. fault ≡ FlowFault.Memory) }
 
-        // Want of memory is the only refusal, and only where there was too little room.
+        // Want of memory is the only refusal, and only if there was too little room.
         ensures memory { OnErr result (self.old.room < count) }
     {
         self.entries.reserve(count).map_err(|_| FlowFault::Memory)

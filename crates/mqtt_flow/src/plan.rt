@@ -49,7 +49,7 @@ pub(crate) fn greatest_place(entries: &[Entry]) -> u64
     greatest
 }
 
-/// The greatest order of release that stands, 0 where none does.
+/// The greatest order of release that stands, 0 if none does.
 pub(crate) fn greatest_order<V: QueueView>(rows: &[V::Row]) -> u64
     ensures { (view : V) → result ≡ greatest_order (map (V.entry view) rows.now) }
 {

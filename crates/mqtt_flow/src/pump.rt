@@ -44,7 +44,7 @@ enum Step {
     Take(Turn),
 }
 
-/// A turn that sends a PUBLISH, where the window has room for it (4.9).
+/// A turn that sends a PUBLISH, if the window has room for it (4.9).
 fn in_room(pace: &Pace, turn: Turn) -> Step
     ensures { result ≡ in_room pace.now.room turn }
 {
@@ -170,7 +170,7 @@ fn take(turns: &mut Vec<Turn>, pace: &mut Pace, turn: Turn, phase: Phase) -> Res
     count(pace, turn, phase)
 }
 
-/// What a pump may do before its first step, where this much of the window is filled and this is the greatest order.
+/// What a pump may do before its first step, if this much of the window is filled and this is the greatest order.
 pub(crate) fn first_pace<V: QueueView>(
     alloc: Global,
     way: Way,

@@ -89,7 +89,7 @@ end_gives = refl
 row_gives : changed (PutSession (record (columns 1 (codes "r1")) { closed = Some 7 })) sent ≡ record sent { sessions = record subscriber { closed = Some 7 } ∷ publisher ∷ [] }
 row_gives = refl
 
--- the same by the row alone, where the session stands; else nothing
+-- the same by the row alone, if the session stands; else nothing
 set_gives : changed (SetSession (record (columns 1 (codes "r1")) { closed = Some 7 })) sent ≡ record sent { sessions = record subscriber { closed = Some 7 } ∷ publisher ∷ [] }
 set_gives = refl
 

@@ -37,7 +37,7 @@ pub enum Change {
     PutSession {
         row: SessionRow,
     },
-    /// The own row of the session with its birth is this one; its other rows stay. Where no session
+    /// The own row of the session with its birth is this one; its other rows stay. If no session
     /// has that birth, nothing changes.
     SetSession {
         row: Columns,
