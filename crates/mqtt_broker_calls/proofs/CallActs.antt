@@ -16,7 +16,7 @@ use Rattle.mqtt_rules.specs.Deeds.{Act, Hear, On, after_all, always, of_session,
 use Rattle.mqtt_rules.specs.Lines.{session_on}
 use Rattle.mqtt_rules.specs.Packets.{size_of}
 use Rattle.mqtt_rules.specs.State.{Broker, Env, Line, MemberChoice, line_at, session_at}
-use Rattle.mqtt_rules.specs.Step.{Call, Input, SpentStep, at_moment, deeds, deeds_of, env_of, is_again, is_spent, is_step_spent, on_packet, stamped}
+use Rattle.mqtt_rules.specs.Step.{Call, Input, SpentStep, at_moment, deeds, deeds_of, env_of, is_again, is_spent, is_step_spent, on_packet, stamped, stamp_of}
 use Rattle.mqtt_rules.proofs.fit.FitLaw.{mapped_some}
 use Rattle.mqtt_rules.proofs.acts.Leads.{found_passes}
 use Rattle.mqtt_broker_step.specs.declared.fault.StepFault.{StepFault}
@@ -30,10 +30,11 @@ use Rattle.mqtt_broker_calls.specs.Doing.{DidCall, IsCalled, begun}
 
 -- ---- the acts of a call, from its beginning
 
-spent_stamped : (n : ℕ) (rows : List Change) → is_spent rows ≡ true → is_spent (stamped n rows) ≡ true
-spent_stamped n [] e = absurd cc
-spent_stamped n (row ∷ rows) e =
-    spent_append (row ∷ rows) (SetCounter Moment n ∷ []) ∙ ap (λ b. b || is_spent (SetCounter Moment n ∷ [])) e
+-- rows that spend a number do with the moment behind them too
+pub spent_stamped : (now was : ℕ) (rows : List Change) → is_spent rows ≡ true → is_spent (stamped now was rows) ≡ true
+spent_stamped now was [] e = absurd cc
+spent_stamped now was (row ∷ rows) e =
+    spent_append (row ∷ rows) (stamp_of now was) ∙ ap (λ b. b || is_spent (stamp_of now was)) e
 
 -- what an act of a call made of a step that had begun is what the call makes of it
 pub did_call : (limits : Limits) (now : ℕ) (call : Call) (again : Bool) (b : Broker) (s : Stepping)
@@ -59,7 +60,7 @@ left_call limits now call b fault s leaves e =
     let choice : MemberChoice = λ number sender. leaves.members in
     let left : IsLeft (deeds_of (env_of limits choice b) call) fault (begun limits now b) s = leaves.is choice refl in
     let spent : is_step_spent limits choice now call b ≡ true =
-    spent_stamped (at_moment now b).now (rows_of_all (deeds limits choice now call b) b.records) (left.spent e) in
+    spent_stamped (at_moment now b).now b.records.moment (rows_of_all (deeds limits choice now call b) b.records) (left.spent e) in
     record {
       choice = choice;
       spent = ap (λ (l : Limits). is_step_spent l choice now call s.start) left.limits ∙ (ap (λ (c : Broker). is_step_spent limits choice now call c) left.start ∙ spent);

@@ -11,7 +11,7 @@ use Rattle.mqtt_rules.specs.Deeds.{Act, Deed, after_all, always, only_if, series
 use Rattle.mqtt_rules.specs.Closing.{settle}
 use Rattle.mqtt_rules.specs.Connect.{begin_named, clear, connect_by, joins, joins_after, of_client, on_connect, prepare, refusal, refused, take_over}
 use Rattle.mqtt_broker_step.specs.Stepping.{Stepping, env_in}
-use Rattle.mqtt_rules.proofs.numbers.NumberFacts.{now_stays}
+use Rattle.mqtt_rules.proofs.numbers.Counters.{now_stays}
 use Rattle.mqtt_broker_connect.specs.Joining.{has_place, joins_now}
 use Rattle.mqtt_broker_connect.proofs.Wholes.{begins_named}
 

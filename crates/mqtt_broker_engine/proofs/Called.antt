@@ -6,13 +6,13 @@ use Rattle.mqtt_records.specs.Records.{FitAll}
 use Rattle.mqtt_rules.specs.declared.Limits.{Limits}
 use Rattle.mqtt_records.specs.Saying.{AllSayable}
 use Rattle.mqtt_rules.specs.Contents.{TakesLawful, of_rows}
-use Rattle.mqtt_rules.specs.Deeds.{Deed, rows_of_all}
+use Rattle.mqtt_rules.specs.Deeds.{Deed, rows_of_all, after_all}
 use Rattle.mqtt_rules.specs.State.{Broker}
 use Rattle.mqtt_rules.specs.Step.{Call, at_moment, deeds, is_spent, is_step_spent, rows_written, stamped, stepped, told, with_moment}
 use Rattle.mqtt_rules.proofs.fit.RowsFit.{step_fits}
 use Rattle.mqtt_rules.proofs.contents.SayableRows.{step_said}
 use Rattle.mqtt_rules.proofs.contents.SpelledContents.{rows_are as row_sizes}
-use Rattle.mqtt_rules.proofs.fit.StoredLaw.{now_stays}
+use Rattle.mqtt_rules.proofs.numbers.Counters.{moment_stays, now_stays}
 use Rattle.mqtt_broker_step.specs.Stepping.{Stepping, with_stamp}
 use Rattle.mqtt_broker_step.specs.Undoing.{moment_of}
 use Rattle.mqtt_broker_index.specs.Following.{CanAllBeFollowed, CanBeIndexed}
@@ -39,8 +39,11 @@ module _ (now : ℕ) (call : Call) (again : Bool) (s : Stepping) (h : DidCall no
   -- with its moment it has the rows of the call's deeds
   pub rows_are : (with_stamp s).rows ≡ rows_written its (at_moment now s.start)
   rows_are =
-      ap (λ (t : Stepping). stamped (moment_of t.broker) t.rows) h.is
-      ∙ ap (λ n. stamped n (rows_of_all its s.start.records)) (now_stays its (at_moment now s.start))
+      let before = at_moment now s.start in
+      let rows = rows_of_all its s.start.records in
+      ap (λ (t : Stepping). stamped (moment_of t.broker) t.broker.records.moment t.rows) h.is
+      ∙ ap (λ n. stamped n (after_all its before).records.moment rows) (now_stays its before)
+      ∙ ap (λ m. stamped before.now m rows) (moment_stays its before)
 
   -- and its broker is the one after the call's step
   pub broker_is : (with_stamp s).broker ≡ stepped s.limits h.choice now call s.start

@@ -23,9 +23,9 @@ linked_done : (may : Bool) (n : ℕ) (b : Broker) → after_all (link_if may n) 
 linked_done true n b = refl
 linked_done false n b = refl
 
-linked_unspent : (may : Bool) (n now : ℕ) (r : Records) → is_spent (stamped now (rows_of_all (link_if may n) r)) ≡ false
-linked_unspent true n now r = refl
-linked_unspent false n now r = refl
+linked_unspent : (may : Bool) (n now was : ℕ) (r : Records) → is_spent (stamped now was (rows_of_all (link_if may n) r)) ≡ false
+linked_unspent true n now was r = refl
+linked_unspent false n now was r = refl
 
 linked_told : (may : Bool) (n : ℕ) → nothing_told ≡ outcome_of NewLine (link_if may n)
 linked_told true n = refl
@@ -41,7 +41,7 @@ linked_step limits now b = linked_done (can_link (at_moment now b)) (suc b.given
 
 -- it spends no number
 pub link_unspent : (limits : Limits) (now : ℕ) (b : Broker) → is_step_spent limits first_members now NewLine b ≡ false
-link_unspent limits now b = linked_unspent (can_link (at_moment now b)) (suc b.given) (at_moment now b).now b.records
+link_unspent limits now b = linked_unspent (can_link (at_moment now b)) (suc b.given) (at_moment now b).now b.records.moment b.records
 
 -- and stores nothing
 pub link_records : (now : ℕ) (b : Broker) → (after_act links (at_moment now b)).records ≡ b.records

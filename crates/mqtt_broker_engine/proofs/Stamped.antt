@@ -10,7 +10,7 @@ use Rattle.mqtt_records.specs.Saying.{AllSayable}
 use Rattle.mqtt_routes.specs.Subscriptions.{Subscriber}
 use Rattle.mqtt_rules.specs.declared.Limits.{Limits}
 use Rattle.mqtt_rules.specs.Contents.{of_rows}
-use Rattle.mqtt_rules.specs.Deeds.{Deed, rows_of_all}
+use Rattle.mqtt_rules.specs.Deeds.{Deed, rows_of_all, after_all}
 use Rattle.mqtt_rules.specs.Laws.{AreWithin}
 use Rattle.mqtt_rules.specs.Routing.{subscribers}
 use Rattle.mqtt_rules.specs.State.{Broker}
@@ -20,20 +20,15 @@ use Rattle.mqtt_rules.proofs.fit.LawfulRecords.{lawful_coherent}
 use Rattle.mqtt_rules.proofs.fit.RowsFit.{opening_fits}
 use Rattle.mqtt_rules.proofs.contents.SayableRows.{opening_said}
 use Rattle.mqtt_rules.proofs.contents.SpelledContents.{rows_are as row_sizes}
-use Rattle.mqtt_rules.proofs.fit.StoredLaw.{now_stays}
+use Rattle.mqtt_rules.proofs.numbers.Counters.{moment_stays, now_stays}
 use Rattle.mqtt_broker_step.specs.declared.fault.StepFault.{StepFault}
 use Rattle.mqtt_broker_step.specs.declared.fault.StepFault.TheVariants.{Memory, Spent}
 use Rattle.mqtt_broker_step.specs.Stepping.{Stepping, at_rest, did, env_in, with_stamp}
-use Rattle.mqtt_broker_step.proofs.Rows.{spent_append}
+use Rattle.mqtt_broker_calls.proofs.CallActs.{spent_stamped}
 use Rattle.mqtt_broker_index.specs.Indexing.{Serves}
 use Rattle.mqtt_broker_engine.specs.Closing.{DidOpen, DidSome, IsLeftOpen, IsStoredAfter, LeftSome, resting}
 
 -- ---- the moment
-
-spent_stamped : (n : ℕ) (rows : List Change) → is_spent rows ≡ true → is_spent (stamped n rows) ≡ true
-spent_stamped n [] e = absurd cc
-spent_stamped n (row ∷ rows) e =
-    spent_append (row ∷ rows) (SetCounter Moment n ∷ []) ∙ ap (λ b. b || is_spent (SetCounter Moment n ∷ [])) e
 
 stamped_by : (rows : List Change) (b : Broker) → subscribers (with_moment rows b).records ≡ subscribers b.records
 stamped_by [] b = refl
@@ -61,7 +56,7 @@ module _ (limits : Limits) (now : ℕ) (r : Records) (old : Stepping) (begun : o
     limits_are = d.is.limits ∙ ap (λ (t : Stepping). t.limits) begun;
     spent = λ e. record {
       choice = d.choice;
-      spent = spent_stamped (unopened now r).now (rows_of_all (opening_deeds limits d.choice now r) r)
+      spent = spent_stamped (unopened now r).now r.moment (rows_of_all (opening_deeds limits d.choice now r) r)
           (sym (ap (λ (t : Stepping). is_spent (rows_of_all (opening (env_in d.choice t) t.broker) t.broker.records)) begun) ∙ d.is.spent e);
     };
   }
@@ -81,7 +76,11 @@ module _ (limits : Limits) (now : ℕ) (r : Records) (s : Stepping) (h : DidOpen
   its = opening_deeds limits h.choice now r
 
   rows_are : s.rows ≡ rows_written its (unopened now r)
-  rows_are = ap (λ (t : Stepping). t.rows) h.is ∙ ap (λ n. stamped n (rows_of_all its r)) (now_stays its (unopened now r))
+  rows_are =
+      let before = unopened now r in
+      ap (λ (t : Stepping). t.rows) h.is
+      ∙ ap (λ n. stamped n (after_all its before).records.moment (rows_of_all its r)) (now_stays its before)
+      ∙ ap (λ m. stamped before.now m (rows_of_all its r)) (moment_stays its before)
 
   broker_is : s.broker ≡ opened limits h.choice now r
   broker_is = ap (λ (t : Stepping). t.broker) h.is

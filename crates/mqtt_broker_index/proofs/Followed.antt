@@ -1,5 +1,6 @@
 -- The rows of every step and opening can be followed, and records that may be opened can be indexed.
-use Rattle.std.proofs.Common.{◌≡◌, ℕ, List, [], ◌∷◌, ◌++◌, Option, Some, None, refl, sym, subst}
+use Rattle.std.proofs.lemmas.Bool.{cases_Bool}
+use Rattle.std.proofs.Common.{◌≡◌, ℕ, List, [], ◌∷◌, ◌++◌, Option, Some, None, refl, sym, subst, nat_eq, inl, inr}
 use Rattle.std.proofs.Math.Nat.{max-le, min-le_right}
 use Rattle.mqtt_base.specs.declared.limits.TheConstants.{LAST_NUMBER}
 use Rattle.mqtt_records_lawful.specs.Lawful.{IsLawful, IsLawfulSession, last_of}
@@ -17,7 +18,7 @@ use Rattle.mqtt_rules.specs.declared.Limits.{Limits}
 use Rattle.mqtt_rules.specs.Deeds.{Whose, Part, Resume, Close, SetExpiry, DropWill, Subscribe, Unsubscribe, Open, Release, Enter, Mark, Leave, Deed, Accept, Begin, Name, Count, At, Finish, Keep, Forget, RefuseWill, Link, On, Send, Gone, will_row, part_rows, part_rows_of, rows_of, rows_of_all, stored_after, after}
 use Rattle.mqtt_rules.specs.Laws.{AreWithin, IsCoherent, IsOrdered}
 use Rattle.mqtt_rules.specs.State.{Broker, MemberChoice, session_at, stored}
-use Rattle.mqtt_rules.specs.Step.{Call, at_moment, deeds, env_of, opening_deeds, rows_written, stamped, unopened}
+use Rattle.mqtt_rules.specs.Step.{Call, at_moment, deeds, env_of, opening_deeds, rows_written, stamp_of, stamped, unopened}
 use Rattle.mqtt_rules.proofs.numbers.Copies.{each_more}
 use Rattle.mqtt_rules.proofs.flight.FlightRows.{found_key}
 use Rattle.mqtt_rules.proofs.contents.LawfulContents.{lawful_contents}
@@ -81,9 +82,15 @@ follow_deeds [] b well = tt
 follow_deeds (d ∷ ds) b well =
     follow_append (rows_of d b.records) (rows_of_all ds (stored_after d b.records)) b.records (follow_deed d b well.0) (follow_deeds ds (after d b) well.1)
 
-follow_stamped : (now : ℕ) (rows : List Change) (r : Records) → CanAllBeFollowed rows r → CanAllBeFollowed (stamped now rows) r
-follow_stamped now [] r h = tt
-follow_stamped now (x ∷ rows) r h = follow_append (x ∷ rows) (SetCounter Moment now ∷ []) r h (tt, tt)
+follow_stamp : (now was : ℕ) (r : Records) → CanAllBeFollowed (stamp_of now was) r
+follow_stamp now was r = elim (cases_Bool (nat_eq now was)) [
+  | inl same ↦ rw same tt
+  | inr other ↦ rw other (tt, tt)
+]
+
+follow_stamped : (now was : ℕ) (rows : List Change) (r : Records) → CanAllBeFollowed rows r → CanAllBeFollowed (stamped now was rows) r
+follow_stamped now was [] r h = tt
+follow_stamped now was (x ∷ rows) r h = follow_append (x ∷ rows) (stamp_of now was) r h (follow_stamp now was (changed_all (x ∷ rows) r))
 
 -- ---- steps and openings
 
@@ -98,7 +105,7 @@ deeds_followed limits choice now call b within h last taken =
 pub step_followed : (limits : Limits) (choice : MemberChoice) (now : ℕ) (call : Call) (b : Broker) → AreWithin limits → IsCoherent (stored b) → IsNumber b.now → TakesLawful call
     → CanAllBeFollowed (rows_written (deeds limits choice now call b) (at_moment now b)) (stored b)
 step_followed limits choice now call b within h last taken =
-    follow_stamped (at_moment now b).now (rows_of_all (deeds limits choice now call b) (stored b)) (stored b) (deeds_followed limits choice now call b within h last taken)
+    follow_stamped (at_moment now b).now b.records.moment (rows_of_all (deeds limits choice now call b) (stored b)) (stored b) (deeds_followed limits choice now call b within h last taken)
 
 opening_last : (r : Records) (now : ℕ) → IsNumber (unopened now r).now
 opening_last r now = max-le (min-le_right r.moment LAST_NUMBER) (min-le_right now LAST_NUMBER)
@@ -110,7 +117,7 @@ opening_followed limits choice now r within h =
     let c = unopened now r in
     let env = env_of limits choice c in
     let ds = opening_deeds limits choice now r in
-    follow_stamped c.now (rows_of_all ds r) r (follow_deeds ds c (well_opening env within c (made_of r h, opening_last r now)))
+    follow_stamped c.now r.moment (rows_of_all ds r) r (follow_deeds ds c (well_opening env within c (made_of r h, opening_last r now)))
 
 -- ---- what records have
 

@@ -21,7 +21,7 @@ use Rattle.mqtt_broker_step.specs.Stepping.{Stepping, did, Did, IsLeft}
 use Rattle.mqtt_broker_step.proofs.Doing.{did_none, found_birth}
 use Rattle.mqtt_broker_queue.specs.Turning.{takes_turn, takes_turns}
 use Rattle.mqtt_broker_step.proofs.Then.{same_act, same_left, did_then, left_first, left_then}
-use Rattle.mqtt_rules.proofs.numbers.NumberFacts.{now_stays}
+use Rattle.mqtt_rules.proofs.numbers.Counters.{now_stays}
 use Rattle.mqtt_broker_step.proofs.Journal.{two}
 
 some_is : {X : Type 0} (x y : X) → Some x ≡ Some y → x ≡ y

@@ -33,7 +33,7 @@ use Rattle.mqtt_rules.proofs.numbers.Copies.{Kinds, each_filter, each_more, kind
 use Rattle.mqtt_rules.proofs.acts.Goods.{AreGood, good_append, good_flat, good_of_entry, good_with_session}
 use Rattle.mqtt_rules.proofs.acts.Leads.{Leads, leads_append}
 use Rattle.mqtt_rules.proofs.flight.FlightRows.{all_put, all_changed}
-use Rattle.mqtt_rules.proofs.numbers.NumberFacts.{Counts, counts, counts_after, counts_deed}
+use Rattle.mqtt_rules.proofs.numbers.Counters.{Counts, counts, counts_after, counts_deed}
 use Rattle.mqtt_rules.proofs.order.Ordered.{changed_all-ordered}
 use Rattle.mqtt_rules.proofs.order.OrderedActs.{IsPlain, IsPlainPart}
 use Rattle.mqtt_rules.proofs.order.OrderedRoom.{at_retained, begin_retained}

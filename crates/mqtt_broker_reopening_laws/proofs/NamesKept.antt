@@ -28,7 +28,7 @@ use Rattle.mqtt_rules.proofs.fit.FitLaw.{all_among}
 use Rattle.mqtt_rules.proofs.flight.FlightRows.{all_at}
 use Rattle.mqtt_rules.proofs.acts.Leads.{found_among, found_passes}
 use Rattle.mqtt_rules.proofs.acts.Names.{unfront}
-use Rattle.mqtt_rules.proofs.numbers.NumberFacts.{Counts, counts, counts_after, counts_deed}
+use Rattle.mqtt_rules.proofs.numbers.Counters.{Counts, counts, counts_after, counts_deed}
 use Rattle.mqtt_broker_reopening_laws.specs.Names.{AreNamed}
 use Rattle.mqtt_broker_reopening_laws.proofs.EachSession.{Makes, deed_each, part_made}
 

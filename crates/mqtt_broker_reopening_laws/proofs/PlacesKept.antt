@@ -26,7 +26,7 @@ use Rattle.mqtt_rules.proofs.acts.ByDeeds.{DeedLaw, MarkLaw, leads_deeds, leads_
 use Rattle.mqtt_rules.proofs.numbers.Copies.{each_filter, each_map, each_more}
 use Rattle.mqtt_rules.proofs.flight.FlightRows.{all_at, found_key, all_put}
 use Rattle.mqtt_rules.proofs.acts.Leads.{found_among}
-use Rattle.mqtt_rules.proofs.numbers.NumberFacts.{Counts, counts, counts_after, counts_deed}
+use Rattle.mqtt_rules.proofs.numbers.Counters.{Counts, counts, counts_after, counts_deed}
 use Rattle.mqtt_rules.proofs.order.Ordered.{changed_all-ordered}
 use Rattle.mqtt_broker_reopening_laws.specs.Places.{HasPlacesUpTo, HavePlacesApart, places_in}
 use Rattle.mqtt_broker_reopening_laws.proofs.Differ.{IsOwn, ascending_differ, change_differs, each_given, filter_differs, given_same, put_differs}

@@ -103,7 +103,7 @@ with_broker b s = record s { broker = b }
 
 -- with its moment, if it stores anything
 abbrev pub with_stamp : Stepping → Stepping
-with_stamp s = record s { broker = with_moment s.rows s.broker; rows = stamped (moment_of s.broker) s.rows }
+with_stamp s = record s { broker = with_moment s.rows s.broker; rows = stamped (moment_of s.broker) s.broker.records.moment s.rows }
 
 -- no step is under way
 abbrev pub at_rest : Limits → Broker → Stepping

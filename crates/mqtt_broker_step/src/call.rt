@@ -61,7 +61,7 @@ impl Step {
         Ok(())
     }
 
-    /// The moment is stored with what else is. If nothing else is, it isn't.
+    /// The moment is stored with what else is, unless it is stored already. If nothing else is, it isn't.
     pub fn stamp(&mut self) -> Result<(), StepFault>
         ensures ok { OnOk result (self.new ≡ with_stamp self.old) }
         ensures err { OnErr result (self.new ≡ self.old) }
@@ -71,8 +71,11 @@ impl Step {
             return Ok(());
         }
         let before = self.tables.records().moment;
-        let counter = Counter::Moment;
         let value = self.tables.moment();
+        if value == before {
+            return Ok(());
+        }
+        let counter = Counter::Moment;
         let row = Change::SetCounter { counter, value };
         let undo = Change::SetCounter {
             counter,

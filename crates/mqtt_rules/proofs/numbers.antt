@@ -1,5 +1,6 @@
 -- Births, numbers and places: each given is the next one.
 pub mod Copies
+pub mod Counters
 pub mod NumberBirths
 pub mod NumberCopies
 pub mod NumberFacts

@@ -104,13 +104,17 @@ deeds limits choice now call b = deeds_of (env_of limits choice b) call (at_mome
 
 -- ---- the state after a step
 
+-- the moment's row, unless it is stored already
+abbrev pub stamp_of : ℕ → ℕ → List Change
+stamp_of now was = cond (nat_eq now was) [] (SetCounter Moment now ∷ [])
+
 -- the rows that a step writes: those of its deeds, and with them its moment
-abbrev pub stamped : ℕ → List Change → List Change
-stamped now [] = []
-stamped now (row ∷ rows) = (row ∷ rows) ++ SetCounter Moment now ∷ []
+abbrev pub stamped : ℕ → ℕ → List Change → List Change
+stamped now was [] = []
+stamped now was (row ∷ rows) = (row ∷ rows) ++ stamp_of now was
 
 abbrev pub rows_written : List Deed → Broker → List Change
-rows_written ds b = stamped b.now (rows_of_all ds b.records)
+rows_written ds b = stamped b.now b.records.moment (rows_of_all ds b.records)
 
 abbrev pub with_moment : List Change → Broker → Broker
 with_moment [] b = b

@@ -135,7 +135,7 @@ module _ (limits : Limits) (choice : MemberChoice) (now : ℕ) where
   pub written_same : (call : Call) (b c : Broker) → AlikeBrokers b c
       → rows_written (deeds limits choice now call b) (at_moment now b) ≡ rows_written (deeds limits choice now call c) (at_moment now c)
   written_same call b c h = by_broker (λ (x : Broker). rows_written (deeds limits choice now call b) (at_moment now b) ≡ rows_written (deeds limits choice now call x) (at_moment now x)) b
-      (λ ss k. ap (stamped (at_moment now b).now) (all_rows_same (IsPump call) (deeds limits choice now call b) (deeds limits choice now call (like ss b)) (put_deeds call b ss k) b.records (with_sessions ss b.records) (records_put b.records ss k))) c h
+      (λ ss k. ap (stamped (at_moment now b).now b.records.moment) (all_rows_same (IsPump call) (deeds limits choice now call b) (deeds limits choice now call (like ss b)) (put_deeds call b ss k) b.records (with_sessions ss b.records) (records_put b.records ss k))) c h
 
   -- a step is spent on both or on none
   pub spent_same : (call : Call) (b c : Broker) → AlikeBrokers b c → is_step_spent limits choice now call b ≡ is_step_spent limits choice now call c

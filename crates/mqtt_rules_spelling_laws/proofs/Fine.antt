@@ -46,9 +46,9 @@ front_rows (row ∷ rows) more q s =
     ((q.0, parts.0), front_rows rows more q.1 parts.1)
 
 -- of all that is written
-pub rows_good : (now : ℕ) (rows : List Change) → RowsBring of_rows (stamped now rows) → is_spent (stamped now rows) ≡ false → AreRows rows
-rows_good now [] q s = tt
-rows_good now (row ∷ rows) q s = front_rows (row ∷ rows) _ q s
+pub rows_good : (now was : ℕ) (rows : List Change) → RowsBring of_rows (stamped now was rows) → is_spent (stamped now was rows) ≡ false → AreRows rows
+rows_good now was [] q s = tt
+rows_good now was (row ∷ rows) q s = front_rows (row ∷ rows) _ q s
 
 each_split : {X : Type 0} (P : X → Type 0) (xs ys : List X) → AllByRecursion P (xs ++ ys) → AllByRecursion P xs × AllByRecursion P ys
 each_split P [] ys h = (tt, h)

@@ -50,7 +50,7 @@ step_spoken : (limits : Limits) (choice : MemberChoice) (now : ℕ) (call : Call
 step_spoken limits choice now call b unspent taken tells contents ordered phases =
     let c = at_moment now b in
     let ds = deeds limits choice now call b in
-    let rows : Writes ds c = rows_good c.now (rows_of_all ds c.records) (step_brings of_rows rows_are limits choice now call b taken contents) unspent in
+    let rows : Writes ds c = rows_good c.now c.records.moment (rows_of_all ds c.records) (step_brings of_rows rows_are limits choice now call b taken contents) unspent in
     (call_said (env_of limits choice b) call c taken tells contents.lines ordered (record { contents = contents.stored; phases = phases }) rows, rows)
 
 -- all that a step tells has a spelling
@@ -78,7 +78,7 @@ opening_phases limits choice now r unspent contents phases =
     let c = unopened now r in
     let ds = opening_deeds limits choice now r in
     let fine : IsFine c.records = record { contents = contents; phases = phases } in
-    let rows : Writes ds c = rows_good c.now (rows_of_all ds c.records) (opening_brings of_rows rows_are limits choice now r contents) unspent in
+    let rows : Writes ds c = rows_good c.now c.records.moment (rows_of_all ds c.records) (opening_brings of_rows rows_are limits choice now r contents) unspent in
     moment_phases (rows_of_all ds c.records) (after_all ds c) (fine_all ds c fine rows (opening_said (env_of limits choice c) c fine rows)).phases
 
 -- the code of what bytes ask for is that of their fault

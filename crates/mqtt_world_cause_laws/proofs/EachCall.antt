@@ -52,7 +52,7 @@ use Rattle.mqtt_rules.proofs.numbers.Copies.{each_append, each_flat}
 use Rattle.mqtt_rules.proofs.fit.FitLaw.{all_among}
 use Rattle.mqtt_rules.proofs.flight.FlightRows.{all_found, found_key}
 use Rattle.mqtt_rules.proofs.acts.Leads.{found_among, found_passes}
-use Rattle.mqtt_rules.proofs.fit.StoredLaw.{now_stays}
+use Rattle.mqtt_rules.proofs.numbers.Counters.{now_stays}
 use Rattle.mqtt_rules.proofs.fit.StandLaw.{Orders, ordered_all, rising}
 use Rattle.mqtt_world_cause_laws.specs.Endings.{Asked}
 use Rattle.mqtt_world_cause_laws.proofs.Caused.{Caused, IsQuiet, AreQuiet, quietly, caused_next}

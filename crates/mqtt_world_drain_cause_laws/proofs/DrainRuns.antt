@@ -11,7 +11,7 @@ use Rattle.mqtt_base.specs.declared.session.Phase.TheVariants.{Waiting, Sent, Re
 use Rattle.mqtt_flow.specs.declared.entry.Entry.{Entry as FlowEntry}
 use Rattle.mqtt_rules.specs.State.{Broker, MemberChoice, capped, queue_on}
 use Rattle.mqtt_rules.specs.Deeds.{Deed, after_all, rows_of_all}
-use Rattle.mqtt_rules.proofs.fit.StoredLaw.{now_stays}
+use Rattle.mqtt_rules.proofs.numbers.Counters.{now_stays}
 use Rattle.mqtt_records.specs.declared.change.Change.{Change}
 use Rattle.mqtt_world_model.specs.World.{happens as happen}
 use Rattle.std.proofs.Math.Nat.{le-max_right, max-eq_left}

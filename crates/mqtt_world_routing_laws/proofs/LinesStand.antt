@@ -41,7 +41,7 @@ use Rattle.mqtt_rules.proofs.lines.LineLaw.{here, unique_quiet, unique_linked, u
 use Rattle.mqtt_rules.proofs.lines.LinePrepared.{cleared_shut, prepared_shut, named_is, named_stands}
 use Rattle.mqtt_rules.proofs.lines.LineRows.{IsStill, IsQuiet}
 use Rattle.mqtt_rules.proofs.lines.LineSteps.{Keep}
-use Rattle.mqtt_rules.proofs.numbers.NumberFacts.{Counts, counts_deed}
+use Rattle.mqtt_rules.proofs.numbers.Counters.{Counts, counts_deed}
 use Rattle.mqtt_rules.proofs.fit.RowsFit.{made_of, naming_call, moment_last, step_coherent}
 use Rattle.mqtt_world_model.specs.Run.{Acceptance, acceptances_of}
 use Rattle.mqtt_world_acceptance_laws.specs.Fair.{IsSteady}

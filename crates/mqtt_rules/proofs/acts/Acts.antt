@@ -46,7 +46,7 @@ use Rattle.mqtt_rules.specs.Tick.{is_silent, silence, has_lapsed, lapse_deeds, i
 use Rattle.mqtt_rules.specs.Step.{Call, NewLine, Input, BadInput, Lost, Pump, Tick, first_packet, next_packet, on_packet, on_fault, late_code, on_pump, can_link, deeds_of, close_if, opening}
 use Rattle.mqtt_rules.proofs.acts.Offers.{of_offer}
 use Rattle.mqtt_rules.proofs.flight.FlightRows.{found_key}
-use Rattle.mqtt_rules.proofs.fit.StoredLaw.{now_stays}
+use Rattle.mqtt_rules.proofs.numbers.Counters.{now_stays}
 use Rattle.mqtt_rules.specs.Laws.{IsAmong}
 use Rattle.mqtt_base.specs.declared.session.SubscriptionOptions.{SubscriptionOptions}
 use Rattle.mqtt_codec_subscribe.specs.Options.{options_of}

@@ -371,7 +371,7 @@ module _ (sizes : Sizes) (are : AreSizes sizes) where
   step_brings limits choice now call b taken h =
       let c = at_moment now b in
       let ds = deeds limits choice now call b in
-      rows.stamped_bring sizes c.now (rows_of_all ds c.records) (rows.written_bring sizes ds c (step_leads limits choice now call b taken h).0)
+      rows.stamped_bring sizes c.now c.records.moment (rows_of_all ds c.records) (rows.written_bring sizes ds c (step_leads limits choice now call b taken h).0)
 
   -- the rows of an opening bring lawful contents
   pub opening_brings : (limits : Limits) (choice : MemberChoice) (now : ℕ) (r : Records) → HasLawfulContents r
@@ -379,4 +379,4 @@ module _ (sizes : Sizes) (are : AreSizes sizes) where
   opening_brings limits choice now r h =
       let c = unopened now r in
       let ds = opening_deeds limits choice now r in
-      rows.stamped_bring sizes c.now (rows_of_all ds c.records) (rows.written_bring sizes ds c (opening_leads limits choice now r h).0)
+      rows.stamped_bring sizes c.now c.records.moment (rows_of_all ds c.records) (rows.written_bring sizes ds c (opening_leads limits choice now r h).0)

@@ -23,7 +23,7 @@ use Rattle.mqtt_records_message.specs.declared.message.Content.{Content}
 use Rattle.mqtt_records_message.specs.declared.message.Will.{Will}
 use Rattle.mqtt_records_message.specs.declared.message.MessageCopy.{MessageCopy}
 use Rattle.mqtt_rules.specs.Contents.{IsTopic, IsAskedFor, HasTopics, IsPublishedOf, IsWilledOf, IsCopiedOf, HasContentsOf, HasLawfulContentsOf, AreContentsOf, Sizes}
-use Rattle.mqtt_rules.specs.Step.{stamped}
+use Rattle.mqtt_rules.specs.Step.{stamp_of, stamped}
 use Rattle.mqtt_rules.proofs.acts.Goods.{AreGood}
 use Rattle.mqtt_rules.proofs.numbers.Copies.{each_append, each_filter, each_more, each_map}
 use Rattle.mqtt_records.specs.declared.subscription.Subscription.{Subscription}
@@ -171,10 +171,16 @@ module _ (sizes : Sizes) where
   written_bring [] b q = tt
   written_bring (d ∷ ds) b q = both_bring (rows_of d b.records) (rows_of_all ds (stored_after d b.records)) (rows_bring d b q.0) (written_bring ds (after d b) q.1)
 
-  -- rows that bring lawful contents do with the moment in front of them too
-  pub stamped_bring : (now : ℕ) (rows : List Change) → RowsBring rows → RowsBring (stamped now rows)
-  stamped_bring now [] q = tt
-  stamped_bring now (x ∷ rows) q = both_bring (x ∷ rows) (SetCounter Moment now ∷ []) q (tt, tt)
+  stamp_brings : (now was : ℕ) → RowsBring (stamp_of now was)
+  stamp_brings now was = elim (cases_Bool (nat_eq now was)) [
+    | inl same ↦ rw same tt
+    | inr other ↦ rw other (tt, tt)
+  ]
+
+  -- rows that bring lawful contents do with the moment behind them too
+  pub stamped_bring : (now was : ℕ) (rows : List Change) → RowsBring rows → RowsBring (stamped now was rows)
+  stamped_bring now was [] q = tt
+  stamped_bring now was (x ∷ rows) q = both_bring (x ∷ rows) (stamp_of now was) q (stamp_brings now was)
 
   -- ---- lines
 

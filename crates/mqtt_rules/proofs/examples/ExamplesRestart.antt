@@ -23,14 +23,14 @@ use Rattle.mqtt_codec.specs.Packets.{shortest_of}
 use Rattle.mqtt_codec.specs.Frames.{frame_at, body_at, versioned_at, lawful_at, packet_at}
 use Rattle.mqtt_records_message.specs.declared.message.MessageCopy.{MessageCopy}
 use Rattle.mqtt_records.specs.declared.session.Session.{Session}
-use Rattle.mqtt_records.specs.declared.change.Counter.TheVariants.{Publications, Moment}
+use Rattle.mqtt_records.specs.declared.change.Counter.TheVariants.{Moment, Publications}
 use Rattle.mqtt_records.specs.declared.change.Change.{Change}
 use Rattle.mqtt_records.specs.declared.change.Change.TheVariants.{SetCounter, PutInbound, PutCopy, SetCopy}
 use Rattle.mqtt_rules.specs.declared.Report.TheVariants.{Accepted, Entered, Ended}
 use Rattle.mqtt_rules.specs.Packets.{reason, puback, pubrec, pubrel, pubcomp, disconnect}
 use Rattle.mqtt_records_message.specs.PassedOn.{property}
 use Rattle.mqtt_rules.specs.State.{Broker}
-use Rattle.mqtt_rules.specs.Step.{Call, Input, Pump, deeds, rows_written, copy_of}
+use Rattle.mqtt_rules.specs.Step.{Call, Input, Pump, at_moment, deeds, rows_written, copy_of}
 use Rattle.mqtt_rules.proofs.examples.Play.{usual, first, hi, options, blank, Event, at, step, runs, tells, reopened, out, hello, welcome, in_line, topic, sends, copy_out, direct, subscribed, published, bytes, all_outputs, all_reports}
 
 -- ---- a stop after the commit of `pump`, before its output
@@ -82,13 +82,19 @@ abbrev rows_by : Call → Broker → List Change
 rows_by call b = rows_written (deeds usual first 0 call b) b
 
 rows_of_the_publish : rows_by (Input 2 (sends 10)) (runs subscribed blank)
-    ≡ SetCounter Publications 1 ∷ PutCopy 1 (record { place = 1; phase = Waiting; copy = its_copy }) ∷ PutInbound 2 10 ∷ SetCounter Moment 0 ∷ []
+    ≡ SetCounter Publications 1 ∷ PutCopy 1 (record { place = 1; phase = Waiting; copy = its_copy }) ∷ PutInbound 2 10 ∷ []
 unfolding varint
 rows_of_the_publish = refl
 
-rows_of_the_pump : rows_by (Pump 1) (runs published blank) ≡ SetCopy 1 1 (Sent 1) ∷ SetCounter Moment 0 ∷ []
+rows_of_the_pump : rows_by (Pump 1) (runs published blank) ≡ SetCopy 1 1 (Sent 1) ∷ []
 unfolding varint
 rows_of_the_pump = refl
+
+-- of a later moment than the stored one there is a row too
+rows_of_a_later_pump : rows_written (deeds usual first 5 (Pump 1) (runs published blank)) (at_moment 5 (runs published blank))
+    ≡ SetCopy 1 1 (Sent 1) ∷ SetCounter Moment 5 ∷ []
+unfolding varint
+rows_of_a_later_pump = refl
 
 -- a session that ends takes its subscriptions and copies with it
 abbrev ends_now : Packet

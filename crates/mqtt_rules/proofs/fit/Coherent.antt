@@ -21,7 +21,8 @@ use Rattle.mqtt_rules.specs.Laws.{IsOrdered, IsUnique, client_at, topic_at, IsAs
 use Rattle.mqtt_rules.proofs.numbers.Copies.{each_more, each_filter}
 use Rattle.mqtt_rules.proofs.flight.FlightRows.{found_key, all_at, all_changed_at, all_put, all_changed}
 use Rattle.mqtt_rules.proofs.numbers.NumberBirths.{below_none, given_deed}
-use Rattle.mqtt_rules.proofs.numbers.NumberFacts.{Counts, counts, counts_after, counts_deed, GivesNext}
+use Rattle.mqtt_rules.proofs.numbers.Counters.{Counts, counts, counts_after, counts_deed}
+use Rattle.mqtt_rules.proofs.numbers.NumberFacts.{GivesNext}
 use Rattle.mqtt_rules.proofs.order.Ordered.{changed_all-ordered}
 use Rattle.mqtt_rules.proofs.order.OrderedRoom.{at_retained, begin_retained}
 use Rattle.mqtt_rules.proofs.acts.LookedUp.{client_at_part, client_begun, client_finished}

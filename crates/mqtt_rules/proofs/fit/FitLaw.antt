@@ -39,7 +39,7 @@ use Rattle.mqtt_rules.proofs.acts.ByDeeds.{DeedLaw, MarkLaw}
 use Rattle.mqtt_rules.proofs.numbers.Copies.{IsOf, IsMade, IsBeside, beside_deliver}
 use Rattle.mqtt_rules.proofs.flight.FlightRows.{all_found, all_at}
 use Rattle.mqtt_rules.proofs.numbers.NumberBirths.{below_none, below_filter}
-use Rattle.mqtt_rules.proofs.numbers.NumberFacts.{Counts, counts, counts_after, counts_deed}
+use Rattle.mqtt_rules.proofs.numbers.Counters.{Counts, counts, counts_after, counts_deed}
 use Rattle.mqtt_rules.proofs.order.Ordered.{length-filter_le}
 use Rattle.mqtt_rules.proofs.order.OrderedRoom.{place_is_fit, found_place}
 use Rattle.mqtt_rules.proofs.acts.LookedUp.{field_at, field_kept}

@@ -4,8 +4,6 @@ use Rattle.std.specs.Prelude.{slice_index_or, is_some, option_map}
 use Rattle.std.specs.List.{All}
 use Rattle.std.proofs.lemmas.Bool.{lt-ltb, ltb-false}
 use Rattle.std.proofs.lemmas.Cmp.{nat_eq_equiv}
-use Rattle.mqtt_base.specs.declared.session.Phase.{Phase}
-use Rattle.mqtt_base.specs.declared.session.Phase.TheVariants.{Waiting, Sent, Released as ReleasedPhase, Oversize}
 use Rattle.mqtt_base.specs.declared.limits.TheConstants.{LAST_NUMBER, OPEN_LIMIT, QUEUE_LIMIT, SESSION_LIMIT}
 use Rattle.mqtt_records_message.specs.declared.message.RetainedMessage.{RetainedMessage}
 use Rattle.mqtt_records_message.specs.declared.message.Will.{Will}
@@ -26,7 +24,7 @@ use Rattle.mqtt_rules.specs.Laws.{IsAmong, IsCoherentSession}
 use Rattle.mqtt_rules.proofs.acts.Goods.{AreGood}
 use Rattle.mqtt_rules.proofs.flight.FlightRows.{found_key, all_found, all_at, change_row-here}
 use Rattle.mqtt_rules.proofs.numbers.NumberBirths.{below_none}
-use Rattle.mqtt_rules.proofs.numbers.NumberFacts.{Counts, counts, counts_after, counts_deed}
+use Rattle.mqtt_rules.proofs.numbers.Counters.{Counts, counts, counts_after, counts_deed}
 use Rattle.mqtt_rules.proofs.order.OrderedEnters.{RoomToEnter}
 use Rattle.mqtt_rules.proofs.fit.Turns.{Stands}
 use Rattle.mqtt_rules.proofs.fit.Coherent.{IsFitRow, IsFitPart, IsFit, Coheres, coheres_deed}

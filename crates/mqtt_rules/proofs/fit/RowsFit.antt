@@ -1,25 +1,24 @@
 -- The rows of every step and every opening fit, and leave records coherent.
-use Rattle.std.proofs.Common.{◌≡◌, ℕ, ◌≤◌, false, List, [], ◌∷◌, refl, sym, ap, subst, ◌∙◌, arith}
+use Rattle.std.proofs.Common.{◌≡◌, ℕ, ◌≤◌, false, List, [], ◌∷◌, nat_eq, refl, sym, ap, subst, ◌∙◌, arith, inl, inr}
+use Rattle.std.proofs.lemmas.Bool.{cases_Bool}
 use Rattle.std.specs.List.{AllByRecursion}
 use Rattle.mqtt_records.specs.declared.session.Session.{Session}
 use Rattle.std.proofs.Math.Nat.{max-le, le-min, min-le_right, le-max_left}
 use Rattle.mqtt_base.specs.declared.limits.TheConstants.{LAST_NUMBER, QUEUE_LIMIT}
 use Rattle.mqtt_records.specs.declared.records.Records.{Records}
 use Rattle.mqtt_records.specs.declared.change.Change.{Change}
-use Rattle.mqtt_records.specs.declared.change.Counter.TheVariants.{Moment}
-use Rattle.mqtt_records.specs.declared.change.Change.TheVariants.{SetCounter}
 use Rattle.mqtt_records.specs.Records.{nothing, changed_all, FitAll, IsNumber}
 use Rattle.mqtt_rules.specs.declared.Limits.{Limits}
 use Rattle.mqtt_rules.specs.State.{Broker, Env, stored, MemberChoice, capped}
 use Rattle.mqtt_rules.specs.Deeds.{Deed, rows_of_all, after_all}
-use Rattle.mqtt_rules.specs.Step.{Call, NewLine, Input, BadInput, Lost, Pump, Tick, deeds, deeds_of, at_moment, env_of, stamped, rows_written, with_moment, done, stepped, is_spent, is_step_spent, opening, opening_deeds, unopened, opened, is_opening_spent}
+use Rattle.mqtt_rules.specs.Step.{Call, NewLine, Input, BadInput, Lost, Pump, Tick, deeds, deeds_of, at_moment, env_of, stamp_of, stamped, rows_written, with_moment, done, stepped, is_spent, is_step_spent, opening, opening_deeds, unopened, opened, is_opening_spent}
 use Rattle.mqtt_rules.specs.Numbers.{IsTimed}
 use Rattle.mqtt_rules.specs.Laws.{HasTables, IsCoherent, AreWithin}
 use Rattle.mqtt_rules.proofs.acts.Goods.{AreGood}
 use Rattle.mqtt_rules.proofs.acts.Acts.{Law, IsCallOf, leads_call, leads_opening}
 use Rattle.mqtt_rules.proofs.acts.ByDeeds.{by_deeds, turn_law, by_deeds_shuts}
-use Rattle.mqtt_rules.proofs.fit.StoredLaw.{stored_after_all, now_stays}
-use Rattle.mqtt_rules.proofs.numbers.NumberFacts.{counts, moment_stays}
+use Rattle.mqtt_rules.proofs.fit.StoredLaw.{stored_after_all}
+use Rattle.mqtt_rules.proofs.numbers.Counters.{counts, moment_stays, now_stays}
 use Rattle.mqtt_rules.proofs.order.Ordered.{nothing-ordered}
 use Rattle.mqtt_rules.proofs.order.OrderedActs.{leads_all, leads_open}
 use Rattle.mqtt_rules.proofs.order.OrderedEnters.{ShortQueues, RoomToEnter, AreShort}
@@ -52,13 +51,19 @@ coherent r h n moment = record {
 
 -- ---- the moment's row
 
-stamped_unspent : (now : ℕ) (rows : List Change) → is_spent (stamped now rows) ≡ false → is_spent rows ≡ false
-stamped_unspent now [] e = refl
-stamped_unspent now (x ∷ rows) e = (unspent_append (x ∷ rows) (SetCounter Moment now ∷ []) e).0
+stamped_unspent : (now was : ℕ) (rows : List Change) → is_spent (stamped now was rows) ≡ false → is_spent rows ≡ false
+stamped_unspent now was [] e = refl
+stamped_unspent now was (x ∷ rows) e = (unspent_append (x ∷ rows) (stamp_of now was) e).0
 
-stamped_fits : (now : ℕ) (rows : List Change) (r : Records) → FitAll rows r → (changed_all rows r).moment ≤ now → IsNumber now → FitAll (stamped now rows) r
-stamped_fits now [] r fit le last = tt
-stamped_fits now (x ∷ rows) r fit le last = fit_append (x ∷ rows) (SetCounter Moment now ∷ []) r fit ((le, last), tt)
+stamp_fits : (now was : ℕ) (r : Records) → r.moment ≤ now → IsNumber now → FitAll (stamp_of now was) r
+stamp_fits now was r le last = elim (cases_Bool (nat_eq now was)) [
+  | inl same ↦ rw same tt
+  | inr other ↦ rw other ((le, last), tt)
+]
+
+stamped_fits : (now was : ℕ) (rows : List Change) (r : Records) → FitAll rows r → (changed_all rows r).moment ≤ now → IsNumber now → FitAll (stamped now was rows) r
+stamped_fits now was [] r fit le last = tt
+stamped_fits now was (x ∷ rows) r fit le last = fit_append (x ∷ rows) (stamp_of now was) r fit (stamp_fits now was (changed_all (x ∷ rows) r) le last)
 
 coherent_stamped : (rows : List Change) (b : Broker) → IsNumber b.now → IsCoherent b.records → IsCoherent (with_moment rows b).records
 coherent_stamped [] b last h = h
@@ -87,11 +92,11 @@ done_fits : (ds : List Deed) (b : Broker) → Ready ds b → is_spent (rows_writ
 done_fits ds b ready e =
     let r = b.records in
     let rows = rows_of_all ds r in
-    let made = fits_all ds b (made_of r ready.records) ready.fit ready.room ready.stands (numbers_of r ready.records) (stamped_unspent b.now rows e) in
+    let made = fits_all ds b (made_of r ready.records) ready.fit ready.room ready.stands (numbers_of r ready.records) (stamped_unspent b.now r.moment rows e) in
     let stays : (changed_all rows r).moment ≡ r.moment = ap (λ (x : Records). x.moment) (stored_after_all ds b) ∙ moment_stays ds b in
     let timed = ready.timed in
     let moment : IsNumber (after_all ds b).records.moment = subst IsNumber (sym (moment_stays ds b)) ready.records.counters.moment in (
-      stamped_fits b.now rows r made.0 (omega (arith, stays, timed)) ready.last,
+      stamped_fits b.now r.moment rows r made.0 (omega (arith, stays, timed)) ready.last,
       coherent_stamped rows (after_all ds b) (subst IsNumber (sym (now_stays ds b)) ready.last) (coherent (after_all ds b).records made.1 made.2 moment),
     )
 

@@ -19,7 +19,7 @@ use Rattle.mqtt_rules.specs.Laws.{client_at}
 use Rattle.mqtt_rules.proofs.acts.Goods.{AreGood, after_append, good_append, good_of_client, good_if}
 use Rattle.mqtt_rules.proofs.acts.Leads.{found_among, found_passes}
 use Rattle.mqtt_rules.proofs.acts.LookedUp.{client_at_part}
-use Rattle.mqtt_rules.proofs.numbers.NumberFacts.{Counts, counts_deed}
+use Rattle.mqtt_rules.proofs.numbers.Counters.{Counts, counts_deed}
 use Rattle.mqtt_rules.proofs.acts.Acts.{found_on, taken_over, settled, IsCleared, IsPrepared}
 use Rattle.mqtt_rules.proofs.fit.Coherent.{Coheres}
 use Rattle.mqtt_rules.proofs.fit.FitLaw.{name_is_new}

@@ -21,7 +21,7 @@ use Rattle.mqtt_rules.proofs.flight.FlightRows.{found_key}
 use Rattle.mqtt_rules.proofs.acts.Goods.{AreGood}
 use Rattle.mqtt_rules.proofs.acts.LookedUp.{row_at-change_row, field_changed, field_kept, client_at_part, client_finished}
 use Rattle.mqtt_rules.proofs.numbers.NumberBirths.{below_change}
-use Rattle.mqtt_rules.proofs.numbers.NumberFacts.{Counts, counts_deed}
+use Rattle.mqtt_rules.proofs.numbers.Counters.{Counts, counts_deed}
 
 -- ---- lines
 

@@ -30,7 +30,7 @@ use Rattle.mqtt_rules.proofs.acts.Goods.{AreGood, after_append, good_append, goo
 use Rattle.std.proofs.lemmas.Cmp.{nat_eq_equiv}
 use Rattle.mqtt_rules.proofs.flight.FlightRows.{found_key}
 use Rattle.mqtt_rules.proofs.acts.Leads.{Leads, row_among}
-use Rattle.mqtt_rules.proofs.numbers.NumberFacts.{Counts, counts_deed}
+use Rattle.mqtt_rules.proofs.numbers.Counters.{Counts, counts_deed}
 use Rattle.mqtt_rules.proofs.acts.Acts.{is_alone, closing, brought_to, MayEnd, IsPrepared, Law, leads_call}
 use Rattle.mqtt_rules.proofs.acts.ByDeeds.{by_deeds, turn_law}
 use Rattle.mqtt_rules.proofs.fit.Coherent.{Coheres, IsFit}

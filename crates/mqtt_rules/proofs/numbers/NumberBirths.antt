@@ -21,7 +21,8 @@ use Rattle.mqtt_rules.specs.State.{Broker, session_at, next_of}
 use Rattle.mqtt_rules.specs.Deeds.{Part, Resume, Deed, Accept, Begin, Name, Count, At, Finish, Keep, Forget, part_rows, part_rows_of, rows_of, stored_after, after, after_all}
 use Rattle.mqtt_rules.specs.Numbers.{HasGivenBirths}
 use Rattle.mqtt_rules.proofs.acts.Goods.{AreGood}
-use Rattle.mqtt_rules.proofs.numbers.NumberFacts.{Counts, counts_deed, GivesNext}
+use Rattle.mqtt_rules.proofs.numbers.Counters.{Counts, counts_deed}
+use Rattle.mqtt_rules.proofs.numbers.NumberFacts.{GivesNext}
 
 module _ {X : Type 0} (key : X → ℕ) where
   -- what is below a number is below a greater one

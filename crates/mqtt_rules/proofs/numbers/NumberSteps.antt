@@ -15,7 +15,8 @@ use Rattle.mqtt_rules.specs.Step.{Call, deeds, at_moment, env_of, with_moment, d
 use Rattle.mqtt_rules.specs.Numbers.{CountsOn, CountOn, NoneFell, IsTimed, HasGivenBirths}
 use Rattle.mqtt_rules.proofs.acts.Goods.{AreGood}
 use Rattle.mqtt_rules.proofs.acts.ByDeeds.{leads_deeds, leads_opened}
-use Rattle.mqtt_rules.proofs.numbers.NumberFacts.{GivesNext, next_law, next_mark, births_count, publications_count, grants_count, names_count, moment_stays, now_stays}
+use Rattle.mqtt_rules.proofs.numbers.Counters.{moment_stays, now_stays}
+use Rattle.mqtt_rules.proofs.numbers.NumberFacts.{GivesNext, next_law, next_mark, births_count, publications_count, grants_count, names_count}
 use Rattle.mqtt_rules.proofs.numbers.NumberBirths.{given_all}
 
 -- ---- numbers that count on

@@ -20,7 +20,7 @@ use Rattle.mqtt_records.specs.declared.session.Session.{Session}
 use Rattle.mqtt_rules.proofs.acts.Acts.{leads_settle}
 use Rattle.mqtt_rules.proofs.flight.FlightRows.{all_at, found_key}
 use Rattle.mqtt_rules.proofs.acts.Goods.{after_append}
-use Rattle.mqtt_rules.proofs.numbers.NumberFacts.{Counts, counts_deed}
+use Rattle.mqtt_rules.proofs.numbers.Counters.{Counts, counts_deed}
 use Rattle.mqtt_rules.proofs.fit.RowsFit.{queues_short}
 use Rattle.mqtt_rules.proofs.order.OrderedEnters.{still_short}
 use Rattle.mqtt_rules.specs.Closing.{end_session, has_due_end, has_due_will, publish_will, settle}

@@ -21,7 +21,7 @@ use Rattle.mqtt_world_model.proofs.seats.Seeing.{done_lines}
 use Rattle.mqtt_records.specs.declared.change.Change.{Change}
 use Rattle.mqtt_rules.proofs.acts.Goods.{AreGood}
 use Rattle.mqtt_rules.proofs.lines.LineLaw.{unique_quiet}
-use Rattle.mqtt_rules.proofs.numbers.NumberFacts.{now_stays}
+use Rattle.mqtt_rules.proofs.numbers.Counters.{now_stays}
 use Rattle.mqtt_rules.proofs.lines.LineRows.{IsQuiet, IsQuietOn, numbered}
 use Rattle.mqtt_rules.specs.Deeds.{At, Deed, Gone, Greet, Hear, Leave, Link, LinePart, Mark, On, Part, Send, SetAlias, Went, after, after_all, closing, line_after, lines_at, on_line, part_rows_of, rows_of_all, without_place}
 use Rattle.mqtt_rules.specs.Lines.{HasUniqueLines}

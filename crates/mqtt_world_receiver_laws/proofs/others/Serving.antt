@@ -13,7 +13,7 @@ use Rattle.mqtt_records_message.specs.declared.message.Will.{Will}
 use Rattle.mqtt_records.specs.Records.{changed_all}
 use Rattle.mqtt_records.specs.declared.records.Records.{Records}
 use Rattle.mqtt_records.specs.declared.session.Columns.{Columns}
-use Rattle.mqtt_rules.proofs.numbers.NumberFacts.{Counts, counts, counts_after, counts_deed}
+use Rattle.mqtt_rules.proofs.numbers.Counters.{Counts, counts, counts_after, counts_deed}
 use Rattle.mqtt_rules.specs.Deeds.{Whose, Accept, At, Begin, Deed, Finish, Gone, Greet, Hear, Leave, LinePart, Link, On, Part, SetAlias, Went, after, after_all, begin_rows, fresh_line, given_after, line_after, lines_after, lines_at, on_line, stored_after, without_place}
 use Rattle.mqtt_rules.specs.State.{Line as BrokerLine, Broker, is_of, session_at}
 use Rattle.mqtt_world_receiver_laws.specs.Others.{IsOfOthers, IsPartOfOthers}

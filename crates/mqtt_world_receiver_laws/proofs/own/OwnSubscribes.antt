@@ -39,7 +39,7 @@ use Rattle.mqtt_rules.proofs.acts.Acts.{brought_to}
 use Rattle.mqtt_rules.proofs.numbers.Copies.{IsMade, IsOf, brought_made as all_made, each_append, each_filter, each_more}
 use Rattle.mqtt_rules.proofs.flight.FlightRows.{all_at, all_more, change_row-here, found_key}
 use Rattle.mqtt_rules.proofs.acts.Goods.{after_append}
-use Rattle.mqtt_rules.proofs.numbers.NumberFacts.{Counts, counts, counts_deed}
+use Rattle.mqtt_rules.proofs.numbers.Counters.{Counts, counts, counts_deed}
 use Rattle.mqtt_rules.proofs.fit.RowsFit.{queues_short}
 use Rattle.mqtt_rules.proofs.order.OrderedEnters.{ShortQueues, enters, own_stay, still_short}
 use Rattle.mqtt_rules.proofs.order.OrderedQueues.{stay_is}
