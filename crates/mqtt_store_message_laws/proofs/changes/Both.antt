@@ -1,5 +1,5 @@
 -- Between the statements that change rows and the sweeps, and after these.
-use Rattle.std.proofs.Common.{◌≡◌, ◌⊎◌, ℕ, List, sym}
+use Rattle.std.proofs.Common.{◌⊎◌, ℕ, List}
 use Rattle.sqlite_trees.specs.Tree.{Trees}
 use Rattle.mqtt_records.specs.declared.records.Records.{Records}
 use Rattle.mqtt_records.specs.Records.{kept_place}

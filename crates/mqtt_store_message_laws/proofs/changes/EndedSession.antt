@@ -1,5 +1,5 @@
 -- All tables after a session is removed with its rows.
-use Rattle.std.proofs.Common.{◌≡◌, ◌≢◌, ℕ, pos, ap, refl, sym, ◌∙◌, inl, inr, arith}
+use Rattle.std.proofs.Common.{◌≡◌, ◌≢◌, ℕ, pos, ap, refl, ◌∙◌, inl, inr, arith}
 use Rattle.sqlite_value.specs.Order.{Row, column}
 use Rattle.sqlite_trees.specs.Tree.{Trees}
 use Rattle.mqtt_records_message.specs.Queue.{CopyRow}

@@ -21,7 +21,7 @@ use Rattle.mqtt_store_write.proofs.tables.Spared.{meta_spared, session_spared, w
 use Rattle.mqtt_store_write.proofs.tables.Whole.{Spares}
 use Rattle.mqtt_store_message.proofs.Behind.{asked}
 use Rattle.mqtt_store_laws.specs.Members.{Has as HasItem, HasColumns, AllOrdered, InPart, will_of, subscriptions_of, inbound_of, queue_of}
-use Rattle.mqtt_store_laws.specs.Items.{IsNumberRow, IsSessionRow, IsWillRow, IsSubscriptionRow, IsOpenRow, session_columns, will_columns, subscription_columns}
+use Rattle.mqtt_store_laws.specs.Items.{IsNumberRow, IsWillRow, IsSubscriptionRow, IsOpenRow, session_columns, will_columns, subscription_columns}
 use Rattle.mqtt_store_laws.specs.Written.{AreWritten, IsWillOf, IsSubscriptionOf, IsOpenOf, IsSayableWill, IsSayableSubscription}
 use Rattle.mqtt_store_laws.proofs.records.Lists.{will_new, will_out_new, subscription_new, subscription_out_new}
 use Rattle.mqtt_store_laws.proofs.records.Ordered.{ordered_after}
@@ -32,7 +32,7 @@ use Rattle.mqtt_store_laws.proofs.tables.Five.{session_put, will_put, will_remov
 use Rattle.mqtt_store_laws.proofs.tables.Kept.{moved}
 use Rattle.mqtt_store_laws.proofs.tables.Tables.{unchanged}
 use Rattle.mqtt_store_message_laws.specs.Written.{KeepsRowsTwo, AreInOrderTwo, second_numbers}
-use Rattle.mqtt_store_message_laws.proofs.messages.Others.{SameItems, edited_items, session_items}
+use Rattle.mqtt_store_message_laws.proofs.messages.Others.{edited_items, session_items}
 use Rattle.mqtt_store_message_laws.proofs.tables.Order.{order_put, order_removed}
 use Rattle.mqtt_store_message_laws.proofs.changes.Rest.{rest_keeps}
 

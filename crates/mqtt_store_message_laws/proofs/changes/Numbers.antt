@@ -18,7 +18,7 @@ use Rattle.mqtt_store_laws.specs.Written.{AreWritten, IsWillOf, IsSubscriptionOf
 use Rattle.mqtt_store_laws.proofs.changes.Numbers.{counted_sessions}
 use Rattle.mqtt_store_laws.proofs.records.Ordered.{ordered_after}
 use Rattle.mqtt_store_laws.proofs.tables.Kept.{moved}
-use Rattle.mqtt_store_laws.proofs.tables.Numbers.{set_one, set_puts, number_set, number_named}
+use Rattle.mqtt_store_laws.proofs.tables.Numbers.{set_one, number_set, number_named}
 use Rattle.mqtt_store_message_laws.specs.Written.{KeepsRowsTwo, AreInOrderTwo, second_numbers}
 use Rattle.mqtt_store_message_laws.proofs.messages.Others.{SameItems, counter_items}
 use Rattle.mqtt_store_message_laws.proofs.tables.Order.{order_put}

@@ -1,5 +1,5 @@
 -- All tables after a copy is put.
-use Rattle.std.proofs.Common.{◌≡◌, ◌⊎◌, ℕ, pos, refl, sym, subst, ◌∙◌, inl, inr}
+use Rattle.std.proofs.Common.{◌≡◌, ℕ, pos, refl, sym, subst, ◌∙◌, inl, inr}
 use Rattle.sqlite_trees.specs.Tree.{Trees}
 use Rattle.sqlite_rules.specs.Edit.{next_rowid}
 use Rattle.mqtt_records_message.specs.Queue.{CopyRow}

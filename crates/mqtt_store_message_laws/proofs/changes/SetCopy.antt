@@ -1,9 +1,7 @@
 -- All tables after a copy's phase is set.
-use Rattle.std.proofs.Common.{◌≡◌, ℕ, refl, sym, ◌∙◌, inl, inr}
-use Rattle.sqlite_value.specs.declared.value.Value.TheVariants.{Int}
+use Rattle.std.proofs.Common.{◌≡◌, ℕ, refl, sym, inl, inr}
 use Rattle.sqlite_trees.specs.Tree.{Trees, has_rowid}
 use Rattle.mqtt_base.specs.declared.session.Phase.{Phase}
-use Rattle.mqtt_records_message.specs.Queue.{CopyRow}
 use Rattle.mqtt_records.specs.declared.records.Records.{Records}
 use Rattle.mqtt_records.specs.declared.change.Change.TheVariants.{SetCopy}
 use Rattle.mqtt_records.specs.Records.{changed}

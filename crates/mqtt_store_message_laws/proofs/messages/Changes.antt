@@ -1,11 +1,10 @@
 -- Contents stay shared after each change that fits.
-use Rattle.std.proofs.Common.{ℕ, refl}
+use Rattle.std.proofs.Common.{refl}
 use Rattle.std.specs.Prelude.{Some, None}
 use Rattle.mqtt_records.specs.declared.change.Change.{Change}
 use Rattle.mqtt_records.specs.declared.change.Change.TheVariants.{SetCounter, PutSession, SetSession, RemoveSession, PutWill, RemoveWill, PutSubscription, RemoveSubscription, PutInbound, RemoveInbound, PutCopy, SetCopy, RemoveCopy, PutRetained, RemoveRetained}
-use Rattle.mqtt_records.specs.declared.session.Session.{Session}
 use Rattle.mqtt_records.specs.declared.records.Records.{Records}
-use Rattle.mqtt_records.specs.Records.{changed, in_session, Fits, kept_place}
+use Rattle.mqtt_records.specs.Records.{changed, Fits, kept_place}
 use Rattle.mqtt_records.specs.Session.{with_columns, with_will, with_subscription, without_subscription, with_open, without_open}
 use Rattle.mqtt_records_rows.specs.Order.{IsAscending}
 use Rattle.mqtt_store_laws.specs.Members.{AllOrdered}

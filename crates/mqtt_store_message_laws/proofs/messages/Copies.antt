@@ -1,5 +1,5 @@
 -- What is said before and after a change of copies.
-use Rattle.std.proofs.Common.{◌≡◌, ◌⊎◌, ℕ, ap, sym, ◌∙◌, refl, inl, inr}
+use Rattle.std.proofs.Common.{◌≡◌, ◌⊎◌, ℕ, ap, ◌∙◌, refl, inl, inr}
 use Rattle.mqtt_base.specs.declared.session.Phase.{Phase}
 use Rattle.mqtt_records_message.specs.Queue.{CopyRow}
 use Rattle.mqtt_records.specs.declared.records.Records.{Records}

@@ -1,5 +1,5 @@
 -- The trees of schema 2's tables: none is an index's, and they lie apart.
-use Rattle.std.proofs.Common.{◌≡◌, ◌≢◌, ℕ, ◌≤◌, arith}
+use Rattle.std.proofs.Common.{◌≢◌, ℕ, ◌≤◌, arith}
 use Rattle.sqlite_rules.specs.Edit.{IsNoIndex}
 use Rattle.mqtt_store_schema_two.specs.declared.tables.Making.{Making}
 use Rattle.mqtt_store_schema_two.specs.declared.tables.Making.TheVariants.{New, TakenOver}

@@ -1,12 +1,11 @@
 -- The table of messages after a message is put, unless one of its number stands.
-use Rattle.std.proofs.Common.{◌≡◌, ◌⊎◌, ℕ, pos, Bool, true, false, not, List, [], ◌∷◌, if◌then◌else◌, refl, sym, ap, ◌∙◌, subst, inl, inr, true≢false}
+use Rattle.std.proofs.Common.{◌≡◌, ◌⊎◌, pos, Bool, true, false, not, List, [], ◌∷◌, refl, sym, ap, ◌∙◌, subst, inl, inr, true≢false}
 use Rattle.std.specs.List.{list_any}
 use Rattle.std.specs.Ordering.{is_eq}
 use Rattle.std.proofs.lemmas.Bool.{cases_Bool, false_from_ne_true, and_from}
 use Rattle.sqlite_value.specs.declared.value.Value.TheVariants.{Int}
 use Rattle.sqlite_value.specs.Order.{Row, column, value_cmp}
 use Rattle.sqlite_trees.specs.Tree.{Trees, rowid, put_row}
-use Rattle.sqlite_rules.specs.Lists.{Has}
 use Rattle.sqlite_rules.specs.Edit.{is_taken}
 use Rattle.sqlite_rules.proofs.ListLemmas.{all_has, some_has, some_from}
 use Rattle.sqlite_rules.proofs.TableLemmas.{has_put, put_has, put_all_keeps}
@@ -15,7 +14,6 @@ use Rattle.mqtt_store_write.specs.Content.{is_of, IsShapedAt}
 use Rattle.mqtt_store_write.proofs.deletes.RemoveSession.{equal_ids}
 use Rattle.mqtt_store_message.specs.Places.{message_tree}
 use Rattle.mqtt_store_message.specs.Rows.{message_row}
-use Rattle.mqtt_store_message.specs.Messages.{with_missing}
 use Rattle.mqtt_store_laws.specs.Written.{AreWritten}
 use Rattle.mqtt_store_laws.proofs.tables.Keys.{found_number}
 use Rattle.mqtt_records.specs.declared.records.Records.{Records}

@@ -1,6 +1,5 @@
 -- The table of messages after sweeps.
 use Rattle.std.proofs.Common.{◌≡◌, ◌⊎◌, ℕ, pos, Bool, true, false, not, ◌&&◌, ◌||◌, List, [], ◌∷◌, refl, sym, ap, ◌∙◌, subst, inl, inr, true≢false}
-use Rattle.std.specs.List.{list_any}
 use Rattle.std.proofs.lemmas.Bool.{cases_Bool}
 use Rattle.sqlite_value.specs.declared.value.Value.TheVariants.{Int}
 use Rattle.sqlite_value.specs.Order.{Row, column}
@@ -122,14 +121,17 @@ module _ (making : Making) (q r : Records) (agree : (m : StoredMessage) → IsMe
           (it.0, removed_old (second_layout making) (message_tree making) gone old new it.0 sweeps (it.1, stays m it.0 said it.2), it.2);
       only = λ row there.
           let was = removed_new (second_layout making) (message_tree making) gone old new row sweeps there in
-          let it = left.only row was.0 in
-          (it.0, elim it.1 [
-            | inl said ↦ inl said
-            | inr gone_by ↦ elim gone_by.1 [
-              | inl same ↦ inl (still it.0 row gone_by.0 same it.2 was.1)
-              | inr later ↦ inr (gone_by.0, later)
-            ]
-          ], it.2);
+          let it = left.only row was.0 in (
+            it.0,
+            elim it.1 [
+              | inl said ↦ inl said
+              | inr gone_by ↦ elim gone_by.1 [
+                | inl same ↦ inl (still it.0 row gone_by.0 same it.2 was.1)
+                | inr later ↦ inr (gone_by.0, later)
+              ]
+            ],
+            it.2,
+          );
     }
 
   -- after all sweeps the table has the rows of the messages after the change
@@ -156,12 +158,15 @@ module _ (making : Making) (q r : Records) (agree : (m : StoredMessage) → IsMe
   swept_table numbers old new are lost written sweeps = swept_all numbers old new are sweeps (record {
     each = λ m said. written.each m (inr said);
     only = λ row there.
-        let it = written.only row there in
-        (it.0, elim it.1 [
-          | inl was ↦ elim (lost it.0 was) [
-            | inl said ↦ inl said
-            | inr told ↦ inr (was, told)
-          ]
-          | inr said ↦ inl said
-        ], it.2);
+        let it = written.only row there in (
+          it.0,
+          elim it.1 [
+            | inl was ↦ elim (lost it.0 was) [
+              | inl said ↦ inl said
+              | inr told ↦ inr (was, told)
+            ]
+            | inr said ↦ inl said
+          ],
+          it.2,
+        );
   })
