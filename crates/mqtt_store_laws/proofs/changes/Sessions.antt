@@ -1,5 +1,5 @@
 -- The table of sessions after a session's own row is put or set.
-use Rattle.std.proofs.Common.{◌≡◌, ◌≢◌, ◌⊎◌, pos, Bool, [], refl, sym, subst, arith}
+use Rattle.std.proofs.Common.{◌≡◌, pos, Bool, refl, arith}
 use Rattle.sqlite_value.specs.Order.{Row}
 use Rattle.sqlite_trees.specs.Tree.{Trees}
 use Rattle.mqtt_records.specs.declared.session.Session.{Session}
@@ -14,15 +14,14 @@ use Rattle.mqtt_store_write.specs.Layout.{first_layout}
 use Rattle.mqtt_store_write.specs.Columns.{session_row}
 use Rattle.mqtt_store_write.specs.Content.{is_of}
 use Rattle.mqtt_store_write.specs.Put.{PutsInto}
-use Rattle.mqtt_store_write.proofs.steps.Stands.{key_free}
-use Rattle.mqtt_store_laws.specs.Items.{IsNumberRow, IsSessionRow, IsWillRow, IsSubscriptionRow, IsOpenRow, IsCopyRow, IsRetainedRow, session_columns}
-use Rattle.mqtt_store_laws.specs.Written.{AreWritten, KeepsRows, AreInOrder, numbers_in, IsWillOf, IsSubscriptionOf, IsOpenOf, IsCopyOf}
-use Rattle.mqtt_store_laws.proofs.tables.Keys.{missed_number, other_number}
-use Rattle.mqtt_store_laws.proofs.tables.Tables.{with_row, unchanged}
+use Rattle.mqtt_store_laws.specs.Items.{IsNumberRow, IsWillRow, IsSubscriptionRow, IsOpenRow, IsCopyRow, IsRetainedRow, session_columns}
+use Rattle.mqtt_store_laws.specs.Written.{KeepsRows, AreInOrder, numbers_in, IsWillOf, IsSubscriptionOf, IsOpenOf, IsCopyOf}
+use Rattle.mqtt_store_laws.proofs.tables.Tables.{unchanged}
 use Rattle.mqtt_store_laws.proofs.records.Parts.{put_part_new, put_part_old}
 use Rattle.mqtt_store_laws.proofs.records.Ordered.{ordered_after, by_place_after}
 use Rattle.mqtt_store_laws.proofs.tables.Trees.{meta_same, will_same, sub_same, inbound_same, copy_same, retained_same, order_put}
 use Rattle.mqtt_store_laws.proofs.tables.Edited.{wills_stay, subscriptions_stay, inbound_stays, copies_stay, wills_said, subscriptions_said, own_said, copies_said}
+use Rattle.mqtt_store_laws.proofs.tables.Five.{session_put}
 use Rattle.mqtt_store_laws.proofs.tables.Kept.{moved, single_same}
 
 module _ (db next : Trees) (r : Records) (keeps : KeepsRows db r) (order : AreInOrder db) (row : Columns)
@@ -32,24 +31,6 @@ module _ (db next : Trees) (r : Records) (keeps : KeepsRows db r) (order : AreIn
 
   abbrev gone : Row → Bool
   gone = is_of 0 (pos row.birth)
-
-  abbrev Other : Columns → Type 0
-  Other c = c.birth ≢ row.birth
-
-  abbrev New : Columns → Type 0
-  New c = c ≡ row
-
-  says : (c : Columns) → New c → IsSessionRow c put
-  says c new = subst (λ (z : Columns). IsSessionRow z put) (sym new) (record { birth = refl; client = refl; expiry = refl; closed = refl })
-
-  -- the table, if the sessions' own rows are those that were, but for this one
-  put_table : (Next : Columns → Type 0) → ((c : Columns) → Next c → New c ⊎ (HasColumns r c × Other c)) → ((c : Columns) → New c ⊎ (HasColumns r c × Other c) → Next c) → AreWritten IsSessionRow Next (next 2)
-  put_table Next to back = with_row IsSessionRow (HasColumns r) Next Other gone (db 2)
-      (λ c row_c item there is missed. missed_number 0 c.birth row.birth row_c is.birth missed)
-      (λ c row_c item there is other. other_number 0 c.birth row.birth row_c is.birth other)
-      keeps.rows.sessions New 2 put db next refl h
-      (key_free 2 (pos row.birth) [] gone db order.shaped.session (λ row_c missed. missed))
-      (row, refl) says to back
 
   -- after a session's own row is put or set, the tables are in order
   pub put_order : AreInOrder next
@@ -68,7 +49,7 @@ module _ (db next : Trees) (r : Records) (keeps : KeepsRows db r) (order : AreIn
         record {
           rows = record {
             meta = moved IsNumberRow (HasItem (numbers_in r)) (db 0) (next 0) meta keeps.rows.meta;
-            sessions = put_table (HasColumns after) (columns_put_new row r up fits.0) (columns_put_old row r up fits.0);
+            sessions = session_put db next r keeps.rows.sessions order.shaped.session row h (HasColumns after) (columns_put_new row r up fits.0) (columns_put_old row r up fits.0);
             wills = unchanged IsWillRow (IsWillOf r) (IsWillOf after) (db 4) (next 4) (will_same 2 db next h.others (omega arith))
                 (λ x. put_part_new row r.sessions up fits.0 will_of (λ s. refl) refl x.0 x.1) (λ x. put_part_old row r.sessions up fits.0 will_of (λ s. refl) refl x.0 x.1) keeps.rows.wills;
             subscriptions = unchanged IsSubscriptionRow (IsSubscriptionOf r) (IsSubscriptionOf after) (db 5) (next 5) (sub_same 2 db next h.others (omega arith))
@@ -105,7 +86,7 @@ module _ (db next : Trees) (r : Records) (keeps : KeepsRows db r) (order : AreIn
         record {
           rows = record {
             meta = moved IsNumberRow (HasItem (numbers_in r)) (db 0) (next 0) meta keeps.rows.meta;
-            sessions = put_table (HasColumns (changed (SetSession row) r)) (columns_set_new row r up) (columns_set_old row r up (any_some _ _ fits.0));
+            sessions = session_put db next r keeps.rows.sessions order.shaped.session row h (HasColumns (changed (SetSession row) r)) (columns_set_new row r up) (columns_set_old row r up (any_some _ _ fits.0));
             wills = wills_stay r birth f up same db next (λ s. refl) (will_same 2 db next h.others (omega arith)) keeps.rows.wills;
             subscriptions = subscriptions_stay r birth f up same db next (λ s. refl) (sub_same 2 db next h.others (omega arith)) keeps.rows.subscriptions;
             inbound = inbound_stays r birth f up same db next (λ s. refl) (inbound_same 2 db next h.others (omega arith)) keeps.rows.inbound;

@@ -1,8 +1,6 @@
 -- The Wills' table after a Will is put or removed.
-use Rattle.std.proofs.Common.{◌≡◌, ◌≢◌, ℕ, pos, [], refl, sym, ap, subst, arith, inl, inr}
+use Rattle.std.proofs.Common.{◌≡◌, ℕ, pos, refl, sym, subst, arith, inl, inr}
 use Rattle.std.specs.Prelude.{Some, None}
-use Rattle.sqlite_value.specs.declared.value.Value.TheVariants.{Int}
-use Rattle.sqlite_value.specs.Order.{Row, column}
 use Rattle.sqlite_trees.specs.Tree.{Trees}
 use Rattle.mqtt_records_message.specs.declared.message.Will.{Will}
 use Rattle.mqtt_records.specs.declared.session.Session.{Session}
@@ -10,44 +8,23 @@ use Rattle.mqtt_records.specs.declared.records.Records.{Records}
 use Rattle.mqtt_records.specs.declared.change.Change.TheVariants.{PutWill, RemoveWill}
 use Rattle.mqtt_records.specs.Records.{changed, Fits}
 use Rattle.mqtt_records.specs.Session.{with_will}
-use Rattle.mqtt_store_laws.proofs.records.Lists.{will_new, will_old, will_out_new, will_out_old}
+use Rattle.mqtt_store_laws.proofs.records.Lists.{will_new, will_out_new}
 use Rattle.mqtt_store_write.specs.Layout.{first_layout}
 use Rattle.mqtt_store_write.specs.Columns.{will_row}
 use Rattle.mqtt_store_write.specs.Content.{is_of}
 use Rattle.mqtt_store_write.specs.Put.{PutsInto}
 use Rattle.mqtt_store_write.specs.Removal.{RemovesFrom}
-use Rattle.mqtt_store_write.proofs.steps.Stands.{key_free}
 use Rattle.mqtt_store_laws.specs.Members.{Has as HasItem}
-use Rattle.mqtt_store_laws.specs.Items.{IsNumberRow, IsWillRow, IsRetainedRow, will_columns}
-use Rattle.mqtt_store_laws.specs.Written.{AreWritten, KeepsRows, AreInOrder, numbers_in, IsWillOf, IsSayableWill}
-use Rattle.mqtt_store_laws.proofs.tables.Keys.{missed_number, other_number}
-use Rattle.mqtt_store_laws.proofs.tables.Tables.{without_rows, with_row}
+use Rattle.mqtt_store_laws.specs.Items.{IsNumberRow, IsRetainedRow, will_columns}
+use Rattle.mqtt_store_laws.specs.Written.{KeepsRows, AreInOrder, numbers_in, IsSayableWill}
 use Rattle.mqtt_store_laws.proofs.records.Ordered.{ordered_after, by_place_after}
 use Rattle.mqtt_store_laws.proofs.tables.Trees.{meta_same, session_same, sub_same, inbound_same, copy_same, retained_same, order_put, order_removed}
 use Rattle.mqtt_store_laws.proofs.tables.Edited.{sessions_stay, subscriptions_stay, inbound_stays, copies_stay, subscriptions_said, own_said, copies_said}
+use Rattle.mqtt_store_laws.proofs.tables.Five.{will_put, will_removed}
 use Rattle.mqtt_store_laws.proofs.tables.Kept.{moved, single_same}
 
--- a Will's row has the birth of its session as its number
-pub will_birth : (x : ℕ × Will) (row : Row) → IsWillRow x row → column row 0 ≡ Int (pos x.0)
-will_birth x row is = ap (λ (r : Row). column r 0) is
-
 module _ (db next : Trees) (r : Records) (keeps : KeepsRows db r) (order : AreInOrder db) (birth : ℕ) where
-  abbrev Other : ℕ × Will → Type 0
-  Other x = x.0 ≢ birth
-
   module _ (will : Will) (fits : Fits (PutWill birth will) r) (h : PutsInto first_layout 4 (will_row birth (will_columns will)) (is_of 0 (pos birth)) db next) where
-    put_table : AreWritten IsWillRow (IsWillOf (changed (PutWill birth will) r)) (next 4)
-    put_table = with_row IsWillRow (IsWillOf r) (IsWillOf (changed (PutWill birth will) r)) Other (is_of 0 (pos birth)) (db 4)
-        (λ x row item there is missed. missed_number 0 x.0 birth row (will_birth x row is) missed)
-        (λ x row item there is other. other_number 0 x.0 birth row (will_birth x row is) other)
-        keeps.rows.wills
-        (λ x. (x.0 ≡ birth) × (x.1 ≡ will)) 4 (will_row birth (will_columns will)) db next refl h
-        (key_free 4 (pos birth) [] (is_of 0 (pos birth)) db order.shaped.will (λ row e. e))
-        ((birth, will), (refl, refl))
-        (λ x new. rw (new.0, new.1) refl)
-        (λ x n. will_new r keeps.ordered birth will x.0 x.1 n)
-        (λ x it. will_old r keeps.ordered birth will fits x.0 x.1 it)
-
     -- after a Will is put, the tables have the rows of the changed records
     pub put_keeps : IsSayableWill will → KeepsRows next (changed (PutWill birth will) r)
     put_keeps says =
@@ -60,7 +37,7 @@ module _ (db next : Trees) (r : Records) (keeps : KeepsRows db r) (order : AreIn
           rows = record {
             meta = moved IsNumberRow (HasItem (numbers_in r)) (db 0) (next 0) meta keeps.rows.meta;
             sessions = sessions_stay r birth f up same db next (λ s. refl) (session_same 4 db next h.others (omega arith)) keeps.rows.sessions;
-            wills = put_table;
+            wills = will_put db next r keeps.ordered keeps.rows.wills birth order.shaped.will will fits h;
             subscriptions = subscriptions_stay r birth f up same db next (λ s. refl) (sub_same 4 db next h.others (omega arith)) keeps.rows.subscriptions;
             inbound = inbound_stays r birth f up same db next (λ s. refl) (inbound_same 4 db next h.others (omega arith)) keeps.rows.inbound;
             copies = copies_stay r birth f up same db next (λ s. refl) copy keeps.rows.copies;
@@ -86,14 +63,6 @@ module _ (db next : Trees) (r : Records) (keeps : KeepsRows db r) (order : AreIn
     put_order = order_put 4 (pos birth) (will_row birth (will_columns will)) (is_of 0 (pos birth)) db next refl h order.shaped.will order
 
   module _ (h : RemovesFrom first_layout 4 (is_of 0 (pos birth)) db next) where
-    removed_table : AreWritten IsWillRow (IsWillOf (changed (RemoveWill birth) r)) (next 4)
-    removed_table = without_rows IsWillRow (IsWillOf r) (IsWillOf (changed (RemoveWill birth) r)) Other (is_of 0 (pos birth)) (db 4)
-        (λ x row item there is missed. missed_number 0 x.0 birth row (will_birth x row is) missed)
-        (λ x row item there is other. other_number 0 x.0 birth row (will_birth x row is) other)
-        keeps.rows.wills (next 4) h.rows
-        (λ x n. will_out_new r keeps.ordered birth x.0 x.1 n)
-        (λ x it. will_out_old r keeps.ordered birth x.0 x.1 it)
-
     -- after a Will is removed, the tables have the rows of the changed records
     pub removal_keeps : KeepsRows next (changed (RemoveWill birth) r)
     removal_keeps =
@@ -106,7 +75,7 @@ module _ (db next : Trees) (r : Records) (keeps : KeepsRows db r) (order : AreIn
           rows = record {
             meta = moved IsNumberRow (HasItem (numbers_in r)) (db 0) (next 0) meta keeps.rows.meta;
             sessions = sessions_stay r birth f up same db next (λ s. refl) (session_same 4 db next h.others (omega arith)) keeps.rows.sessions;
-            wills = removed_table;
+            wills = will_removed db next r keeps.ordered keeps.rows.wills birth h;
             subscriptions = subscriptions_stay r birth f up same db next (λ s. refl) (sub_same 4 db next h.others (omega arith)) keeps.rows.subscriptions;
             inbound = inbound_stays r birth f up same db next (λ s. refl) (inbound_same 4 db next h.others (omega arith)) keeps.rows.inbound;
             copies = copies_stay r birth f up same db next (λ s. refl) copy keeps.rows.copies;

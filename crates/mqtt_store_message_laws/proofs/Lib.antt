@@ -1,0 +1,4 @@
+pub mod messages
+pub mod tables
+pub mod changes
+pub mod Examples

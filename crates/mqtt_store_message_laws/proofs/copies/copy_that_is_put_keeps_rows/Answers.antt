@@ -1,0 +1,8 @@
+use Rattle.mqtt_store_message_laws.proofs.changes.PutCopy.{put_keeps, put_in_order}
+use Rattle.mqtt_store_message_laws.proofs.copies.copy_that_is_put_keeps_rows.Goals as goal
+
+pub returns-clause-rows : goal.returns-clause-rows
+returns-clause-rows c making birth entry db next r k o fits agrees says h = put_keeps making db next r k o birth entry fits agrees h says
+
+pub returns-clause-order : goal.returns-clause-order
+returns-clause-order c making birth entry db next r k o fits agrees h = put_in_order making db next r k o birth entry fits agrees h

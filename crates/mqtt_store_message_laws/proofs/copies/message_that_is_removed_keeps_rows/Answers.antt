@@ -1,0 +1,8 @@
+use Rattle.mqtt_store_message_laws.proofs.changes.Retained.{removal_keeps, removal_in_order}
+use Rattle.mqtt_store_message_laws.proofs.copies.message_that_is_removed_keeps_rows.Goals as goal
+
+pub returns-clause-rows : goal.returns-clause-rows
+returns-clause-rows c making place db next r k o h = removal_keeps making db next r k o place h
+
+pub returns-clause-order : goal.returns-clause-order
+returns-clause-order c making place db next r k o h = removal_in_order making db next r k o place h

@@ -1,0 +1,8 @@
+use Rattle.mqtt_store_message_laws.proofs.changes.EndedSession.{ended_keeps, ended_in_order}
+use Rattle.mqtt_store_message_laws.proofs.copies.session_that_is_removed_keeps_rows.Goals as goal
+
+pub returns-clause-rows : goal.returns-clause-rows
+returns-clause-rows c making birth db next r k o h = ended_keeps making db next r k o birth h
+
+pub returns-clause-order : goal.returns-clause-order
+returns-clause-order c making birth db next r k o h = ended_in_order making db next r k o birth h

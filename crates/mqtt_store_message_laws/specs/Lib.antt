@@ -1,0 +1,4 @@
+pub mod Messages
+pub mod Items
+pub mod Written
+pub mod Steps

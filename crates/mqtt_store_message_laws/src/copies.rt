@@ -1,0 +1,84 @@
+//! What the statements of a change of copies or retained messages make of the rows that are kept.
+ghost use Rattle.std.specs.Prelude.{◌≡◌, ℕ};
+ghost use Rattle.sqlite_trees.specs.Tree.{Trees};
+ghost use Rattle.mqtt_base.specs.declared.session.Phase.{Phase};
+ghost use Rattle.mqtt_records_message.specs.declared.message.RetainedMessage.{RetainedMessage};
+ghost use Rattle.mqtt_records_message.specs.Queue.{CopyRow};
+ghost use Rattle.mqtt_records.specs.declared.change.Change.TheVariants.{PutCopy, SetCopy, RemoveCopy, RemoveSession, PutRetained, RemoveRetained};
+ghost use Rattle.mqtt_records.specs.declared.records.Records.{Records};
+ghost use Rattle.mqtt_records.specs.Records.{changed, Fits};
+ghost use Rattle.mqtt_store_schema_two.specs.declared.tables.Making.{Making};
+ghost use Rattle.mqtt_store_laws.specs.Written.{IsSayableCopy, IsSayableRetained};
+ghost use Rattle.mqtt_store_message_laws.specs.Messages.{copy_message, retained_message, AgreesWith};
+ghost use Rattle.mqtt_store_message_laws.specs.Written.{KeepsRowsTwo, AreInOrderTwo};
+ghost use Rattle.mqtt_store_message_laws.specs.Steps.{PutsCopy, SetsPhase, RemovesCopy, RemovesWholeSession, PutsRetained, RemovesRetained};
+
+/// The statements that put a copy make the rows those of the records after it.
+pub fn copy_that_is_put_keeps_rows()
+    ensures rows { (making : Making) (birth : ℕ) (entry : CopyRow) (db next : Trees) (r : Records)
+        → KeepsRowsTwo making db r → AreInOrderTwo making db → Fits (PutCopy birth entry) r
+        → AgreesWith r (copy_message entry) → IsSayableCopy entry.copy
+        → PutsCopy making birth entry db next
+        → KeepsRowsTwo making next (changed (PutCopy birth entry) r) }
+    ensures order { (making : Making) (birth : ℕ) (entry : CopyRow) (db next : Trees) (r : Records)
+        → KeepsRowsTwo making db r → AreInOrderTwo making db → Fits (PutCopy birth entry) r
+        → AgreesWith r (copy_message entry) → PutsCopy making birth entry db next
+        → AreInOrderTwo making next }
+{}
+
+/// The statement that sets a copy's phase makes the rows those of the records after it.
+pub fn copy_that_is_set_keeps_rows()
+    ensures rows { (making : Making) (birth place : ℕ) (phase : Phase) (db next : Trees) (r : Records)
+        → KeepsRowsTwo making db r → AreInOrderTwo making db
+        → SetsPhase making birth place phase db next
+        → KeepsRowsTwo making next (changed (SetCopy birth place phase) r) }
+    ensures order { (making : Making) (birth place : ℕ) (phase : Phase) (db next : Trees) (r : Records)
+        → KeepsRowsTwo making db r → AreInOrderTwo making db
+        → SetsPhase making birth place phase db next → AreInOrderTwo making next }
+{}
+
+/// The statements that remove a copy make the rows those of the records after it.
+pub fn copy_that_is_removed_keeps_rows()
+    ensures rows { (making : Making) (birth place : ℕ) (db next : Trees) (r : Records)
+        → KeepsRowsTwo making db r → AreInOrderTwo making db
+        → RemovesCopy making birth place db next
+        → KeepsRowsTwo making next (changed (RemoveCopy birth place) r) }
+    ensures order { (making : Making) (birth place : ℕ) (db next : Trees) (r : Records)
+        → KeepsRowsTwo making db r → AreInOrderTwo making db
+        → RemovesCopy making birth place db next → AreInOrderTwo making next }
+{}
+
+/// The statements that remove a session make the rows those of the records after it.
+pub fn session_that_is_removed_keeps_rows()
+    ensures rows { (making : Making) (birth : ℕ) (db next : Trees) (r : Records)
+        → KeepsRowsTwo making db r → AreInOrderTwo making db
+        → RemovesWholeSession making birth db next
+        → KeepsRowsTwo making next (changed (RemoveSession birth) r) }
+    ensures order { (making : Making) (birth : ℕ) (db next : Trees) (r : Records)
+        → KeepsRowsTwo making db r → AreInOrderTwo making db
+        → RemovesWholeSession making birth db next → AreInOrderTwo making next }
+{}
+
+/// The statements that retain a message make the rows those of the records after it.
+pub fn message_that_is_retained_keeps_rows()
+    ensures rows { (making : Making) (kept : RetainedMessage) (db next : Trees) (r : Records)
+        → KeepsRowsTwo making db r → AreInOrderTwo making db → Fits (PutRetained kept) r
+        → AgreesWith r (retained_message kept) → IsSayableRetained kept
+        → PutsRetained making kept db next
+        → KeepsRowsTwo making next (changed (PutRetained kept) r) }
+    ensures order { (making : Making) (kept : RetainedMessage) (db next : Trees) (r : Records)
+        → KeepsRowsTwo making db r → AreInOrderTwo making db → Fits (PutRetained kept) r
+        → AgreesWith r (retained_message kept) → PutsRetained making kept db next
+        → AreInOrderTwo making next }
+{}
+
+/// The statements that remove a retained message make the rows those of the records after it.
+pub fn message_that_is_removed_keeps_rows()
+    ensures rows { (making : Making) (place : ℕ) (db next : Trees) (r : Records)
+        → KeepsRowsTwo making db r → AreInOrderTwo making db
+        → RemovesRetained making place db next
+        → KeepsRowsTwo making next (changed (RemoveRetained place) r) }
+    ensures order { (making : Making) (place : ℕ) (db next : Trees) (r : Records)
+        → KeepsRowsTwo making db r → AreInOrderTwo making db
+        → RemovesRetained making place db next → AreInOrderTwo making next }
+{}

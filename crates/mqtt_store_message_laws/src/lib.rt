@@ -1,0 +1,19 @@
+//! What a database of schema 2 keeps of records, and that the statements of a change keep it (MQTT 5.0, 4.1). Private.
+#![tactic(auto)]
+
+mod contents;
+mod copies;
+mod sessions;
+
+pub use contents::{change_shares_contents, messages_let_go_leave_messages, sweeps_leave_messages};
+pub use copies::{
+    copy_that_is_put_keeps_rows, copy_that_is_removed_keeps_rows, copy_that_is_set_keeps_rows,
+    message_that_is_removed_keeps_rows, message_that_is_retained_keeps_rows,
+    session_that_is_removed_keeps_rows,
+};
+pub use sessions::{
+    identifier_that_is_put_keeps_rows, identifier_that_is_removed_keeps_rows,
+    number_that_is_set_keeps_rows, session_that_is_put_keeps_rows,
+    subscription_that_is_put_keeps_rows, subscription_that_is_removed_keeps_rows,
+    will_that_is_put_keeps_rows, will_that_is_removed_keeps_rows,
+};
