@@ -3,13 +3,16 @@ ghost use Rattle.std.specs.Prelude.{ℕ, ℤ, ◌∷◌, List};
 ghost use Rattle.sqlite_value.specs.declared.value.Value.TheVariants.{Int};
 ghost use Rattle.sqlite_trees.specs.Tree.{Trees};
 ghost use Rattle.sqlite_rules.specs.Lists.{Has};
+ghost use Rattle.sqlite.specs.Effect.{Database};
 ghost use Rattle.mqtt_base.specs.declared.session.Phase.{Phase};
 ghost use Rattle.mqtt_records.specs.declared.change.Change.{Change};
 ghost use Rattle.mqtt_records.specs.declared.change.Change.TheVariants.{SetCopy};
 ghost use Rattle.mqtt_records.specs.declared.change.Counter.{Counter};
 ghost use Rattle.mqtt_records.specs.declared.records.Records.{Records};
-ghost use Rattle.mqtt_records.specs.Records.{changed, changed_all, Fits, FitAll};
+ghost use Rattle.mqtt_records.specs.Records.{nothing, changed, changed_all, Fits, FitAll};
+ghost use Rattle.mqtt_store_schema_two.specs.Creation.{IsNewSecond};
 ghost use Rattle.mqtt_store_schema_two.specs.declared.tables.Making.{Making};
+ghost use Rattle.mqtt_store_schema_two.specs.declared.tables.Making.TheVariants.{New};
 ghost use Rattle.mqtt_store_write.specs.Numbers.{number_row};
 ghost use Rattle.mqtt_store_message.specs.Places.{queued_tree};
 ghost use Rattle.mqtt_store_message.specs.Rows.{QueuedColumns, queued_row};
@@ -51,4 +54,10 @@ pub fn rows_that_are_set_stand()
     ensures number { (making : Making) (counter : Counter) (db : Trees) (r : Records)
         → KeepsRowsTwo making db r
         → (id : ℤ) × (n : ℕ) × Has (db 0) (Int id ∷ number_row (counter_name counter) n) }
+{}
+
+/// The tables of a new database of schema 2 keep what is there before the first session.
+pub fn new_second_keeps_nothing()
+    ensures rows { (db : Database) → IsNewSecond db → KeepsRowsTwo New db.trees nothing }
+    ensures order { (db : Database) → IsNewSecond db → AreInOrderTwo New db.trees }
 {}
