@@ -2,3 +2,4 @@ pub mod messages
 pub mod tables
 pub mod changes
 pub mod Examples
+pub mod New

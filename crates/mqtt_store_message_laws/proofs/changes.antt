@@ -9,3 +9,5 @@ pub mod Retained
 pub mod Rest
 pub mod First
 pub mod Numbers
+pub mod All
+pub mod Asked

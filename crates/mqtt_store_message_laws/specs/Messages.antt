@@ -1,5 +1,5 @@
 -- What the copies of a publication and its retained message say alike (3.3).
-use Rattle.std.specs.Prelude.{◌≡◌, ◌⊎◌, ℕ, List}
+use Rattle.std.specs.Prelude.{◌≡◌, ◌⊎◌, ℕ, List, [], ◌∷◌}
 use Rattle.mqtt_props.specs.Properties.{Prop}
 use Rattle.mqtt_records_message.specs.declared.message.Content.{Content}
 use Rattle.mqtt_records_message.specs.declared.message.RetainedMessage.{RetainedMessage}
@@ -7,6 +7,7 @@ use Rattle.mqtt_records_message.specs.Queue.{CopyRow}
 use Rattle.mqtt_records.specs.declared.change.Change.{Change}
 use Rattle.mqtt_records.specs.declared.change.Change.TheVariants.{SetCounter, PutSession, SetSession, RemoveSession, PutWill, RemoveWill, PutSubscription, RemoveSubscription, PutInbound, RemoveInbound, PutCopy, SetCopy, RemoveCopy, PutRetained, RemoveRetained}
 use Rattle.mqtt_records.specs.declared.records.Records.{Records}
+use Rattle.mqtt_records.specs.Records.{changed}
 use Rattle.mqtt_store_laws.specs.Members.{Has, InQueue}
 
 -- a publication by its number, with its properties as they are passed on
@@ -59,3 +60,8 @@ FitsContents (SetCopy birth place phase) r = Unit {0}
 FitsContents (RemoveCopy birth place) r = Unit {0}
 FitsContents (PutRetained kept) r = AgreesWith r (retained_message kept)
 FitsContents (RemoveRetained place) r = Unit {0}
+
+-- each says so by what is said under its number after those before it
+abbrev pub FitContents : List Change → Records → Type 0
+FitContents [] r = Unit {0}
+FitContents (change ∷ changes) r = FitsContents change r × FitContents changes (changed change r)

@@ -1,21 +1,17 @@
 //! What copies and retained messages say alike, and the messages that stand after sweeps.
-ghost use Rattle.std.specs.Prelude.{◌⊎◌, ℕ, List, not, ◌&&◌};
-ghost use Rattle.sqlite_trees.specs.Tree.{Trees, rowid};
-ghost use Rattle.sqlite_rules.specs.Edit.{id_in};
+ghost use Rattle.std.specs.Prelude.{◌⊎◌, ℕ, List};
+ghost use Rattle.sqlite_trees.specs.Tree.{Trees};
 ghost use Rattle.mqtt_records.specs.declared.change.Change.{Change};
 ghost use Rattle.mqtt_records.specs.declared.records.Records.{Records};
 ghost use Rattle.mqtt_records.specs.Records.{changed, Fits, kept_place};
 ghost use Rattle.mqtt_records_rows.specs.Order.{IsAscending};
 ghost use Rattle.mqtt_store_schema_two.specs.declared.tables.Making.{Making};
-ghost use Rattle.mqtt_store_write.specs.Layout.{second_layout};
-ghost use Rattle.mqtt_store_write.specs.Removal.{RemovesFrom};
-ghost use Rattle.mqtt_store_message.specs.Messages.{is_referred};
 ghost use Rattle.mqtt_store_message.specs.Places.{message_tree, queued_tree, kept_tree};
 ghost use Rattle.mqtt_store_laws.specs.Members.{Has, AllOrdered};
 ghost use Rattle.mqtt_store_laws.specs.Written.{AreWritten, IsCopyOf};
 ghost use Rattle.mqtt_store_message_laws.specs.Items.{IsMessageRow, IsQueuedRow, IsKeptRow};
 ghost use Rattle.mqtt_store_message_laws.specs.Messages.{StoredMessage, IsMessageOf, EitherSays, AgreesWith, SharesContents, FitsContents};
-ghost use Rattle.mqtt_store_message_laws.specs.Steps.{SweepsEach};
+ghost use Rattle.mqtt_store_message_laws.specs.Steps.{SweepsEach, DropsLast};
 
 /// What a change puts says what is said under its number, so contents stay shared.
 pub fn change_shares_contents()
@@ -39,7 +35,7 @@ pub fn sweeps_leave_messages()
 
 /// So they do if exactly those messages go to which something referred before, and nothing does
 /// now.
-pub fn messages_let_go_leave_messages()
+pub fn dropped_messages_leave_messages()
     ensures { (making : Making) (q r : Records) (old mid new : Trees)
         → ((m : StoredMessage) → IsMessageOf q m → AgreesWith r m)
         → AreWritten IsQueuedRow (IsCopyOf q) (old (queued_tree making))
@@ -47,7 +43,6 @@ pub fn messages_let_go_leave_messages()
         → AreWritten IsMessageRow (EitherSays q r) (mid (message_tree making))
         → AreWritten IsQueuedRow (IsCopyOf r) (mid (queued_tree making))
         → AreWritten IsKeptRow (Has r.retained) (mid (kept_tree making))
-        → RemovesFrom (second_layout making) (message_tree making) (λ row. is_referred making (id_in (rowid row)) old
-        && not (is_referred making (id_in (rowid row)) mid)) mid new
+        → DropsLast making old mid new
         → AreWritten IsMessageRow (IsMessageOf r) (new (message_tree making)) }
 {}

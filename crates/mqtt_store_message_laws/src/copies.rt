@@ -1,5 +1,5 @@
 //! What the statements of a change of copies or retained messages make of the rows that are kept.
-ghost use Rattle.std.specs.Prelude.{◌≡◌, ℕ};
+ghost use Rattle.std.specs.Prelude.{ℕ, pos};
 ghost use Rattle.sqlite_trees.specs.Tree.{Trees};
 ghost use Rattle.mqtt_base.specs.declared.session.Phase.{Phase};
 ghost use Rattle.mqtt_records_message.specs.declared.message.RetainedMessage.{RetainedMessage};
@@ -8,10 +8,18 @@ ghost use Rattle.mqtt_records.specs.declared.change.Change.TheVariants.{PutCopy,
 ghost use Rattle.mqtt_records.specs.declared.records.Records.{Records};
 ghost use Rattle.mqtt_records.specs.Records.{changed, Fits};
 ghost use Rattle.mqtt_store_schema_two.specs.declared.tables.Making.{Making};
+ghost use Rattle.mqtt_store_write.specs.Content.{is_of};
+ghost use Rattle.mqtt_store_write.specs.Layout.{second_layout};
+ghost use Rattle.mqtt_store_write.specs.Put.{PutsInto, PutsNumbered, is_retained};
+ghost use Rattle.mqtt_store_write.specs.Removal.{is_keyed, RemovesFrom};
+ghost use Rattle.mqtt_store_message.specs.Endings.{EndsSession};
+ghost use Rattle.mqtt_store_message.specs.Places.{queued_tree, kept_tree};
+ghost use Rattle.mqtt_store_message.specs.Rows.{queued_row, kept_row};
 ghost use Rattle.mqtt_store_laws.specs.Written.{IsSayableCopy, IsSayableRetained};
+ghost use Rattle.mqtt_store_message_laws.specs.Items.{queued_columns, kept_columns};
 ghost use Rattle.mqtt_store_message_laws.specs.Messages.{copy_message, retained_message, AgreesWith};
 ghost use Rattle.mqtt_store_message_laws.specs.Written.{KeepsRowsTwo, AreInOrderTwo};
-ghost use Rattle.mqtt_store_message_laws.specs.Steps.{PutsCopy, SetsPhase, RemovesCopy, RemovesWholeSession, PutsRetained, RemovesRetained};
+ghost use Rattle.mqtt_store_message_laws.specs.Steps.{PutsMessageOf, DropsLast, PutsCopy, SetsPhase, RemovesCopy, RemovesWholeSession, PutsRetained, RemovesRetained};
 
 /// The statements that put a copy make the rows those of the records after it.
 pub fn copy_that_is_put_keeps_rows()
@@ -24,6 +32,13 @@ pub fn copy_that_is_put_keeps_rows()
         → KeepsRowsTwo making db r → AreInOrderTwo making db → Fits (PutCopy birth entry) r
         → AgreesWith r (copy_message entry) → PutsCopy making birth entry db next
         → AreInOrderTwo making next }
+    ensures dropped { (making : Making) (birth : ℕ) (entry : CopyRow) (db said mid next : Trees) (r : Records)
+        → KeepsRowsTwo making db r → AreInOrderTwo making db → Fits (PutCopy birth entry) r
+        → AgreesWith r (copy_message entry) → IsSayableCopy entry.copy
+        → PutsMessageOf making (copy_message entry) db said
+        → PutsNumbered (second_layout making) (queued_tree making) (queued_row birth entry.place (queued_columns entry)) (is_keyed (pos birth) (pos entry.place)) said mid
+        → DropsLast making db mid next
+        → KeepsRowsTwo making next (changed (PutCopy birth entry) r) × AreInOrderTwo making next }
 {}
 
 /// The statement that sets a copy's phase makes the rows those of the records after it.
@@ -46,6 +61,11 @@ pub fn copy_that_is_removed_keeps_rows()
     ensures order { (making : Making) (birth place : ℕ) (db next : Trees) (r : Records)
         → KeepsRowsTwo making db r → AreInOrderTwo making db
         → RemovesCopy making birth place db next → AreInOrderTwo making next }
+    ensures dropped { (making : Making) (birth place : ℕ) (db mid next : Trees) (r : Records)
+        → KeepsRowsTwo making db r → AreInOrderTwo making db
+        → RemovesFrom (second_layout making) (queued_tree making) (is_keyed (pos birth) (pos place)) db mid
+        → DropsLast making db mid next
+        → KeepsRowsTwo making next (changed (RemoveCopy birth place) r) × AreInOrderTwo making next }
 {}
 
 /// The statements that remove a session make the rows those of the records after it.
@@ -57,6 +77,10 @@ pub fn session_that_is_removed_keeps_rows()
     ensures order { (making : Making) (birth : ℕ) (db next : Trees) (r : Records)
         → KeepsRowsTwo making db r → AreInOrderTwo making db
         → RemovesWholeSession making birth db next → AreInOrderTwo making next }
+    ensures dropped { (making : Making) (birth : ℕ) (db mid next : Trees) (r : Records)
+        → KeepsRowsTwo making db r → AreInOrderTwo making db
+        → EndsSession making (pos birth) db mid → DropsLast making db mid next
+        → KeepsRowsTwo making next (changed (RemoveSession birth) r) × AreInOrderTwo making next }
 {}
 
 /// The statements that retain a message make the rows those of the records after it.
@@ -70,6 +94,13 @@ pub fn message_that_is_retained_keeps_rows()
         → KeepsRowsTwo making db r → AreInOrderTwo making db → Fits (PutRetained kept) r
         → AgreesWith r (retained_message kept) → PutsRetained making kept db next
         → AreInOrderTwo making next }
+    ensures dropped { (making : Making) (kept : RetainedMessage) (db said mid next : Trees) (r : Records)
+        → KeepsRowsTwo making db r → AreInOrderTwo making db → Fits (PutRetained kept) r
+        → AgreesWith r (retained_message kept) → IsSayableRetained kept
+        → PutsMessageOf making (retained_message kept) db said
+        → PutsInto (second_layout making) (kept_tree making) (kept_row kept.place (kept_columns kept)) (is_retained kept.place kept.content.topic) said mid
+        → DropsLast making db mid next
+        → KeepsRowsTwo making next (changed (PutRetained kept) r) × AreInOrderTwo making next }
 {}
 
 /// The statements that remove a retained message make the rows those of the records after it.
@@ -81,4 +112,9 @@ pub fn message_that_is_removed_keeps_rows()
     ensures order { (making : Making) (place : ℕ) (db next : Trees) (r : Records)
         → KeepsRowsTwo making db r → AreInOrderTwo making db
         → RemovesRetained making place db next → AreInOrderTwo making next }
+    ensures dropped { (making : Making) (place : ℕ) (db mid next : Trees) (r : Records)
+        → KeepsRowsTwo making db r → AreInOrderTwo making db
+        → RemovesFrom (second_layout making) (kept_tree making) (is_of 0 (pos place)) db mid
+        → DropsLast making db mid next
+        → KeepsRowsTwo making next (changed (RemoveRetained place) r) × AreInOrderTwo making next }
 {}

@@ -3,13 +3,19 @@
 
 mod contents;
 mod copies;
+mod laws;
 mod sessions;
 
-pub use contents::{change_shares_contents, messages_let_go_leave_messages, sweeps_leave_messages};
+pub use contents::{
+    change_shares_contents, dropped_messages_leave_messages, sweeps_leave_messages,
+};
 pub use copies::{
     copy_that_is_put_keeps_rows, copy_that_is_removed_keeps_rows, copy_that_is_set_keeps_rows,
     message_that_is_removed_keeps_rows, message_that_is_retained_keeps_rows,
     session_that_is_removed_keeps_rows,
+};
+pub use laws::{
+    change_keeps_rows, changes_keep_rows, new_second_keeps_nothing, rows_that_are_set_stand,
 };
 pub use sessions::{
     identifier_that_is_put_keeps_rows, identifier_that_is_removed_keeps_rows,

@@ -6,7 +6,6 @@ use Rattle.mqtt_records.specs.Records.{kept_place}
 use Rattle.mqtt_records_rows.specs.Order.{IsAscending}
 use Rattle.mqtt_store_schema_two.specs.declared.tables.Making.{Making}
 use Rattle.mqtt_store_write.specs.Layout.{second_layout}
-use Rattle.mqtt_store_write.specs.Removal.{RemovesFrom}
 use Rattle.mqtt_store_write.proofs.tables.Whole.{Spares}
 use Rattle.mqtt_store_message.specs.Places.{message_tree, queued_tree, kept_tree}
 use Rattle.mqtt_store_laws.specs.Members.{Has as HasItem, HasColumns, AllOrdered}
@@ -16,10 +15,10 @@ use Rattle.mqtt_store_laws.proofs.tables.Kept.{moved}
 use Rattle.mqtt_store_message_laws.specs.Messages.{StoredMessage, IsMessageOf, EitherSays, AgreesWith, SharesContents}
 use Rattle.mqtt_store_message_laws.specs.Items.{IsMessageRow, IsQueuedRow, IsKeptRow}
 use Rattle.mqtt_store_message_laws.specs.Written.{KeepsRowsTwo, AreAllSingleTwo, HasNoOldRows, second_numbers}
-use Rattle.mqtt_store_message_laws.specs.Steps.{SweepsEach}
+use Rattle.mqtt_store_message_laws.specs.Steps.{SweepsEach, DropsLast}
 use Rattle.mqtt_store_message_laws.proofs.tables.Stays.{first_alone, swept_others, queued_alone, kept_alone}
-use Rattle.mqtt_store_message_laws.proofs.tables.LetGo.{was_referred, let_go_table}
-use Rattle.mqtt_store_message_laws.proofs.tables.Sweep.{AreReferred, swept_table}
+use Rattle.mqtt_store_message_laws.proofs.tables.LetGo.{let_go_table}
+use Rattle.mqtt_store_message_laws.proofs.tables.Sweep.{swept_table}
 
 -- the tables keep the records after a change, but that messages stand of what was said before it too
 pub record KeepsBoth (making : Making) (q r : Records) (db : Trees) : Type 0 where
@@ -70,5 +69,5 @@ module _ (making : Making) (q r : Records) (mid new : Trees) (both : KeepsBoth m
       (swept_table making q r both.agree numbers mid new (record { queued = both.queued; kept = both.kept }) lost both.messages sweeps)
 
   -- so they do once those messages went to which something referred before the change, and nothing does now
-  pub let_go : (old : Trees) → AreReferred making q old → RemovesFrom (second_layout making) (message_tree making) (was_referred making old mid) mid new → KeepsRowsTwo making new r
-  let_go old before removes = finished removes.others (let_go_table making q r old mid new both.agree before (record { queued = both.queued; kept = both.kept }) both.messages removes)
+  pub dropped : (old : Trees) → KeepsRowsTwo making old q → DropsLast making old mid new → KeepsRowsTwo making new r
+  dropped old keeps drops = finished drops.others (let_go_table making q r old mid new both.agree (record { queued = keeps.rows.queued; kept = keeps.rows.kept }) (record { queued = both.queued; kept = both.kept }) both.messages drops)

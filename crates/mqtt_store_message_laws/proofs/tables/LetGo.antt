@@ -1,24 +1,19 @@
 -- The table of messages after those went to which something referred, and nothing does now.
-use Rattle.std.proofs.Common.{◌≡◌, pos, Bool, true, false, not, ◌&&◌, refl, sym, ap, ◌∙◌, subst, inl, inr, true≢false}
+use Rattle.std.proofs.Common.{◌≡◌, pos, true, false, refl, sym, ap, ◌∙◌, subst, inl, inr, true≢false}
 use Rattle.std.proofs.lemmas.Bool.{cases_Bool}
 use Rattle.sqlite_value.specs.Order.{Row}
 use Rattle.sqlite_trees.specs.Tree.{Trees, rowid}
 use Rattle.sqlite_rules.specs.Edit.{id_in}
 use Rattle.mqtt_records.specs.declared.records.Records.{Records}
 use Rattle.mqtt_store_schema_two.specs.declared.tables.Making.{Making}
-use Rattle.mqtt_store_write.specs.Layout.{second_layout}
-use Rattle.mqtt_store_write.specs.Removal.{RemovesFrom}
 use Rattle.mqtt_store_message.specs.Places.{message_tree}
 use Rattle.mqtt_store_message.specs.Messages.{is_referred}
 use Rattle.mqtt_store_laws.specs.Written.{AreWritten}
 use Rattle.mqtt_store_laws.proofs.tables.Tables.{without_rows}
 use Rattle.mqtt_store_message_laws.specs.Messages.{StoredMessage, IsMessageOf, EitherSays, AgreesWith}
 use Rattle.mqtt_store_message_laws.specs.Items.{IsMessageRow}
+use Rattle.mqtt_store_message_laws.specs.Steps.{was_referred, DropsLast}
 use Rattle.mqtt_store_message_laws.proofs.tables.Sweep.{AreReferred, referred, referring}
-
--- something referred to the message in that row, and nothing does now
-abbrev pub was_referred : Making → Trees → Trees → Row → Bool
-was_referred making old now row = is_referred making (id_in (rowid row)) old && not (is_referred making (id_in (rowid row)) now)
 
 module _ (making : Making) (q r : Records) (old mid new : Trees) (agree : (m : StoredMessage) → IsMessageOf q m → AgreesWith r m) (before : AreReferred making q old) (after : AreReferred making r mid) where
   at_number : (m : StoredMessage) (row : Row) (db : Trees) → IsMessageRow m row → is_referred making (id_in (rowid row)) db ≡ is_referred making (pos m.publication) db
@@ -41,7 +36,7 @@ module _ (making : Making) (q r : Records) (old mid new : Trees) (agree : (m : S
   ]
 
   -- if messages stand of what was said and of what is said, those of what is said are left
-  pub let_go_table : AreWritten IsMessageRow (EitherSays q r) (mid (message_tree making)) → RemovesFrom (second_layout making) (message_tree making) (was_referred making old mid) mid new
+  pub let_go_table : AreWritten IsMessageRow (EitherSays q r) (mid (message_tree making)) → DropsLast making old mid new
       → AreWritten IsMessageRow (IsMessageOf r) (new (message_tree making))
   let_go_table written removes = without_rows IsMessageRow (EitherSays q r) (IsMessageOf r) (IsMessageOf r) (was_referred making old mid) (mid (message_tree making))
       (λ m row item there is out. elim item [ inl was ↦ still m row is was out | inr said ↦ said ])

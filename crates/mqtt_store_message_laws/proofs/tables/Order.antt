@@ -24,7 +24,7 @@ use Rattle.mqtt_store_message.proofs.Behind.{asked}
 use Rattle.mqtt_store_message_laws.specs.Messages.{StoredMessage}
 use Rattle.mqtt_store_message_laws.specs.Items.{message_columns}
 use Rattle.mqtt_store_message_laws.specs.Written.{AreInOrderTwo}
-use Rattle.mqtt_store_message_laws.specs.Steps.{SweepsEach, PutsMessageOf}
+use Rattle.mqtt_store_message_laws.specs.Steps.{SweepsEach, PutsMessageOf, DropsLast, was_referred}
 use Rattle.mqtt_store_message_laws.proofs.tables.Places.{message_spared, queued_spared, kept_spared}
 
 module _ (making : Making) where
@@ -83,3 +83,7 @@ module _ (making : Making) where
   order_swept (n ∷ more) old new sweeps all =
       let gone = λ (r : Row). is_of 0 (pos n) r && not (is_referred making (pos n) old) in
       order_swept more sweeps.0 new sweeps.2 (order_removed (message_tree making) gone old sweeps.0 sweeps.1 all.message all)
+
+  -- so do messages that go to which nothing refers now
+  pub order_dropped : (old mid new : Trees) → DropsLast making old mid new → AreInOrderTwo making mid → AreInOrderTwo making new
+  order_dropped old mid new drops all = order_removed (message_tree making) (was_referred making old mid) mid new drops all.message all
