@@ -1,7 +1,11 @@
 pub mod Behind
 pub mod Asking
+pub mod Changed
 pub mod Cuts
 pub mod Deletes
+pub mod Done
+pub mod Inside
+pub mod Named
 pub mod PutKept
 pub mod PutMessage
 pub mod PutQueued
@@ -11,3 +15,5 @@ pub mod Reading
 pub mod RemoveSession
 pub mod SetQueued
 pub mod SweepMessage
+pub mod Sweeping
+pub mod Topics

@@ -4,3 +4,6 @@ pub mod Messages
 pub mod Copies
 pub mod References
 pub mod Endings
+pub mod Letting
+pub mod Changing
+pub mod Step

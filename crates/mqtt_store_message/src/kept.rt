@@ -4,7 +4,7 @@ ghost use Rattle.sqlite.specs.Held.{state};
 ghost use Rattle.mqtt_store_schema.specs.Settled.{StaysInside};
 ghost use Rattle.mqtt_store_schema_two.specs.declared.tables.Making.{Making};
 ghost use Rattle.mqtt_store_write.specs.Layout.{second_layout};
-ghost use Rattle.mqtt_store_write.specs.Content.{is_of, IsWhole};
+ghost use Rattle.mqtt_store_write.specs.Content.{is_of, is_text, IsWhole};
 ghost use Rattle.mqtt_store_write.specs.Removal.{RemovesFrom};
 ghost use Rattle.mqtt_store_write.specs.Put.{PutsInto, is_retained};
 ghost use Rattle.mqtt_store_write.specs.Writing.{Writes};
@@ -93,5 +93,20 @@ pub fn pub_of_kept<S: Alter>(tx: &mut Transaction<'_, S>, place: u64) -> Result<
 {
     let place = whole(place);
     let rows = tx.query_all("SELECT pub FROM kept WHERE place = ?1", params![place])?;
+    number_of(rows.as_slice())
+}
+
+/// The number of the message to which the retained message for a topic refers, if there is one.
+/// Writes nothing.
+pub fn pub_of_topic<S: Alter>(
+    tx: &mut Transaction<'_, S>,
+    topic: &str,
+) -> Result<Option<u64>, Error>
+    ensures same_reference { tx.new.conn.ghost_name ≡ tx.old.conn.ghost_name }
+    ensures found { (making : Making) → Tells (second_layout making) S.Store tx.old.conn.now tx.new.conn.now result
+        (Finds (kept_tree making) 4 (is_text 2 topic.now)) }
+    ensures inside { StaysInside (state S.Store tx.old.conn.now) (state S.Store tx.new.conn.now) }
+{
+    let rows = tx.query_all("SELECT pub FROM kept WHERE topic = ?1", params![topic])?;
     number_of(rows.as_slice())
 }

@@ -1,13 +1,17 @@
 //! The statements of schema 2 on messages, copies and retained messages, with what each makes of the rows (MQTT 5.0, 4.1). Private.
 #![tactic(auto)]
 
+mod change;
 mod kept;
 mod messages;
 mod numbers;
 mod queued;
+mod referring;
 mod sessions;
+mod sweeps;
 
-pub use kept::{KeptColumns, pub_of_kept, put_kept, remove_kept};
+pub use change::{TableChange, change_tables};
+pub use kept::{KeptColumns, pub_of_kept, pub_of_topic, put_kept, remove_kept};
 pub use messages::{MessageColumns, put_message, sweep_message};
 pub use queued::{QueuedColumns, pub_of_queued, put_queued, remove_queued, set_queued};
 pub use sessions::{pubs_of_queue, remove_session};

@@ -33,7 +33,7 @@ fn take_over<S: Alter>(conn: &mut Connection<S>) -> Result<(), Error> {
 }
 
 /// A database of schema 2 in memory.
-fn database(alloc: Global, is_new: bool) -> Result<Connection<MemStore>, Error> {
+pub(crate) fn database(alloc: Global, is_new: bool) -> Result<Connection<MemStore>, Error> {
     let mut conn = Connection::open_in_memory(alloc)?;
     let made = if is_new {
         make_new(&mut conn)

@@ -1,0 +1,135 @@
+-- What a question, a change and the sweep of what was found come to.
+use Rattle.std.proofs.Common.{◌≡◌, ℕ, pos, not, List, [], ◌∷◌, ◌++◌, Option, option_to_list, sym, ap, ◌∙◌, subst, inr, arith}
+use Rattle.sqlite_value.specs.declared.value.Value.TheVariants.{Null, Int, Text}
+use Rattle.sqlite_value.specs.Order.{Row}
+use Rattle.sqlite_trees.specs.Tree.{Trees}
+use Rattle.sqlite_rules.specs.Lists.{Has}
+use Rattle.sqlite_rules.proofs.ListLemmas.{has_kept}
+use Rattle.sqlite.specs.Effect.{Database}
+use Rattle.sqlite.specs.State.{State}
+use Rattle.mqtt_store_schema_two.specs.declared.tables.Making.{Making}
+use Rattle.mqtt_store_schema_two.specs.declared.tables.Making.TheVariants.{New, TakenOver}
+use Rattle.mqtt_store_write.specs.Layout.{second_layout}
+use Rattle.mqtt_store_write.specs.Content.{is_of, is_text, without, IsWhole}
+use Rattle.mqtt_store_write.specs.Put.{PutsInto, PutsNumbered, numbered, is_retained}
+use Rattle.mqtt_store_write.specs.Removal.{is_keyed, RemovesFrom}
+use Rattle.mqtt_store_write.proofs.steps.Stands.{put_old, removed_old, given_free, key_free}
+use Rattle.mqtt_store_write.proofs.tables.Whole.{at_tree}
+use Rattle.mqtt_store_message.specs.Places.{queued_tree, kept_tree}
+use Rattle.mqtt_store_message.specs.Rows.{MessageColumns, QueuedColumns, KeptColumns, queued_row, kept_row}
+use Rattle.mqtt_store_message.specs.Endings.{EndsSession}
+use Rattle.mqtt_store_message.specs.References.{Finds, FindsAll}
+use Rattle.mqtt_store_message.specs.Letting.{LetsGo, PutsFirst, SweepsAll}
+use Rattle.mqtt_store_message.proofs.Behind.{message_shaped, queued_shaped, kept_shaped}
+use Rattle.mqtt_store_message.proofs.Sweeping.{apart}
+use Rattle.mqtt_store_message.proofs.Named.{named_all, named_found, named_both, or_none, copies_let_go, kept_let_go}
+
+-- a question leaves the tables as they were
+pub same_trees : (a b : State) → b.now ≡ a.now → b.now.trees ≡ a.now.trees
+same_trees a b same = ap (λ (d : Database). d.trees) same
+
+module _ (making : Making) (a b c : State) (new : Trees) (before : IsWhole (second_layout making) a) (same : b.now ≡ a.now) (whole : IsWhole (second_layout making) c) where
+  -- a copy is put, and what was found is swept
+  pub copy_is_put : (birth place : ℕ) (message : MessageColumns) (copy : QueuedColumns) (found : Option ℕ) → Finds (queued_tree making) 3 (is_keyed (pos birth) (pos place)) found a.now.trees
+      → PutsFirst making copy.publication message (PutsNumbered (second_layout making) (queued_tree making) (queued_row birth place copy) (is_keyed (pos birth) (pos place))) b.now.trees c.now.trees
+      → SweepsAll making (option_to_list found) c.now.trees new
+      → LetsGo making (PutsFirst making copy.publication message (PutsNumbered (second_layout making) (queued_tree making) (queued_row birth place copy) (is_keyed (pos birth) (pos place)))) a.now.trees new
+  copy_is_put birth place message copy found finds done swept =
+      let put = subst (λ (db : Trees). PutsFirst making copy.publication message (PutsNumbered (second_layout making) (queued_tree making) (queued_row birth place copy) (is_keyed (pos birth) (pos place))) db c.now.trees) (same_trees a b same) done in
+      let l = second_layout making in
+      let tree = queued_tree making in
+      let gone = is_keyed (pos birth) (pos place) in
+      let row = queued_row birth place copy in
+      let at = apart making in
+      let mid = put.0 in
+      let still : mid tree ≡ a.now.trees tree = put.1.others tree at.queued at.queued_spared in
+      let shaped = at_tree a.now.trees mid tree still (queued_shaped making a before) in (
+        c.now.trees,
+        put,
+        copies_let_go making gone (option_to_list found) a.now.trees c.now.trees new (message_shaped making c whole) (named_found tree 3 gone a.now.trees found finds)
+            (λ x has isnt. put_old l tree gone mid c.now.trees x (numbered tree row mid) put.2 (given_free tree row gone mid shaped) (inr (subst (λ (rows : List Row). Has rows x) (sym still) has, isnt)))
+            (put.2.others (kept_tree making) at.back at.kept_spared ∙ put.1.others (kept_tree making) at.kept at.kept_spared)
+            swept,
+      )
+
+  -- a copy is removed, and what was found is swept
+  pub copy_is_removed : (birth place : ℕ) (found : Option ℕ) → Finds (queued_tree making) 3 (is_keyed (pos birth) (pos place)) found a.now.trees
+      → RemovesFrom (second_layout making) (queued_tree making) (is_keyed (pos birth) (pos place)) b.now.trees c.now.trees
+      → SweepsAll making (option_to_list found) c.now.trees new
+      → LetsGo making (RemovesFrom (second_layout making) (queued_tree making) (is_keyed (pos birth) (pos place))) a.now.trees new
+  copy_is_removed birth place found finds done swept =
+      let removed = subst (λ (db : Trees). RemovesFrom (second_layout making) (queued_tree making) (is_keyed (pos birth) (pos place)) db c.now.trees) (same_trees a b same) done in
+      let tree = queued_tree making in
+      let gone = is_keyed (pos birth) (pos place) in
+      let at = apart making in (
+        c.now.trees,
+        removed,
+        copies_let_go making gone (option_to_list found) a.now.trees c.now.trees new (message_shaped making c whole) (named_found tree 3 gone a.now.trees found finds)
+            (λ x has isnt. removed_old (second_layout making) tree gone a.now.trees c.now.trees x removed (has, isnt))
+            (removed.others (kept_tree making) at.back at.kept_spared)
+            swept,
+      )
+
+  -- a session ends, and the messages of its queue are swept
+  pub session_has_ended : (birth : ℕ) (numbers : List ℕ) → FindsAll (queued_tree making) 3 (is_of 1 (pos birth)) numbers a.now.trees
+      → EndsSession making (pos birth) b.now.trees c.now.trees → SweepsAll making numbers c.now.trees new → LetsGo making (EndsSession making (pos birth)) a.now.trees new
+  session_has_ended birth numbers finds done swept =
+      let ends = subst (λ (db : Trees). EndsSession making (pos birth) db c.now.trees) (same_trees a b same) done in
+      let tree = queued_tree making in
+      let gone = is_of 1 (pos birth) in (
+        c.now.trees,
+        ends,
+        copies_let_go making gone numbers a.now.trees c.now.trees new (message_shaped making c whole) (named_all tree 3 gone a.now.trees numbers finds)
+            (λ x has isnt. subst (λ (rows : List Row). Has rows x) (sym (cut making ends)) (has_kept (λ r. not (gone r)) (a.now.trees tree) x has (ap not isnt)))
+            (left making ends)
+            swept,
+      )
+    where
+      cut : (making : Making) → EndsSession making (pos birth) a.now.trees c.now.trees → c.now.trees (queued_tree making) ≡ without 1 (pos birth) (a.now.trees (queued_tree making))
+      cut New e = e.rows.0
+      cut TakenOver e = e.rows.0
+
+      left : (making : Making) → EndsSession making (pos birth) a.now.trees c.now.trees → c.now.trees (kept_tree making) ≡ a.now.trees (kept_tree making)
+      left New e = e.others 12 (omega arith) (omega arith, (omega arith, (omega arith, (omega arith, tt)))) (apart New).kept_spared
+      left TakenOver e = e.others 16 (omega arith) (omega arith, (omega arith, (omega arith, (omega arith, (omega arith, tt))))) (apart TakenOver).kept_spared
+
+  -- a retained message is put, and what was found of its place and of its topic is swept
+  pub retained_is_put : (place : ℕ) (message : MessageColumns) (kept : KeptColumns) (at_place of_topic : Option ℕ) → Finds (kept_tree making) 4 (is_of 0 (pos place)) at_place a.now.trees → Finds (kept_tree making) 4 (is_text 2 kept.topic) of_topic a.now.trees
+      → PutsFirst making kept.publication message (PutsInto (second_layout making) (kept_tree making) (kept_row place kept) (is_retained place kept.topic)) b.now.trees c.now.trees
+      → SweepsAll making (option_to_list at_place ++ option_to_list of_topic) c.now.trees new
+      → LetsGo making (PutsFirst making kept.publication message (PutsInto (second_layout making) (kept_tree making) (kept_row place kept) (is_retained place kept.topic))) a.now.trees new
+  retained_is_put place message kept at_place of_topic by_place by_topic done swept =
+      let put = subst (λ (db : Trees). PutsFirst making kept.publication message (PutsInto (second_layout making) (kept_tree making) (kept_row place kept) (is_retained place kept.topic)) db c.now.trees) (same_trees a b same) done in
+      let l = second_layout making in
+      let tree = kept_tree making in
+      let gone = is_retained place kept.topic in
+      let at = apart making in
+      let mid = put.0 in
+      let still : mid tree ≡ a.now.trees tree = put.1.others tree at.kept at.kept_spared in
+      let shaped = at_tree a.now.trees mid tree still (kept_shaped making a before) in
+      let named = named_both tree 4 (is_of 0 (pos place)) (is_text 2 kept.topic) (option_to_list at_place) (option_to_list of_topic) a.now.trees (named_found tree 4 (is_of 0 (pos place)) a.now.trees at_place by_place) (named_found tree 4 (is_text 2 kept.topic) a.now.trees of_topic by_topic) in (
+        c.now.trees,
+        put,
+        kept_let_go making gone (option_to_list at_place ++ option_to_list of_topic) a.now.trees c.now.trees new (message_shaped making c whole) named
+            (λ x has isnt. put_old l tree gone mid c.now.trees x (kept_row place kept) put.2 (key_free tree (pos place) (Null ∷ Text kept.topic ∷ Text kept.sender ∷ Int (pos kept.publication) ∷ Int (pos kept.qos) ∷ Int (pos kept.arrived) ∷ []) gone mid shaped (λ r stays. (or_none _ _ stays).0)) (inr (subst (λ (rows : List Row). Has rows x) (sym still) has, isnt)))
+            (put.2.others (queued_tree making) at.both at.queued_spared ∙ put.1.others (queued_tree making) at.queued at.queued_spared)
+            swept,
+      )
+
+  -- a retained message is removed, and what was found is swept
+  pub retained_is_removed : (place : ℕ) (found : Option ℕ) → Finds (kept_tree making) 4 (is_of 0 (pos place)) found a.now.trees
+      → RemovesFrom (second_layout making) (kept_tree making) (is_of 0 (pos place)) b.now.trees c.now.trees
+      → SweepsAll making (option_to_list found) c.now.trees new
+      → LetsGo making (RemovesFrom (second_layout making) (kept_tree making) (is_of 0 (pos place))) a.now.trees new
+  retained_is_removed place found finds done swept =
+      let removed = subst (λ (db : Trees). RemovesFrom (second_layout making) (kept_tree making) (is_of 0 (pos place)) db c.now.trees) (same_trees a b same) done in
+      let tree = kept_tree making in
+      let gone = is_of 0 (pos place) in
+      let at = apart making in (
+        c.now.trees,
+        removed,
+        kept_let_go making gone (option_to_list found) a.now.trees c.now.trees new (message_shaped making c whole) (named_found tree 4 gone a.now.trees found finds)
+            (λ x has isnt. removed_old (second_layout making) tree gone a.now.trees c.now.trees x removed (has, isnt))
+            (removed.others (queued_tree making) at.both at.queued_spared)
+            swept,
+      )
