@@ -5,6 +5,7 @@ pub mod Cuts
 pub mod Deletes
 pub mod Done
 pub mod Inside
+pub mod LeftOver
 pub mod Named
 pub mod PutKept
 pub mod PutMessage

@@ -74,11 +74,13 @@ has_either [] ys x h = inr h
 has_either (y ∷ xs) ys x (inl same) = inl (inl same)
 has_either (y ∷ xs) ys x (inr later) = elim (has_either xs ys x later) [ inl mine ↦ inl (inr mine) | inr other ↦ inr other ]
 
-or_true : (a b : Bool) → (a || b) ≡ true → (a ≡ true) ⊎ (b ≡ true)
+-- one of both holds
+pub or_true : (a b : Bool) → (a || b) ≡ true → (a ≡ true) ⊎ (b ≡ true)
 or_true true b h = inl refl
 or_true false b h = inr h
 
-or_from : (a b : Bool) → (a ≡ true) ⊎ (b ≡ true) → (a || b) ≡ true
+-- if one of both holds, either does
+pub or_from : (a b : Bool) → (a ≡ true) ⊎ (b ≡ true) → (a || b) ≡ true
 or_from true b h = refl
 or_from false b (inl h) = absurd (true≢false (sym h))
 or_from false b (inr h) = h

@@ -23,6 +23,8 @@ use Rattle.mqtt_store_message.proofs.Behind.{asked}
 pub record AreApart (making : Making) : Type 0 where
   pub queued : queued_tree making ≢ message_tree making
   pub kept : kept_tree making ≢ message_tree making
+  pub first : message_tree making ≢ queued_tree making
+  pub last : message_tree making ≢ kept_tree making
   pub both : queued_tree making ≢ kept_tree making
   pub back : kept_tree making ≢ queued_tree making
   pub queued_spared : IsNoIndex (schema_of (second_layout making)) (queued_tree making)
@@ -30,8 +32,8 @@ pub record AreApart (making : Making) : Type 0 where
 
 -- in both ways of schema 2
 pub apart : (making : Making) → AreApart making
-apart New = record { queued = omega arith; kept = omega arith; both = omega arith; back = omega arith; queued_spared = (asked New).tables.1.0; kept_spared = (asked New).tables.1.1.0 }
-apart TakenOver = record { queued = omega arith; kept = omega arith; both = omega arith; back = omega arith; queued_spared = (asked TakenOver).tables.1.1.1.0; kept_spared = (asked TakenOver).tables.1.1.1.1.0 }
+apart New = record { queued = omega arith; kept = omega arith; first = omega arith; last = omega arith; both = omega arith; back = omega arith; queued_spared = (asked New).tables.1.0; kept_spared = (asked New).tables.1.1.0 }
+apart TakenOver = record { queued = omega arith; kept = omega arith; first = omega arith; last = omega arith; both = omega arith; back = omega arith; queued_spared = (asked TakenOver).tables.1.1.1.0; kept_spared = (asked TakenOver).tables.1.1.1.1.0 }
 
 module _ (making : Making) (gone : Row → Bool) (a b : Trees) where
   -- messages that go take no reference along

@@ -1,9 +1,10 @@
 -- Which messages go when rows that refer to them come and go.
-use Rattle.std.specs.Prelude.{ℕ, pos, Bool, not, ◌&&◌, List}
+use Rattle.std.specs.Prelude.{◌≡◌, ℕ, pos, Bool, true, not, ◌&&◌, List}
 use Rattle.std.specs.List.{list_any}
 use Rattle.sqlite_value.specs.Order.{Row}
 use Rattle.sqlite_trees.specs.Tree.{Trees, rowid}
 use Rattle.sqlite_rules.specs.Edit.{id_in}
+use Rattle.sqlite_rules.specs.Lists.{Has}
 use Rattle.mqtt_store_schema_two.specs.declared.tables.Making.{Making}
 use Rattle.mqtt_store_write.specs.Layout.{second_layout}
 use Rattle.mqtt_store_write.specs.Content.{is_of}
@@ -31,3 +32,7 @@ is_swept making numbers db r = list_any (λ n. is_of 0 (pos n) r && not (is_refe
 -- the messages of these numbers go to which nothing refers, and all other rows are as they were
 abbrev pub SweepsAll : Making → List ℕ → Trees → Trees → Type 0
 SweepsAll making numbers old = RemovesFrom (second_layout making) (message_tree making) (is_swept making numbers old) old
+
+-- something refers to each message
+abbrev pub AllReferred : Making → Trees → Type 0
+AllReferred making db = (r : Row) → Has (db (message_tree making)) r → is_referred making (id_in (rowid r)) db ≡ true

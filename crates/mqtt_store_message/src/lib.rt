@@ -3,6 +3,7 @@
 
 mod change;
 mod kept;
+mod laws;
 mod messages;
 mod numbers;
 mod queued;
@@ -12,6 +13,7 @@ mod sweeps;
 
 pub use change::{TableChange, change_tables};
 pub use kept::{KeptColumns, pub_of_kept, pub_of_topic, put_kept, remove_kept};
+pub use laws::no_message_is_left_over;
 pub use messages::{MessageColumns, put_message, sweep_message};
 pub use queued::{QueuedColumns, pub_of_queued, put_queued, remove_queued, set_queued};
 pub use sessions::{pubs_of_queue, remove_session};
