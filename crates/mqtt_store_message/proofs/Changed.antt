@@ -11,14 +11,15 @@ use Rattle.mqtt_store_schema_two.specs.declared.tables.Making.{Making}
 use Rattle.mqtt_store_schema_two.specs.declared.tables.Making.TheVariants.{New, TakenOver}
 use Rattle.mqtt_store_write.specs.Layout.{second_layout}
 use Rattle.mqtt_store_write.specs.Content.{is_of, is_text, without, IsWhole}
-use Rattle.mqtt_store_write.specs.Put.{PutsInto, PutsNumbered, numbered, is_retained}
-use Rattle.mqtt_store_write.specs.Removal.{is_keyed, RemovesFrom}
+use Rattle.mqtt_store_write.specs.Put.{numbered, is_retained}
+use Rattle.mqtt_store_write.specs.Removal.{is_keyed}
 use Rattle.mqtt_store_write.proofs.steps.Stands.{put_old, removed_old, given_free, key_free}
 use Rattle.mqtt_store_write.proofs.tables.Whole.{at_tree}
 use Rattle.mqtt_store_message.specs.Places.{queued_tree, kept_tree}
 use Rattle.mqtt_store_message.specs.Rows.{MessageColumns, QueuedColumns, KeptColumns, queued_row, kept_row}
 use Rattle.mqtt_store_message.specs.Endings.{EndsSession}
 use Rattle.mqtt_store_message.specs.References.{Finds, FindsAll}
+use Rattle.mqtt_store_message.specs.Comings.{PutsQueued, RemovesQueued, PutsKept, RemovesKept}
 use Rattle.mqtt_store_message.specs.Letting.{LetsGo, PutsFirst, SweepsAll}
 use Rattle.mqtt_store_message.proofs.Behind.{message_shaped, queued_shaped, kept_shaped}
 use Rattle.mqtt_store_message.proofs.Sweeping.{apart}
@@ -31,11 +32,11 @@ same_trees a b same = ap (λ (d : Database). d.trees) same
 module _ (making : Making) (a b c : State) (new : Trees) (before : IsWhole (second_layout making) a) (same : b.now ≡ a.now) (whole : IsWhole (second_layout making) c) where
   -- a copy is put, and what was found is swept
   pub copy_is_put : (birth place : ℕ) (message : MessageColumns) (copy : QueuedColumns) (found : Option ℕ) → Finds (queued_tree making) 3 (is_keyed (pos birth) (pos place)) found a.now.trees
-      → PutsFirst making copy.publication message (PutsNumbered (second_layout making) (queued_tree making) (queued_row birth place copy) (is_keyed (pos birth) (pos place))) b.now.trees c.now.trees
+      → PutsFirst making copy.publication message (PutsQueued making birth place copy) b.now.trees c.now.trees
       → SweepsAll making (option_to_list found) c.now.trees new
-      → LetsGo making (PutsFirst making copy.publication message (PutsNumbered (second_layout making) (queued_tree making) (queued_row birth place copy) (is_keyed (pos birth) (pos place)))) a.now.trees new
+      → LetsGo making (PutsFirst making copy.publication message (PutsQueued making birth place copy)) a.now.trees new
   copy_is_put birth place message copy found finds done swept =
-      let put = subst (λ (db : Trees). PutsFirst making copy.publication message (PutsNumbered (second_layout making) (queued_tree making) (queued_row birth place copy) (is_keyed (pos birth) (pos place))) db c.now.trees) (same_trees a b same) done in
+      let put = subst (λ (db : Trees). PutsFirst making copy.publication message (PutsQueued making birth place copy) db c.now.trees) (same_trees a b same) done in
       let l = second_layout making in
       let tree = queued_tree making in
       let gone = is_keyed (pos birth) (pos place) in
@@ -54,11 +55,11 @@ module _ (making : Making) (a b c : State) (new : Trees) (before : IsWhole (seco
 
   -- a copy is removed, and what was found is swept
   pub copy_is_removed : (birth place : ℕ) (found : Option ℕ) → Finds (queued_tree making) 3 (is_keyed (pos birth) (pos place)) found a.now.trees
-      → RemovesFrom (second_layout making) (queued_tree making) (is_keyed (pos birth) (pos place)) b.now.trees c.now.trees
+      → RemovesQueued making birth place b.now.trees c.now.trees
       → SweepsAll making (option_to_list found) c.now.trees new
-      → LetsGo making (RemovesFrom (second_layout making) (queued_tree making) (is_keyed (pos birth) (pos place))) a.now.trees new
+      → LetsGo making (RemovesQueued making birth place) a.now.trees new
   copy_is_removed birth place found finds done swept =
-      let removed = subst (λ (db : Trees). RemovesFrom (second_layout making) (queued_tree making) (is_keyed (pos birth) (pos place)) db c.now.trees) (same_trees a b same) done in
+      let removed = subst (λ (db : Trees). RemovesQueued making birth place db c.now.trees) (same_trees a b same) done in
       let tree = queued_tree making in
       let gone = is_keyed (pos birth) (pos place) in
       let at = apart making in (
@@ -95,11 +96,11 @@ module _ (making : Making) (a b c : State) (new : Trees) (before : IsWhole (seco
 
   -- a retained message is put, and what was found of its place and of its topic is swept
   pub retained_is_put : (place : ℕ) (message : MessageColumns) (kept : KeptColumns) (at_place of_topic : Option ℕ) → Finds (kept_tree making) 4 (is_of 0 (pos place)) at_place a.now.trees → Finds (kept_tree making) 4 (is_text 2 kept.topic) of_topic a.now.trees
-      → PutsFirst making kept.publication message (PutsInto (second_layout making) (kept_tree making) (kept_row place kept) (is_retained place kept.topic)) b.now.trees c.now.trees
+      → PutsFirst making kept.publication message (PutsKept making place kept) b.now.trees c.now.trees
       → SweepsAll making (option_to_list at_place ++ option_to_list of_topic) c.now.trees new
-      → LetsGo making (PutsFirst making kept.publication message (PutsInto (second_layout making) (kept_tree making) (kept_row place kept) (is_retained place kept.topic))) a.now.trees new
+      → LetsGo making (PutsFirst making kept.publication message (PutsKept making place kept)) a.now.trees new
   retained_is_put place message kept at_place of_topic by_place by_topic done swept =
-      let put = subst (λ (db : Trees). PutsFirst making kept.publication message (PutsInto (second_layout making) (kept_tree making) (kept_row place kept) (is_retained place kept.topic)) db c.now.trees) (same_trees a b same) done in
+      let put = subst (λ (db : Trees). PutsFirst making kept.publication message (PutsKept making place kept) db c.now.trees) (same_trees a b same) done in
       let l = second_layout making in
       let tree = kept_tree making in
       let gone = is_retained place kept.topic in
@@ -118,11 +119,11 @@ module _ (making : Making) (a b c : State) (new : Trees) (before : IsWhole (seco
 
   -- a retained message is removed, and what was found is swept
   pub retained_is_removed : (place : ℕ) (found : Option ℕ) → Finds (kept_tree making) 4 (is_of 0 (pos place)) found a.now.trees
-      → RemovesFrom (second_layout making) (kept_tree making) (is_of 0 (pos place)) b.now.trees c.now.trees
+      → RemovesKept making place b.now.trees c.now.trees
       → SweepsAll making (option_to_list found) c.now.trees new
-      → LetsGo making (RemovesFrom (second_layout making) (kept_tree making) (is_of 0 (pos place))) a.now.trees new
+      → LetsGo making (RemovesKept making place) a.now.trees new
   retained_is_removed place found finds done swept =
-      let removed = subst (λ (db : Trees). RemovesFrom (second_layout making) (kept_tree making) (is_of 0 (pos place)) db c.now.trees) (same_trees a b same) done in
+      let removed = subst (λ (db : Trees). RemovesKept making place db c.now.trees) (same_trees a b same) done in
       let tree = kept_tree making in
       let gone = is_of 0 (pos place) in
       let at = apart making in (

@@ -25,6 +25,7 @@ use Rattle.mqtt_store_message.specs.Rows.{MessageColumns, QueuedColumns, KeptCol
 use Rattle.mqtt_store_message.specs.Messages.{is_referred, with_missing}
 use Rattle.mqtt_store_message.specs.Copies.{set_queued, SetsQueued}
 use Rattle.mqtt_store_message.specs.Endings.{EndsSession}
+use Rattle.mqtt_store_message.specs.Comings.{PutsQueued, PutsKept}
 use Rattle.mqtt_store_message.specs.Letting.{is_let_go, LetsGo, PutsFirst, AllReferred}
 use Rattle.mqtt_store_message.specs.Step.{Does}
 use Rattle.mqtt_store_message.specs.declared.change.TableChange.{TableChange}
@@ -109,7 +110,7 @@ put_is_referred making publication message change old mid each h r has =
 
 module _ (making : Making) (old new : Trees) where
   copy_put : (birth place : ℕ) (message : MessageColumns) (copy : QueuedColumns)
-      → LetsGo making (PutsFirst making copy.publication message (PutsNumbered (second_layout making) (queued_tree making) (queued_row birth place copy) (is_keyed (pos birth) (pos place)))) old new → AllReferred making old → AllReferred making new
+      → LetsGo making (PutsFirst making copy.publication message (PutsQueued making birth place copy)) old new → AllReferred making old → AllReferred making new
   copy_put birth place message copy =
       let tree = queued_tree making in
       let change = PutsNumbered (second_layout making) tree (queued_row birth place copy) (is_keyed (pos birth) (pos place)) in
@@ -120,7 +121,7 @@ module _ (making : Making) (old new : Trees) where
       (done.others (message_tree making) (apart making).first (message_spared making), or_from _ _ (inl (some_from (is_of 3 (pos copy.publication)) (mid tree) put there (own_number copy.publication))))))
 
   kept_put : (place : ℕ) (message : MessageColumns) (kept : KeptColumns)
-      → LetsGo making (PutsFirst making kept.publication message (PutsInto (second_layout making) (kept_tree making) (kept_row place kept) (is_retained place kept.topic))) old new → AllReferred making old → AllReferred making new
+      → LetsGo making (PutsFirst making kept.publication message (PutsKept making place kept)) old new → AllReferred making old → AllReferred making new
   kept_put place message kept =
       let tree = kept_tree making in
       let change = PutsInto (second_layout making) tree (kept_row place kept) (is_retained place kept.topic) in

@@ -4,6 +4,7 @@ pub mod Messages
 pub mod Copies
 pub mod References
 pub mod Endings
+pub mod Comings
 pub mod Letting
 pub mod Changing
 pub mod Step

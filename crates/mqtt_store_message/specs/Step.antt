@@ -9,11 +9,12 @@ use Rattle.mqtt_store_write.specs.Content.{is_of}
 use Rattle.mqtt_store_write.specs.Removal.{is_keyed, is_subscription, RemovesFrom}
 use Rattle.mqtt_store_write.specs.Columns.{session_row, will_row, subscription_row}
 use Rattle.mqtt_store_write.specs.Numbers.{number_row, SetsNumber}
-use Rattle.mqtt_store_write.specs.Put.{PutsInto, PutsNumbered, open_row, is_retained}
-use Rattle.mqtt_store_message.specs.Places.{queued_tree, kept_tree}
-use Rattle.mqtt_store_message.specs.Rows.{QueuedColumns, queued_row, kept_row, IsSized as IsSizedCopy}
+use Rattle.mqtt_store_write.specs.Put.{PutsInto, PutsNumbered, open_row}
+use Rattle.mqtt_store_message.specs.Places.{queued_tree}
+use Rattle.mqtt_store_message.specs.Rows.{QueuedColumns, queued_row, IsSized as IsSizedCopy}
 use Rattle.mqtt_store_message.specs.Copies.{SetsQueued}
 use Rattle.mqtt_store_message.specs.Endings.{EndsSession}
+use Rattle.mqtt_store_message.specs.Comings.{PutsQueued, RemovesQueued, PutsKept, RemovesKept}
 use Rattle.mqtt_store_message.specs.Letting.{LetsGo, PutsFirst}
 use Rattle.mqtt_store_message.specs.declared.change.TableChange.{TableChange}
 use Rattle.mqtt_store_message.specs.declared.change.TableChange.TheVariants.{SetNumber, PutSession, RemoveSession, PutWill, RemoveWill, PutSubscription, RemoveSubscription, PutOpen, RemoveOpen, PutCopy, SetCopy, RemoveCopy, PutRetained, RemoveRetained}
@@ -68,12 +69,10 @@ Does making (PutOpen birth identifier) old new =
     PutsNumbered (second_layout making) 7 (open_row birth identifier) (is_keyed (pos birth) (pos identifier)) old new
 Does making (RemoveOpen birth identifier) old new = RemovesFrom (second_layout making) 7 (is_keyed (pos birth) (pos identifier)) old new
 Does making (PutCopy birth place message copy) old new =
-    LetsGo making (PutsFirst making copy.publication message (PutsNumbered (second_layout making) (queued_tree making) (queued_row birth place copy) (is_keyed (pos birth) (pos place)))) old new
+    LetsGo making (PutsFirst making copy.publication message (PutsQueued making birth place copy)) old new
 Does making (SetCopy birth place identifier phase order) old new =
     (id : ℤ) × (c : QueuedColumns) × Has (old (queued_tree making)) (Int id ∷ queued_row birth place c) × SetsQueued making birth place phase identifier order id c old new
-Does making (RemoveCopy birth place) old new =
-    LetsGo making (RemovesFrom (second_layout making) (queued_tree making) (is_keyed (pos birth) (pos place))) old new
+Does making (RemoveCopy birth place) old new = LetsGo making (RemovesQueued making birth place) old new
 Does making (PutRetained place message kept) old new =
-    LetsGo making (PutsFirst making kept.publication message (PutsInto (second_layout making) (kept_tree making) (kept_row place kept) (is_retained place kept.topic))) old new
-Does making (RemoveRetained place) old new =
-    LetsGo making (RemovesFrom (second_layout making) (kept_tree making) (is_of 0 (pos place))) old new
+    LetsGo making (PutsFirst making kept.publication message (PutsKept making place kept)) old new
+Does making (RemoveRetained place) old new = LetsGo making (RemovesKept making place) old new

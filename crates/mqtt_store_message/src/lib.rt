@@ -9,6 +9,7 @@ mod numbers;
 mod queued;
 mod referring;
 mod sessions;
+mod sizes;
 mod sweeps;
 
 pub use change::{TableChange, change_tables};
@@ -17,3 +18,4 @@ pub use laws::no_message_is_left_over;
 pub use messages::{MessageColumns, put_message, sweep_message};
 pub use queued::{QueuedColumns, pub_of_queued, put_queued, remove_queued, set_queued};
 pub use sessions::{pubs_of_queue, remove_session};
+pub use sizes::is_sized;

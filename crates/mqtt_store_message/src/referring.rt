@@ -2,12 +2,10 @@
 ghost use Rattle.std.specs.Prelude.{◌≡◌, ◌<◌, ◌^◌, pos};
 ghost use Rattle.sqlite.specs.Held.{state};
 ghost use Rattle.mqtt_store_schema.specs.Settled.{StaysInside};
-ghost use Rattle.mqtt_store_write.specs.Layout.{second_layout};
 ghost use Rattle.mqtt_store_write.specs.Content.{is_of};
-ghost use Rattle.mqtt_store_write.specs.Removal.{is_keyed, RemovesFrom};
-ghost use Rattle.mqtt_store_write.specs.Put.{PutsInto, PutsNumbered, is_retained};
-ghost use Rattle.mqtt_store_message.specs.Places.{queued_tree, kept_tree};
-ghost use Rattle.mqtt_store_message.specs.Rows.{queued_row, kept_row, IsSized};
+ghost use Rattle.mqtt_store_message.specs.Places.{queued_tree};
+ghost use Rattle.mqtt_store_message.specs.Rows.{IsSized};
+ghost use Rattle.mqtt_store_message.specs.Comings.{PutsQueued, RemovesQueued, PutsKept, RemovesKept};
 ghost use Rattle.mqtt_store_message.specs.Endings.{EndsSession};
 ghost use Rattle.mqtt_store_message.specs.References.{FindsAll};
 ghost use Rattle.mqtt_store_message.specs.Letting.{LetsGo, PutsFirst};
@@ -34,8 +32,7 @@ fn put_queued_last<S: Alter>(
     requires sized { IsSized copy.now }
     ensures same_reference { tx.new.conn.ghost_name ≡ tx.old.conn.ghost_name }
     ensures put { ChangesBy S.Store tx.old.conn.now tx.new.conn.now result
-        (λ making. PutsFirst making copy.now.publication message.now
-        (PutsNumbered (second_layout making) (queued_tree making) (queued_row birth place copy.now) (is_keyed (pos birth) (pos place)))) }
+        (λ making. PutsFirst making copy.now.publication message.now (PutsQueued making birth place copy.now)) }
     ensures inside { StaysInside (state S.Store tx.old.conn.now) (state S.Store tx.new.conn.now) }
 {
     put_message(tx, copy.publication, message)?;
@@ -57,8 +54,7 @@ pub(crate) fn put_copy<S: Alter>(
     requires sized { IsSized copy.now }
     ensures same_reference { tx.new.conn.ghost_name ≡ tx.old.conn.ghost_name }
     ensures put { ChangesBy S.Store tx.old.conn.now tx.new.conn.now result
-        (λ making. LetsGo making (PutsFirst making copy.now.publication message.now
-        (PutsNumbered (second_layout making) (queued_tree making) (queued_row birth place copy.now) (is_keyed (pos birth) (pos place))))) }
+        (λ making. LetsGo making (PutsFirst making copy.now.publication message.now (PutsQueued making birth place copy.now))) }
     ensures inside { StaysInside (state S.Store tx.old.conn.now) (state S.Store tx.new.conn.now) }
 {
     let found = pub_of_queued(tx, birth, place)?;
@@ -76,7 +72,7 @@ pub(crate) fn remove_copy<S: Alter>(
     requires place { place < 2 ^ 63 }
     ensures same_reference { tx.new.conn.ghost_name ≡ tx.old.conn.ghost_name }
     ensures removed { ChangesBy S.Store tx.old.conn.now tx.new.conn.now result
-        (λ making. LetsGo making (RemovesFrom (second_layout making) (queued_tree making) (is_keyed (pos birth) (pos place)))) }
+        (λ making. LetsGo making (RemovesQueued making birth place)) }
     ensures inside { StaysInside (state S.Store tx.old.conn.now) (state S.Store tx.new.conn.now) }
 {
     let found = pub_of_queued(tx, birth, place)?;
@@ -135,8 +131,7 @@ fn put_kept_last<S: Alter>(
     requires arrived { kept.now.arrived < 2 ^ 63 }
     ensures same_reference { tx.new.conn.ghost_name ≡ tx.old.conn.ghost_name }
     ensures put { ChangesBy S.Store tx.old.conn.now tx.new.conn.now result
-        (λ making. PutsFirst making kept.now.publication message.now
-        (PutsInto (second_layout making) (kept_tree making) (kept_row place kept.now) (is_retained place kept.now.topic))) }
+        (λ making. PutsFirst making kept.now.publication message.now (PutsKept making place kept.now)) }
     ensures inside { StaysInside (state S.Store tx.old.conn.now) (state S.Store tx.new.conn.now) }
 {
     put_message(tx, kept.publication, message)?;
@@ -157,8 +152,7 @@ pub(crate) fn put_retained<S: Alter>(
     requires arrived { kept.now.arrived < 2 ^ 63 }
     ensures same_reference { tx.new.conn.ghost_name ≡ tx.old.conn.ghost_name }
     ensures put { ChangesBy S.Store tx.old.conn.now tx.new.conn.now result
-        (λ making. LetsGo making (PutsFirst making kept.now.publication message.now
-        (PutsInto (second_layout making) (kept_tree making) (kept_row place kept.now) (is_retained place kept.now.topic)))) }
+        (λ making. LetsGo making (PutsFirst making kept.now.publication message.now (PutsKept making place kept.now))) }
     ensures inside { StaysInside (state S.Store tx.old.conn.now) (state S.Store tx.new.conn.now) }
 {
     let at_place = pub_of_kept(tx, place)?;
@@ -175,7 +169,7 @@ pub(crate) fn remove_retained<S: Alter>(
     requires { place < 2 ^ 63 }
     ensures same_reference { tx.new.conn.ghost_name ≡ tx.old.conn.ghost_name }
     ensures removed { ChangesBy S.Store tx.old.conn.now tx.new.conn.now result
-        (λ making. LetsGo making (RemovesFrom (second_layout making) (kept_tree making) (is_of 0 (pos place)))) }
+        (λ making. LetsGo making (RemovesKept making place)) }
     ensures inside { StaysInside (state S.Store tx.old.conn.now) (state S.Store tx.new.conn.now) }
 {
     let found = pub_of_kept(tx, place)?;

@@ -6,6 +6,7 @@ ghost use Rattle.mqtt_store_message.specs.Letting.{SweepsAll};
 ghost use Rattle.mqtt_store_message.specs.Changing.{ChangesBy};
 
 use crate::messages::sweep_message;
+use crate::sizes::fits;
 use sqlite::{Alter, Error, ErrorCode, Transaction};
 
 /// Removes the message of a publication, if nothing refers to it. `TooBig` if SQL has no such
@@ -16,7 +17,7 @@ fn sweep_number<S: Alter>(tx: &mut Transaction<'_, S>, publication: u64) -> Resu
         (λ making. SweepsAll making (publication ∷ [])) }
     ensures inside { StaysInside (state S.Store tx.old.conn.now) (state S.Store tx.new.conn.now) }
 {
-    if publication >> 63 != 0 {
+    if !fits(publication) {
         return Err(Error::SqliteFailure(ErrorCode::TooBig));
     }
     match sweep_message(tx, publication) {

@@ -2,7 +2,7 @@
 
 use crate::course::database;
 use mqtt_store_message::{
-    KeptColumns, MessageColumns, QueuedColumns, TableChange, change_tables, pub_of_topic,
+    KeptColumns, MessageColumns, QueuedColumns, TableChange, change_tables, is_sized, pub_of_topic,
 };
 use mqtt_store_write::{SessionColumns, SubscriptionColumns, WillColumns};
 use sqlite::{Alter, Error, Transaction};
@@ -245,5 +245,18 @@ fn a_message_stands_while_something_refers_to_it(rt: HostRuntime) -> Result<(), 
     assert_eq!(rt; new, want);
     let taken_over = messages_in(rt.alloc(), false)?;
     assert_eq!(rt; taken_over, want);
+    Ok(())
+}
+
+#[test]
+fn a_number_of_sql_is_below_2_to_the_63(rt: HostRuntime) -> Result<(), Fail> {
+    let last = is_sized(&TableChange::RemoveWill {
+        birth: 0x7FFF_FFFF_FFFF_FFFF,
+    });
+    assert!(rt; last);
+    let next = is_sized(&TableChange::RemoveWill {
+        birth: 0x8000_0000_0000_0000,
+    });
+    assert!(rt; !next);
     Ok(())
 }
