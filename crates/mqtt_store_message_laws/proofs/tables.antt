@@ -7,3 +7,4 @@ pub mod Sweep
 pub mod LetGo
 pub mod Queued
 pub mod Kept
+pub mod Told

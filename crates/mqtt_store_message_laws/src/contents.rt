@@ -6,9 +6,10 @@ ghost use Rattle.mqtt_records.specs.declared.records.Records.{Records};
 ghost use Rattle.mqtt_records.specs.Records.{changed, Fits, kept_place};
 ghost use Rattle.mqtt_records_rows.specs.Order.{IsAscending};
 ghost use Rattle.mqtt_store_schema_two.specs.declared.tables.Making.{Making};
+ghost use Rattle.mqtt_store_write.specs.Content.{IsShapedAt};
 ghost use Rattle.mqtt_store_message.specs.Places.{message_tree, queued_tree, kept_tree};
 ghost use Rattle.mqtt_store_laws.specs.Members.{Has, AllOrdered};
-ghost use Rattle.mqtt_store_laws.specs.Written.{AreWritten, IsCopyOf};
+ghost use Rattle.mqtt_store_laws.specs.Written.{AreWritten, AreSayable, IsCopyOf};
 ghost use Rattle.mqtt_store_message_laws.specs.Items.{IsMessageRow, IsQueuedRow, IsKeptRow};
 ghost use Rattle.mqtt_store_message_laws.specs.Messages.{StoredMessage, IsMessageOf, EitherSays, AgreesWith, SharesContents, FitsContents};
 ghost use Rattle.mqtt_store_message_laws.specs.Steps.{SweepsEach, DropsLast};
@@ -18,6 +19,13 @@ pub fn change_shares_contents()
     ensures { (change : Change) (r : Records)
         → AllOrdered r → IsAscending kept_place r.retained → SharesContents r → Fits change r
         → FitsContents change r → SharesContents (changed change r) }
+{}
+
+/// Messages of one number have one row, so what is kept shares contents.
+pub fn rows_share_contents()
+    ensures { (making : Making) (db : Trees) (r : Records)
+        → AreSayable r → IsShapedAt db (message_tree making)
+        → AreWritten IsMessageRow (IsMessageOf r) (db (message_tree making)) → SharesContents r }
 {}
 
 /// If messages stand of what was said and of what is said, and each number that is said no more
