@@ -1,0 +1,17 @@
+use Rattle.mqtt_rules_sharing_laws.proofs.Steps.{nothing_shared, opening_fits, opening_shared, step_fits, step_shared}
+use Rattle.mqtt_rules_sharing_laws.proofs.laws.contents_are_shared.Goals as goal
+
+pub returns-clause-nothing : goal.returns-clause-nothing
+returns-clause-nothing c = nothing_shared
+
+pub returns-clause-rows : goal.returns-clause-rows
+returns-clause-rows c = step_fits
+
+pub returns-clause-step : goal.returns-clause-step
+returns-clause-step c = step_shared
+
+pub returns-clause-opening : goal.returns-clause-opening
+returns-clause-opening c = opening_fits
+
+pub returns-clause-opened : goal.returns-clause-opened
+returns-clause-opened c = opening_shared
