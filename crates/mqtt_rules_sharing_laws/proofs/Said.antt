@@ -105,21 +105,26 @@ counter_said Subscribes value r m h = h
 counter_said Autos value r m h = h
 counter_said Moment value r m h = h
 
+has_either : {X : Type 0} (t : Bool) (x : X) (xs ys : List X) → Has (cond t xs ys) x → Has xs x ⊎ Has ys x
+has_either true x xs ys h = inl h
+has_either false x xs ys h = inr h
+
 begun_said : (row : Columns) (r : Records) (m : StoredMessage) → IsMessageOf (changed (PutSession row) r) m → IsMessageOf r m
-begun_said row r m (inl it) = elim (cases_Bool (has_row birth_of row.birth r.sessions)) [
-  | inl stands ↦
-      let there : Has (change_row birth_of row.birth (with_columns row) r.sessions) it.2.0 = rw stands at it.2.1 in
-      elim (copies_changed row.birth (with_columns row) (λ n. ⊥) r.sessions m (λ s x h. inl (x, h, refl)) (it.2.0, there, it.1, it.2.3, it.3)) [
-        | inl old ↦ said_by r m old
-        | inr none ↦ absurd none
-      ]
-  | inr new ↦
-      let there : Has (put_row birth_of SESSION_LIMIT (fresh row) r.sessions) it.2.0 = rw new at it.2.1 in
-      elim (has_put birth_of SESSION_LIMIT (fresh row) it.2.0 r.sessions there) [
-        | inl is ↦ let empty : Has [] it.1 = subst (λ (s : Session). Has s.queue it.1) is it.2.3 in absurd empty
-        | inr old ↦ inl (it.0, it.1, (it.2.0, old, it.2.2, it.2.3), it.3)
-      ]
-]
+begun_said row r m (inl it) =
+    let other = change_row birth_of row.birth (with_columns row) r.sessions in
+    let new = put_row birth_of SESSION_LIMIT (fresh row) r.sessions in
+    elim (has_either (has_row birth_of row.birth r.sessions) it.2.0 other new it.2.1) [
+      | inl there ↦
+          elim (copies_changed row.birth (with_columns row) (λ n. ⊥) r.sessions m (λ s x h. inl (x, h, refl)) (it.2.0, there, it.1, it.2.3, it.3)) [
+            | inl old ↦ said_by r m old
+            | inr none ↦ absurd none
+          ]
+      | inr there ↦
+          elim (has_put birth_of SESSION_LIMIT (fresh row) it.2.0 r.sessions there) [
+            | inl is ↦ let empty : Has [] it.1 = subst (λ (s : Session). Has s.queue it.1) is it.2.3 in absurd empty
+            | inr old ↦ inl (it.0, it.1, (it.2.0, old, it.2.2, it.2.3), it.3)
+          ]
+    ]
 begun_said row r m (inr it) = inr it
 
 -- ---- changes
