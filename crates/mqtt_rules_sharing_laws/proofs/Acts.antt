@@ -1,7 +1,7 @@
 -- Each unit of deeds leaves contents shared: a publication's copies say what it says, under a number that is new, and copies
 -- of retained messages say what these say.
 use Rattle.std.proofs.Common.{◌≡◌, ◌≤◌, ◌⊎◌, ℕ, suc, Bool, true, false, not, ◌&&◌, List, [], ◌∷◌, ◌++◌, filter, map, Option, Some, None, refl, sym, ap, subst, ◌∙◌, arith, inl, inr}
-use Rattle.std.specs.Prelude.{⊤, flat_map, option_map}
+use Rattle.std.specs.Prelude.{flat_map, option_map}
 use Rattle.std.specs.List.{AllByRecursion}
 use Rattle.mqtt_base.specs.declared.session.Cause.{Cause}
 use Rattle.mqtt_base.specs.declared.session.Cause.TheVariants.{Direct, Share}
@@ -15,7 +15,7 @@ use Rattle.mqtt_flow.specs.Outbound.{way_made}
 use Rattle.mqtt_routes.specs.declared.retained.Kept.{Kept}
 use Rattle.mqtt_routes.specs.Retained.{kept_for}
 use Rattle.mqtt_routes.specs.Intended.{Copy}
-use Rattle.mqtt_routes.specs.Acceptance.{Served, Routed, copies_in}
+use Rattle.mqtt_routes.specs.Acceptance.{Routed, copies_in}
 use Rattle.mqtt_records_message.specs.declared.message.MessageCopy.{MessageCopy}
 use Rattle.mqtt_records_message.specs.declared.message.RetainedMessage.{RetainedMessage}
 use Rattle.mqtt_records_message.specs.Queue.{CopyRow}
@@ -43,7 +43,7 @@ use Rattle.mqtt_rules.proofs.acts.Goods.{AreGood, good_append, good_flat, good_o
 use Rattle.mqtt_rules.proofs.acts.Leads.{Leads}
 use Rattle.mqtt_rules.proofs.acts.Acts.{anyone, finds_anyone, call_of_anyone, closing_session, closing_on, closing, is_alone, brought_to, Law, leads_call, leads_opening}
 use Rattle.mqtt_rules.proofs.numbers.Copies.{each_append, each_filter, each_flat, each_all, each_map, each_more}
-use Rattle.mqtt_rules_sharing_laws.proofs.Told.{message_of, Fits, Agree, IsOrMayBe, MaySay, deeds_fit}
+use Rattle.mqtt_rules_sharing_laws.proofs.Agreement.{message_of, HasFittingRows, Agree, IsOrMayBe, MaySay, deeds_fit}
 
 -- what a copy for a session says
 abbrev message_to : CopyTo → StoredMessage
@@ -142,11 +142,11 @@ module _ (May : StoredMessage → Type 0) (r : Records) (h : Agree May r) where
   }
 
 -- deeds that say nothing but what may be said lead on
-leads : (May : StoredMessage → Type 0) (ds : List Deed) (b : Broker) → Agree May b.records → AreGood (MaySay May) ds b → Leads Keeps Fits ds b
+leads : (May : StoredMessage → Type 0) (ds : List Deed) (b : Broker) → Agree May b.records → AreGood (MaySay May) ds b → Leads Keeps HasFittingRows ds b
 leads May ds b h may = let fit = deeds_fit May ds b h may in (fit.0, said_agrees May (after_all ds b).records fit.1)
 
 -- so do deeds that say nothing
-plain : (ds : List Deed) (b : Broker) → Keeps b → AreGood (MaySay nothing_more) ds b → Leads Keeps Fits ds b
+plain : (ds : List Deed) (b : Broker) → Keeps b → AreGood (MaySay nothing_more) ds b → Leads Keeps HasFittingRows ds b
 plain ds b h may = leads nothing_more ds b h may
 
 -- ---- a publication
@@ -209,14 +209,14 @@ accepted_agrees origin m b h = record {
     both x y (inr p) (inr q) same = q ∙ sym p
 
 -- an accepted publication, with its retained message and its copies
-publication_leads : (env : Env) (origin : Origin) (m : Message) (ds : List CopyTo) (b : Broker) → Keeps b → accepted_copies env m b ≡ Some ds → Leads Keeps Fits (publish env origin m ds b) b
+publication_leads : (env : Env) (origin : Origin) (m : Message) (ds : List CopyTo) (b : Broker) → Keeps b → accepted_copies env m b ≡ Some ds → Leads Keeps HasFittingRows (publish env origin m ds b) b
 publication_leads env origin m ds b h e =
     let number = next_publication b.records in
     let c = after (Accept number origin m) b in
     let next = retain_by m.retain (is_empty m.payload) number m c in
     let d = after_all next c in
     let say = good_append (MaySay (IsIt number m)) next (series (map (deliver env) ds) d) c (retain_says m.retain (is_empty m.payload) number m c)
-        (deliveries_say (IsIt number m) env ds d (accepted_say_it (finds_place env m b.records) number b.now m (routing_of env m b.records) ds e)) in
+    (deliveries_say (IsIt number m) env ds d (accepted_say_it (finds_place env m b.records) number b.now m (routing_of env m b.records) ds e)) in
     let rest = leads (IsIt number m) (next ++ series (map (deliver env) ds) d) c (accepted_agrees origin m b h) say in
     (((tt, tt), rest.0), rest.1)
 
@@ -251,7 +251,7 @@ said_again r h = record {
     once m (inr said) = said
 
 -- a filter that is granted, with the copies that it brings
-grant_leads : (env : Env) (w : sub.Wish) (s : Session) (b : Broker) → Keeps b → Leads Keeps Fits (sub.granted_filter env (sub.next_number b.records) s w (brought_to w s b) b).deeds b
+grant_leads : (env : Env) (w : sub.Wish) (s : Session) (b : Broker) → Keeps b → Leads Keeps HasFittingRows (sub.granted_filter env (sub.next_number b.records) s w (brought_to w s b) b).deeds b
 grant_leads env w s b h =
     let number = sub.next_number b.records in
     let queued = filter is_queued (brought_to w s b) in
@@ -262,7 +262,7 @@ grant_leads env w s b h =
 
 -- ---- each unit of deeds
 
-law : (env : Env) → Law env anyone Keeps Fits
+law : (env : Env) → Law env anyone Keeps HasFittingRows
 law env = record {
   finds = finds_anyone Keeps;
   client_stays = λ client ds b k done its. tt;
@@ -286,9 +286,9 @@ law env = record {
 }
 
 -- the deeds of a call write rows that fit, and leave contents shared
-pub call_leads : (env : Env) (call : Call) (b : Broker) → Keeps b → Leads Keeps Fits (deeds_of env call b) b
-call_leads env call b h = leads_call env anyone Keeps Fits (law env) call b h (call_of_anyone call b)
+pub call_leads : (env : Env) (call : Call) (b : Broker) → Keeps b → Leads Keeps HasFittingRows (deeds_of env call b) b
+call_leads env call b h = leads_call env anyone Keeps HasFittingRows (law env) call b h (call_of_anyone call b)
 
 -- so do those of an opening
-pub opening_leads : (env : Env) (b : Broker) → Keeps b → Leads Keeps Fits (opening env b) b
-opening_leads env b h = leads_opening env anyone Keeps Fits (law env) (λ s c k is. plain (At (whose s) (Close c.now) ∷ []) c k (tt, tt)) (λ birth. tt) b h
+pub opening_leads : (env : Env) (b : Broker) → Keeps b → Leads Keeps HasFittingRows (opening env b) b
+opening_leads env b h = leads_opening env anyone Keeps HasFittingRows (law env) (λ s c k is. plain (At (whose s) (Close c.now) ∷ []) c k (tt, tt)) (λ birth. tt) b h

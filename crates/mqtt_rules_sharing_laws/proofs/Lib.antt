@@ -1,4 +1,4 @@
 pub mod Said
-pub mod Told
+pub mod Agreement
 pub mod Acts
 pub mod Steps

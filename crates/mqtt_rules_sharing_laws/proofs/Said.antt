@@ -3,7 +3,6 @@ use Rattle.std.proofs.Common.{◌≡◌, ◌⊎◌, ℕ, Bool, true, false, cond
 use Rattle.std.specs.Prelude.{Some, None}
 use Rattle.std.proofs.lemmas.Bool.{cases_Bool}
 use Rattle.mqtt_base.specs.declared.limits.TheConstants.{QUEUE_LIMIT, SESSION_LIMIT, RETAINED_LIMIT}
-use Rattle.mqtt_records_message.specs.declared.message.RetainedMessage.{RetainedMessage}
 use Rattle.mqtt_records_message.specs.Queue.{CopyRow}
 use Rattle.mqtt_records_rows.specs.Order.{has_row, insert_row, put_row, change_row}
 use Rattle.mqtt_records.specs.declared.session.Columns.{Columns}
@@ -14,7 +13,7 @@ use Rattle.mqtt_records.specs.declared.change.Counter.{Counter}
 use Rattle.mqtt_records.specs.declared.change.Counter.TheVariants.{Births, Publications, Subscribes, Autos, Moment}
 use Rattle.mqtt_records.specs.declared.records.Records.{Records}
 use Rattle.mqtt_records.specs.Session.{birth_of, copy_place, fresh, with_columns, with_will, with_subscription, without_subscription, with_open, without_open, with_copy, with_phase, without_copy, in_phase}
-use Rattle.mqtt_records.specs.Records.{changed, in_session, put_session, with_counter, kept_place}
+use Rattle.mqtt_records.specs.Records.{changed, in_session, with_counter, kept_place}
 use Rattle.mqtt_records_contents.specs.Members.{Has}
 use Rattle.mqtt_records_contents.specs.Contents.{StoredMessage, copy_message, retained_message, IsMessageOf}
 

@@ -1,10 +1,9 @@
 -- Steps and openings write rows that fit, and leave contents shared.
-use Rattle.std.proofs.Common.{◌≡◌, ◌≤◌, ℕ, List, [], ◌∷◌, ◌++◌, nat_eq, ap, subst, sym, arith, inl, inr}
+use Rattle.std.proofs.Common.{◌≤◌, ℕ, List, [], ◌∷◌, ◌++◌, nat_eq, ap, subst, sym, arith, inl, inr}
 use Rattle.std.specs.List.{AllByRecursion}
 use Rattle.std.proofs.lemmas.Bool.{cases_Bool}
 use Rattle.mqtt_records_message.specs.declared.message.RetainedMessage.{RetainedMessage}
 use Rattle.mqtt_records_message.specs.Queue.{CopyRow}
-use Rattle.mqtt_records.specs.declared.session.Session.{Session}
 use Rattle.mqtt_records.specs.declared.change.Change.{Change}
 use Rattle.mqtt_records.specs.declared.records.Records.{Records}
 use Rattle.mqtt_records.specs.Records.{changed, changed_all, nothing}
@@ -15,9 +14,11 @@ use Rattle.mqtt_rules.specs.State.{Broker, MemberChoice, stored}
 use Rattle.mqtt_rules.specs.Deeds.{Deed, rows_of, rows_of_all, stored_after, after, after_all}
 use Rattle.mqtt_rules.specs.Step.{Call, deeds, at_moment, env_of, stamp_of, stamped, with_moment, rows_written, stepped, opening_deeds, unopened, opened}
 use Rattle.mqtt_rules.specs.Numbers.{HasCopiesUpTo, HasAcceptedNumbers}
+use Rattle.mqtt_rules.specs.Laws.{Event, Asked, Reopened, after_event, after_events, blank}
 use Rattle.mqtt_rules.proofs.acts.Goods.{AreGood}
 use Rattle.mqtt_rules.proofs.acts.Leads.{Leads}
-use Rattle.mqtt_rules_sharing_laws.proofs.Told.{Fits, Agree}
+use Rattle.mqtt_rules.proofs.numbers.NumberCopies.{opening_accepted, step_accepted}
+use Rattle.mqtt_rules_sharing_laws.proofs.Agreement.{HasFittingRows}
 use Rattle.mqtt_rules_sharing_laws.proofs.Acts.{Keeps, call_leads, opening_leads}
 
 -- ---- before a step
@@ -66,7 +67,7 @@ both_fit : (xs ys : List Change) (r : Records) → FitContents xs r → FitConte
 both_fit [] ys r p q = q
 both_fit (x ∷ xs) ys r p q = (p.0, both_fit xs ys (changed x r) p.1 q)
 
-deeds_fit : (ds : List Deed) (b : Broker) → AreGood Fits ds b → FitContents (rows_of_all ds b.records) b.records
+deeds_fit : (ds : List Deed) (b : Broker) → AreGood HasFittingRows ds b → FitContents (rows_of_all ds b.records) b.records
 deeds_fit [] b g = tt
 deeds_fit (d ∷ ds) b g = both_fit (rows_of d b.records) (rows_of_all ds (stored_after d b.records)) b.records g.0 (deeds_fit ds (after d b) g.1)
 
@@ -80,18 +81,18 @@ stamped_fit : (now was : ℕ) (rows : List Change) (r : Records) → FitContents
 stamped_fit now was [] r fit = tt
 stamped_fit now was (x ∷ rows) r fit = both_fit (x ∷ rows) (stamp_of now was) r fit (stamp_fits now was (changed_all (x ∷ rows) r))
 
-rows_fit : (ds : List Deed) (b : Broker) → Leads Keeps Fits ds b → FitContents (rows_written ds b) b.records
+rows_fit : (ds : List Deed) (b : Broker) → Leads Keeps HasFittingRows ds b → FitContents (rows_written ds b) b.records
 rows_fit ds b led = stamped_fit b.now b.records.moment (rows_of_all ds b.records) b.records (deeds_fit ds b led.0)
 
-left_shared : (ds : List Deed) (b : Broker) → Leads Keeps Fits ds b → SharesContents (with_moment (rows_of_all ds b.records) (after_all ds b)).records
+left_shared : (ds : List Deed) (b : Broker) → Leads Keeps HasFittingRows ds b → SharesContents (with_moment (rows_of_all ds b.records) (after_all ds b)).records
 left_shared ds b led = stamped_shares (rows_of_all ds b.records) (after_all ds b) (shares (after_all ds b) led.1)
 
 -- ---- steps and openings
 
-step_leads : (limits : Limits) (choice : MemberChoice) (now : ℕ) (call : Call) (b : Broker) → SharesContents (stored b) → HasAcceptedNumbers (stored b) → Leads Keeps Fits (deeds limits choice now call b) (at_moment now b)
+step_leads : (limits : Limits) (choice : MemberChoice) (now : ℕ) (call : Call) (b : Broker) → SharesContents (stored b) → HasAcceptedNumbers (stored b) → Leads Keeps HasFittingRows (deeds limits choice now call b) (at_moment now b)
 step_leads limits choice now call b shared h = call_leads (env_of limits choice b) call (at_moment now b) (keeps (at_moment now b) shared h)
 
-opened_leads : (limits : Limits) (choice : MemberChoice) (now : ℕ) (r : Records) → SharesContents r → HasAcceptedNumbers r → Leads Keeps Fits (opening_deeds limits choice now r) (unopened now r)
+opened_leads : (limits : Limits) (choice : MemberChoice) (now : ℕ) (r : Records) → SharesContents r → HasAcceptedNumbers r → Leads Keeps HasFittingRows (opening_deeds limits choice now r) (unopened now r)
 opened_leads limits choice now r shared h = let b = unopened now r in opening_leads (env_of limits choice b) b (keeps b shared h)
 
 -- each row of a step says what is said under its number
@@ -113,3 +114,20 @@ opening_fits limits choice now r shared h = rows_fit (opening_deeds limits choic
 pub opening_shared : (limits : Limits) (choice : MemberChoice) (now : ℕ) (r : Records) → SharesContents r → HasAcceptedNumbers r
     → SharesContents (stored (opened limits choice now r))
 opening_shared limits choice now r shared h = left_shared (opening_deeds limits choice now r) (unopened now r) (opened_leads limits choice now r shared h)
+
+-- ---- runs
+
+abbrev IsGood : Broker → Type 0
+IsGood b = SharesContents (stored b) × HasAcceptedNumbers (stored b)
+
+event_good : (e : Event) (b : Broker) → IsGood b → IsGood (after_event e b)
+event_good (Asked limits choice now call) b h = (step_shared limits choice now call b h.0 h.1, step_accepted limits choice now call b h.1)
+event_good (Reopened limits choice now) b h = (opening_shared limits choice now (stored b) h.0 h.1, opening_accepted limits choice now (stored b) h.1)
+
+events_good : (es : List Event) (b : Broker) → IsGood b → IsGood (after_events es b)
+events_good [] b h = h
+events_good (e ∷ es) b h = events_good es (after_event e b) (event_good e b h)
+
+-- contents are shared behind any events
+pub run_shared : (es : List Event) → SharesContents (stored (after_events es blank))
+run_shared es = (events_good es blank (nothing_shared, (tt, tt))).0

@@ -1,5 +1,8 @@
-use Rattle.mqtt_rules_sharing_laws.proofs.Steps.{nothing_shared, opening_fits, opening_shared, step_fits, step_shared}
+use Rattle.mqtt_rules_sharing_laws.proofs.Steps.{nothing_shared, opening_fits, opening_shared, run_shared, step_fits, step_shared}
 use Rattle.mqtt_rules_sharing_laws.proofs.laws.contents_are_shared.Goals as goal
+
+pub returns-clause-run : goal.returns-clause-run
+returns-clause-run c = run_shared
 
 pub returns-clause-nothing : goal.returns-clause-nothing
 returns-clause-nothing c = nothing_shared

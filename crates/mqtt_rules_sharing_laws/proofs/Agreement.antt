@@ -1,10 +1,10 @@
 -- Contents stay shared by rows and deeds that put nothing but what may be said: what is said agrees with all of that.
-use Rattle.std.proofs.Common.{◌≡◌, ◌≤◌, ◌⊎◌, ℕ, List, [], ◌∷◌, ◌++◌, Option, Some, None, refl, subst, arith, inl, inr}
+use Rattle.std.proofs.Common.{◌≡◌, ◌≤◌, ◌⊎◌, ℕ, List, [], ◌∷◌, Option, Some, None, refl, arith, inl, inr}
 use Rattle.std.specs.Prelude.{⊤}
 use Rattle.mqtt_records_message.specs.declared.message.MessageCopy.{MessageCopy}
 use Rattle.mqtt_records.specs.declared.session.Session.{Session}
 use Rattle.mqtt_records.specs.declared.change.Change.{Change}
-use Rattle.mqtt_records.specs.declared.change.Change.TheVariants.{SetCounter, PutSession, SetSession, RemoveSession, PutWill, RemoveWill, PutSubscription, RemoveSubscription, PutInbound, RemoveInbound, PutCopy, SetCopy, RemoveCopy, PutRetained, RemoveRetained}
+use Rattle.mqtt_records.specs.declared.change.Change.TheVariants.{SetCounter, PutCopy, PutRetained}
 use Rattle.mqtt_records.specs.declared.change.Counter.TheVariants.{Births, Publications, Subscribes, Autos, Moment}
 use Rattle.mqtt_records.specs.declared.records.Records.{Records}
 use Rattle.mqtt_records.specs.Records.{changed, changed_all}
@@ -18,9 +18,9 @@ use Rattle.mqtt_rules_sharing_laws.proofs.Said.{IsPut, said_after}
 abbrev pub message_of : MessageCopy → StoredMessage
 message_of copy = stored_message copy.id.publication copy.content
 
--- a deed of what follows writes these rows well
-abbrev pub Fits : Deed → Broker → Type 0
-Fits d b = FitContents (rows_of d b.records) b.records
+-- what the rows of a deed put says what is said under its number
+abbrev pub HasFittingRows : Deed → Broker → Type 0
+HasFittingRows d b = FitContents (rows_of d b.records) b.records
 
 -- what may be said beside what is said
 module _ (May : StoredMessage → Type 0) where
@@ -114,7 +114,7 @@ module _ (May : StoredMessage → Type 0) where
   rows_may d b q = tt
 
   -- rows of deeds that say nothing but what may be said fit, and all agrees behind them
-  pub deeds_fit : (ds : List Deed) (b : Broker) → Agree b.records → AreGood MaySay ds b → AreGood Fits ds b × Agree (after_all ds b).records
+  pub deeds_fit : (ds : List Deed) (b : Broker) → Agree b.records → AreGood MaySay ds b → AreGood HasFittingRows ds b × Agree (after_all ds b).records
   deeds_fit [] b h may = (tt, h)
   deeds_fit (d ∷ ds) b h may =
       let rows = rows_may d b may.0 in
