@@ -1,3 +1,4 @@
+pub mod Examples
 pub mod Said
 pub mod Agreement
 pub mod Acts
