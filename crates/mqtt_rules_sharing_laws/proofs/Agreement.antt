@@ -1,5 +1,5 @@
 -- Contents stay shared by rows and deeds that put nothing but what may be said: what is said agrees with all of that.
-use Rattle.std.proofs.Common.{◌≡◌, ◌≤◌, ◌⊎◌, ℕ, List, [], ◌∷◌, Option, Some, None, refl, arith, inl, inr}
+use Rattle.std.proofs.Common.{◌≡◌, ◌≤◌, ◌⊎◌, List, [], ◌∷◌, Option, Some, None, refl, arith, inl, inr}
 use Rattle.std.specs.Prelude.{⊤}
 use Rattle.mqtt_records_message.specs.declared.message.MessageCopy.{MessageCopy}
 use Rattle.mqtt_records.specs.declared.session.Session.{Session}
@@ -10,7 +10,7 @@ use Rattle.mqtt_records.specs.declared.records.Records.{Records}
 use Rattle.mqtt_records.specs.Records.{changed, changed_all}
 use Rattle.mqtt_records_contents.specs.Contents.{StoredMessage, stored_message, copy_message, retained_message, IsMessageOf, FitsContents, FitContents}
 use Rattle.mqtt_rules.specs.State.{Broker, session_at}
-use Rattle.mqtt_rules.specs.Deeds.{Part, Resume, Enter, Deed, Accept, Begin, Name, Count, At, Finish, Keep, Forget, part_rows_of, rows_of, after, after_all}
+use Rattle.mqtt_rules.specs.Deeds.{Whose, Part, Resume, Enter, Deed, Accept, Begin, Name, Count, At, Finish, Keep, Forget, part_rows_of, rows_of, after, after_all}
 use Rattle.mqtt_rules.proofs.acts.Goods.{AreGood}
 use Rattle.mqtt_rules_sharing_laws.proofs.Said.{IsPut, said_after}
 
@@ -94,12 +94,12 @@ module _ (May : StoredMessage → Type 0) where
   MaySay (Keep kept) b = May (retained_message kept)
   MaySay d b = ⊤
 
-  part_may : (birth : ℕ) (client : List ℕ) (part : Part) (o : Option Session) (b : Broker) → MaySay (At (record { birth = birth; client = client }) part) b → RowsMay (part_rows_of part o)
-  part_may birth client part None b q = tt
-  part_may birth client (Resume expiry None) (Some s) b q = (tt, (tt, tt))
-  part_may birth client (Resume expiry (Some will)) (Some s) b q = (tt, (tt, tt))
-  part_may birth client (Enter copy) (Some s) b q = (q, tt)
-  part_may birth client part (Some s) b q = (tt, tt)
+  part_may : (who : Whose) (part : Part) (o : Option Session) (b : Broker) → MaySay (At who part) b → RowsMay (part_rows_of part o)
+  part_may who part None b q = tt
+  part_may who (Resume expiry None) (Some s) b q = (tt, (tt, tt))
+  part_may who (Resume expiry (Some will)) (Some s) b q = (tt, (tt, tt))
+  part_may who (Enter copy) (Some s) b q = (q, tt)
+  part_may who part (Some s) b q = (tt, tt)
 
   rows_may : (d : Deed) (b : Broker) → MaySay d b → RowsMay (rows_of d b.records)
   rows_may (Accept number origin m) b q = absurd q
@@ -107,7 +107,7 @@ module _ (May : StoredMessage → Type 0) where
   rows_may (Begin row (Some will)) b q = (tt, (tt, (tt, tt)))
   rows_may (Name n) b q = (tt, tt)
   rows_may (Count n) b q = (tt, tt)
-  rows_may (At who part) b q = part_may who.birth who.client part (session_at who.birth b.records) b q
+  rows_may (At who part) b q = part_may who part (session_at who.birth b.records) b q
   rows_may (Finish who) b q = (tt, tt)
   rows_may (Keep kept) b q = (q, tt)
   rows_may (Forget place) b q = (tt, tt)
