@@ -6,6 +6,7 @@ use Rattle.mqtt_records.specs.declared.records.Records.{Records}
 use Rattle.mqtt_records.specs.declared.change.Change.TheVariants.{SetCopy}
 use Rattle.mqtt_records.specs.Records.{changed}
 use Rattle.mqtt_records.specs.Session.{with_phase}
+use Rattle.mqtt_records_contents.specs.Contents.{IsMessageOf}
 use Rattle.mqtt_store_schema_two.specs.declared.tables.Making.{Making}
 use Rattle.mqtt_store_message.specs.Places.{message_tree, queued_tree, kept_tree}
 use Rattle.mqtt_store_laws.specs.Members.{IsKept}
@@ -14,7 +15,7 @@ use Rattle.mqtt_store_laws.proofs.changes.Copies.{kept_of}
 use Rattle.mqtt_store_laws.proofs.records.Ordered.{ordered_after}
 use Rattle.mqtt_store_laws.proofs.records.Queues.{set_new}
 use Rattle.mqtt_store_laws.proofs.tables.Tables.{unchanged}
-use Rattle.mqtt_store_message_laws.specs.Messages.{IsMessageOf, EitherSays}
+use Rattle.mqtt_store_message_laws.specs.Messages.{EitherSays}
 use Rattle.mqtt_store_message_laws.specs.Items.{IsMessageRow}
 use Rattle.mqtt_store_message_laws.specs.Written.{KeepsRowsTwo, AreInOrderTwo}
 use Rattle.mqtt_store_message_laws.specs.Steps.{SetsPhase}

@@ -7,9 +7,9 @@ use Rattle.mqtt_records.specs.declared.records.Records.{Records}
 use Rattle.mqtt_records.specs.Records.{changed, Fits, kept_place}
 use Rattle.mqtt_records.specs.Session.{with_columns, with_will, with_subscription, without_subscription, with_open, without_open}
 use Rattle.mqtt_records_rows.specs.Order.{IsAscending}
+use Rattle.mqtt_records_contents.specs.Contents.{SharesContents, FitsContents, copy_message, retained_message}
 use Rattle.mqtt_store_laws.specs.Members.{AllOrdered}
 use Rattle.mqtt_store_laws.proofs.changes.Copies.{kept_of}
-use Rattle.mqtt_store_message_laws.specs.Messages.{SharesContents, FitsContents, copy_message, retained_message}
 use Rattle.mqtt_store_message_laws.proofs.messages.Copies as copies
 use Rattle.mqtt_store_message_laws.proofs.messages.Retained as retained
 use Rattle.mqtt_store_message_laws.proofs.messages.Others.{SameItems, same_said, edited_items, session_items, counter_items}

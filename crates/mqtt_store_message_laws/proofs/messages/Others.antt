@@ -11,9 +11,9 @@ use Rattle.mqtt_records.specs.declared.records.Records.{Records}
 use Rattle.mqtt_records.specs.Records.{changed, Fits, in_session, with_counter}
 use Rattle.mqtt_records.specs.Session.{birth_of}
 use Rattle.mqtt_records_rows.specs.Order.{IsAscending}
-use Rattle.mqtt_store_laws.specs.Members.{Has, InQueue, queue_of}
+use Rattle.mqtt_records_contents.specs.Members.{Has, InQueue, queue_of}
+use Rattle.mqtt_records_contents.specs.Contents.{StoredMessage, IsMessageOf}
 use Rattle.mqtt_store_laws.proofs.records.Parts.{part_new, part_old, put_part_new, put_part_old}
-use Rattle.mqtt_store_message_laws.specs.Messages.{StoredMessage, IsMessageOf}
 
 -- the same copies are queued, and the same messages retained
 pub record SameItems (q r : Records) : Type 0 where

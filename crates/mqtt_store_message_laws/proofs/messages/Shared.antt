@@ -2,7 +2,7 @@
 use Rattle.std.proofs.Common.{◌≡◌, ◌≢◌, ◌⊎◌, ℕ, nat_eq, sym, ap, ◌∙◌, inl, inr, true≢false}
 use Rattle.std.proofs.lemmas.Bool.{cases_Bool, eq-eqb, eqb-true}
 use Rattle.mqtt_records.specs.declared.records.Records.{Records}
-use Rattle.mqtt_store_message_laws.specs.Messages.{StoredMessage, IsMessageOf, AgreesWith, SharesContents}
+use Rattle.mqtt_records_contents.specs.Contents.{StoredMessage, IsMessageOf, AgreesWith, SharesContents}
 
 abbrev number : StoredMessage → ℕ
 number m = m.publication
