@@ -1,2 +1,6 @@
-//! What copies and retained messages of one publication say alike (MQTT 5.0, 3.3, 4.1). Private.
+//! What the copies of a publication and its retained message say alike (MQTT 5.0, 3.3, 4.1). Private to the records.
 #![tactic(auto)]
+
+mod laws;
+
+pub use laws::{change_shares_contents, changes_share_contents, nothing_shares_contents};

@@ -8,6 +8,7 @@ use Rattle.mqtt_records.specs.declared.change.Change.TheVariants.{RemoveSession}
 use Rattle.mqtt_records.specs.Records.{changed}
 use Rattle.mqtt_records_contents.specs.Members.{Has as HasItem, InQueue, queue_of}
 use Rattle.mqtt_records_contents.specs.Contents.{IsMessageOf}
+use Rattle.mqtt_records_contents.proofs.Shared.{shared_less, agree_less}
 use Rattle.mqtt_store_schema_two.specs.declared.tables.Making.{Making}
 use Rattle.mqtt_store_schema_two.specs.declared.tables.Making.TheVariants.{New, TakenOver}
 use Rattle.mqtt_store_write.specs.Content.{is_of, without}
@@ -32,7 +33,6 @@ use Rattle.mqtt_store_message_laws.specs.Written.{KeepsRowsTwo, AreInOrderTwo, H
 use Rattle.mqtt_store_message_laws.specs.Steps.{RemovesWholeSession}
 use Rattle.mqtt_store_message_laws.proofs.messages.Copies.{ended_said, ended_lost}
 use Rattle.mqtt_store_message_laws.proofs.messages.Found.{found_all}
-use Rattle.mqtt_store_message_laws.proofs.messages.Shared.{shared_less, agree_less}
 use Rattle.mqtt_store_message_laws.proofs.tables.Order.{order_swept}
 use Rattle.mqtt_store_message_laws.proofs.tables.Places.{message_spared, kept_spared}
 use Rattle.mqtt_store_message_laws.proofs.tables.Queued.{queued_birth, ended_queued, ended_placed}

@@ -9,6 +9,7 @@ use Rattle.mqtt_records.specs.Records.{changed, Fits}
 use Rattle.mqtt_records.specs.Session.{with_copy}
 use Rattle.mqtt_records_contents.specs.Members.{Has as HasItem}
 use Rattle.mqtt_records_contents.specs.Contents.{StoredMessage, copy_message, IsMessageOf, AgreesWith}
+use Rattle.mqtt_records_contents.proofs.Shared.{shared_with, agree_with}
 use Rattle.mqtt_store_schema_two.specs.declared.tables.Making.{Making}
 use Rattle.mqtt_store_write.specs.Layout.{second_layout}
 use Rattle.mqtt_store_write.specs.Content.{IsShapedAt}
@@ -30,7 +31,6 @@ use Rattle.mqtt_store_message_laws.specs.Written.{KeepsRowsTwo, AreInOrderTwo}
 use Rattle.mqtt_store_message_laws.specs.Steps.{PutsCopy, PutsMessageOf}
 use Rattle.mqtt_store_message_laws.proofs.messages.Copies.{AreTold, put_said, put_says, put_lost}
 use Rattle.mqtt_store_message_laws.proofs.messages.Found.{found_one}
-use Rattle.mqtt_store_message_laws.proofs.messages.Shared.{shared_with, agree_with}
 use Rattle.mqtt_store_message_laws.proofs.tables.Order.{order_put, order_said, order_swept}
 use Rattle.mqtt_store_message_laws.proofs.tables.Places.{message_spared, kept_spared, message_queued, queued_kept, queued_high, queued_not_old}
 use Rattle.mqtt_store_message_laws.proofs.tables.Queued.{queued_keyed, put_queued_table, put_placed}

@@ -7,6 +7,7 @@ use Rattle.mqtt_records.specs.Records.{changed}
 use Rattle.mqtt_records.specs.Session.{without_copy}
 use Rattle.mqtt_records_contents.specs.Members.{Has as HasItem}
 use Rattle.mqtt_records_contents.specs.Contents.{IsMessageOf}
+use Rattle.mqtt_records_contents.proofs.Shared.{shared_less, agree_less}
 use Rattle.mqtt_store_schema_two.specs.declared.tables.Making.{Making}
 use Rattle.mqtt_store_write.specs.Layout.{second_layout}
 use Rattle.mqtt_store_write.specs.Removal.{RemovesFrom, is_keyed}
@@ -23,7 +24,6 @@ use Rattle.mqtt_store_message_laws.specs.Written.{KeepsRowsTwo, AreInOrderTwo}
 use Rattle.mqtt_store_message_laws.specs.Steps.{RemovesCopy}
 use Rattle.mqtt_store_message_laws.proofs.messages.Copies.{AreTold, removed_said, removed_lost}
 use Rattle.mqtt_store_message_laws.proofs.messages.Found.{found_one}
-use Rattle.mqtt_store_message_laws.proofs.messages.Shared.{shared_less, agree_less}
 use Rattle.mqtt_store_message_laws.proofs.tables.Order.{order_removed, order_swept}
 use Rattle.mqtt_store_message_laws.proofs.tables.Places.{message_spared, kept_spared, message_queued, queued_kept, queued_high, queued_not_old}
 use Rattle.mqtt_store_message_laws.proofs.tables.Queued.{queued_keyed, removed_queued, removed_placed}

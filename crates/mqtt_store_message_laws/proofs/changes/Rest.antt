@@ -17,8 +17,7 @@ use Rattle.mqtt_store_laws.proofs.tables.Kept.{Named, moved}
 use Rattle.mqtt_store_laws.proofs.tables.Tables.{unchanged}
 use Rattle.mqtt_store_message_laws.specs.Items.{IsMessageRow, IsQueuedRow, IsKeptRow}
 use Rattle.mqtt_store_message_laws.specs.Written.{KeepsRowsTwo, second_numbers}
-use Rattle.mqtt_store_message_laws.proofs.messages.Changes.{same_shared}
-use Rattle.mqtt_store_message_laws.proofs.messages.Others.{SameItems, same_said, same_says}
+use Rattle.mqtt_store_message_laws.proofs.messages.Others.{SameItems, same_said, same_says, same_shared}
 use Rattle.mqtt_store_message_laws.proofs.tables.Places.{message_spared, queued_spared, kept_spared, message_high, queued_high, kept_high, low_not_old}
 use Rattle.mqtt_store_message_laws.proofs.tables.Stays.{old_stay}
 

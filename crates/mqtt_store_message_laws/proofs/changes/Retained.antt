@@ -7,6 +7,7 @@ use Rattle.mqtt_records.specs.declared.change.Change.TheVariants.{PutRetained, R
 use Rattle.mqtt_records.specs.Records.{changed, Fits}
 use Rattle.mqtt_records_contents.specs.Members.{Has as HasItem}
 use Rattle.mqtt_records_contents.specs.Contents.{StoredMessage, retained_message, IsMessageOf, AgreesWith}
+use Rattle.mqtt_records_contents.proofs.Shared.{shared_with, agree_with, shared_less, agree_less}
 use Rattle.mqtt_store_schema_two.specs.declared.tables.Making.{Making}
 use Rattle.mqtt_store_write.specs.Layout.{second_layout}
 use Rattle.mqtt_store_write.specs.Content.{is_of, IsShapedAt}
@@ -28,7 +29,6 @@ use Rattle.mqtt_store_message_laws.specs.Written.{KeepsRowsTwo, AreInOrderTwo}
 use Rattle.mqtt_store_message_laws.specs.Steps.{PutsMessageOf, PutsRetained, RemovesRetained}
 use Rattle.mqtt_store_message_laws.proofs.messages.Found.{found_one}
 use Rattle.mqtt_store_message_laws.proofs.messages.Retained.{IsTold, put_said, put_says, put_lost, removed_said, removed_lost}
-use Rattle.mqtt_store_message_laws.proofs.messages.Shared.{shared_with, agree_with, shared_less, agree_less}
 use Rattle.mqtt_store_message_laws.proofs.tables.Kept.{kept_found, put_kept_table, removed_kept_table}
 use Rattle.mqtt_store_message_laws.proofs.tables.Order.{order_put, order_removed, order_said, order_swept}
 use Rattle.mqtt_store_message_laws.proofs.tables.Places.{message_spared, queued_spared, message_kept, queued_kept, kept_high, kept_not_old}

@@ -7,6 +7,7 @@ use Rattle.mqtt_records.specs.declared.change.Change.TheVariants.{SetCopy}
 use Rattle.mqtt_records.specs.Records.{changed}
 use Rattle.mqtt_records.specs.Session.{with_phase}
 use Rattle.mqtt_records_contents.specs.Contents.{IsMessageOf}
+use Rattle.mqtt_records_contents.proofs.Shared.{shared_less, agree_less}
 use Rattle.mqtt_store_schema_two.specs.declared.tables.Making.{Making}
 use Rattle.mqtt_store_message.specs.Places.{message_tree, queued_tree, kept_tree}
 use Rattle.mqtt_store_laws.specs.Members.{IsKept}
@@ -20,7 +21,6 @@ use Rattle.mqtt_store_message_laws.specs.Items.{IsMessageRow}
 use Rattle.mqtt_store_message_laws.specs.Written.{KeepsRowsTwo, AreInOrderTwo}
 use Rattle.mqtt_store_message_laws.specs.Steps.{SetsPhase}
 use Rattle.mqtt_store_message_laws.proofs.messages.Copies.{set_said, set_says}
-use Rattle.mqtt_store_message_laws.proofs.messages.Shared.{shared_less, agree_less}
 use Rattle.mqtt_store_message_laws.proofs.tables.Order.{order_put}
 use Rattle.mqtt_store_message_laws.proofs.tables.Places.{message_spared, kept_spared, message_queued, queued_kept, queued_high, queued_not_old}
 use Rattle.mqtt_store_message_laws.proofs.tables.Queued.{now, puts, set_queued_table, set_placed}

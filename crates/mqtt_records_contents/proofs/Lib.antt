@@ -1,0 +1,3 @@
+mod Lists
+mod Said
+pub mod Shared
