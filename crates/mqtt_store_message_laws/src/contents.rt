@@ -1,7 +1,6 @@
 //! What copies and retained messages say alike, and the messages that stand after sweeps.
 ghost use Rattle.std.specs.Prelude.{◌⊎◌, ℕ, List};
 ghost use Rattle.sqlite_trees.specs.Tree.{Trees};
-ghost use Rattle.mqtt_records.specs.declared.change.Change.{Change};
 ghost use Rattle.mqtt_records.specs.declared.records.Records.{Records};
 ghost use Rattle.mqtt_records_contents.specs.Members.{Has};
 ghost use Rattle.mqtt_records_contents.specs.Contents.{StoredMessage, IsMessageOf, AgreesWith, SharesContents};
