@@ -1,5 +1,5 @@
 -- What is said after a change was said before it, or is what the change puts.
-use Rattle.std.proofs.Common.{◌≡◌, ◌⊎◌, ℕ, List, [], ◌∷◌, Option, subst, sym, ap, ◌∙◌, refl, inl, inr}
+use Rattle.std.proofs.Common.{◌≡◌, ◌⊎◌, ℕ, List, [], ◌∷◌, subst, sym, ap, ◌∙◌, refl, inl, inr}
 use Rattle.std.specs.Prelude.{Some, None}
 use Rattle.mqtt_base.specs.declared.limits.TheConstants.{QUEUE_LIMIT, SESSION_LIMIT, RETAINED_LIMIT}
 use Rattle.mqtt_base.specs.declared.session.Phase.{Phase}
