@@ -7,7 +7,7 @@ use mqtt_props::{PropRef, PropsRef, ValueRef};
 use mqtt_records_message::Content;
 
 /// Whether two values are the same.
-fn is_value(one: ValueRef<'_>, other: ValueRef<'_>) -> bool
+fn is_same_value(one: ValueRef<'_>, other: ValueRef<'_>) -> bool
     ensures { IsTrue result ↔ (value_of one.entry ≡ value_of other.entry) }
 {
     match (one, other) {
@@ -22,14 +22,14 @@ fn is_value(one: ValueRef<'_>, other: ValueRef<'_>) -> bool
 }
 
 /// Whether two properties are the same.
-fn is_same(one: PropRef<'_>, other: PropRef<'_>) -> bool
+fn is_same_property(one: PropRef<'_>, other: PropRef<'_>) -> bool
     ensures { IsTrue result ↔ (prop_of one.entry ≡ prop_of other.entry) }
 {
-    one.name == other.name && is_value(one.value, other.value)
+    one.name == other.name && is_same_value(one.value, other.value)
 }
 
 /// Whether two lists of properties are the same.
-fn are_same(these: &PropsRef<'_>, others: &PropsRef<'_>) -> bool
+fn are_same_properties(these: &PropsRef<'_>, others: &PropsRef<'_>) -> bool
     ensures { IsTrue result ↔ (these.now ≡ others.now) }
 {
     let mut rest = these.reborrow();
@@ -38,7 +38,7 @@ fn are_same(these: &PropsRef<'_>, others: &PropsRef<'_>) -> bool
         let Some((other, behind)) = left.split_first() else {
             return false;
         };
-        if !is_same(one, other) {
+        if !is_same_property(one, other) {
             return false;
         }
         rest = after;
@@ -52,6 +52,6 @@ pub(crate) fn are_alike(one: &Content, other: &Content) -> bool
     ensures { IsTrue result ↔ AreAlike one.now other.now }
 {
     one.topic == other.topic
-        && are_same(&one.properties.lend(), &other.properties.lend())
+        && are_same_properties(&one.properties.lend(), &other.properties.lend())
         && one.payload == other.payload
 }

@@ -31,7 +31,8 @@ fn neighbours_agree(messages: &[Said<'_>]) -> bool
     true
 }
 
-/// Whether each message agrees with each. They are put in the order of their numbers. Takes no memory.
+/// Whether each message agrees with each. They are put in the order of their numbers. Takes no
+/// memory.
 fn all_agree(messages: &mut [Said<'_>]) -> bool
     ensures { IsTrue result ↔ AllAgree (map said messages.old) }
 {
