@@ -1,5 +1,5 @@
 -- Which items records have, whatever their order.
-use Rattle.std.specs.Prelude.{◌≡◌, ◌⊎◌, ℕ, List, [], ◌∷◌, Option, Some, None}
+use Rattle.std.specs.Prelude.{◌≡◌, ℕ, List, [], ◌∷◌, Option, Some, None}
 use Rattle.std.specs.List.{AllByRecursion}
 use Rattle.mqtt_records.specs.declared.session.Session.{Session}
 use Rattle.mqtt_records_message.specs.Queue.{CopyRow}
@@ -9,21 +9,7 @@ use Rattle.mqtt_records_message.specs.declared.message.Will.{Will}
 use Rattle.mqtt_records.specs.declared.subscription.Subscription.{Subscription}
 use Rattle.mqtt_records_rows.specs.Order.{IsAscending}
 use Rattle.mqtt_records.specs.Session.{birth_of, copy_place, place_of, number_of, columns_of}
-
--- as the kit's crates have it
-abbrev pub Has : {X : Type 0} → List X → X → Type 0
-Has [] x = ⊥
-Has (y ∷ ys) x = (x ≡ y) ⊎ Has ys x
-
--- the list of the session with that birth has the item
-abbrev pub InPart : {X : Type 0} → (Session → List X) → List Session → ℕ → X → Type 0
-InPart part sessions b x = (s : Session) × Has sessions s × (s.birth ≡ b) × Has (part s) x
-
-abbrev pub queue_of : Session → List CopyRow
-queue_of s = s.queue
-
-abbrev pub InQueue : Records → ℕ → CopyRow → Type 0
-InQueue r b x = InPart queue_of r.sessions b x
+use Rattle.mqtt_records_contents.specs.Members.{Has, InPart, InQueue}
 
 -- it isn't the copy at that place of that session
 abbrev pub IsOther : ℕ → CopyRow → ℕ → ℕ → Type 0

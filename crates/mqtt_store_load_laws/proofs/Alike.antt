@@ -9,9 +9,10 @@ use Rattle.mqtt_records.specs.declared.records.Records.{Records}
 use Rattle.mqtt_records.specs.declared.session.Session.{Session as SessionItem}
 use Rattle.mqtt_records.specs.Records.{kept_place}
 use Rattle.mqtt_records_rows.specs.Order.{IsAscending}
+use Rattle.mqtt_records_contents.specs.Members.{Has as HasItem}
 use Rattle.mqtt_store_schema.specs.declared.schema.StoreTable.{StoreTable}
 use Rattle.mqtt_store_schema.specs.declared.schema.StoreTable.TheVariants.{Meta, Session, Will, Subscription, Inbound, Copy, Retained}
-use Rattle.mqtt_store_laws.specs.Members.{Has as HasItem, HasColumns, AllOrdered, SameRows}
+use Rattle.mqtt_store_laws.specs.Members.{HasColumns, AllOrdered, SameRows}
 use Rattle.mqtt_store_laws.proofs.records.Determined.{same_members, determined}
 use Rattle.mqtt_store_laws.specs.Written.{AreWritten, HasRows, AreSayable, numbers_in, IsWillOf, IsSubscriptionOf, IsOpenOf, IsCopyOf}
 use Rattle.mqtt_store_load_laws.proofs.Lines.{AreLined, number_line, session_line, will_line, subscription_line, open_line, copy_line, retained_line, number_shown, session_shown, will_shown, subscription_shown, open_shown, copy_shown, retained_shown}

@@ -16,6 +16,7 @@ use Rattle.mqtt_records.specs.declared.session.Columns.{Columns}
 use Rattle.mqtt_records.specs.declared.session.Session.{Session as SessionItem}
 use Rattle.mqtt_records.specs.declared.subscription.Subscription.{Subscription as SubscriptionItem}
 use Rattle.mqtt_records.specs.Session.{columns_of}
+use Rattle.mqtt_records_contents.specs.Members.{Has as HasItem, queue_of}
 use Rattle.mqtt_store_rows.specs.Ones.{one_number}
 use Rattle.mqtt_store_rows.specs.Values.{IsIdentifier}
 use Rattle.mqtt_store_rows.specs.Rows.{SaysSession, SaysWill, SaysSubscription, SaysOpen, SaysCopy, SaysRetained}
@@ -24,7 +25,7 @@ use Rattle.mqtt_store_schema.specs.declared.schema.StoreTable.TheVariants.{Meta,
 use Rattle.mqtt_store_write.proofs.tables.Rows.{has_permuted}
 use Rattle.mqtt_store_read.specs.Listing.{shown, tree_of, IsListing}
 use Rattle.mqtt_store_read.specs.Kept.{HasRecords}
-use Rattle.mqtt_store_laws.specs.Members.{Has as HasItem, HasColumns, IsOrdered, will_of, subscriptions_of, inbound_of, queue_of}
+use Rattle.mqtt_store_laws.specs.Members.{HasColumns, IsOrdered, will_of, subscriptions_of, inbound_of}
 use Rattle.mqtt_store_laws.specs.Written.{AreSayable, IsSayableCopy, numbers_in, IsWillOf, IsSubscriptionOf, IsOpenOf, IsCopyOf}
 use Rattle.mqtt_store_load_laws.proofs.Sent.{says_sent}
 use Rattle.mqtt_store_load_laws.proofs.Traverse.{IsSaid, Shares, SaysNamed, SaysOf, rows_each, rows_only, numbers_each, numbers_only, own_each, own_only, shares_each, shares_only, wills_share, subscriptions_share, inbound_share, copies_share}

@@ -12,14 +12,14 @@ use Rattle.sqlite_trees.specs.View.{is_int}
 use Rattle.sqlite_rules.specs.Lists.{Has}
 use Rattle.sqlite.specs.Effect.{Database}
 use Rattle.mqtt_records.specs.Records.{nothing}
+use Rattle.mqtt_records_contents.specs.Members.{Has as HasItem}
+use Rattle.mqtt_records_contents.specs.Contents.{StoredMessage, IsMessageOf}
 use Rattle.mqtt_store_schema.specs.Creation.{number_row, numbers_of}
 use Rattle.mqtt_store_schema_two.specs.Creation.{IsNewSecond}
 use Rattle.mqtt_store_schema_two.specs.declared.tables.Making.TheVariants.{New}
 use Rattle.mqtt_store_write.specs.Content.{IsShapedAt}
-use Rattle.mqtt_store_laws.specs.Members.{Has as HasItem}
 use Rattle.mqtt_store_laws.specs.Items.{IsNumberRow, IsSessionRow, IsWillRow, IsSubscriptionRow, IsOpenRow}
 use Rattle.mqtt_store_laws.specs.Written.{AreWritten}
-use Rattle.mqtt_store_message_laws.specs.Messages.{StoredMessage, IsMessageOf}
 use Rattle.mqtt_store_message_laws.specs.Items.{IsMessageRow, IsQueuedRow, IsKeptRow}
 use Rattle.mqtt_store_message_laws.specs.Written.{KeepsRowsTwo, AreInOrderTwo, second_numbers}
 

@@ -3,5 +3,4 @@ pub mod Shared
 pub mod Copies
 pub mod Retained
 pub mod Others
-pub mod Changes
 pub mod Found

@@ -10,6 +10,7 @@ use Rattle.mqtt_records_message.specs.declared.message.RetainedMessage.{Retained
 use Rattle.mqtt_records_message.specs.Queue.{CopyRow}
 use Rattle.mqtt_records.specs.declared.change.Change.{Change}
 use Rattle.mqtt_records.specs.declared.change.Change.TheVariants as change
+use Rattle.mqtt_records_contents.specs.Contents.{StoredMessage, copy_message, retained_message}
 use Rattle.mqtt_store_schema_two.specs.declared.tables.Making.{Making}
 use Rattle.mqtt_store_write.specs.Layout.{second_layout}
 use Rattle.mqtt_store_write.specs.Content.{is_of}
@@ -26,7 +27,6 @@ use Rattle.mqtt_store_message.specs.References.{Finds, FindsAll}
 use Rattle.mqtt_store_laws.specs.Members.{listed}
 use Rattle.mqtt_store_laws.specs.Items.{session_columns, will_columns, subscription_columns, packet_identifier, phase_number, release_order}
 use Rattle.mqtt_store_laws.specs.Steps.{counter_name}
-use Rattle.mqtt_store_message_laws.specs.Messages.{StoredMessage, copy_message, retained_message}
 use Rattle.mqtt_store_message_laws.specs.Items.{message_columns, queued_columns, kept_columns}
 
 -- ---- copies and retained messages

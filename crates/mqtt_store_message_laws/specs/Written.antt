@@ -6,14 +6,15 @@ use Rattle.sqlite_rules.specs.Lists.{Has}
 use Rattle.mqtt_records.specs.declared.records.Records.{Records}
 use Rattle.mqtt_records.specs.Records.{kept_place}
 use Rattle.mqtt_records_rows.specs.Order.{IsAscending}
+use Rattle.mqtt_records_contents.specs.Members.{Has as HasItem}
+use Rattle.mqtt_records_contents.specs.Contents.{IsMessageOf, SharesContents}
 use Rattle.mqtt_store_schema_two.specs.declared.tables.Making.{Making}
 use Rattle.mqtt_store_schema_two.specs.declared.tables.Making.TheVariants.{New, TakenOver}
 use Rattle.mqtt_store_write.specs.Content.{IsShapedAt}
 use Rattle.mqtt_store_message.specs.Places.{message_tree, queued_tree, kept_tree}
-use Rattle.mqtt_store_laws.specs.Members.{Has as HasItem, HasColumns, AllOrdered}
+use Rattle.mqtt_store_laws.specs.Members.{HasColumns, AllOrdered}
 use Rattle.mqtt_store_laws.specs.Items.{IsNumberRow, IsSessionRow, IsWillRow, IsSubscriptionRow, IsOpenRow}
 use Rattle.mqtt_store_laws.specs.Written.{AreWritten, AreSayable, numbers_in, IsWillOf, IsSubscriptionOf, IsOpenOf, IsCopyOf}
-use Rattle.mqtt_store_message_laws.specs.Messages.{IsMessageOf, SharesContents}
 use Rattle.mqtt_store_message_laws.specs.Items.{IsMessageRow, IsQueuedRow, IsKeptRow}
 
 -- the five numbers as in schema 1; schema is 2

@@ -1,25 +1,16 @@
 //! What copies and retained messages say alike, and the messages that stand after sweeps.
 ghost use Rattle.std.specs.Prelude.{◌⊎◌, ℕ, List};
 ghost use Rattle.sqlite_trees.specs.Tree.{Trees};
-ghost use Rattle.mqtt_records.specs.declared.change.Change.{Change};
 ghost use Rattle.mqtt_records.specs.declared.records.Records.{Records};
-ghost use Rattle.mqtt_records.specs.Records.{changed, Fits, kept_place};
-ghost use Rattle.mqtt_records_rows.specs.Order.{IsAscending};
+ghost use Rattle.mqtt_records_contents.specs.Members.{Has};
+ghost use Rattle.mqtt_records_contents.specs.Contents.{StoredMessage, IsMessageOf, AgreesWith, SharesContents};
 ghost use Rattle.mqtt_store_schema_two.specs.declared.tables.Making.{Making};
 ghost use Rattle.mqtt_store_write.specs.Content.{IsShapedAt};
 ghost use Rattle.mqtt_store_message.specs.Places.{message_tree, queued_tree, kept_tree};
-ghost use Rattle.mqtt_store_laws.specs.Members.{Has, AllOrdered};
 ghost use Rattle.mqtt_store_laws.specs.Written.{AreWritten, AreSayable, IsCopyOf};
 ghost use Rattle.mqtt_store_message_laws.specs.Items.{IsMessageRow, IsQueuedRow, IsKeptRow};
-ghost use Rattle.mqtt_store_message_laws.specs.Messages.{StoredMessage, IsMessageOf, EitherSays, AgreesWith, SharesContents, FitsContents};
+ghost use Rattle.mqtt_store_message_laws.specs.Messages.{EitherSays};
 ghost use Rattle.mqtt_store_message_laws.specs.Steps.{SweepsEach, DropsLast};
-
-/// What a change puts says what is said under its number, so contents stay shared.
-pub fn change_shares_contents()
-    ensures { (change : Change) (r : Records)
-        → AllOrdered r → IsAscending kept_place r.retained → SharesContents r → Fits change r
-        → FitsContents change r → SharesContents (changed change r) }
-{}
 
 /// Messages of one number have one row, so what is kept shares contents.
 pub fn rows_share_contents()

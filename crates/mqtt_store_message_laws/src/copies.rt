@@ -7,6 +7,7 @@ ghost use Rattle.mqtt_records_message.specs.Queue.{CopyRow};
 ghost use Rattle.mqtt_records.specs.declared.change.Change.TheVariants.{PutCopy, SetCopy, RemoveCopy, RemoveSession, PutRetained, RemoveRetained};
 ghost use Rattle.mqtt_records.specs.declared.records.Records.{Records};
 ghost use Rattle.mqtt_records.specs.Records.{changed, Fits};
+ghost use Rattle.mqtt_records_contents.specs.Contents.{copy_message, retained_message, AgreesWith};
 ghost use Rattle.mqtt_store_schema_two.specs.declared.tables.Making.{Making};
 ghost use Rattle.mqtt_store_write.specs.Content.{is_of};
 ghost use Rattle.mqtt_store_write.specs.Layout.{second_layout};
@@ -17,7 +18,6 @@ ghost use Rattle.mqtt_store_message.specs.Places.{queued_tree, kept_tree};
 ghost use Rattle.mqtt_store_message.specs.Rows.{queued_row, kept_row};
 ghost use Rattle.mqtt_store_laws.specs.Written.{IsSayableCopy, IsSayableRetained};
 ghost use Rattle.mqtt_store_message_laws.specs.Items.{queued_columns, kept_columns};
-ghost use Rattle.mqtt_store_message_laws.specs.Messages.{copy_message, retained_message, AgreesWith};
 ghost use Rattle.mqtt_store_message_laws.specs.Written.{KeepsRowsTwo, AreInOrderTwo};
 ghost use Rattle.mqtt_store_message_laws.specs.Steps.{PutsMessageOf, DropsLast, PutsCopy, SetsPhase, RemovesCopy, RemovesWholeSession, PutsRetained, RemovesRetained};
 

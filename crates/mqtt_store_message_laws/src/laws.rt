@@ -10,6 +10,7 @@ ghost use Rattle.mqtt_records.specs.declared.change.Change.TheVariants.{SetCopy}
 ghost use Rattle.mqtt_records.specs.declared.change.Counter.{Counter};
 ghost use Rattle.mqtt_records.specs.declared.records.Records.{Records};
 ghost use Rattle.mqtt_records.specs.Records.{nothing, changed, changed_all, Fits, FitAll};
+ghost use Rattle.mqtt_records_contents.specs.Contents.{FitsContents, FitContents};
 ghost use Rattle.mqtt_store_schema_two.specs.Creation.{IsNewSecond};
 ghost use Rattle.mqtt_store_schema_two.specs.declared.tables.Making.{Making};
 ghost use Rattle.mqtt_store_schema_two.specs.declared.tables.Making.TheVariants.{New};
@@ -18,7 +19,6 @@ ghost use Rattle.mqtt_store_message.specs.Places.{queued_tree};
 ghost use Rattle.mqtt_store_message.specs.Rows.{QueuedColumns, queued_row};
 ghost use Rattle.mqtt_store_laws.specs.Steps.{counter_name};
 ghost use Rattle.mqtt_store_laws.specs.Written.{IsSayable, AllSayable};
-ghost use Rattle.mqtt_store_message_laws.specs.Messages.{FitsContents, FitContents};
 ghost use Rattle.mqtt_store_message_laws.specs.Written.{KeepsRowsTwo, AreInOrderTwo};
 ghost use Rattle.mqtt_store_message_laws.specs.Steps.{MakesRowsTwo, MakeRowsTwo};
 

@@ -6,10 +6,7 @@ mod copies;
 mod laws;
 mod sessions;
 
-pub use contents::{
-    change_shares_contents, dropped_messages_leave_messages, rows_share_contents,
-    sweeps_leave_messages,
-};
+pub use contents::{dropped_messages_leave_messages, rows_share_contents, sweeps_leave_messages};
 pub use copies::{
     copy_that_is_put_keeps_rows, copy_that_is_removed_keeps_rows, copy_that_is_set_keeps_rows,
     message_that_is_removed_keeps_rows, message_that_is_retained_keeps_rows,

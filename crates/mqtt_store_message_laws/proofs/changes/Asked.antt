@@ -12,11 +12,11 @@ use Rattle.mqtt_records.specs.declared.records.Records.{Records}
 use Rattle.mqtt_records.specs.Records.{counter_of, Fits}
 use Rattle.mqtt_records.specs.Session.{birth_of, copy_place}
 use Rattle.mqtt_records_rows.specs.Order.{has_row}
+use Rattle.mqtt_records_contents.specs.Members.{InQueue}
 use Rattle.mqtt_store_schema_two.specs.declared.tables.Making.{Making}
 use Rattle.mqtt_store_write.specs.Numbers.{number_row}
 use Rattle.mqtt_store_message.specs.Places.{queued_tree}
 use Rattle.mqtt_store_message.specs.Rows.{QueuedColumns, queued_row}
-use Rattle.mqtt_store_laws.specs.Members.{InQueue}
 use Rattle.mqtt_store_laws.specs.Steps.{counter_name}
 use Rattle.mqtt_store_laws.proofs.records.Members.{found_has}
 use Rattle.mqtt_store_laws.proofs.records.Owns.{some_row}

@@ -4,15 +4,17 @@ use Rattle.sqlite_trees.specs.Tree.{Trees}
 use Rattle.mqtt_records.specs.declared.records.Records.{Records}
 use Rattle.mqtt_records.specs.Records.{kept_place}
 use Rattle.mqtt_records_rows.specs.Order.{IsAscending}
+use Rattle.mqtt_records_contents.specs.Members.{Has as HasItem}
+use Rattle.mqtt_records_contents.specs.Contents.{StoredMessage, IsMessageOf, AgreesWith, SharesContents}
 use Rattle.mqtt_store_schema_two.specs.declared.tables.Making.{Making}
 use Rattle.mqtt_store_write.specs.Layout.{second_layout}
 use Rattle.mqtt_store_write.proofs.tables.Whole.{Spares}
 use Rattle.mqtt_store_message.specs.Places.{message_tree, queued_tree, kept_tree}
-use Rattle.mqtt_store_laws.specs.Members.{Has as HasItem, HasColumns, AllOrdered}
+use Rattle.mqtt_store_laws.specs.Members.{HasColumns, AllOrdered}
 use Rattle.mqtt_store_laws.specs.Items.{IsNumberRow, IsSessionRow, IsWillRow, IsSubscriptionRow, IsOpenRow}
 use Rattle.mqtt_store_laws.specs.Written.{AreWritten, AreSayable, IsWillOf, IsSubscriptionOf, IsOpenOf, IsCopyOf}
 use Rattle.mqtt_store_laws.proofs.tables.Kept.{moved}
-use Rattle.mqtt_store_message_laws.specs.Messages.{StoredMessage, IsMessageOf, EitherSays, AgreesWith, SharesContents}
+use Rattle.mqtt_store_message_laws.specs.Messages.{EitherSays}
 use Rattle.mqtt_store_message_laws.specs.Items.{IsMessageRow, IsQueuedRow, IsKeptRow}
 use Rattle.mqtt_store_message_laws.specs.Written.{KeepsRowsTwo, AreAllSingleTwo, HasNoOldRows, second_numbers}
 use Rattle.mqtt_store_message_laws.specs.Steps.{SweepsEach, DropsLast}

@@ -8,14 +8,16 @@ use Rattle.mqtt_records.specs.declared.records.Records.{Records}
 use Rattle.mqtt_records.specs.Records.{in_session, kept_place}
 use Rattle.mqtt_records.specs.Session.{columns_of}
 use Rattle.mqtt_records_rows.specs.Order.{IsAscending}
+use Rattle.mqtt_records_contents.specs.Members.{Has as HasItem, InQueue}
+use Rattle.mqtt_records_contents.specs.Contents.{StoredMessage, IsMessageOf, AgreesWith, SharesContents}
 use Rattle.mqtt_store_schema_two.specs.declared.tables.Making.{Making}
 use Rattle.mqtt_store_message.specs.Places.{message_tree, queued_tree, kept_tree}
-use Rattle.mqtt_store_laws.specs.Members.{Has as HasItem, HasColumns, InQueue, will_of, subscriptions_of, inbound_of, AllOrdered}
+use Rattle.mqtt_store_laws.specs.Members.{HasColumns, will_of, subscriptions_of, inbound_of, AllOrdered}
 use Rattle.mqtt_store_laws.specs.Items.{IsNumberRow, IsSessionRow, IsWillRow, IsSubscriptionRow, IsOpenRow}
 use Rattle.mqtt_store_laws.specs.Written.{AreWritten, IsWillOf, IsSubscriptionOf, IsOpenOf, IsCopyOf, IsSayableCopy, IsSayableRetained}
 use Rattle.mqtt_store_laws.proofs.tables.Edited.{sessions_stay, wills_stay, subscriptions_stay, inbound_stays, wills_said, subscriptions_said}
 use Rattle.mqtt_store_laws.proofs.tables.Kept.{Placed, moved}
-use Rattle.mqtt_store_message_laws.specs.Messages.{StoredMessage, IsMessageOf, EitherSays, AgreesWith, SharesContents}
+use Rattle.mqtt_store_message_laws.specs.Messages.{EitherSays}
 use Rattle.mqtt_store_message_laws.specs.Items.{IsMessageRow, IsQueuedRow, IsKeptRow}
 use Rattle.mqtt_store_message_laws.specs.Written.{KeepsRowsTwo, second_numbers}
 use Rattle.mqtt_store_message_laws.proofs.tables.Stays.{FirstStay}

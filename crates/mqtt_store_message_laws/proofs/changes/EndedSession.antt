@@ -6,6 +6,9 @@ use Rattle.mqtt_records_message.specs.Queue.{CopyRow}
 use Rattle.mqtt_records.specs.declared.records.Records.{Records}
 use Rattle.mqtt_records.specs.declared.change.Change.TheVariants.{RemoveSession}
 use Rattle.mqtt_records.specs.Records.{changed}
+use Rattle.mqtt_records_contents.specs.Members.{Has as HasItem, InQueue, queue_of}
+use Rattle.mqtt_records_contents.specs.Contents.{IsMessageOf}
+use Rattle.mqtt_records_contents.proofs.Shared.{shared_less, agree_less}
 use Rattle.mqtt_store_schema_two.specs.declared.tables.Making.{Making}
 use Rattle.mqtt_store_schema_two.specs.declared.tables.Making.TheVariants.{New, TakenOver}
 use Rattle.mqtt_store_write.specs.Content.{is_of, without}
@@ -15,7 +18,7 @@ use Rattle.mqtt_store_write.proofs.tables.Whole.{at_tree}
 use Rattle.mqtt_store_message.specs.Endings.{EndsSession}
 use Rattle.mqtt_store_message.specs.Places.{message_tree, queued_tree, kept_tree}
 use Rattle.mqtt_store_message.proofs.Behind.{asked}
-use Rattle.mqtt_store_laws.specs.Members.{Has as HasItem, HasColumns, InQueue, will_of, subscriptions_of, inbound_of, queue_of}
+use Rattle.mqtt_store_laws.specs.Members.{HasColumns, will_of, subscriptions_of, inbound_of}
 use Rattle.mqtt_store_laws.specs.Items.{IsNumberRow, IsSessionRow, IsWillRow, IsSubscriptionRow, IsOpenRow}
 use Rattle.mqtt_store_laws.specs.Written.{AreWritten, IsWillOf, IsSubscriptionOf, IsOpenOf, IsCopyOf}
 use Rattle.mqtt_store_laws.proofs.records.Ordered.{ordered_after}
@@ -24,13 +27,12 @@ use Rattle.mqtt_store_laws.proofs.records.Parts.{left_new, left_old}
 use Rattle.mqtt_store_laws.proofs.tables.Keys.{missed_number, other_number, number_found}
 use Rattle.mqtt_store_laws.proofs.tables.Kept.{moved}
 use Rattle.mqtt_store_laws.proofs.tables.Tables.{unchanged, without_rows}
-use Rattle.mqtt_store_message_laws.specs.Messages.{IsMessageOf, EitherSays}
+use Rattle.mqtt_store_message_laws.specs.Messages.{EitherSays}
 use Rattle.mqtt_store_message_laws.specs.Items.{IsMessageRow, IsQueuedRow, IsKeptRow}
 use Rattle.mqtt_store_message_laws.specs.Written.{KeepsRowsTwo, AreInOrderTwo, HasNoOldRows, second_numbers}
 use Rattle.mqtt_store_message_laws.specs.Steps.{RemovesWholeSession}
 use Rattle.mqtt_store_message_laws.proofs.messages.Copies.{ended_said, ended_lost}
 use Rattle.mqtt_store_message_laws.proofs.messages.Found.{found_all}
-use Rattle.mqtt_store_message_laws.proofs.messages.Shared.{shared_less, agree_less}
 use Rattle.mqtt_store_message_laws.proofs.tables.Order.{order_swept}
 use Rattle.mqtt_store_message_laws.proofs.tables.Places.{message_spared, kept_spared}
 use Rattle.mqtt_store_message_laws.proofs.tables.Queued.{queued_birth, ended_queued, ended_placed}

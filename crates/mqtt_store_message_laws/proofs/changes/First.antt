@@ -11,6 +11,7 @@ use Rattle.mqtt_records.specs.declared.records.Records.{Records}
 use Rattle.mqtt_records.specs.declared.change.Change.TheVariants.{PutSession, SetSession, PutWill, RemoveWill, PutSubscription, RemoveSubscription, PutInbound, RemoveInbound}
 use Rattle.mqtt_records.specs.Records.{changed, in_session, Fits}
 use Rattle.mqtt_records.specs.Session.{columns_of, with_columns, with_will, with_subscription, without_subscription, with_open, without_open}
+use Rattle.mqtt_records_contents.specs.Members.{Has as HasItem, InPart, queue_of}
 use Rattle.mqtt_store_schema_two.specs.declared.tables.Making.{Making}
 use Rattle.mqtt_store_write.specs.Layout.{second_layout}
 use Rattle.mqtt_store_write.specs.Columns.{session_row, will_row, subscription_row}
@@ -20,7 +21,7 @@ use Rattle.mqtt_store_write.specs.Removal.{RemovesFrom, is_keyed, is_subscriptio
 use Rattle.mqtt_store_write.proofs.tables.Spared.{meta_spared, session_spared, will_spared, sub_spared, inbound_spared}
 use Rattle.mqtt_store_write.proofs.tables.Whole.{Spares}
 use Rattle.mqtt_store_message.proofs.Behind.{asked}
-use Rattle.mqtt_store_laws.specs.Members.{Has as HasItem, HasColumns, AllOrdered, InPart, will_of, subscriptions_of, inbound_of, queue_of}
+use Rattle.mqtt_store_laws.specs.Members.{HasColumns, AllOrdered, will_of, subscriptions_of, inbound_of}
 use Rattle.mqtt_store_laws.specs.Items.{IsNumberRow, IsWillRow, IsSubscriptionRow, IsOpenRow, session_columns, will_columns, subscription_columns}
 use Rattle.mqtt_store_laws.specs.Written.{AreWritten, IsWillOf, IsSubscriptionOf, IsOpenOf, IsSayableWill, IsSayableSubscription}
 use Rattle.mqtt_store_laws.proofs.records.Lists.{will_new, will_out_new, subscription_new, subscription_out_new}

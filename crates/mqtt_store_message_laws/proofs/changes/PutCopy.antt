@@ -7,6 +7,9 @@ use Rattle.mqtt_records.specs.declared.records.Records.{Records}
 use Rattle.mqtt_records.specs.declared.change.Change.TheVariants.{PutCopy}
 use Rattle.mqtt_records.specs.Records.{changed, Fits}
 use Rattle.mqtt_records.specs.Session.{with_copy}
+use Rattle.mqtt_records_contents.specs.Members.{Has as HasItem}
+use Rattle.mqtt_records_contents.specs.Contents.{StoredMessage, copy_message, IsMessageOf, AgreesWith}
+use Rattle.mqtt_records_contents.proofs.Shared.{shared_with, agree_with}
 use Rattle.mqtt_store_schema_two.specs.declared.tables.Making.{Making}
 use Rattle.mqtt_store_write.specs.Layout.{second_layout}
 use Rattle.mqtt_store_write.specs.Content.{IsShapedAt}
@@ -15,20 +18,19 @@ use Rattle.mqtt_store_write.specs.Removal.{is_keyed}
 use Rattle.mqtt_store_write.proofs.tables.Whole.{at_tree}
 use Rattle.mqtt_store_message.specs.Places.{message_tree, queued_tree, kept_tree}
 use Rattle.mqtt_store_message.specs.Rows.{queued_row}
-use Rattle.mqtt_store_laws.specs.Members.{Has as HasItem, IsKept, listed}
+use Rattle.mqtt_store_laws.specs.Members.{IsKept, listed}
 use Rattle.mqtt_store_laws.specs.Written.{AreWritten, IsCopyOf, IsSayableCopy}
 use Rattle.mqtt_store_laws.proofs.changes.Copies.{kept_of}
 use Rattle.mqtt_store_laws.proofs.records.Ordered.{ordered_after}
 use Rattle.mqtt_store_laws.proofs.records.Queues.{put_new}
 use Rattle.mqtt_store_laws.proofs.tables.Kept.{moved}
 use Rattle.mqtt_store_laws.proofs.tables.Tables.{unchanged}
-use Rattle.mqtt_store_message_laws.specs.Messages.{StoredMessage, copy_message, IsMessageOf, EitherSays, AgreesWith}
+use Rattle.mqtt_store_message_laws.specs.Messages.{EitherSays}
 use Rattle.mqtt_store_message_laws.specs.Items.{IsMessageRow, IsQueuedRow, queued_columns}
 use Rattle.mqtt_store_message_laws.specs.Written.{KeepsRowsTwo, AreInOrderTwo}
 use Rattle.mqtt_store_message_laws.specs.Steps.{PutsCopy, PutsMessageOf}
 use Rattle.mqtt_store_message_laws.proofs.messages.Copies.{AreTold, put_said, put_says, put_lost}
 use Rattle.mqtt_store_message_laws.proofs.messages.Found.{found_one}
-use Rattle.mqtt_store_message_laws.proofs.messages.Shared.{shared_with, agree_with}
 use Rattle.mqtt_store_message_laws.proofs.tables.Order.{order_put, order_said, order_swept}
 use Rattle.mqtt_store_message_laws.proofs.tables.Places.{message_spared, kept_spared, message_queued, queued_kept, queued_high, queued_not_old}
 use Rattle.mqtt_store_message_laws.proofs.tables.Queued.{queued_keyed, put_queued_table, put_placed}

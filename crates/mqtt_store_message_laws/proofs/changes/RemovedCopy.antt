@@ -5,23 +5,25 @@ use Rattle.mqtt_records.specs.declared.records.Records.{Records}
 use Rattle.mqtt_records.specs.declared.change.Change.TheVariants.{RemoveCopy}
 use Rattle.mqtt_records.specs.Records.{changed}
 use Rattle.mqtt_records.specs.Session.{without_copy}
+use Rattle.mqtt_records_contents.specs.Members.{Has as HasItem}
+use Rattle.mqtt_records_contents.specs.Contents.{IsMessageOf}
+use Rattle.mqtt_records_contents.proofs.Shared.{shared_less, agree_less}
 use Rattle.mqtt_store_schema_two.specs.declared.tables.Making.{Making}
 use Rattle.mqtt_store_write.specs.Layout.{second_layout}
 use Rattle.mqtt_store_write.specs.Removal.{RemovesFrom, is_keyed}
 use Rattle.mqtt_store_message.specs.Places.{message_tree, queued_tree, kept_tree}
-use Rattle.mqtt_store_laws.specs.Members.{Has as HasItem, IsKept, listed}
+use Rattle.mqtt_store_laws.specs.Members.{IsKept, listed}
 use Rattle.mqtt_store_laws.specs.Written.{AreWritten}
 use Rattle.mqtt_store_laws.proofs.changes.Copies.{kept_of}
 use Rattle.mqtt_store_laws.proofs.records.Ordered.{ordered_after}
 use Rattle.mqtt_store_laws.proofs.records.Queues.{removed_copy_new}
 use Rattle.mqtt_store_laws.proofs.tables.Tables.{unchanged}
-use Rattle.mqtt_store_message_laws.specs.Messages.{IsMessageOf, EitherSays}
+use Rattle.mqtt_store_message_laws.specs.Messages.{EitherSays}
 use Rattle.mqtt_store_message_laws.specs.Items.{IsMessageRow}
 use Rattle.mqtt_store_message_laws.specs.Written.{KeepsRowsTwo, AreInOrderTwo}
 use Rattle.mqtt_store_message_laws.specs.Steps.{RemovesCopy}
 use Rattle.mqtt_store_message_laws.proofs.messages.Copies.{AreTold, removed_said, removed_lost}
 use Rattle.mqtt_store_message_laws.proofs.messages.Found.{found_one}
-use Rattle.mqtt_store_message_laws.proofs.messages.Shared.{shared_less, agree_less}
 use Rattle.mqtt_store_message_laws.proofs.tables.Order.{order_removed, order_swept}
 use Rattle.mqtt_store_message_laws.proofs.tables.Places.{message_spared, kept_spared, message_queued, queued_kept, queued_high, queued_not_old}
 use Rattle.mqtt_store_message_laws.proofs.tables.Queued.{queued_keyed, removed_queued, removed_placed}

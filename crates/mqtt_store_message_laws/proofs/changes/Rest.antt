@@ -4,20 +4,20 @@ use Rattle.sqlite_trees.specs.Tree.{Trees}
 use Rattle.mqtt_records_message.specs.declared.message.Will.{Will}
 use Rattle.mqtt_records.specs.declared.subscription.Subscription.{Subscription}
 use Rattle.mqtt_records.specs.declared.records.Records.{Records}
+use Rattle.mqtt_records_contents.specs.Members.{Has as HasItem, InPart}
+use Rattle.mqtt_records_contents.specs.Contents.{IsMessageOf}
 use Rattle.mqtt_store_schema_two.specs.declared.tables.Making.{Making}
 use Rattle.mqtt_store_write.specs.Layout.{second_layout}
 use Rattle.mqtt_store_write.proofs.tables.Whole.{Spares}
 use Rattle.mqtt_store_message.specs.Places.{message_tree, queued_tree, kept_tree}
-use Rattle.mqtt_store_laws.specs.Members.{Has as HasItem, HasColumns, InPart, will_of, subscriptions_of, AllOrdered}
+use Rattle.mqtt_store_laws.specs.Members.{HasColumns, will_of, subscriptions_of, AllOrdered}
 use Rattle.mqtt_store_laws.specs.Items.{IsNumberRow, IsSessionRow, IsWillRow, IsSubscriptionRow, IsOpenRow}
 use Rattle.mqtt_store_laws.specs.Written.{AreWritten, IsWillOf, IsSubscriptionOf, IsOpenOf, IsCopyOf, IsSayableWill, IsSayableSubscription}
 use Rattle.mqtt_store_laws.proofs.tables.Kept.{Named, moved}
 use Rattle.mqtt_store_laws.proofs.tables.Tables.{unchanged}
-use Rattle.mqtt_store_message_laws.specs.Messages.{IsMessageOf}
 use Rattle.mqtt_store_message_laws.specs.Items.{IsMessageRow, IsQueuedRow, IsKeptRow}
 use Rattle.mqtt_store_message_laws.specs.Written.{KeepsRowsTwo, second_numbers}
-use Rattle.mqtt_store_message_laws.proofs.messages.Changes.{same_shared}
-use Rattle.mqtt_store_message_laws.proofs.messages.Others.{SameItems, same_said, same_says}
+use Rattle.mqtt_store_message_laws.proofs.messages.Others.{SameItems, same_said, same_says, same_shared}
 use Rattle.mqtt_store_message_laws.proofs.tables.Places.{message_spared, queued_spared, kept_spared, message_high, queued_high, kept_high, low_not_old}
 use Rattle.mqtt_store_message_laws.proofs.tables.Stays.{old_stay}
 

@@ -5,6 +5,9 @@ use Rattle.mqtt_records_message.specs.declared.message.RetainedMessage.{Retained
 use Rattle.mqtt_records.specs.declared.records.Records.{Records}
 use Rattle.mqtt_records.specs.declared.change.Change.TheVariants.{PutRetained, RemoveRetained}
 use Rattle.mqtt_records.specs.Records.{changed, Fits}
+use Rattle.mqtt_records_contents.specs.Members.{Has as HasItem}
+use Rattle.mqtt_records_contents.specs.Contents.{StoredMessage, retained_message, IsMessageOf, AgreesWith}
+use Rattle.mqtt_records_contents.proofs.Shared.{shared_with, agree_with, shared_less, agree_less}
 use Rattle.mqtt_store_schema_two.specs.declared.tables.Making.{Making}
 use Rattle.mqtt_store_write.specs.Layout.{second_layout}
 use Rattle.mqtt_store_write.specs.Content.{is_of, IsShapedAt}
@@ -14,19 +17,18 @@ use Rattle.mqtt_store_write.proofs.tables.Whole.{at_tree}
 use Rattle.mqtt_store_message.specs.Places.{message_tree, queued_tree, kept_tree}
 use Rattle.mqtt_store_message.specs.References.{Finds}
 use Rattle.mqtt_store_message.specs.Rows.{kept_row}
-use Rattle.mqtt_store_laws.specs.Members.{Has as HasItem, listed}
+use Rattle.mqtt_store_laws.specs.Members.{listed}
 use Rattle.mqtt_store_laws.specs.Written.{AreWritten, IsSayableRetained}
 use Rattle.mqtt_store_laws.proofs.records.Ordered.{by_place_after}
 use Rattle.mqtt_store_laws.proofs.records.Owns.{retained_new, retained_out_new}
 use Rattle.mqtt_store_laws.proofs.tables.Kept.{moved}
 use Rattle.mqtt_store_laws.proofs.tables.Tables.{unchanged}
-use Rattle.mqtt_store_message_laws.specs.Messages.{StoredMessage, retained_message, IsMessageOf, EitherSays, AgreesWith}
+use Rattle.mqtt_store_message_laws.specs.Messages.{EitherSays}
 use Rattle.mqtt_store_message_laws.specs.Items.{IsMessageRow, IsKeptRow, kept_columns}
 use Rattle.mqtt_store_message_laws.specs.Written.{KeepsRowsTwo, AreInOrderTwo}
 use Rattle.mqtt_store_message_laws.specs.Steps.{PutsMessageOf, PutsRetained, RemovesRetained}
 use Rattle.mqtt_store_message_laws.proofs.messages.Found.{found_one}
 use Rattle.mqtt_store_message_laws.proofs.messages.Retained.{IsTold, put_said, put_says, put_lost, removed_said, removed_lost}
-use Rattle.mqtt_store_message_laws.proofs.messages.Shared.{shared_with, agree_with, shared_less, agree_less}
 use Rattle.mqtt_store_message_laws.proofs.tables.Kept.{kept_found, put_kept_table, removed_kept_table}
 use Rattle.mqtt_store_message_laws.proofs.tables.Order.{order_put, order_removed, order_said, order_swept}
 use Rattle.mqtt_store_message_laws.proofs.tables.Places.{message_spared, queued_spared, message_kept, queued_kept, kept_high, kept_not_old}

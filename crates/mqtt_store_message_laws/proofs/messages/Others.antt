@@ -11,9 +11,10 @@ use Rattle.mqtt_records.specs.declared.records.Records.{Records}
 use Rattle.mqtt_records.specs.Records.{changed, Fits, in_session, with_counter}
 use Rattle.mqtt_records.specs.Session.{birth_of}
 use Rattle.mqtt_records_rows.specs.Order.{IsAscending}
-use Rattle.mqtt_store_laws.specs.Members.{Has, InQueue, queue_of}
+use Rattle.mqtt_records_contents.specs.Members.{Has, InQueue, queue_of}
+use Rattle.mqtt_records_contents.specs.Contents.{StoredMessage, IsMessageOf, SharesContents}
+use Rattle.mqtt_records_contents.proofs.Shared.{shared_less}
 use Rattle.mqtt_store_laws.proofs.records.Parts.{part_new, part_old, put_part_new, put_part_old}
-use Rattle.mqtt_store_message_laws.specs.Messages.{StoredMessage, IsMessageOf}
 
 -- the same copies are queued, and the same messages retained
 pub record SameItems (q r : Records) : Type 0 where
@@ -31,6 +32,10 @@ module _ (q r : Records) (same : SameItems q r) where
   pub same_says : (m : StoredMessage) → IsMessageOf q m → IsMessageOf r m
   same_says m (inl it) = inl (it.0, it.1, same.old it.0 it.1 it.2, it.3)
   same_says m (inr it) = inr (it.0, subst (λ (l : List RetainedMessage). Has l it.0) (sym same.retained) it.1, it.2)
+
+-- a change that leaves queues and retained messages alone leaves contents shared
+pub same_shared : (r after : Records) → SameItems r after → SharesContents r → SharesContents after
+same_shared r after same shared = shared_less r after shared (same_said r after same)
 
 -- a change of a session leaves them alone if it leaves its queue alone
 pub edited_items : (birth : ℕ) (f : Session → Session) (r : Records) → IsAscending birth_of r.sessions → ((s : Session) → (f s).birth ≡ s.birth) → ((s : Session) → queue_of (f s) ≡ queue_of s) → SameItems r (in_session birth f r)

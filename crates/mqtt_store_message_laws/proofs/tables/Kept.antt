@@ -14,6 +14,7 @@ use Rattle.mqtt_records.specs.declared.records.Records.{Records}
 use Rattle.mqtt_records.specs.declared.change.Change.TheVariants.{PutRetained, RemoveRetained}
 use Rattle.mqtt_records.specs.Records.{changed, Fits, kept_place}
 use Rattle.mqtt_records_rows.specs.Order.{IsAscending}
+use Rattle.mqtt_records_contents.specs.Members.{Has as HasItem}
 use Rattle.mqtt_store_schema_two.specs.declared.tables.Making.{Making}
 use Rattle.mqtt_store_write.specs.Layout.{second_layout}
 use Rattle.mqtt_store_write.specs.Content.{is_of, IsShapedAt}
@@ -22,7 +23,6 @@ use Rattle.mqtt_store_write.specs.Removal.{RemovesFrom}
 use Rattle.mqtt_store_write.proofs.steps.Stands.{key_free}
 use Rattle.mqtt_store_message.specs.Places.{kept_tree}
 use Rattle.mqtt_store_message.specs.Rows.{kept_row}
-use Rattle.mqtt_store_laws.specs.Members.{Has as HasItem}
 use Rattle.mqtt_store_laws.specs.Written.{AreWritten}
 use Rattle.mqtt_store_laws.proofs.records.Owns.{retained_new, retained_old, retained_out_new, retained_out_old}
 use Rattle.mqtt_store_laws.proofs.tables.Keys.{missed_number, other_number, number_found, is_text_bytes}

@@ -17,6 +17,7 @@ use Rattle.mqtt_records.specs.declared.records.Records.{Records}
 use Rattle.mqtt_records.specs.declared.change.Change.TheVariants.{PutCopy, SetCopy, RemoveCopy, RemoveSession}
 use Rattle.mqtt_records.specs.Records.{changed, Fits}
 use Rattle.mqtt_records.specs.Session.{in_phase}
+use Rattle.mqtt_records_contents.specs.Members.{InQueue, queue_of}
 use Rattle.mqtt_store_schema_two.specs.declared.tables.Making.{Making}
 use Rattle.mqtt_store_write.specs.Layout.{second_layout}
 use Rattle.mqtt_store_write.specs.Content.{is_of, without, IsShapedAt}
@@ -28,7 +29,7 @@ use Rattle.mqtt_store_write.proofs.tables.Rows.{equal_is}
 use Rattle.mqtt_store_message.specs.Places.{queued_tree}
 use Rattle.mqtt_store_message.specs.Rows.{QueuedColumns, queued_row}
 use Rattle.mqtt_store_message.specs.Copies.{set_queued, SetsQueued}
-use Rattle.mqtt_store_laws.specs.Members.{IsKept, IsOther, InQueue, queue_of}
+use Rattle.mqtt_store_laws.specs.Members.{IsKept, IsOther}
 use Rattle.mqtt_store_laws.specs.Items.{packet_identifier, phase_number, release_order}
 use Rattle.mqtt_store_laws.specs.Written.{AreWritten, IsCopyOf}
 use Rattle.mqtt_store_laws.proofs.records.Parts.{left_new, left_old}

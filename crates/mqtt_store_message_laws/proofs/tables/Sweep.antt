@@ -9,16 +9,17 @@ use Rattle.sqlite_rules.proofs.ListLemmas.{some_has, some_from}
 use Rattle.mqtt_records_message.specs.declared.message.RetainedMessage.{RetainedMessage}
 use Rattle.mqtt_records_message.specs.Queue.{CopyRow}
 use Rattle.mqtt_records.specs.declared.records.Records.{Records}
+use Rattle.mqtt_records_contents.specs.Members.{Has as HasItem}
+use Rattle.mqtt_records_contents.specs.Contents.{StoredMessage, IsMessageOf, AgreesWith, copy_message, retained_message}
 use Rattle.mqtt_store_schema_two.specs.declared.tables.Making.{Making}
 use Rattle.mqtt_store_write.specs.Layout.{second_layout}
 use Rattle.mqtt_store_write.specs.Content.{is_of}
 use Rattle.mqtt_store_write.proofs.steps.Stands.{removed_new, removed_old}
 use Rattle.mqtt_store_message.specs.Places.{message_tree, queued_tree, kept_tree}
 use Rattle.mqtt_store_message.specs.Messages.{is_referred, Sweeps}
-use Rattle.mqtt_store_laws.specs.Members.{Has as HasItem}
 use Rattle.mqtt_store_laws.specs.Written.{AreWritten, IsCopyOf}
 use Rattle.mqtt_store_laws.proofs.tables.Keys.{found_number, number_found}
-use Rattle.mqtt_store_message_laws.specs.Messages.{StoredMessage, IsMessageOf, AgreesWith, EitherSays, copy_message, retained_message}
+use Rattle.mqtt_store_message_laws.specs.Messages.{EitherSays}
 use Rattle.mqtt_store_message_laws.specs.Items.{IsMessageRow, IsQueuedRow, IsKeptRow}
 use Rattle.mqtt_store_message_laws.specs.Steps.{SweepsEach}
 use Rattle.mqtt_store_message_laws.proofs.tables.Said.{message_number}

@@ -13,13 +13,13 @@ use Rattle.mqtt_props.specs.Properties.{Prop, FitsBlock, block}
 use Rattle.mqtt_props.specs.Reading.{block_at}
 use Rattle.mqtt_props.proofs.Blocks.{block_again}
 use Rattle.mqtt_records.specs.declared.records.Records.{Records}
+use Rattle.mqtt_records_contents.specs.Contents.{StoredMessage, IsMessageOf, SharesContents}
 use Rattle.mqtt_store_schema_two.specs.declared.tables.Making.{Making}
 use Rattle.mqtt_store_write.specs.Content.{IsShapedAt}
 use Rattle.mqtt_store_message.specs.Places.{message_tree}
 use Rattle.mqtt_store_message.specs.Rows.{message_row}
 use Rattle.mqtt_store_laws.specs.Written.{AreWritten, AreSayable}
 use Rattle.mqtt_store_message_laws.specs.Items.{IsMessageRow, message_columns}
-use Rattle.mqtt_store_message_laws.specs.Messages.{StoredMessage, IsMessageOf, SharesContents}
 
 -- properties with the same block are the same
 block_one : (ps qs : List Prop) → FitsBlock ps → FitsBlock qs → block ps ≡ block qs → ps ≡ qs

@@ -1,0 +1,5 @@
+mod Lists
+mod Said
+mod Neighbours
+mod Listed
+pub mod Shared

@@ -1,0 +1,7 @@
+//! Tests of mqtt_records_contents over its public call.
+#![tactic(auto)]
+
+#[cfg(test)]
+mod alike;
+#[cfg(test)]
+mod kept;
