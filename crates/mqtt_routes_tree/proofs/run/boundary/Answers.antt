@@ -12,9 +12,9 @@ returns-then-run-clause-behind g c = λ i a b.
     elim c.then-run.branch [
       | then-run-via-then-run w ↦ absurd (omega (arith, a, b, w.if-run.true))
       | then-run-via-else-run+then-not-is_before w ↦
-        behind_later c.args.also c.args.level.now (rest_of texts run run.from) (rest_of texts run i)
-        (c.requires.run.ordered run.from i (omega arith) a b)
-        (ap (λ t. test (levels_behind run.end t)) (sym w.text.ensures) ∙ sym w.is_before.ensures ∙ w.if-not-is_before.true)
+          behind_later c.args.also c.args.level.now (rest_of texts run run.from) (rest_of texts run i)
+          (c.requires.run.ordered run.from i (omega arith) a b)
+          (ap (λ t. test (levels_behind run.end t)) (sym w.text.ensures) ∙ sym w.is_before.ensures ∙ w.if-not-is_before.true)
     ]
 
 pub returns-then-is_before-clause-before : goal.returns-then-is_before-clause-before
