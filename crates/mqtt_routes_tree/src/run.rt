@@ -17,7 +17,9 @@ pub(crate) struct Run {
 }
 
 /// The first number of a run whose filter, as to what the run doesn't have in common, isn't before
-/// those that begin with a level, or with `also`, isn't before those behind them. Takes no memory.
+/// those that begin with a level, or with `also`, isn't before those behind them. Mostly it is at an
+/// end of the run, so these are looked at first. Else it is sought by halves; with `also`, by steps
+/// that double from the front, as long as these are less, since mostly it isn't far. Takes no memory.
 fn boundary<F: Filters>(filters: &F, run: Run, also: bool, level: &str) -> usize
     requires run { IsRun (F.texts filters.now) run }
     ensures from { run.from ≤ result }
@@ -27,10 +29,21 @@ fn boundary<F: Filters>(filters: &F, run: Run, also: bool, level: &str) -> usize
     ensures behind { (i : ℕ) → result ≤ i → i < run.to
         → is_before also level.now (rest_of (F.texts filters.now) run i) ≡ false }
 {
-    let mut from = run.from;
+    if run.from == run.to || !is_before(filters.text(run.from), run.end, also, level) {
+        return run.from;
+    }
+    if is_before(filters.text(run.to - 1), run.end, also, level) {
+        return run.to;
+    }
+    let mut from = run.from + 1;
     let mut to = run.to;
     while from < to {
-        let middle = from + (to - from) / 2;
+        let half = (to - from) / 2;
+        let middle = if also && from - run.from < half {
+            from + (from - run.from)
+        } else {
+            from + half
+        };
         if is_before(filters.text(middle), run.end, also, level) {
             from = middle + 1;
         } else {
