@@ -1,12 +1,15 @@
 -- What a question, a change and the sweep of what was found come to.
-use Rattle.std.proofs.Common.{◌≡◌, ℕ, pos, not, List, [], ◌∷◌, ◌++◌, Option, option_to_list, sym, ap, ◌∙◌, subst, inr, arith}
+use Rattle.std.proofs.Common.{◌≡◌, ℕ, pos, not, List, [], ◌∷◌, ◌++◌, Option, Result, OnOk, option_to_list, sym, ap, ◌∙◌, subst, inr, arith}
+use Rattle.std.proofs.lemmas.Result.{on_ok_weaker}
 use Rattle.sqlite_value.specs.declared.value.Value.TheVariants.{Null, Int, Text}
 use Rattle.sqlite_value.specs.Order.{Row}
 use Rattle.sqlite_trees.specs.Tree.{Trees}
 use Rattle.sqlite_rules.specs.Lists.{Has}
 use Rattle.sqlite_rules.proofs.ListLemmas.{has_kept}
 use Rattle.sqlite.specs.Effect.{Database}
-use Rattle.sqlite.specs.State.{State}
+use Rattle.sqlite.specs.State.{State, HasCleanDisk}
+use Rattle.sqlite.specs.declared.error.Error.{Error}
+use Rattle.mqtt_store_schema.specs.Settled.{StaysInside}
 use Rattle.mqtt_store_schema_two.specs.declared.tables.Making.{Making}
 use Rattle.mqtt_store_schema_two.specs.declared.tables.Making.TheVariants.{New, TakenOver}
 use Rattle.mqtt_store_write.specs.Layout.{second_layout}
@@ -22,6 +25,7 @@ use Rattle.mqtt_store_message.specs.References.{Finds, FindsAll}
 use Rattle.mqtt_store_message.specs.Comings.{PutsQueued, RemovesQueued, PutsKept, RemovesKept}
 use Rattle.mqtt_store_message.specs.Letting.{LetsGo, PutsFirst, SweepsAll}
 use Rattle.mqtt_store_message.proofs.Behind.{message_shaped, queued_shaped, kept_shaped}
+use Rattle.mqtt_store_message.proofs.Inside.{clean_before}
 use Rattle.mqtt_store_message.proofs.Sweeping.{apart}
 use Rattle.mqtt_store_message.proofs.Named.{named_all, named_found, named_both, or_none, copies_let_go, kept_let_go}
 
@@ -134,3 +138,18 @@ module _ (making : Making) (a b c : State) (new : Trees) (before : IsWhole (seco
             (removed.others (queued_tree making) at.both at.queued_spared)
             swept,
       )
+
+-- a question, a change and the sweep of what was found, one call inside a transaction after the other
+pub in_turn : (making : Making) (old seen mid new : State) (r : Result (Unit {0}) Error) (Told : Type 0) (Change : Trees → Trees → Type 0) (Sweep : Type 0)
+    → StaysInside seen mid → StaysInside mid new → HasCleanDisk new → IsWhole (second_layout making) old
+    → (HasCleanDisk seen → IsWhole (second_layout making) old → Told × ((seen.now ≡ old.now) × IsWhole (second_layout making) seen))
+    → (HasCleanDisk mid → IsWhole (second_layout making) seen → Change seen.now.trees mid.now.trees × IsWhole (second_layout making) mid)
+    → (HasCleanDisk new → IsWhole (second_layout making) mid → OnOk r Sweep × OnOk r (IsWhole (second_layout making) new))
+    → (seen.now ≡ old.now → IsWhole (second_layout making) mid → Told → Change seen.now.trees mid.now.trees → Sweep → LetsGo making Change old.now.trees new.now.trees)
+    → OnOk r (LetsGo making Change old.now.trees new.now.trees) × OnOk r (IsWhole (second_layout making) new)
+in_turn making old seen mid new r Told Change Sweep between last clean whole told done swept comes =
+    let tidy = clean_before mid new last clean in
+    let found = told (clean_before seen mid between tidy) whole in
+    let made = done tidy found.1.1 in
+    let gone = swept clean made.1 in
+    (on_ok_weaker r (λ h. comes found.1.0 made.1 found.0 made.0 h) gone.0, gone.1)

@@ -8,3 +8,4 @@ pub mod Comings
 pub mod Letting
 pub mod Changing
 pub mod Step
+pub mod Kinds

@@ -1,5 +1,5 @@
--- What a change of the tables of schema 2 makes of them.
-use Rattle.std.specs.Prelude.{ℕ, ℤ, pos, ◌<◌, ◌^◌, ◌∷◌, IfSome}
+-- What changes of the tables of schema 2 make of them.
+use Rattle.std.specs.Prelude.{◌≡◌, ℕ, ℤ, pos, ◌<◌, ◌^◌, List, [], ◌∷◌, IfSome}
 use Rattle.sqlite_value.specs.declared.value.Value.TheVariants.{Int}
 use Rattle.sqlite_trees.specs.Tree.{Trees}
 use Rattle.sqlite_rules.specs.Lists.{Has}
@@ -76,3 +76,13 @@ Does making (RemoveCopy birth place) old new = LetsGo making (RemovesQueued maki
 Does making (PutRetained place message kept) old new =
     LetsGo making (PutsFirst making kept.publication message (PutsKept making place kept)) old new
 Does making (RemoveRetained place) old new = LetsGo making (RemovesKept making place) old new
+
+-- one after the other
+abbrev pub DoAll : Making → List TableChange → Trees → Trees → Type 0
+DoAll making [] old new = new ≡ old
+DoAll making (first ∷ more) old new = (mid : Trees) × Does making first old mid × DoAll making more mid new
+
+-- what each sets stands in what those before it leave
+abbrev pub AskAll : Making → List TableChange → Trees → Type 0
+AskAll making [] db = Unit {0}
+AskAll making (first ∷ more) db = Asks making first db × ((mid : Trees) → Does making first db mid → AskAll making more mid)

@@ -5,17 +5,14 @@ ghost use Rattle.mqtt_store_schema.specs.Settled.{StaysInside};
 ghost use Rattle.mqtt_store_schema_two.specs.declared.tables.Making.{Making};
 ghost use Rattle.mqtt_store_write.specs.Layout.{second_layout};
 ghost use Rattle.mqtt_store_write.specs.Writing.{WritesIf, StaysWhole};
-ghost use Rattle.mqtt_store_message.specs.Changing.{uncounted};
 ghost use Rattle.mqtt_store_message.specs.Step.{IsSized, Asks, Does};
 
 use crate::kept::KeptColumns;
+use crate::kinds::{change_queue, done, write_own, write_wish};
 use crate::messages::MessageColumns;
-use crate::queued::{QueuedColumns, set_queued};
-use crate::referring::{end_session, put_copy, put_retained, remove_copy, remove_retained};
-use mqtt_store_write::{
-    SessionColumns, SubscriptionColumns, WillColumns, put_open, put_session, put_subscription,
-    put_will, remove_open, remove_subscription, remove_will, set_number,
-};
+use crate::queued::QueuedColumns;
+use crate::referring::{end_session, put_retained, remove_retained};
+use mqtt_store_write::{SessionColumns, SubscriptionColumns, WillColumns};
 use sqlite::{Alter, Error, Transaction};
 use std::alloc::Global;
 
@@ -85,16 +82,6 @@ pub enum TableChange<'a> {
     },
 }
 
-/// Whether it was done, without the number of rows.
-fn done(written: Result<usize, Error>) -> Result<(), Error>
-    ensures { result ≡ uncounted written }
-{
-    match written {
-        Ok(_) => Ok(()),
-        Err(error) => Err(error),
-    }
-}
-
 /// Changes the tables so. Memory is taken for the numbers of a queue, at the end of its session.
 pub fn change_tables<S: Alter>(
     alloc: Global,
@@ -109,35 +96,18 @@ pub fn change_tables<S: Alter>(
     ensures inside { StaysInside (state S.Store tx.old.conn.now) (state S.Store tx.new.conn.now) }
 {
     match change {
-        TableChange::SetNumber { name, value } => done(set_number(tx, name, *value)),
-        TableChange::PutSession { birth, session } => done(put_session(tx, *birth, session)),
+        TableChange::SetNumber { .. }
+        | TableChange::PutSession { .. }
+        | TableChange::PutWill { .. }
+        | TableChange::RemoveWill { .. } => done(write_own(tx, change)),
+        TableChange::PutSubscription { .. }
+        | TableChange::RemoveSubscription { .. }
+        | TableChange::PutOpen { .. }
+        | TableChange::RemoveOpen { .. } => done(write_wish(tx, change)),
+        TableChange::PutCopy { .. }
+        | TableChange::SetCopy { .. }
+        | TableChange::RemoveCopy { .. } => change_queue(tx, change),
         TableChange::RemoveSession { birth } => end_session(alloc, tx, *birth),
-        TableChange::PutWill { birth, will } => done(put_will(tx, *birth, will)),
-        TableChange::RemoveWill { birth } => done(remove_will(tx, *birth)),
-        TableChange::PutSubscription {
-            birth,
-            filter,
-            subscription,
-        } => done(put_subscription(tx, *birth, filter, subscription)),
-        TableChange::RemoveSubscription { birth, filter } => {
-            done(remove_subscription(tx, *birth, filter))
-        }
-        TableChange::PutOpen { birth, identifier } => done(put_open(tx, *birth, *identifier)),
-        TableChange::RemoveOpen { birth, identifier } => done(remove_open(tx, *birth, *identifier)),
-        TableChange::PutCopy {
-            birth,
-            place,
-            message,
-            copy,
-        } => put_copy(tx, *birth, *place, message, copy),
-        TableChange::SetCopy {
-            birth,
-            place,
-            identifier,
-            phase,
-            order,
-        } => done(set_queued(tx, *birth, *place, *identifier, *phase, *order)),
-        TableChange::RemoveCopy { birth, place } => remove_copy(tx, *birth, *place),
         TableChange::PutRetained {
             place,
             message,

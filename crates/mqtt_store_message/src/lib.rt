@@ -3,6 +3,7 @@
 
 mod change;
 mod kept;
+mod kinds;
 mod laws;
 mod messages;
 mod numbers;

@@ -11,3 +11,5 @@ pub mod First
 pub mod Numbers
 pub mod All
 pub mod Asked
+pub mod Dropped
+pub mod Tables

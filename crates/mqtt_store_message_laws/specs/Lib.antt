@@ -2,3 +2,4 @@ pub mod Messages
 pub mod Items
 pub mod Written
 pub mod Steps
+pub mod TableChanges

@@ -1,9 +1,7 @@
 -- What the statements of a change make of the trees of schema 2 (4.1).
-use Rattle.std.specs.Prelude.{◌≡◌, ℕ, ℤ, pos, Bool, not, ◌&&◌, List, [], ◌∷◌, Option}
+use Rattle.std.specs.Prelude.{◌≡◌, ℕ, ℤ, pos, List, [], ◌∷◌, Option}
 use Rattle.sqlite_value.specs.declared.value.Value.TheVariants.{Int}
-use Rattle.sqlite_value.specs.Order.{Row}
-use Rattle.sqlite_trees.specs.Tree.{Trees, rowid}
-use Rattle.sqlite_rules.specs.Edit.{id_in}
+use Rattle.sqlite_trees.specs.Tree.{Trees}
 use Rattle.sqlite_rules.specs.Lists.{Has}
 use Rattle.mqtt_base.specs.declared.session.Phase.{Phase}
 use Rattle.mqtt_records_message.specs.declared.message.RetainedMessage.{RetainedMessage}
@@ -20,7 +18,8 @@ use Rattle.mqtt_store_write.specs.Columns.{session_row, will_row, subscription_r
 use Rattle.mqtt_store_write.specs.Numbers.{number_row, SetsNumber}
 use Rattle.mqtt_store_message.specs.Places.{message_tree, queued_tree, kept_tree}
 use Rattle.mqtt_store_message.specs.Rows.{QueuedColumns, message_row, queued_row, kept_row}
-use Rattle.mqtt_store_message.specs.Messages.{PutsMessage, Sweeps, is_referred}
+use Rattle.mqtt_store_message.specs.Messages.{PutsMessage, Sweeps}
+use Rattle.mqtt_store_message.specs.Letting.{is_let_go}
 use Rattle.mqtt_store_message.specs.Copies.{SetsQueued}
 use Rattle.mqtt_store_message.specs.Endings.{EndsSession}
 use Rattle.mqtt_store_message.specs.References.{Finds, FindsAll}
@@ -36,13 +35,9 @@ abbrev pub SweepsEach : Making → List ℕ → Trees → Trees → Type 0
 SweepsEach making [] old new = new ≡ old
 SweepsEach making (n ∷ more) old new = (mid : Trees) × Sweeps making (pos n) old mid × SweepsEach making more mid new
 
--- something referred to the message in that row, and nothing does now
-abbrev pub was_referred : Making → Trees → Trees → Row → Bool
-was_referred making old now row = is_referred making (id_in (rowid row)) old && not (is_referred making (id_in (rowid row)) now)
-
--- those messages go, and all other rows are as they were
+-- those messages go to which something referred before, and nothing does now; all other rows are as they were
 abbrev pub DropsLast : Making → Trees → Trees → Trees → Type 0
-DropsLast making old now new = RemovesFrom (second_layout making) (message_tree making) (was_referred making old now) now new
+DropsLast making old now new = RemovesFrom (second_layout making) (message_tree making) (is_let_go making old now) now new
 
 -- its row is put, unless one of its number stands
 abbrev pub PutsMessageOf : Making → StoredMessage → Trees → Trees → Type 0

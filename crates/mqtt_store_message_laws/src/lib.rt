@@ -5,6 +5,7 @@ mod contents;
 mod copies;
 mod laws;
 mod sessions;
+mod table_changes;
 
 pub use contents::{dropped_messages_leave_messages, rows_share_contents, sweeps_leave_messages};
 pub use copies::{
@@ -21,3 +22,4 @@ pub use sessions::{
     subscription_that_is_put_keeps_rows, subscription_that_is_removed_keeps_rows,
     will_that_is_put_keeps_rows, will_that_is_removed_keeps_rows,
 };
+pub use table_changes::{asked_rows_stand, table_change_keeps_rows, table_changes_keep_rows};

@@ -9,37 +9,38 @@ use Rattle.mqtt_records_contents.specs.Contents.{StoredMessage, IsMessageOf, Agr
 use Rattle.mqtt_store_schema_two.specs.declared.tables.Making.{Making}
 use Rattle.mqtt_store_message.specs.Places.{message_tree}
 use Rattle.mqtt_store_message.specs.Messages.{is_referred}
+use Rattle.mqtt_store_message.specs.Letting.{is_let_go}
 use Rattle.mqtt_store_laws.specs.Written.{AreWritten}
 use Rattle.mqtt_store_laws.proofs.tables.Tables.{without_rows}
 use Rattle.mqtt_store_message_laws.specs.Messages.{EitherSays}
 use Rattle.mqtt_store_message_laws.specs.Items.{IsMessageRow}
-use Rattle.mqtt_store_message_laws.specs.Steps.{was_referred, DropsLast}
+use Rattle.mqtt_store_message_laws.specs.Steps.{DropsLast}
 use Rattle.mqtt_store_message_laws.proofs.tables.Sweep.{AreReferred, referred, referring}
 
 module _ (making : Making) (q r : Records) (old mid new : Trees) (agree : (m : StoredMessage) → IsMessageOf q m → AgreesWith r m) (before : AreReferred making q old) (after : AreReferred making r mid) where
   at_number : (m : StoredMessage) (row : Row) (db : Trees) → IsMessageRow m row → is_referred making (id_in (rowid row)) db ≡ is_referred making (pos m.publication) db
   at_number m row db is = ap (λ (x : Row). is_referred making (id_in (rowid x)) db) is
 
-  stay : (m : StoredMessage) (row : Row) → IsMessageRow m row → IsMessageOf r m → was_referred making old mid row ≡ false
+  stay : (m : StoredMessage) (row : Row) → IsMessageRow m row → IsMessageOf r m → is_let_go making old mid row ≡ false
   stay m row is said = elim (cases_Bool (is_referred making (id_in (rowid row)) old)) [
     | inl was ↦ rw (was, at_number m row mid is ∙ referred making r mid after m said) refl
     | inr none ↦ rw none refl
   ]
 
-  still : (m : StoredMessage) (row : Row) → IsMessageRow m row → IsMessageOf q m → was_referred making old mid row ≡ false → IsMessageOf r m
+  still : (m : StoredMessage) (row : Row) → IsMessageRow m row → IsMessageOf q m → is_let_go making old mid row ≡ false → IsMessageOf r m
   still m row is was out = elim (cases_Bool (is_referred making (id_in (rowid row)) mid)) [
     | inl kept ↦
         let it = referring making r mid after m.publication (sym (at_number m row mid is) ∙ kept) in
         subst (IsMessageOf r) (agree m was it.0 it.1 it.2) it.1
     | inr none ↦
-        let goes : was_referred making old mid row ≡ true = rw (at_number m row old is ∙ referred making q old before m was, none) refl in
+        let goes : is_let_go making old mid row ≡ true = rw (at_number m row old is ∙ referred making q old before m was, none) refl in
         absurd (true≢false (sym goes ∙ out))
   ]
 
   -- if messages stand of what was said and of what is said, those of what is said are left
   pub let_go_table : AreWritten IsMessageRow (EitherSays q r) (mid (message_tree making)) → DropsLast making old mid new
       → AreWritten IsMessageRow (IsMessageOf r) (new (message_tree making))
-  let_go_table written removes = without_rows IsMessageRow (EitherSays q r) (IsMessageOf r) (IsMessageOf r) (was_referred making old mid) (mid (message_tree making))
+  let_go_table written removes = without_rows IsMessageRow (EitherSays q r) (IsMessageOf r) (IsMessageOf r) (is_let_go making old mid) (mid (message_tree making))
       (λ m row item there is out. elim item [ inl was ↦ still m row is was out | inr said ↦ said ])
       (λ m row item there is said. stay m row is said)
       written (new (message_tree making)) removes.rows

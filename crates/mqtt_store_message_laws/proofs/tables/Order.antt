@@ -20,11 +20,12 @@ use Rattle.mqtt_store_write.proofs.tables.Whole.{Spares, at_tree, kept_shape}
 use Rattle.mqtt_store_message.specs.Places.{message_tree}
 use Rattle.mqtt_store_message.specs.Rows.{message_row}
 use Rattle.mqtt_store_message.specs.Messages.{is_referred}
+use Rattle.mqtt_store_message.specs.Letting.{is_let_go}
 use Rattle.mqtt_store_message.proofs.Behind.{asked}
 use Rattle.mqtt_records_contents.specs.Contents.{StoredMessage}
 use Rattle.mqtt_store_message_laws.specs.Items.{message_columns}
 use Rattle.mqtt_store_message_laws.specs.Written.{AreInOrderTwo}
-use Rattle.mqtt_store_message_laws.specs.Steps.{SweepsEach, PutsMessageOf, DropsLast, was_referred}
+use Rattle.mqtt_store_message_laws.specs.Steps.{SweepsEach, PutsMessageOf, DropsLast}
 use Rattle.mqtt_store_message_laws.proofs.tables.Places.{message_spared, queued_spared, kept_spared}
 
 module _ (making : Making) where
@@ -86,4 +87,4 @@ module _ (making : Making) where
 
   -- so do messages that go to which nothing refers now
   pub order_dropped : (old mid new : Trees) → DropsLast making old mid new → AreInOrderTwo making mid → AreInOrderTwo making new
-  order_dropped old mid new drops all = order_removed (message_tree making) (was_referred making old mid) mid new drops all.message all
+  order_dropped old mid new drops all = order_removed (message_tree making) (is_let_go making old mid) mid new drops all.message all

@@ -1,7 +1,11 @@
-use Rattle.std.proofs.lemmas.Result.{on_ok_weaker}
+use Rattle.std.proofs.Common.{pos, option_to_list}
 use Rattle.sqlite.specs.Held.{state}
-use Rattle.mqtt_store_message.proofs.Inside.{clean_before}
-use Rattle.mqtt_store_message.proofs.Changed.{copy_is_put}
+use Rattle.mqtt_store_write.specs.Removal.{is_keyed}
+use Rattle.mqtt_store_message.specs.Places.{queued_tree}
+use Rattle.mqtt_store_message.specs.Comings.{PutsQueued}
+use Rattle.mqtt_store_message.specs.Letting.{PutsFirst, SweepsAll}
+use Rattle.mqtt_store_message.specs.References.{Finds}
+use Rattle.mqtt_store_message.proofs.Changed.{copy_is_put, in_turn}
 use Rattle.mqtt_store_message.proofs.referring.put_copy.Goals as goal
 
 pub returns-clause-put : goal.returns-clause-put
@@ -10,8 +14,8 @@ returns-clause-put g c making clean whole =
     let seen = state g.S.Store c.pub_of_queued.new.tx.conn.now in
     let mid = state g.S.Store c.put_queued_last.new.tx.conn.now in
     let new = state g.S.Store c.sweep_found.new.tx.conn.now in
-    let tidy = clean_before mid new c.sweep_found.ensures.inside clean in
-    let found = c.in_ok-found.ensures.found making (clean_before seen mid c.put_queued_last.ensures.inside tidy) whole in
-    let put = c.in_ok-put_queued_last.ensures.put making tidy found.1.1 in
-    let swept = c.sweep_found.ensures.swept making clean put.1 in
-    (on_ok_weaker c.sweep_found.result (λ h. copy_is_put making old seen mid new.now.trees whole found.1.0 put.1 c.args.birth c.args.place c.args.message.now c.args.copy.now c.in_ok-found.found found.0 put.0 h) swept.0, swept.1)
+    let found = c.in_ok-found.found in
+    let puts = PutsFirst making c.args.copy.now.publication c.args.message.now (PutsQueued making c.args.birth c.args.place c.args.copy.now) in
+    in_turn making old seen mid new c.sweep_found.result (Finds (queued_tree making) 3 (is_keyed (pos c.args.birth) (pos c.args.place)) found old.now.trees) puts (SweepsAll making (option_to_list found) mid.now.trees new.now.trees)
+    c.put_queued_last.ensures.inside c.sweep_found.ensures.inside clean whole (c.in_ok-found.ensures.found making) (c.in_ok-put_queued_last.ensures.put making) (c.sweep_found.ensures.swept making)
+    (λ same left. copy_is_put making old seen mid new.now.trees whole same left c.args.birth c.args.place c.args.message.now c.args.copy.now found)

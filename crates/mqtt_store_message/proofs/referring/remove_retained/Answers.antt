@@ -1,7 +1,11 @@
-use Rattle.std.proofs.lemmas.Result.{on_ok_weaker}
+use Rattle.std.proofs.Common.{pos, option_to_list}
 use Rattle.sqlite.specs.Held.{state}
-use Rattle.mqtt_store_message.proofs.Inside.{clean_before}
-use Rattle.mqtt_store_message.proofs.Changed.{retained_is_removed}
+use Rattle.mqtt_store_write.specs.Content.{is_of}
+use Rattle.mqtt_store_message.specs.Places.{kept_tree}
+use Rattle.mqtt_store_message.specs.Comings.{RemovesKept}
+use Rattle.mqtt_store_message.specs.Letting.{SweepsAll}
+use Rattle.mqtt_store_message.specs.References.{Finds}
+use Rattle.mqtt_store_message.proofs.Changed.{retained_is_removed, in_turn}
 use Rattle.mqtt_store_message.proofs.referring.remove_retained.Goals as goal
 
 pub returns-clause-removed : goal.returns-clause-removed
@@ -10,8 +14,7 @@ returns-clause-removed g c making clean whole =
     let seen = state g.S.Store c.pub_of_kept.new.tx.conn.now in
     let mid = state g.S.Store c.remove_kept.new.tx.conn.now in
     let new = state g.S.Store c.sweep_found.new.tx.conn.now in
-    let tidy = clean_before mid new c.sweep_found.ensures.inside clean in
-    let found = c.in_ok-found.ensures.found making (clean_before seen mid c.remove_kept.ensures.inside tidy) whole in
-    let removed = c.in_ok-remove_kept.ensures.removed making tidy found.1.1 in
-    let swept = c.sweep_found.ensures.swept making clean removed.1 in
-    (on_ok_weaker c.sweep_found.result (λ h. retained_is_removed making old seen mid new.now.trees whole found.1.0 removed.1 c.args.place c.in_ok-found.found found.0 removed.0 h) swept.0, swept.1)
+    let found = c.in_ok-found.found in
+    in_turn making old seen mid new c.sweep_found.result (Finds (kept_tree making) 4 (is_of 0 (pos c.args.place)) found old.now.trees) (RemovesKept making c.args.place) (SweepsAll making (option_to_list found) mid.now.trees new.now.trees)
+    c.remove_kept.ensures.inside c.sweep_found.ensures.inside clean whole (c.in_ok-found.ensures.found making) (c.in_ok-remove_kept.ensures.removed making) (c.sweep_found.ensures.swept making)
+    (λ same left. retained_is_removed making old seen mid new.now.trees whole same left c.args.place found)

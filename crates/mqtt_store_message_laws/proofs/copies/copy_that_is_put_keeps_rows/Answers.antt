@@ -1,8 +1,5 @@
-use Rattle.mqtt_records.specs.declared.change.Change.TheVariants.{PutCopy}
-use Rattle.mqtt_records.specs.Records.{changed}
-use Rattle.mqtt_store_message_laws.proofs.changes.PutCopy.{put_both, put_order, put_keeps, put_in_order}
-use Rattle.mqtt_store_message_laws.proofs.changes.Both.{dropped}
-use Rattle.mqtt_store_message_laws.proofs.tables.Order.{order_dropped}
+use Rattle.mqtt_store_message_laws.proofs.changes.PutCopy.{put_keeps, put_in_order}
+use Rattle.mqtt_store_message_laws.proofs.changes.Dropped.{copy_put}
 use Rattle.mqtt_store_message_laws.proofs.copies.copy_that_is_put_keeps_rows.Goals as goal
 
 pub returns-clause-rows : goal.returns-clause-rows
@@ -12,7 +9,4 @@ pub returns-clause-order : goal.returns-clause-order
 returns-clause-order c making birth entry db next r k o fits agrees h = put_in_order making db next r k o birth entry fits agrees h
 
 pub returns-clause-dropped : goal.returns-clause-dropped
-returns-clause-dropped c making birth entry db said mid next r k o fits agrees sayable says puts drops = (
-  dropped making r (changed (PutCopy birth entry) r) mid next (put_both making db said mid r k o birth entry fits agrees says puts sayable) db k drops,
-  order_dropped making db mid next drops (put_order making db said mid r k o birth entry fits agrees says puts),
-)
+returns-clause-dropped c making birth entry db said mid next r k o fits agrees sayable says puts drops = copy_put making db mid next r k o drops birth entry said fits agrees sayable says puts

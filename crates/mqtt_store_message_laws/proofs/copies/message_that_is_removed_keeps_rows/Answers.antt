@@ -1,8 +1,5 @@
-use Rattle.mqtt_records.specs.declared.change.Change.TheVariants.{RemoveRetained}
-use Rattle.mqtt_records.specs.Records.{changed}
-use Rattle.mqtt_store_message_laws.proofs.changes.Retained.{removal_both, removal_order, removal_keeps, removal_in_order}
-use Rattle.mqtt_store_message_laws.proofs.changes.Both.{dropped}
-use Rattle.mqtt_store_message_laws.proofs.tables.Order.{order_dropped}
+use Rattle.mqtt_store_message_laws.proofs.changes.Retained.{removal_keeps, removal_in_order}
+use Rattle.mqtt_store_message_laws.proofs.changes.Dropped.{retained_removed}
 use Rattle.mqtt_store_message_laws.proofs.copies.message_that_is_removed_keeps_rows.Goals as goal
 
 pub returns-clause-rows : goal.returns-clause-rows
@@ -12,7 +9,4 @@ pub returns-clause-order : goal.returns-clause-order
 returns-clause-order c making place db next r k o h = removal_in_order making db next r k o place h
 
 pub returns-clause-dropped : goal.returns-clause-dropped
-returns-clause-dropped c making place db mid next r k o removes drops = (
-  dropped making r (changed (RemoveRetained place) r) mid next (removal_both making db mid r k o place removes) db k drops,
-  order_dropped making db mid next drops (removal_order making db mid r k o place removes),
-)
+returns-clause-dropped c making place db mid next r k o removes drops = retained_removed making db mid next r k o drops place removes

@@ -1,8 +1,5 @@
-use Rattle.mqtt_records.specs.declared.change.Change.TheVariants.{PutRetained}
-use Rattle.mqtt_records.specs.Records.{changed}
-use Rattle.mqtt_store_message_laws.proofs.changes.Retained.{put_both, put_order, put_keeps, put_in_order}
-use Rattle.mqtt_store_message_laws.proofs.changes.Both.{dropped}
-use Rattle.mqtt_store_message_laws.proofs.tables.Order.{order_dropped}
+use Rattle.mqtt_store_message_laws.proofs.changes.Retained.{put_keeps, put_in_order}
+use Rattle.mqtt_store_message_laws.proofs.changes.Dropped.{retained_put}
 use Rattle.mqtt_store_message_laws.proofs.copies.message_that_is_retained_keeps_rows.Goals as goal
 
 pub returns-clause-rows : goal.returns-clause-rows
@@ -12,7 +9,4 @@ pub returns-clause-order : goal.returns-clause-order
 returns-clause-order c making kept db next r k o fits agrees h = put_in_order making db next r k o kept fits agrees h
 
 pub returns-clause-dropped : goal.returns-clause-dropped
-returns-clause-dropped c making kept db said mid next r k o fits agrees sayable says puts drops = (
-  dropped making r (changed (PutRetained kept) r) mid next (put_both making db said mid r k o kept fits agrees says puts sayable) db k drops,
-  order_dropped making db mid next drops (put_order making db said mid r k o kept fits agrees says puts),
-)
+returns-clause-dropped c making kept db said mid next r k o fits agrees sayable says puts drops = retained_put making db mid next r k o drops kept said fits agrees sayable says puts

@@ -1,8 +1,5 @@
-use Rattle.mqtt_records.specs.declared.change.Change.TheVariants.{RemoveSession}
-use Rattle.mqtt_records.specs.Records.{changed}
-use Rattle.mqtt_store_message_laws.proofs.changes.EndedSession.{ended_both, ended_order, ended_keeps, ended_in_order}
-use Rattle.mqtt_store_message_laws.proofs.changes.Both.{dropped}
-use Rattle.mqtt_store_message_laws.proofs.tables.Order.{order_dropped}
+use Rattle.mqtt_store_message_laws.proofs.changes.EndedSession.{ended_keeps, ended_in_order}
+use Rattle.mqtt_store_message_laws.proofs.changes.Dropped.{session_removed}
 use Rattle.mqtt_store_message_laws.proofs.copies.session_that_is_removed_keeps_rows.Goals as goal
 
 pub returns-clause-rows : goal.returns-clause-rows
@@ -12,7 +9,4 @@ pub returns-clause-order : goal.returns-clause-order
 returns-clause-order c making birth db next r k o h = ended_in_order making db next r k o birth h
 
 pub returns-clause-dropped : goal.returns-clause-dropped
-returns-clause-dropped c making birth db mid next r k o ends drops = (
-  dropped making r (changed (RemoveSession birth) r) mid next (ended_both making db mid r k o birth ends) db k drops,
-  order_dropped making db mid next drops (ended_order making db mid r k o birth ends),
-)
+returns-clause-dropped c making birth db mid next r k o ends drops = session_removed making db mid next r k o drops birth ends
