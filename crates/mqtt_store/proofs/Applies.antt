@@ -12,10 +12,10 @@ use Rattle.mqtt_store_write.specs.Step.{IsSettled}
 use Rattle.mqtt_store_laws.specs.Written.{KeepsRows, AreInOrder, AllSayable}
 use Rattle.mqtt_store_laws.proofs.changes.Statements.{statement_keeps, statement_asks}
 use Rattle.mqtt_store.specs.Making.{MakeAll, NeedAll, MayCommit}
-use Rattle.mqtt_store.specs.Shortened.{shortened}
+use Rattle.mqtt_store_columns.specs.Shortened.{shortened}
 use Rattle.mqtt_store.specs.Holding.{Holds, IsReady, OnlySteps}
 use Rattle.mqtt_store.proofs.Held.{not_both}
-use Rattle.mqtt_store.proofs.Shortened.{shortened_same, shortened_fit, shortened_sayable}
+use Rattle.mqtt_store_columns.proofs.Shortened.{shortened_same, shortened_fit, shortened_sayable}
 
 -- ---- what the statements of changes make of the rows
 

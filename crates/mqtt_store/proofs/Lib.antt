@@ -3,5 +3,4 @@ pub mod Order
 pub mod Loads
 pub mod Opened
 pub mod Applies
-pub mod Shortened
 pub mod Inside

@@ -5,4 +5,3 @@ pub mod Ordered
 pub mod Props
 pub mod Parts
 pub mod Making
-pub mod Shortened

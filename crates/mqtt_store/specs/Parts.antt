@@ -1,17 +1,11 @@
 -- What a change's row needs beside the change itself.
-use Rattle.std.specs.Prelude.{◌≡◌, ℕ, List, [], Option, Some, None}
+use Rattle.std.specs.Prelude.{◌≡◌, ℕ, List, []}
 use Rattle.mqtt_props.specs.Properties.{block}
 use Rattle.mqtt_records_message.specs.Queue.{first_sent}
-use Rattle.mqtt_records.specs.declared.session.Columns.{Columns}
 use Rattle.mqtt_records.specs.declared.change.Change.{Change}
-use Rattle.mqtt_records.specs.declared.change.Change.TheVariants.{PutSession, SetSession, PutWill, PutCopy, PutRetained}
+use Rattle.mqtt_records.specs.declared.change.Change.TheVariants.{PutWill, PutCopy, PutRetained}
+use Rattle.mqtt_store_columns.specs.Columns.{columns_in}
 use Rattle.mqtt_store.specs.declared.parts.Parts.{Parts}
-
--- the own row of a session, if that is put
-abbrev pub columns_in : Change → Option Columns
-columns_in (PutSession row) = Some row
-columns_in (SetSession row) = Some row
-columns_in _ = None
 
 -- the block of properties of the row that is put: of a Will, of a copy as it is sent first, of what is retained
 abbrev pub block_in : Change → List ℕ

@@ -1,135 +1,14 @@
-//! What stands in the columns of a row that is put.
+//! What stands in the columns of a copy and of a retained message that is put.
 ghost use Rattle.std.specs.Prelude.{◌≡◌};
 ghost use Rattle.mqtt_props.specs.Properties.{block};
 ghost use Rattle.mqtt_records_message.specs.Queue.{first_sent};
-ghost use Rattle.mqtt_store_laws.specs.Steps.{counter_name};
-ghost use Rattle.mqtt_store_laws.specs.Items.{cause_number, cause_text, cause_n, phase_number, packet_identifier, release_order};
-ghost use Rattle.mqtt_store_laws.specs.Items.{session_columns, will_columns, subscription_columns, copy_columns, retained_columns};
+ghost use Rattle.mqtt_store_laws.specs.Items.{copy_columns, retained_columns};
 
-use mqtt_base::{Cause, Phase};
-use mqtt_records::{Columns, Counter, Subscription};
-use mqtt_records_message::{CopyRow, RetainedMessage, Will};
-use mqtt_store_write::{
-    CopyColumns, RetainedColumns, SessionColumns, SubscriptionColumns, WillColumns,
+use mqtt_records_message::{CopyRow, RetainedMessage};
+use mqtt_store_columns::{
+    cause_n, cause_number, cause_text, packet_identifier, phase_number, release_order,
 };
-
-/// The name of a number.
-pub(crate) fn counter_name(counter: Counter) -> &'static str
-    ensures { result.now ≡ counter_name counter }
-{
-    match counter {
-        Counter::Births => "births",
-        Counter::Publications => "publications",
-        Counter::Subscribes => "subscribes",
-        Counter::Autos => "autos",
-        Counter::Moment => "moment",
-    }
-}
-
-/// The cause of a copy by its number.
-fn cause_number(cause: &Cause) -> u8
-    ensures { result ≡ cause_number cause.now }
-{
-    match cause {
-        Cause::Direct => 0,
-        Cause::Share { .. } => 1,
-        Cause::Retained { .. } => 2,
-    }
-}
-
-/// The group of a copy's cause; no text if it has none.
-fn cause_text(cause: &Cause) -> &str
-    ensures { result.now ≡ cause_text cause.now }
-{
-    match cause {
-        Cause::Share { group } => group.as_str(),
-        _ => "",
-    }
-}
-
-/// The number of the subscribe for which a copy is sent; 0 if there is none.
-fn cause_n(cause: &Cause) -> u64
-    ensures { result ≡ cause_n cause.now }
-{
-    match cause {
-        Cause::Retained { subscribe } => *subscribe,
-        _ => 0,
-    }
-}
-
-/// The phase by its number: 0 waiting, 1 sent, 2 released, 3 released after it was too large.
-pub(crate) fn phase_number(phase: Phase) -> u8
-    ensures { result ≡ phase_number phase }
-{
-    match phase {
-        Phase::Waiting => 0,
-        Phase::Sent { .. } => 1,
-        Phase::Released { .. } => 2,
-        Phase::Oversize { .. } => 3,
-    }
-}
-
-/// The packet identifier, unless it waits.
-pub(crate) fn packet_identifier(phase: Phase) -> Option<u64>
-    ensures { result ≡ packet_identifier phase }
-{
-    match phase {
-        Phase::Waiting => None,
-        Phase::Sent { identifier }
-        | Phase::Released { identifier, .. }
-        | Phase::Oversize { identifier, .. } => Some(u64::from(identifier)),
-    }
-}
-
-/// The order of release, once it is released.
-pub(crate) fn release_order(phase: Phase) -> Option<u64>
-    ensures { result ≡ release_order phase }
-{
-    match phase {
-        Phase::Waiting | Phase::Sent { .. } => None,
-        Phase::Released { order, .. } | Phase::Oversize { order, .. } => Some(order),
-    }
-}
-
-/// The columns of a session.
-pub(crate) fn session_columns(row: &Columns) -> SessionColumns<'_>
-    ensures { result ≡ session_columns row.now }
-{
-    SessionColumns {
-        client: row.client.as_str(),
-        expiry: row.expiry,
-        closed: row.closed,
-    }
-}
-
-/// The columns of a Will, whose properties have that block.
-pub(crate) fn will_columns<'a>(will: &'a Will, bytes: &'a [u8]) -> WillColumns<'a>
-    requires { bytes.now ≡ block will.now.properties }
-    ensures { result ≡ will_columns will.now }
-{
-    WillColumns {
-        delay: will.delay,
-        topic: will.topic.as_str(),
-        qos: will.qos as u8,
-        retain: will.retain,
-        properties: bytes,
-        payload: will.payload.as_slice(),
-    }
-}
-
-/// The columns of a subscription.
-pub(crate) fn subscription_columns(subscription: &Subscription) -> SubscriptionColumns
-    ensures { result ≡ subscription_columns subscription.now }
-{
-    SubscriptionColumns {
-        place: subscription.place,
-        qos: subscription.options.qos as u8,
-        no_local: subscription.options.no_local,
-        retain_as_published: subscription.options.retain_as_published,
-        handling: subscription.options.retain_handling as u8,
-        identifier: subscription.identifier.unwrap_or(0),
-    }
-}
+use mqtt_store_write::{CopyColumns, RetainedColumns};
 
 /// The columns of a copy, whose properties have that block as they are sent first.
 pub(crate) fn copy_columns<'a>(row: &'a CopyRow, bytes: &'a [u8]) -> CopyColumns<'a>

@@ -6,15 +6,16 @@ ghost use Rattle.mqtt_store_schema.specs.Settled.{StaysInside};
 ghost use Rattle.mqtt_store_write.specs.Layout.{first_layout};
 ghost use Rattle.mqtt_store_write.specs.Step.{IsSettled};
 ghost use Rattle.mqtt_store_write.specs.Writing.{WritesIf, StaysWhole};
+ghost use Rattle.mqtt_store_columns.specs.Making.{MakesUnless, NeedsUnless};
+ghost use Rattle.mqtt_store_columns.specs.Shortened.{shortened};
 ghost use Rattle.mqtt_store.specs.Parts.{ArePartsOf};
 ghost use Rattle.mqtt_store.specs.Making.{Makes, Needs, MakeAll, NeedAll, MayCommit};
-ghost use Rattle.mqtt_store.specs.Shortened.{MakesUnless, NeedsUnless, shortened};
 
-use crate::ending::{goes_by, known_behind};
 use crate::parts::{Parts, parts_of};
 use crate::sizes::is_sized;
 use crate::statement::statement_of;
 use mqtt_records::Change;
+use mqtt_store_columns::{goes_by, known_behind};
 use mqtt_store_write::write;
 use sqlite::{Alter, Connection, Error, ErrorCode, Transaction};
 use std::alloc::Global;
@@ -73,7 +74,7 @@ fn write_unless<S: Alter>(
 ) -> Result<(), Error>
     ensures same_reference { tx.new.conn.ghost_name ≡ tx.old.conn.ghost_name }
     ensures made { WritesIf first_layout S.Store tx.old.conn.now tx.new.conn.now result
-        (NeedsUnless goes change.now) (MakesUnless goes change.now) }
+        (NeedsUnless goes (Needs change.now)) (MakesUnless goes (Makes change.now)) }
     ensures whole { StaysWhole first_layout S.Store tx.old.conn.now tx.new.conn.now result }
     ensures inside { StaysInside (state S.Store tx.old.conn.now) (state S.Store tx.new.conn.now) }
 {

@@ -4,7 +4,6 @@
 mod apply;
 mod columns;
 mod commit;
-mod ending;
 mod keep;
 mod laws;
 mod load;

@@ -2,10 +2,11 @@
 ghost use Rattle.std.specs.Prelude.{◌≡◌, ◌++◌, [], IfOk, OnOk};
 ghost use Rattle.mqtt_props.specs.Properties.{block};
 ghost use Rattle.mqtt_records_message.specs.Queue.{first_sent};
-ghost use Rattle.mqtt_store.specs.Parts.{columns_in, block_in, ArePartsOf};
+ghost use Rattle.mqtt_store.specs.Parts.{block_in, ArePartsOf};
 
 use mqtt_records::{Change, Columns};
 use mqtt_records_message::CopyRow;
+use mqtt_store_columns::columns_of;
 use std::alloc::{AllocError, Global};
 
 /// The columns of a session that is put, and the block of properties of a row that has one.
@@ -58,17 +59,6 @@ fn block_of(alloc: Global, change: &Change) -> Result<Vec<u8>, AllocError>
             drop(out);
             Err(fault)
         }
-    }
-}
-
-/// The columns of the session that a change puts; none if it puts another row.
-fn columns_of(change: &Change) -> Result<Option<Columns>, AllocError>
-    ensures { IfOk result (λ columns. columns ≡ columns_in change.now) }
-{
-    match change {
-        Change::PutSession { row } => Ok(Some(row.clone()?.into_columns())),
-        Change::SetSession { row } => Ok(Some(row.clone()?)),
-        _ => Ok(None),
     }
 }
 

@@ -1,14 +1,16 @@
 //! The statement that a change becomes.
 ghost use Rattle.std.specs.Prelude.{◌≡◌};
 ghost use Rattle.mqtt_store_laws.specs.Steps.{IsStatementFor};
-ghost use Rattle.mqtt_store.specs.Parts.{ArePartsOf, columns_in, block_in};
+ghost use Rattle.mqtt_store_columns.specs.Columns.{columns_in};
+ghost use Rattle.mqtt_store.specs.Parts.{ArePartsOf, block_in};
 
-use crate::columns::{
-    copy_columns, counter_name, packet_identifier, phase_number, release_order, retained_columns,
-    session_columns, subscription_columns, will_columns,
-};
+use crate::columns::{copy_columns, retained_columns};
 use crate::parts::Parts;
 use mqtt_records::Change;
+use mqtt_store_columns::{
+    counter_name, packet_identifier, phase_number, release_order, session_columns,
+    subscription_columns, will_columns,
+};
 use mqtt_store_write::Statement;
 
 /// The statement that a change becomes, whose parts these are.

@@ -6,7 +6,7 @@ use Rattle.sqlite.proofs.StateLemmas.{survives_then}
 use Rattle.mqtt_records.specs.Records.{changed_all}
 use Rattle.mqtt_store_laws.specs.Written.{KeepsRows}
 use Rattle.mqtt_store.specs.Making.{MayCommit}
-use Rattle.mqtt_store.specs.Shortened.{shortened}
+use Rattle.mqtt_store_columns.specs.Shortened.{shortened}
 use Rattle.mqtt_store.proofs.Held.{has_now, step_leaves}
 use Rattle.mqtt_store.proofs.Applies.{settled_of, ready_of, ready_still, IsEither, keeps_old, needs_old, keeps_made, only_steps}
 use Rattle.mqtt_store.proofs.apply.apply_all.Goals as goal

@@ -4,9 +4,9 @@ use Rattle.sqlite.specs.Held.{state}
 use Rattle.mqtt_store_schema.specs.Settled.{StaysInside}
 use Rattle.mqtt_store_write.specs.Layout.{first_layout}
 use Rattle.mqtt_store_write.specs.Content.{IsWhole}
-use Rattle.mqtt_store.specs.Making.{NeedAll}
-use Rattle.mqtt_store.specs.Shortened.{KnowsEnd, shortened}
-use Rattle.mqtt_store.proofs.Inside.{Leads}
+use Rattle.mqtt_store_columns.specs.Shortened.{KnowsEnd, shortened}
+use Rattle.mqtt_store_columns.proofs.Leads.{Leads}
+use Rattle.mqtt_store.specs.Making.{Makes, Needs, NeedAll}
 use Rattle.mqtt_store.proofs.commit.write_changes.Given as goal
 
 abbrev pub invariant-loop-change : goal.invariant-loop-change
@@ -17,7 +17,7 @@ invariant-loop-change g l =
       same : l.tx.conn.ghost_name ≡ l.fn.tx.conn.ghost_name;
       inside : StaysInside old now;
       whole : HasCleanDisk now → IsWhole first_layout old → IsWhole first_layout now;
-      left : HasCleanDisk now → IsWhole first_layout old → NeedAll (shortened l.changes) old.now.trees → Leads l.changes l.rest old.now.trees now.now.trees;
+      left : HasCleanDisk now → IsWhole first_layout old → NeedAll (shortened l.changes) old.now.trees → Leads Needs Makes l.changes l.rest old.now.trees now.now.trees;
       knows : KnowsEnd l.known l.rest;
     }
 

@@ -1,12 +1,12 @@
 //! Which changes of a step are written: copies that are removed just before their session is go with it (4.1).
 ghost use Rattle.std.specs.Prelude.{◌≡◌, ◌∷◌};
-ghost use Rattle.mqtt_store.specs.Shortened.{KnowsEnd, ends_session, goes_anyway, goes_by};
+ghost use Rattle.mqtt_store_columns.specs.Shortened.{KnowsEnd, ends_session, goes_anyway, goes_by};
 
 use mqtt_records::Change;
 
 /// What is known of the changes to come: whether they remove copies of this session, and then the session itself.
 #[derive(Clone, Copy)]
-pub(crate) struct Known {
+pub struct Known {
     birth: u64,
     ends: bool,
 }
@@ -32,7 +32,7 @@ fn ends_session(birth: u64, changes: &[Change]) -> bool
 }
 
 /// What is known behind a change, if this was known before it: copies of a session are looked through once.
-pub(crate) fn known_behind(known: Option<Known>, change: &Change, after: &[Change]) -> Option<Known>
+pub fn known_behind(known: Option<Known>, change: &Change, after: &[Change]) -> Option<Known>
     requires { KnowsEnd known (change.now ∷ after.now) }
     ensures known { KnowsEnd result after.now }
     ensures goes { goes_by result ≡ goes_anyway change.now after.now }
@@ -53,7 +53,7 @@ pub(crate) fn known_behind(known: Option<Known>, change: &Change, after: &[Chang
 }
 
 /// Whether the change in front goes with its session.
-pub(crate) fn goes_by(known: Option<Known>) -> bool
+pub fn goes_by(known: Option<Known>) -> bool
     ensures { result ≡ goes_by known }
 {
     match known {

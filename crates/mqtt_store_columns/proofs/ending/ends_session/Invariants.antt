@@ -1,7 +1,7 @@
 -- The copies that were passed are the session's.
 use Rattle.std.proofs.Common.{◌≡◌, length}
-use Rattle.mqtt_store.specs.Shortened.{ends_session}
-use Rattle.mqtt_store.proofs.ending.ends_session.Given as goal
+use Rattle.mqtt_store_columns.specs.Shortened.{ends_session}
+use Rattle.mqtt_store_columns.proofs.ending.ends_session.Given as goal
 
 abbrev pub invariant-loop-change : goal.invariant-loop-change
 invariant-loop-change l = ends_session l.birth l.rest ≡ ends_session l.birth l.changes

@@ -1,10 +1,8 @@
 -- Which changes of a step are written: copies that are removed just before their session is go with it (4.1).
-use Rattle.std.specs.Prelude.{◌≡◌, ℕ, Bool, true, false, ◌&&◌, cond, List, [], ◌∷◌, nat_eq, Option, Some, None}
-use Rattle.sqlite_trees.specs.Tree.{Trees}
+use Rattle.std.specs.Prelude.{◌≡◌, ℕ, Bool, false, ◌&&◌, cond, List, [], ◌∷◌, nat_eq, Option, Some, None}
 use Rattle.mqtt_records.specs.declared.change.Change.{Change}
 use Rattle.mqtt_records.specs.declared.change.Change.TheVariants.{RemoveSession, RemoveCopy}
-use Rattle.mqtt_store.specs.declared.ending.Known.{Known}
-use Rattle.mqtt_store.specs.Making.{Makes, Needs}
+use Rattle.mqtt_store_columns.specs.declared.ending.Known.{Known}
 
 -- copies of the session are removed, and then the session itself
 abbrev pub ends_session : ℕ → List Change → Bool
@@ -33,13 +31,3 @@ KnowsEnd (Some known) changes = ends_session known.birth changes ≡ known.ends
 abbrev pub goes_by : Option Known → Bool
 goes_by None = false
 goes_by (Some known) = known.ends
-
--- ---- a change that is written, or goes without
-
-abbrev pub NeedsUnless : Bool → Change → Trees → Type 0
-NeedsUnless true change db = Unit {0}
-NeedsUnless false change db = Needs change db
-
-abbrev pub MakesUnless : Bool → Change → Trees → Trees → Type 0
-MakesUnless true change old new = new ≡ old
-MakesUnless false change old new = Makes change old new

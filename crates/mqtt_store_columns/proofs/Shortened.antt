@@ -9,7 +9,7 @@ use Rattle.mqtt_records.specs.Records.{changed, changed_all, FitAll}
 use Rattle.mqtt_records.specs.Session.{birth_of, without_copy}
 use Rattle.mqtt_records_rows.specs.Order.{change_row, remove_row}
 use Rattle.mqtt_store_laws.specs.Written.{AllSayable}
-use Rattle.mqtt_store.specs.Shortened.{ends_session, goes_anyway, shortened}
+use Rattle.mqtt_store_columns.specs.Shortened.{ends_session, goes_anyway, shortened}
 
 -- ---- a copy that is removed before its session is
 
@@ -25,17 +25,19 @@ module _ {X : Type 0} (key : X → ℕ) where
 sessions_same : (birth place : ℕ) (ss : List Session) → remove_row birth_of birth (change_row birth_of birth (without_copy place) ss) ≡ remove_row birth_of birth ss
 sessions_same birth place ss = remove_changed birth_of birth (without_copy place) ss (λ s. refl)
 
-records_same : (birth place : ℕ) (r : Records) → changed (RemoveSession birth) (changed (RemoveCopy birth place) r) ≡ changed (RemoveSession birth) r
+-- the records after both are those after the end of the session alone
+pub records_same : (birth place : ℕ) (r : Records) → changed (RemoveSession birth) (changed (RemoveCopy birth place) r) ≡ changed (RemoveSession birth) r
 records_same birth place r = ap (λ (ss : List Session). record r { sessions = ss }) (sessions_same birth place r.sessions)
 
 -- what holds of two answers holds of each
-both_true : (a b : Bool) → a && b ≡ true → (a ≡ true) × (b ≡ true)
+pub both_true : (a b : Bool) → a && b ≡ true → (a ≡ true) × (b ≡ true)
 both_true true b e = (refl, e)
 both_true false b e = absurd cc
 
 -- ---- and so with copies of it removed between
 
-written_head : (b : Bool) (change : Change) (changes : List Change) → goes_anyway change changes ≡ b → shortened (change ∷ changes) ≡ cond b (shortened changes) (change ∷ shortened changes)
+-- what is written of changes, if it is known whether the first goes anyway
+pub written_head : (b : Bool) (change : Change) (changes : List Change) → goes_anyway change changes ≡ b → shortened (change ∷ changes) ≡ cond b (shortened changes) (change ∷ shortened changes)
 written_head b change changes e = ap (λ (x : Bool). cond x (shortened changes) (change ∷ shortened changes)) e
 
 module _ (birth place : ℕ) where

@@ -1,0 +1,4 @@
+pub mod Contents
+pub mod Kept
+pub mod Settled
+pub mod Spelled

@@ -1,0 +1,26 @@
+use Rattle.std.proofs.Common.{◌≡◌, length}
+use Rattle.sqlite.specs.State.{HasCleanDisk}
+use Rattle.sqlite.specs.Held.{state}
+use Rattle.mqtt_store_schema.specs.Settled.{StaysInside}
+use Rattle.mqtt_store_schema_two.specs.declared.tables.Making.{Making}
+use Rattle.mqtt_store_write.specs.Layout.{second_layout}
+use Rattle.mqtt_store_write.specs.Content.{IsWhole}
+use Rattle.mqtt_store_columns.specs.Shortened.{KnowsEnd, shortened}
+use Rattle.mqtt_store_columns.proofs.Leads.{Leads}
+use Rattle.mqtt_store_message_commit.specs.Making.{Makes, Needs, NeedAll}
+use Rattle.mqtt_store_message_commit.proofs.commit.write_changes.Given as goal
+
+abbrev pub invariant-loop-change : goal.invariant-loop-change
+invariant-loop-change g l =
+    let old = state g.S.Store l.fn.tx.conn.now in
+    let now = state g.S.Store l.tx.conn.now in
+    record {
+      same : l.tx.conn.ghost_name ≡ l.fn.tx.conn.ghost_name;
+      inside : StaysInside old now;
+      whole : (making : Making) → HasCleanDisk now → IsWhole (second_layout making) old → IsWhole (second_layout making) now;
+      left : (making : Making) → HasCleanDisk now → IsWhole (second_layout making) old → NeedAll making (shortened l.changes) old.now.trees → Leads (Needs making) (Makes making) l.changes l.rest old.now.trees now.now.trees;
+      knows : KnowsEnd l.known l.rest;
+    }
+
+abbrev pub decreases-loop-change : goal.decreases-loop-change
+decreases-loop-change g l = length l.rest

@@ -1,0 +1,103 @@
+//! The change of the tables that a change of records becomes.
+ghost use Rattle.std.specs.Prelude.{◌≡◌};
+ghost use Rattle.mqtt_store_columns.specs.Columns.{columns_in};
+ghost use Rattle.mqtt_store_message_laws.specs.TableChanges.{IsTableChangeFor};
+ghost use Rattle.mqtt_store_message_commit.specs.Parts.{ArePartsOf, block_in, identifiers_in};
+
+use crate::columns::{copy_message, kept_columns, queued_columns, retained_message};
+use crate::parts::Parts;
+use mqtt_records::Change;
+use mqtt_store_columns::{
+    counter_name, packet_identifier, phase_number, release_order, session_columns,
+    subscription_columns, will_columns,
+};
+use mqtt_store_message::TableChange;
+
+/// The change of the tables that a change of records becomes, whose parts these are.
+pub fn table_change_of<'a>(change: &'a Change, parts: &'a Parts) -> TableChange<'a>
+    requires { ArePartsOf change.now parts.now }
+    ensures { IsTableChangeFor change.now result }
+{
+    if let Some(columns) = &parts.columns {
+        return TableChange::PutSession {
+            birth: columns.birth,
+            session: session_columns(columns),
+        };
+    }
+    table_change_with(change, parts.block.as_slice(), parts.identifiers.as_slice())
+}
+
+/// That of a change that puts no session, with the block of its row's properties and the Subscription
+/// Identifiers of its copy.
+fn table_change_with<'a>(
+    change: &'a Change,
+    bytes: &'a [u8],
+    identifiers: &'a [u8],
+) -> TableChange<'a>
+    requires other { columns_in change.now ≡ None }
+    requires block { bytes.now ≡ block_in change.now }
+    requires identifiers { identifiers.now ≡ identifiers_in change.now }
+    ensures { IsTableChangeFor change.now result }
+{
+    // An arm that lends of the change returns by itself: arms that join have to hold the same.
+    match change {
+        Change::SetCounter { counter, value } => TableChange::SetNumber {
+            name: counter_name(*counter),
+            value: *value,
+        },
+        Change::PutSession { .. } | Change::SetSession { .. } => unreachable!(),
+        Change::RemoveSession { birth } => TableChange::RemoveSession { birth: *birth },
+        Change::PutWill { birth, will } => return TableChange::PutWill {
+            birth: *birth,
+            will: will_columns(will, bytes),
+        },
+        Change::RemoveWill { birth } => TableChange::RemoveWill { birth: *birth },
+        Change::PutSubscription {
+            birth,
+            subscription,
+        } => return TableChange::PutSubscription {
+            birth: *birth,
+            filter: subscription.get().filter.as_str(),
+            subscription: subscription_columns(subscription.get()),
+        },
+        Change::RemoveSubscription { birth, filter } => return TableChange::RemoveSubscription {
+            birth: *birth,
+            filter: filter.as_str(),
+        },
+        Change::PutInbound { birth, identifier } => TableChange::PutOpen {
+            birth: *birth,
+            identifier: u64::from(*identifier),
+        },
+        Change::RemoveInbound { birth, identifier } => TableChange::RemoveOpen {
+            birth: *birth,
+            identifier: u64::from(*identifier),
+        },
+        Change::PutCopy { birth, row } => return TableChange::PutCopy {
+            birth: *birth,
+            place: row.get().place(),
+            message: copy_message(row.get(), bytes),
+            copy: queued_columns(row.get(), identifiers),
+        },
+        Change::SetCopy {
+            birth,
+            place,
+            phase,
+        } => TableChange::SetCopy {
+            birth: *birth,
+            place: *place,
+            identifier: packet_identifier(*phase),
+            phase: phase_number(*phase),
+            order: release_order(*phase),
+        },
+        Change::RemoveCopy { birth, place } => TableChange::RemoveCopy {
+            birth: *birth,
+            place: *place,
+        },
+        Change::PutRetained { kept } => return TableChange::PutRetained {
+            place: kept.get().place,
+            message: retained_message(kept.get(), bytes),
+            kept: kept_columns(kept.get()),
+        },
+        Change::RemoveRetained { place } => TableChange::RemoveRetained { place: *place },
+    }
+}

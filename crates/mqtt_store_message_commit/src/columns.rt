@@ -1,0 +1,72 @@
+//! What stands in the columns of a message, a copy and a retained message that are put in schema 2.
+ghost use Rattle.std.specs.Prelude.{◌≡◌, map};
+ghost use Rattle.mqtt_props.specs.Properties.{block, props};
+ghost use Rattle.mqtt_records_message.specs.PassedOn.{identified};
+ghost use Rattle.mqtt_store_message_laws.specs.Messages.{copy_message, retained_message};
+ghost use Rattle.mqtt_store_message_laws.specs.Items.{message_columns, queued_columns, kept_columns};
+
+use mqtt_records_message::{CopyRow, RetainedMessage};
+use mqtt_store_columns::{
+    cause_n, cause_number, cause_text, packet_identifier, phase_number, release_order,
+};
+use mqtt_store_message::{KeptColumns, MessageColumns, QueuedColumns};
+
+/// The columns of a copy's message, whose properties have that block.
+pub(crate) fn copy_message<'a>(row: &'a CopyRow, bytes: &'a [u8]) -> MessageColumns<'a>
+    requires { bytes.now ≡ block row.now.copy.content.properties }
+    ensures { result ≡ message_columns (copy_message row.now) }
+{
+    let content = &row.copy().content;
+    MessageColumns {
+        topic: content.topic.as_str(),
+        properties: bytes,
+        payload: content.payload.as_slice(),
+    }
+}
+
+/// Those of a retained message's.
+pub(crate) fn retained_message<'a>(kept: &'a RetainedMessage, bytes: &'a [u8]) -> MessageColumns<'a>
+    requires { bytes.now ≡ block kept.now.content.properties }
+    ensures { result ≡ message_columns (retained_message kept.now) }
+{
+    MessageColumns {
+        topic: kept.content.topic.as_str(),
+        properties: bytes,
+        payload: kept.content.payload.as_slice(),
+    }
+}
+
+/// The columns of a copy, whose Subscription Identifiers have those bytes.
+pub(crate) fn queued_columns<'a>(row: &'a CopyRow, identifiers: &'a [u8]) -> QueuedColumns<'a>
+    requires { identifiers.now ≡ props (map identified row.now.copy.identifiers) }
+    ensures { result ≡ queued_columns row.now }
+{
+    let copy = row.copy();
+    let phase = row.phase();
+    QueuedColumns {
+        publication: copy.id.publication,
+        cause: cause_number(&copy.id.cause),
+        cause_text: cause_text(&copy.id.cause),
+        cause_n: cause_n(&copy.id.cause),
+        identifier: packet_identifier(phase),
+        phase: phase_number(phase),
+        order: release_order(phase),
+        qos: copy.qos as u8,
+        retain: copy.retain,
+        identifiers,
+        arrived: copy.content.arrived,
+    }
+}
+
+/// The columns of a retained message.
+pub(crate) fn kept_columns(kept: &RetainedMessage) -> KeptColumns<'_>
+    ensures { result ≡ kept_columns kept.now }
+{
+    KeptColumns {
+        topic: kept.content.topic.as_str(),
+        sender: kept.sender.as_str(),
+        publication: kept.publication,
+        qos: kept.qos as u8,
+        arrived: kept.content.arrived,
+    }
+}
