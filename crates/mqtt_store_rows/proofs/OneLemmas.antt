@@ -32,7 +32,8 @@ module _ {X : Type 0} (Says : X → Row → Type 0) (one : (x y : X) (row : Row)
   same_rows (row ∷ rows) (x ∷ xs) (y ∷ ys) h k =
       ap (λ (z : X). z ∷ xs) (one x y row h.0 k.0) ∙ ap (λ (zs : List X). y ∷ zs) (same_rows rows xs ys h.1 k.1)
 
-  same_part : (b c : ℕ) (p q : List X) (rows rest more : List Row) → b ≡ c → Takes Says b p rows rest → BeginsOther b rest → Takes Says c q rows more → BeginsOther c more → p ≡ q
+  -- the rows at the front say the part of one session
+  pub same_part : (b c : ℕ) (p q : List X) (rows rest more : List Row) → b ≡ c → Takes Says b p rows rest → BeginsOther b rest → Takes Says c q rows more → BeginsOther c more → p ≡ q
   same_part b c p q rows rest more same x ends y stops =
       let front : x.front ≡ y.front = (same_parts Says b c p q rows rest more same x ends y stops).0 in
       same_rows y.front p q (subst (λ (l : List Row). AreRows Says l p) front x.are) y.are
@@ -73,7 +74,8 @@ one_session s t parts rest more columns x ends y stops =
     (same_part SaysOpen one_open s.birth t.birth s.inbound t.inbound parts.inbound rest.inbound more.inbound birth x.inbound ends.identifier y.inbound stops.identifier)
     (same_part SaysCopy one_copy s.birth t.birth s.queue t.queue parts.copies rest.copies more.copies birth x.queue ends.copy y.queue stops.copy)
 
-one_sessions : (rows : List Row) (parts : Parts) (ss ts : List Session) → AreSessions rows parts ss → AreSessions rows parts ts → IsAscending birth_of ss → IsAscending birth_of ts → ss ≡ ts
+-- rows say one list of sessions
+pub one_sessions : (rows : List Row) (parts : Parts) (ss ts : List Session) → AreSessions rows parts ss → AreSessions rows parts ts → IsAscending birth_of ss → IsAscending birth_of ts → ss ≡ ts
 one_sessions [] parts [] [] h k up rise = refl
 one_sessions [] parts [] (t ∷ ts) h k up rise = absurd k
 one_sessions [] parts (s ∷ ss) ts h k up rise = absurd h

@@ -23,7 +23,7 @@ module _ {X : Type 0} (Says : X → Row → Type 0) where
   }
 
   -- the rows of a session of a later birth begin with no row of an earlier one
-  first_other : (n m : ℕ) (part : List X) (rows rest : List Row) → Takes Says m part rows rest → n < m → BeginsOther n rest → BeginsOther n rows
+  pub first_other : (n m : ℕ) (part : List X) (rows rest : List Row) → Takes Says m part rows rest → n < m → BeginsOther n rest → BeginsOther n rows
   first_other n m part rows rest it less other = subst (BeginsOther n) (sym it.parts) (go it.front it.mine)
     where
       go : (front : List Row) → AllOf m front → BeginsOther n (front ++ rest)

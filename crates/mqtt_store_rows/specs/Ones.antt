@@ -57,7 +57,7 @@ one_text v s t h k = ap text_in (sym h ∙ k)
 pub one_blob : (v : Value) (s t : List ℕ) → v ≡ Blob s → v ≡ Blob t → s ≡ t
 one_blob v s t h k = ap blob_in (sym h ∙ k)
 
-one_flag : (v : Value) (a b : Bool) → v ≡ flag a → v ≡ flag b → a ≡ b
+pub one_flag : (v : Value) (a b : Bool) → v ≡ flag a → v ≡ flag b → a ≡ b
 one_flag v true true h k = refl
 one_flag v true false h k = let e : 1 ≡ 0 = one_number v 1 0 h k in absurd (omega (arith, e))
 one_flag v false true h k = let e : 0 ≡ 1 = one_number v 0 1 h k in absurd (omega (arith, e))
@@ -74,16 +74,16 @@ same_qos ExactlyOnce AtMostOnce h = absurd (omega (arith, h))
 same_qos ExactlyOnce AtLeastOnce h = absurd (omega (arith, h))
 same_qos ExactlyOnce ExactlyOnce h = refl
 
-one_qos : (v : Value) (a b : Qos) → v ≡ number (qos_number a) → v ≡ number (qos_number b) → a ≡ b
+pub one_qos : (v : Value) (a b : Qos) → v ≡ number (qos_number a) → v ≡ number (qos_number b) → a ≡ b
 one_qos v a b h k = same_qos a b (one_number v (qos_number a) (qos_number b) h k)
 
 -- ---- meta
 
-abbrev counters_of : ℕ → ℕ → ℕ → ℕ → ℕ → Counters
+abbrev pub counters_of : ℕ → ℕ → ℕ → ℕ → ℕ → Counters
 counters_of births publications subscribes autos moment =
     record { births = births; publications = publications; subscribes = subscribes; autos = autos; moment = moment }
 
-same_counters : (a b c d e f g h i j : ℕ) → a ≡ b → c ≡ d → e ≡ f → g ≡ h → i ≡ j → counters_of a c e g i ≡ counters_of b d f h j
+pub same_counters : (a b c d e f g h i j : ℕ) → a ≡ b → c ≡ d → e ≡ f → g ≡ h → i ≡ j → counters_of a c e g i ≡ counters_of b d f h j
 same_counters a b c d e f g h i j p q r s t = rw (p, q, r, s, t) refl
 
 same_numbers : (x y : Counters) (autos births moment publications schema subscribes : Row) → SaysNumbers x (autos ∷ births ∷ moment ∷ publications ∷ schema ∷ subscribes ∷ []) → SaysNumbers y (autos ∷ births ∷ moment ∷ publications ∷ schema ∷ subscribes ∷ []) → x ≡ y
@@ -180,7 +180,7 @@ one_block place ps qs v h k =
     let second : lawful_at place k.bytes ≡ Ok (qs, []) = lawful_again place qs [] k.bytes k.is k.lawful in
     ap list_in (sym first ∙ (ap (lawful_at place) same ∙ second))
 
-one_passed : (ps qs : List Prop) (v : Value) → SaysPassed ps v → SaysPassed qs v → ps ≡ qs
+pub one_passed : (ps qs : List Prop) (v : Value) → SaysPassed ps v → SaysPassed qs v → ps ≡ qs
 one_passed ps qs v h k = one_block _ ps qs v h.block k.block
 
 one_sent : (ps qs : List Prop) (ids others : List ℕ) (v : Value) → SaysSent ps ids v → SaysSent qs others v → (ps ≡ qs) × (ids ≡ others)
@@ -204,10 +204,10 @@ one_will x y row h k =
 
 -- ---- retained
 
-abbrev content_of : List ℕ → List Prop → List ℕ → ℕ → Content
+abbrev pub content_of : List ℕ → List Prop → List ℕ → ℕ → Content
 content_of topic properties payload arrived = record { topic = topic; properties = properties; payload = payload; arrived = arrived }
 
-same_content : (a b : List ℕ) (c d : List Prop) (e f : List ℕ) (g h : ℕ) → a ≡ b → c ≡ d → e ≡ f → g ≡ h → content_of a c e g ≡ content_of b d f h
+pub same_content : (a b : List ℕ) (c d : List Prop) (e f : List ℕ) (g h : ℕ) → a ≡ b → c ≡ d → e ≡ f → g ≡ h → content_of a c e g ≡ content_of b d f h
 same_content a b c d e f g h p q r s = rw (p, q, r, s) refl
 
 one_content : (x y : Content) (row : Row) → SaysContent x row → SaysContent y row → x ≡ y
@@ -215,10 +215,10 @@ one_content x y row h k =
     same_content _ _ _ _ _ _ _ _ (one_text _ _ _ h.topic k.topic) (one_passed _ _ _ h.properties k.properties) (one_blob _ _ _ h.payload k.payload)
     (one_number _ _ _ h.arrived k.arrived)
 
-abbrev retained_of : ℕ → List ℕ → ℕ → Qos → Content → RetainedMessage
+abbrev pub retained_of : ℕ → List ℕ → ℕ → Qos → Content → RetainedMessage
 retained_of place sender publication qos content = record { place = place; sender = sender; publication = publication; qos = qos; content = content }
 
-same_retained : (a b : ℕ) (c d : List ℕ) (e f : ℕ) (g h : Qos) (i j : Content) → a ≡ b → c ≡ d → e ≡ f → g ≡ h → i ≡ j → retained_of a c e g i ≡ retained_of b d f h j
+pub same_retained : (a b : ℕ) (c d : List ℕ) (e f : ℕ) (g h : Qos) (i j : Content) → a ≡ b → c ≡ d → e ≡ f → g ≡ h → i ≡ j → retained_of a c e g i ≡ retained_of b d f h j
 same_retained a b c d e f g h i j p q r s t = rw (p, q, r, s, t) refl
 
 pub one_retained : (x y : RetainedMessage) (row : Row) → SaysRetained x row → SaysRetained y row → x ≡ y
@@ -245,7 +245,7 @@ id_of publication birth cause = record { publication = publication; birth = birt
 same_id : (a b c d : ℕ) (e f : Cause) → a ≡ b → c ≡ d → e ≡ f → id_of a c e ≡ id_of b d f
 same_id a b c d e f p q r = rw (p, q, r) refl
 
-one_id : (x y : CopyId) (row : Row) → SaysId x row → SaysId y row → x ≡ y
+pub one_id : (x y : CopyId) (row : Row) → SaysId x row → SaysId y row → x ≡ y
 one_id x y row h k =
     same_id _ _ _ _ _ _ (one_number _ _ _ h.publication k.publication) (one_number _ _ _ h.birth k.birth) (one_cause _ _ _ _ _ h.cause k.cause)
 
@@ -262,7 +262,7 @@ phase_column qos (Sent id) pid phase rel h = h.1
 phase_column qos (Released id order) pid phase rel h = h.1
 phase_column qos (Oversize id order) pid phase rel h = h.1
 
-one_phase : (q r : Qos) (x y : Phase) (pid phase rel : Value) → SaysPhase q x pid phase rel → SaysPhase r y pid phase rel → x ≡ y
+pub one_phase : (q r : Qos) (x y : Phase) (pid phase rel : Value) → SaysPhase q x pid phase rel → SaysPhase r y pid phase rel → x ≡ y
 one_phase q r x y pid phase rel h k = go x y h k (one_number phase (phase_number x) (phase_number y) (phase_column q x pid phase rel h) (phase_column r y pid phase rel k))
   where
     go : (x y : Phase) → SaysPhase q x pid phase rel → SaysPhase r y pid phase rel → phase_number x ≡ phase_number y → x ≡ y
@@ -290,10 +290,10 @@ one_sent_content x y ids others row h k =
     let both = one_sent _ _ _ _ _ h.properties k.properties in
     (same_content _ _ _ _ _ _ _ _ (one_text _ _ _ h.topic k.topic) both.0 (one_blob _ _ _ h.payload k.payload) (one_number _ _ _ h.arrived k.arrived), both.1)
 
-abbrev message_of : CopyId → Qos → Bool → List ℕ → Content → MessageCopy
+abbrev pub message_of : CopyId → Qos → Bool → List ℕ → Content → MessageCopy
 message_of id qos retain identifiers content = record { id = id; qos = qos; retain = retain; identifiers = identifiers; content = content }
 
-same_message : (a b : CopyId) (c d : Qos) (e f : Bool) (g h : List ℕ) (i j : Content) → a ≡ b → c ≡ d → e ≡ f → g ≡ h → i ≡ j → message_of a c e g i ≡ message_of b d f h j
+pub same_message : (a b : CopyId) (c d : Qos) (e f : Bool) (g h : List ℕ) (i j : Content) → a ≡ b → c ≡ d → e ≡ f → g ≡ h → i ≡ j → message_of a c e g i ≡ message_of b d f h j
 same_message a b c d e f g h i j p q r s t = rw (p, q, r, s, t) refl
 
 pub one_message : (x y : MessageCopy) (row : Row) → SaysMessage x row → SaysMessage y row → x ≡ y
@@ -301,10 +301,10 @@ one_message x y row h k =
     let both = one_sent_content _ _ _ _ row h.content k.content in
     same_message _ _ _ _ _ _ _ _ _ _ (one_id _ _ row h.id k.id) (one_qos _ _ _ h.qos k.qos) (one_flag _ _ _ h.retain k.retain) both.1 both.0
 
-abbrev copy_of : ℕ → Phase → MessageCopy → CopyRow
+abbrev pub copy_of : ℕ → Phase → MessageCopy → CopyRow
 copy_of place phase copy = record { place = place; phase = phase; copy = copy }
 
-same_copy : (a b : ℕ) (c d : Phase) (e f : MessageCopy) → a ≡ b → c ≡ d → e ≡ f → copy_of a c e ≡ copy_of b d f
+pub same_copy : (a b : ℕ) (c d : Phase) (e f : MessageCopy) → a ≡ b → c ≡ d → e ≡ f → copy_of a c e ≡ copy_of b d f
 same_copy a b c d e f p q r = rw (p, q, r) refl
 
 pub one_copy : (x y : CopyRow) (row : Row) → SaysCopy x row → SaysCopy y row → x ≡ y

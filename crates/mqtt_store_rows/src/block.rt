@@ -48,7 +48,7 @@ pub(crate) fn will_properties(alloc: Global, value: ValueRef<'_>) -> Result<Prop
 }
 
 /// What is passed on of a publication.
-pub(crate) fn passed(alloc: Global, value: ValueRef<'_>) -> Result<PassedOn, KeepError>
+pub fn passed(alloc: Global, value: ValueRef<'_>) -> Result<PassedOn, KeepError>
     ensures ok { IfOk result (λ ps. SaysPassed ps (owned value.entry)) }
     ensures err { IsErrOf result KeepError.Corrupt
         → (ps : List Prop) → SaysPassed ps (owned value.entry) → ⊥ }

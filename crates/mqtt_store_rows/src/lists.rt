@@ -49,7 +49,7 @@ pub fn all_of<P: Stored, const LIMIT: usize>(
 }
 
 /// How many rows at the front are the session's.
-fn front_of(rows: &[Row], birth: u64) -> usize
+pub fn front_of(rows: &[Row], birth: u64) -> usize
     ensures within { result ≤ length rows.now }
     ensures mine { AllOf birth (take result rows.now) }
     ensures rest { BeginsOther birth (drop result rows.now) }

@@ -23,7 +23,7 @@ pub struct Counters {
 }
 
 /// The number in a row with that name.
-fn number_in(row: &Row, name: &str) -> Option<u64>
+pub fn number_in(row: &Row, name: &str) -> Option<u64>
     ensures { MatchOption result ((n : ℕ) → SaysNumber name.now n row.now → ⊥)
         (λ n. SaysNumber name.now n row.now) }
 {

@@ -35,7 +35,7 @@ fn released(qos: Qos, pid: ValueRef<'_>, phase: u64, rel: ValueRef<'_>) -> Optio
 }
 
 /// The phase that three columns say of a copy of that QoS.
-pub(crate) fn phase_of(
+pub fn phase_of(
     qos: Qos,
     pid: ValueRef<'_>,
     phase: ValueRef<'_>,
@@ -111,7 +111,7 @@ fn cause_of(
 }
 
 /// What tells the copy of a row from all others.
-pub(crate) fn id_of(alloc: Global, row: &Row) -> Result<CopyId, KeepError>
+pub fn id_of(alloc: Global, row: &Row) -> Result<CopyId, KeepError>
     ensures ok { IfOk result (λ id. SaysId id row.now) }
     ensures err { IsErrOf result KeepError.Corrupt → (id : CopyId) → SaysId id row.now → ⊥ }
     ensures fault { IfErr result (λ e. (e ≡ KeepError.Memory) ⊎ (e ≡ KeepError.Corrupt)) }

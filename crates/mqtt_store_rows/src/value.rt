@@ -49,7 +49,7 @@ pub fn is_number(value: ValueRef<'_>, n: u64) -> bool
 }
 
 /// A number that may be kept.
-pub(crate) fn kept(value: ValueRef<'_>) -> Option<u64>
+pub fn kept(value: ValueRef<'_>) -> Option<u64>
     ensures { MatchOption result ((n : ℕ) → owned value.entry ≡ number n → IsNumber n → ⊥)
         (λ n. (owned value.entry ≡ number n) × IsNumber n) }
 {
@@ -61,7 +61,7 @@ pub(crate) fn kept(value: ValueRef<'_>) -> Option<u64>
 }
 
 /// A number, a place or an order of release, from 1.
-pub(crate) fn counted(value: ValueRef<'_>) -> Option<u64>
+pub fn counted(value: ValueRef<'_>) -> Option<u64>
     ensures { MatchOption result ((n : ℕ) → owned value.entry ≡ number n → IsCounted n → ⊥)
         (λ n. (owned value.entry ≡ number n) × IsCounted n) }
 {
@@ -110,7 +110,7 @@ pub(crate) fn packet_identifier(value: ValueRef<'_>) -> Option<u16>
 }
 
 /// 0 or 1.
-pub(crate) fn flag(value: ValueRef<'_>) -> Option<bool>
+pub fn flag(value: ValueRef<'_>) -> Option<bool>
     ensures { MatchOption result ((b : Bool) → owned value.entry ≢ flag b)
         (λ b. owned value.entry ≡ flag b) }
 {
@@ -122,7 +122,7 @@ pub(crate) fn flag(value: ValueRef<'_>) -> Option<bool>
 }
 
 /// A quality of service.
-pub(crate) fn qos(value: ValueRef<'_>) -> Option<Qos>
+pub fn qos(value: ValueRef<'_>) -> Option<Qos>
     ensures { MatchOption result ((q : Qos) → owned value.entry ≢ number (qos_number q))
         (λ q. owned value.entry ≡ number (qos_number q)) }
 {
@@ -146,7 +146,7 @@ pub(crate) fn is_null(value: ValueRef<'_>) -> bool
 
 /// A text that has a spelling.
 #[tactic(auto, using(crate::proofs::Texts::fits_utf8))]
-pub(crate) fn text(alloc: Global, value: ValueRef<'_>) -> Result<Text, KeepError>
+pub fn text(alloc: Global, value: ValueRef<'_>) -> Result<Text, KeepError>
     ensures ok { IfOk result (λ t. (owned value.entry ≡ sql.Text t) × FitsText t) }
     ensures err { IsErrOf result KeepError.Corrupt
         → (t : List ℕ) → owned value.entry ≡ sql.Text t → FitsText t → ⊥ }
@@ -165,7 +165,7 @@ pub(crate) fn text(alloc: Global, value: ValueRef<'_>) -> Result<Text, KeepError
 }
 
 /// Bytes.
-pub(crate) fn blob(alloc: Global, value: ValueRef<'_>) -> Result<Bytes, KeepError>
+pub fn blob(alloc: Global, value: ValueRef<'_>) -> Result<Bytes, KeepError>
     ensures ok { IfOk result (λ b. owned value.entry ≡ sql.Blob b) }
     ensures err { IsErrOf result KeepError.Corrupt
         → (b : List ℕ) → owned value.entry ≢ sql.Blob b }
@@ -188,7 +188,7 @@ fn bytes_in(value: ValueRef<'_>) -> usize
 }
 
 /// Whether a topic, a block of properties and a payload are few enough bytes.
-pub(crate) fn is_short(topic: ValueRef<'_>, props: ValueRef<'_>, payload: ValueRef<'_>) -> bool
+pub fn is_short(topic: ValueRef<'_>, props: ValueRef<'_>, payload: ValueRef<'_>) -> bool
     ensures { MatchBool result
         (IsShort (owned topic.entry) (owned props.entry) (owned payload.entry))
         (IsShort (owned topic.entry) (owned props.entry) (owned payload.entry) → ⊥) }

@@ -1,0 +1,7 @@
+pub mod PairLemmas
+pub mod QueueLemmas
+pub mod ReferredLemmas
+pub mod StandsLemmas
+pub mod OneLemmas
+pub mod FewLemmas
+mod Examples

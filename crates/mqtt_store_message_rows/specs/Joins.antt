@@ -1,0 +1,32 @@
+-- What a copy or a retained message is, out of its row and the messages that stand (4.1).
+use Rattle.std.specs.Prelude.{◌≡◌, ℕ, List, Some}
+use Rattle.sqlite_value.specs.Order.{Row}
+use Rattle.mqtt_records_message.specs.declared.message.MessageCopy.{MessageCopy}
+use Rattle.mqtt_records_message.specs.declared.message.RetainedMessage.{RetainedMessage}
+use Rattle.mqtt_records_message.specs.Queue.{CopyRow, IsSpelled}
+use Rattle.mqtt_records_rows.specs.Order.{row_at}
+use Rattle.mqtt_records_contents.specs.Contents.{StoredMessage, stored_message, copy_message, retained_message}
+use Rattle.mqtt_store_message_rows.specs.Rows.{SaysOwn, SaysQueued, SaysKept}
+
+abbrev pub publication_of : StoredMessage → ℕ
+publication_of m = m.publication
+
+-- the message that stands under its number is this one
+abbrev pub Stands : List StoredMessage → StoredMessage → Type 0
+Stands messages m = row_at publication_of m.publication messages ≡ Some m
+
+-- topic, properties and payload are those of the message to which the row refers
+pub record SaysSent (messages : List StoredMessage) (copy : MessageCopy) (row : Row) : Type 0 where
+  pub own : SaysOwn copy row
+  pub message : Stands messages (stored_message copy.id.publication copy.content)
+
+-- the same of a copy in a queue
+pub record SaysCopy (messages : List StoredMessage) (x : CopyRow) (row : Row) : Type 0 where
+  pub own : SaysQueued x row
+  pub message : Stands messages (copy_message x)
+  pub spelled : IsSpelled x.copy
+
+-- properties and payload are those of the message; its topic is the row's
+pub record SaysRetained (messages : List StoredMessage) (kept : RetainedMessage) (row : Row) : Type 0 where
+  pub own : SaysKept kept row
+  pub message : Stands messages (retained_message kept)

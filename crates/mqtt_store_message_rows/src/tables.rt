@@ -1,0 +1,210 @@
+//! Records out of the rows of all tables of schema 2 (4.1).
+ghost use Rattle.std.specs.Prelude.{◌≡◌, ◌⊎◌, List, map, IfOk, IfErr, IsErrOf};
+ghost use Rattle.std.specs.List.{AllByRecursion};
+ghost use Rattle.mqtt_base.specs.declared.limits.TheConstants.{SESSION_LIMIT};
+ghost use Rattle.mqtt_records_lawful.specs.Lawful.{IsLawful};
+ghost use Rattle.mqtt_records.specs.declared.records.Records.{Records};
+ghost use Rattle.mqtt_records.specs.declared.session.Session.{Session};
+ghost use Rattle.mqtt_records.specs.Session.{birth_of};
+ghost use Rattle.mqtt_records_rows.specs.Order.{IsTable};
+ghost use Rattle.mqtt_store_rows.specs.Gives.{AreSessions, IsWithin, AreWithin};
+ghost use Rattle.mqtt_store_message_rows.specs.Gives.{parts_of, without_queue, AreSessionsWith, GivesBy, IsReferred, Gives};
+ghost use Rattle.mqtt_store_message_rows.specs.Tables.{rows_in};
+
+use crate::message::{MESSAGE_LIMIT, Message};
+use crate::meta::counters_of;
+use crate::queues::{Sessions, put_queues};
+use crate::referred::are_referred;
+use crate::refers::{Messages, all_with};
+use mqtt_base::RETAINED_LIMIT;
+use mqtt_records::{KeepError, Records};
+use mqtt_records_lawful::is_lawful;
+use mqtt_records_message::RetainedMessage;
+use mqtt_records_rows::{Boxed, Rows};
+use mqtt_store_rows::{PartRows, all_of, sessions_of};
+use sqlite::Row;
+use std::alloc::Global;
+
+/// The rows of all tables of schema 2.
+#[derive(Debug, Drop)]
+pub struct Tables {
+    /// Of `meta`, by name.
+    pub meta: Vec<Row>,
+    /// Of `session`, by birth.
+    pub sessions: Vec<Row>,
+    /// Of `will`, by birth.
+    pub wills: Vec<Row>,
+    /// Of `sub`, by birth and place.
+    pub subscriptions: Vec<Row>,
+    /// Of `inbound`, by birth and identifier.
+    pub inbound: Vec<Row>,
+    /// Of `message`, by number.
+    pub messages: Vec<Row>,
+    /// Of `queued`, by birth and place.
+    pub queued: Vec<Row>,
+    /// Of `kept`, by place.
+    pub kept: Vec<Row>,
+}
+
+impl Tables {
+    /// The rows of what sessions have beside their queues.
+    fn parts(&self) -> PartRows<'_>
+        ensures { result ≡ parts_of (rows_in self.now) }
+    {
+        PartRows {
+            wills: &self.wills,
+            subscriptions: &self.subscriptions,
+            inbound: &self.inbound,
+            copies: &[],
+        }
+    }
+}
+
+/// The sessions without queues that the rows say.
+fn bare_sessions(alloc: Global, tables: &Tables) -> Result<Sessions, KeepError>
+    ensures ok { IfOk result (AreSessions (rows_in tables.now).sessions (parts_of (rows_in tables.now))) }
+    ensures bare { IfOk result (λ all. map without_queue all ≡ all) }
+    ensures within { IfOk result (λ all. IsTable birth_of SESSION_LIMIT all × AllByRecursion IsWithin all) }
+    ensures err { IsErrOf result KeepError.Corrupt → (all : List Session)
+        → AreSessions (rows_in tables.now).sessions (parts_of (rows_in tables.now)) all
+        → IsTable birth_of SESSION_LIMIT all → AllByRecursion IsWithin all → ⊥ }
+    ensures fault { IfErr result (λ e. (e ≡ KeepError.Memory) ⊎ (e ≡ KeepError.Corrupt)) }
+{
+    match sessions_of(alloc, &tables.sessions, &tables.parts()) {
+        Ok(all) => Ok(all),
+        Err(fault) => Err(fault),
+    }
+}
+
+/// The sessions that the rows say with these messages.
+fn sessions_with(alloc: Global, messages: &Messages, tables: &Tables) -> Result<Sessions, KeepError>
+    ensures ok { IfOk result (AreSessionsWith messages.now (rows_in tables.now)) }
+    ensures within { IfOk result (λ all. IsTable birth_of SESSION_LIMIT all × AllByRecursion IsWithin all) }
+    ensures err { IsErrOf result KeepError.Corrupt → (all : List Session)
+        → AreSessionsWith messages.now (rows_in tables.now) all
+        → IsTable birth_of SESSION_LIMIT all → AllByRecursion IsWithin all → ⊥ }
+    ensures fault { IfErr result (λ e. (e ≡ KeepError.Memory) ⊎ (e ≡ KeepError.Corrupt)) }
+{
+    let mut bare = match bare_sessions(alloc, tables) {
+        Ok(bare) => bare,
+        Err(fault) => return Err(fault),
+    };
+    let mut all = match Rows::new(alloc) {
+        Ok(all) => all,
+        Err(_) => {
+            drop(bare);
+            return Err(KeepError::Memory);
+        }
+    };
+    let put = put_queues(alloc, messages, &tables.queued, &mut bare, &mut all);
+    drop(bare);
+    match put {
+        Ok(()) => Ok(all),
+        Err(fault) => {
+            drop(all);
+            Err(fault)
+        }
+    }
+}
+
+/// The records that the rows give with these messages, be these referred to or not.
+fn joined(alloc: Global, messages: &Messages, tables: &Tables) -> Result<Records, KeepError>
+    ensures ok { IfOk result (GivesBy messages.now (rows_in tables.now)) }
+    ensures within { IfOk result (λ r. AreWithin r) }
+    ensures err { IsErrOf result KeepError.Corrupt → (r : Records)
+        → GivesBy messages.now (rows_in tables.now) r → AreWithin r → ⊥ }
+    ensures fault { IfErr result (λ e. (e ≡ KeepError.Memory) ⊎ (e ≡ KeepError.Corrupt)) }
+{
+    let Some(numbers) = counters_of(&tables.meta) else {
+        return Err(KeepError::Corrupt);
+    };
+    let sessions = match sessions_with(alloc, messages, tables) {
+        Ok(sessions) => sessions,
+        Err(fault) => return Err(fault),
+    };
+    match all_with::<Boxed<RetainedMessage>, RETAINED_LIMIT>(alloc, messages, &tables.kept) {
+        Ok(retained) => Ok(Records {
+            births: numbers.births,
+            publications: numbers.publications,
+            subscribes: numbers.subscribes,
+            autos: numbers.autos,
+            moment: numbers.moment,
+            sessions,
+            retained,
+        }),
+        Err(fault) => {
+            drop(sessions);
+            Err(fault)
+        }
+    }
+}
+
+/// The records that the rows give with these messages, each of which is referred to.
+fn records_with(alloc: Global, messages: &Messages, tables: &Tables) -> Result<Records, KeepError>
+    ensures ok { IfOk result (GivesBy messages.now (rows_in tables.now)) }
+    ensures referred { IfOk result (λ r. AllByRecursion (IsReferred r) messages.now) }
+    ensures within { IfOk result (λ r. AreWithin r) }
+    ensures err { IsErrOf result KeepError.Corrupt → (r : Records)
+        → GivesBy messages.now (rows_in tables.now) r
+        → AllByRecursion (IsReferred r) messages.now → AreWithin r → ⊥ }
+    ensures fault { IfErr result (λ e. (e ≡ KeepError.Memory) ⊎ (e ≡ KeepError.Corrupt)) }
+{
+    let records = match joined(alloc, messages, tables) {
+        Ok(records) => records,
+        Err(fault) => return Err(fault),
+    };
+    match are_referred(alloc, messages, &records) {
+        Ok(true) => Ok(records),
+        Ok(false) => {
+            drop(records);
+            Err(KeepError::Corrupt)
+        }
+        Err(_) => {
+            drop(records);
+            Err(KeepError::Memory)
+        }
+    }
+}
+
+/// The records that the rows give. `Corrupt` if they give none whose lists are in order and
+/// within their limits.
+pub fn records_of(alloc: Global, tables: &Tables) -> Result<Records, KeepError>
+    ensures ok { IfOk result (λ r. Gives (rows_in tables.now) r) }
+    ensures within { IfOk result (λ r. AreWithin r) }
+    ensures err { IsErrOf result KeepError.Corrupt
+        → (r : Records) → Gives (rows_in tables.now) r → AreWithin r → ⊥ }
+    ensures fault { IfErr result (λ e. (e ≡ KeepError.Memory) ⊎ (e ≡ KeepError.Corrupt)) }
+{
+    let messages = match all_of::<Boxed<Message>, MESSAGE_LIMIT>(alloc, &tables.messages) {
+        Ok(messages) => messages,
+        Err(fault) => return Err(fault),
+    };
+    let records = records_with(alloc, &messages, tables);
+    drop(messages);
+    records
+}
+
+/// The lawful records that the rows give. `Corrupt` if they give none.
+pub fn lawful_records_of(alloc: Global, tables: &Tables) -> Result<Records, KeepError>
+    ensures ok { IfOk result (λ r. Gives (rows_in tables.now) r) }
+    ensures lawful { IfOk result (λ r. IsLawful r) }
+    ensures err { IsErrOf result KeepError.Corrupt
+        → (r : Records) → Gives (rows_in tables.now) r → IsLawful r → ⊥ }
+    ensures fault { IfErr result (λ e. (e ≡ KeepError.Memory) ⊎ (e ≡ KeepError.Corrupt)) }
+{
+    let records = match records_of(alloc, tables) {
+        Ok(records) => records,
+        Err(fault) => return Err(fault),
+    };
+    match is_lawful(alloc, &records) {
+        Ok(true) => Ok(records),
+        Ok(false) => {
+            drop(records);
+            Err(KeepError::Corrupt)
+        }
+        Err(_) => {
+            drop(records);
+            Err(KeepError::Memory)
+        }
+    }
+}
