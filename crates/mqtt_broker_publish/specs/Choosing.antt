@@ -54,4 +54,4 @@ pub record IsAccepted (m : Message) (s : Stepping) (copies : List MessageCopy) (
 
 abbrev pub IsRouted : Message → Stepping → Routing → Type 0
 IsRouted m s Refused = IsRefused m s
-IsRouted m s (Accepted copies wanted) = IsAccepted m s copies.items wanted
+IsRouted m s (Accepted copies wanted) = IsAccepted m s copies wanted
