@@ -33,7 +33,17 @@ pub fn publish(
         (λ env. publish env origin message.now (addressed_all copies))
         fault step.old step.new) }
 {
-    let number = step.accept()?;
-    retain(alloc, step, number, message)?;
-    deliver_copies(alloc, step, copies)
+    match step.accept() {
+        Ok(number) => match retain(alloc, step, number, message) {
+            Ok(()) => deliver_copies(alloc, step, copies),
+            Err(fault) => {
+                drop(copies);
+                Err(fault)
+            }
+        },
+        Err(fault) => {
+            drop(copies);
+            Err(fault)
+        }
+    }
 }
