@@ -1,11 +1,11 @@
 -- A copy goes out at once.
-use Rattle.std.proofs.Common.{◌≡◌, ℕ, ◌<◌, ◌≤◌, Bool, true, false, cond, [], ◌∷◌, ap, sym, ◌∙◌}
-use Rattle.std.specs.Prelude.{Some, nat_le}
+use Rattle.std.proofs.Common.{◌≡◌, ℕ, ◌≤◌, false, cond, [], ◌∷◌, ap, sym}
+use Rattle.std.specs.Prelude.{Some}
 use Rattle.std.proofs.lemmas.Bool.{le-leb}
 use Rattle.mqtt_codec.specs.declared.packet.Packet.{Packet}
 use Rattle.mqtt_records_message.specs.declared.message.MessageCopy.{MessageCopy}
 use Rattle.mqtt_rules.specs.State.{Line, line_of}
-use Rattle.mqtt_rules.specs.Deeds.{Deed, Send, always, offer}
+use Rattle.mqtt_rules.specs.Deeds.{Send, always, offer}
 use Rattle.mqtt_rules.specs.Packets.{publish_of, size_of}
 use Rattle.mqtt_broker_step.specs.declared.fault.StepFault.{StepFault}
 use Rattle.mqtt_broker_step.specs.Stepping.{Stepping, Did, IsLeft}

@@ -1,5 +1,5 @@
 -- Acts in which members of groups are chosen, for one publication at most (MQTT 5.0, 4.8.2).
-use Rattle.std.specs.Prelude.{◌≡◌, ℕ, Bool, List, Option, Some, None}
+use Rattle.std.specs.Prelude.{◌≡◌, ℕ, Bool, List, Some, None}
 use Rattle.std.specs.List.{AllByRecursion}
 use Rattle.mqtt_records_message.specs.Queue.{IsSpelled}
 use Rattle.mqtt_records_message.specs.declared.message.MessageCopy.{MessageCopy}
