@@ -1,3 +1,4 @@
+pub mod Addressed
 pub mod Spelled
 pub mod Routed
 pub mod Serving

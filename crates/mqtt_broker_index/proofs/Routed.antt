@@ -2,6 +2,7 @@
 use Rattle.std.proofs.Common.{◌≡◌, ℕ, Bool, true, false, List, [], ◌∷◌, ◌++◌, map, refl, ap, sym, subst, ◌∙◌}
 use Rattle.std.specs.Prelude.{Option, Some, None, option_map, flat_map}
 use Rattle.std.specs.List.{AllByRecursion}
+use Rattle.std.proofs.lemmas.List.{map-append}
 use Rattle.mqtt_base.specs.declared.session.Cause.{Cause}
 use Rattle.mqtt_base.specs.declared.session.Cause.TheVariants.{Direct, Share}
 use Rattle.mqtt_records_message.specs.declared.message.MessageCopy.{MessageCopy}
@@ -29,10 +30,6 @@ use Rattle.mqtt_broker_index.proofs.Spelled.{all_spelled}
 
 -- ---- copies and the sessions in their names
 
-map_append : {X Y : Type 0} (f : X → Y) (xs ys : List X) → map f (xs ++ ys) ≡ map f xs ++ map f ys
-map_append f [] ys = refl
-map_append f (x ∷ xs) ys = ap (λ zs. f x ∷ zs) (map_append f xs ys)
-
 addressed_some : (number moment : ℕ) (m : Message) (cause : Cause) (cs : List Copy) → addressed_all (map (copied number moment m cause) cs) ≡ map (copy_to number moment m cause) cs
 addressed_some number moment m cause [] = refl
 addressed_some number moment m cause (c ∷ cs) = ap (λ zs. copy_to number moment m cause c ∷ zs) (addressed_some number moment m cause cs)
@@ -40,13 +37,13 @@ addressed_some number moment m cause (c ∷ cs) = ap (λ zs. copy_to number mome
 addressed_served : (number moment : ℕ) (m : Message) (ss : List Served) → addressed_all (flat_map (served_copied number moment m) ss) ≡ flat_map (served_copies_to number moment m) ss
 addressed_served number moment m [] = refl
 addressed_served number moment m (s ∷ ss) =
-    map_append addressed (served_copied number moment m s) (flat_map (served_copied number moment m) ss)
+    map-append addressed (served_copied number moment m s) (flat_map (served_copied number moment m) ss)
     ∙ (ap (λ (zs : List CopyTo). zs ++ addressed_all (flat_map (served_copied number moment m) ss)) (addressed_some number moment m (Share s.group) (copies_in s.copy))
     ∙ ap (λ (zs : List CopyTo). served_copies_to number moment m s ++ zs) (addressed_served number moment m ss))
 
 addressed_copied : (number moment : ℕ) (m : Message) (r : Routed) → addressed_all (all_copied number moment m r) ≡ copies_to number moment m r
 addressed_copied number moment m r =
-    map_append addressed (map (copied number moment m Direct) r.direct) (flat_map (served_copied number moment m) r.served)
+    map-append addressed (map (copied number moment m Direct) r.direct) (flat_map (served_copied number moment m) r.served)
     ∙ (ap (λ (zs : List CopyTo). zs ++ addressed_all (flat_map (served_copied number moment m) r.served)) (addressed_some number moment m Direct r.direct)
     ∙ ap (λ (zs : List CopyTo). map (copy_to number moment m Direct) r.direct ++ zs) (addressed_served number moment m r.served))
 
@@ -123,4 +120,4 @@ pub taken_is : (routing : Routing) (m : Message) (s : Stepping) (table : List Su
     → IsTakenAs m s r routing → IsRouted m s routing
 taken_is Refused m s table r serves lawful up place found taken = absurd taken
 taken_is (Accepted copies wanted) m s table r serves lawful up place found taken =
-    accepted_is m s table r (next_publication s.broker.records) s.broker.now copies.items wanted serves lawful up place found refl refl taken.0 taken.1
+    accepted_is m s table r (next_publication s.broker.records) s.broker.now copies wanted serves lawful up place found refl refl taken.0 taken.1

@@ -10,8 +10,10 @@ use Rattle.mqtt_routes.specs.Subscriptions.{Subscriber, AreInOrder, with_some}
 use Rattle.mqtt_routes.specs.Intended.{Answers, Copy}
 use Rattle.mqtt_routes.specs.Acceptance.{Routed, Served, copies_in, has_takers, routed}
 use Rattle.mqtt_rules.specs.Deeds.{Message}
+use Rattle.mqtt_rules.specs.Packets.{quality}
 use Rattle.mqtt_rules.specs.Routing.{answers, copy_to, next_publication, publication_of}
 use Rattle.mqtt_broker_step.specs.Stepping.{Stepping, env_in}
+use Rattle.mqtt_broker_publish.specs.declared.copies.Addressee.{Addressee}
 use Rattle.mqtt_broker_publish.specs.declared.router.Routing.{Routing}
 use Rattle.mqtt_broker_publish.specs.declared.router.Routing.TheVariants.{Refused, Accepted}
 
@@ -39,6 +41,16 @@ answers_in s = answers (env_in (λ number sender. []) s) s.broker.records
 abbrev pub IsFound : Message → Stepping → List Subscriber → Option Routed → Type 0
 IsFound m s table o = (members : List ℕ) × (routed (answers_in s) (publication_of m) members table ≡ o)
 
+-- who gets a copy as it was routed: the direct ones, then those of the groups
+abbrev pub addressee : Cause → Copy → Addressee
+addressee cause c = record { birth = c.birth; cause = cause; qos = quality c.qos; retain = c.retain; identifiers = c.identifiers }
+
+abbrev pub served_addressees : Served → List Addressee
+served_addressees s = map (addressee (Share s.group)) (copies_in s.copy)
+
+abbrev pub addressees : Routed → List Addressee
+addressees r = map (addressee Direct) r.direct ++ flat_map served_addressees r.served
+
 -- its copies, which have their sessions in their names
 abbrev pub copied : ℕ → ℕ → Message → Cause → Copy → MessageCopy
 copied number moment m cause c = (copy_to number moment m cause c).copy
@@ -54,4 +66,4 @@ all_copied number moment m r =
 abbrev pub IsTakenAs : Message → Stepping → Routed → Routing → Type 0
 IsTakenAs m s r Refused = ⊥
 IsTakenAs m s r (Accepted copies wanted) =
-    (copies.items ≡ all_copied (next_publication s.broker.records) s.broker.now m r) × (wanted ≡ has_takers r)
+    (copies ≡ all_copied (next_publication s.broker.records) s.broker.now m r) × (wanted ≡ has_takers r)

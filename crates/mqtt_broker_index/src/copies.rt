@@ -1,68 +1,74 @@
 //! The copies of a publication that was routed (MQTT 5.0, 3.3.4, 4.8).
-ghost use Rattle.std.specs.Prelude.{◌≡◌, ◌++◌, ◌∷◌, [], map, flat_map, suc, OnOk, IfOk, IfErr};
+ghost use Rattle.std.specs.Prelude.{◌≡◌, ◌++◌, ◌∷◌, [], map, flat_map, OnOk, IfOk, IfErr};
 ghost use Rattle.mqtt_base.specs.declared.session.Cause.TheVariants.{Direct};
-ghost use Rattle.mqtt_broker_index.specs.Indexing.{copied, served_copied, all_copied};
+ghost use Rattle.mqtt_broker_index.specs.Indexing.{addressee, served_addressees, addressees, all_copied};
 
 use mqtt_base::Cause;
 use mqtt_broker_decisions::Message;
+use mqtt_broker_publish::{Addressee, Copies};
 use mqtt_broker_step::StepFault;
-use mqtt_records_message::MessageCopy;
+use mqtt_records_message::SubscriptionIdentifiers;
 use mqtt_routes::{Routed, RoutedCopy, Served};
-use std::alloc::Global;
+use std::alloc::{AllocError, Global};
 
-/// Adds a copy.
+/// Who gets a copy, as it was routed.
+fn addressee(alloc: Global, cause: Cause, copy: &RoutedCopy) -> Result<Addressee, AllocError>
+    ensures { IfOk result (λ to. to ≡ addressee cause copy.now) }
+{
+    match SubscriptionIdentifiers::from_slice(alloc, copy.identifiers()) {
+        Ok(identifiers) => Ok(Addressee {
+            birth: copy.birth(),
+            cause,
+            qos: copy.qos(),
+            retain: copy.retain(),
+            identifiers,
+        }),
+        Err(error) => {
+            drop(cause);
+            Err(error)
+        }
+    }
+}
+
+/// Adds who gets a copy.
 fn add(
     alloc: Global,
-    number: u64,
-    moment: u64,
-    message: &Message,
     cause: Cause,
     copy: &RoutedCopy,
-    out: &mut Vec<MessageCopy>,
+    out: &mut Vec<Addressee>,
 ) -> Result<(), StepFault>
-    ensures ok { OnOk result (out.new.items
-        ≡ out.old.items ++ copied number moment message.now cause copy.now ∷ []) }
+    ensures ok { OnOk result (out.new.items ≡ out.old.items ++ addressee cause copy.now ∷ []) }
     ensures fault { IfErr result (λ fault. fault ≡ StepFault.Memory) }
 {
-    match message.copy(alloc, number, moment, cause, copy) {
-        Ok(copy) => {
-            out.push(copy)?;
+    match addressee(alloc, cause, copy) {
+        Ok(to) => {
+            out.push(to)?;
             Ok(())
         }
         Err(_) => Err(StepFault::Memory),
     }
 }
 
-/// Adds the direct copies.
+/// Adds who gets the direct copies, for which room is made at once.
 fn add_direct(
     alloc: Global,
-    number: u64,
-    moment: u64,
-    message: &Message,
     copies: &[RoutedCopy],
-    out: &mut Vec<MessageCopy>,
+    out: &mut Vec<Addressee>,
 ) -> Result<(), StepFault>
     ensures ok { OnOk result (out.new.items
-        ≡ out.old.items ++ map (copied number moment message.now Direct) copies.now) }
+        ≡ out.old.items ++ map (addressee Direct) copies.now) }
     ensures fault { IfErr result (λ fault. fault ≡ StepFault.Memory) }
 {
+    out.reserve(copies.len())?;
     for copy in copies {
-        add(alloc, number, moment, message, Cause::Direct, copy, out)?;
+        add(alloc, Cause::Direct, copy, out)?;
     }
     Ok(())
 }
 
-/// Adds the copy of a group, if it has one.
-fn add_one(
-    alloc: Global,
-    number: u64,
-    moment: u64,
-    message: &Message,
-    served: &Served,
-    out: &mut Vec<MessageCopy>,
-) -> Result<(), StepFault>
-    ensures ok { OnOk result (out.new.items
-        ≡ out.old.items ++ served_copied number moment message.now served.now) }
+/// Adds who gets the copy of a group, if it has one.
+fn add_one(alloc: Global, served: &Served, out: &mut Vec<Addressee>) -> Result<(), StepFault>
+    ensures ok { OnOk result (out.new.items ≡ out.old.items ++ served_addressees served.now) }
     ensures fault { IfErr result (λ fault. fault ≡ StepFault.Memory) }
 {
     match served.copy() {
@@ -70,67 +76,68 @@ fn add_one(
             let cause = Cause::Share {
                 group: served.group().clone()?,
             };
-            add(alloc, number, moment, message, cause, copy, out)
+            add(alloc, cause, copy, out)
         }
         None => Ok(()),
     }
 }
 
-/// Adds the copies of the groups.
-fn add_served(
-    alloc: Global,
-    number: u64,
-    moment: u64,
-    message: &Message,
-    all: &[Served],
-    out: &mut Vec<MessageCopy>,
-) -> Result<(), StepFault>
+/// Adds who gets the copies of the groups.
+fn add_served(alloc: Global, all: &[Served], out: &mut Vec<Addressee>) -> Result<(), StepFault>
     ensures ok { OnOk result (out.new.items
-        ≡ out.old.items ++ flat_map (served_copied number moment message.now) all.now) }
+        ≡ out.old.items ++ flat_map served_addressees all.now) }
     ensures fault { IfErr result (λ fault. fault ≡ StepFault.Memory) }
 {
     for served in all {
-        add_one(alloc, number, moment, message, served, out)?;
+        add_one(alloc, served, out)?;
     }
     Ok(())
 }
 
-/// Adds all copies.
-fn add_all(
-    alloc: Global,
-    number: u64,
-    moment: u64,
-    message: &Message,
-    routed: &Routed,
-    out: &mut Vec<MessageCopy>,
-) -> Result<(), StepFault>
+/// Adds all who get copies.
+fn add_all(alloc: Global, routed: &Routed, out: &mut Vec<Addressee>) -> Result<(), StepFault>
     requires { out.old.items ≡ [] }
-    ensures ok { OnOk result (out.new.items
-        ≡ all_copied number moment message.now routed.now) }
+    ensures ok { OnOk result (out.new.items ≡ addressees routed.now) }
     ensures fault { IfErr result (λ fault. fault ≡ StepFault.Memory) }
 {
-    add_direct(alloc, number, moment, message, routed.direct(), out)?;
-    add_served(alloc, number, moment, message, routed.served(), out)
+    add_direct(alloc, routed.direct(), out)?;
+    add_served(alloc, routed.served(), out)
+}
+
+/// All who get copies of a publication, as it was routed.
+fn all_of(alloc: Global, routed: &Routed) -> Result<Vec<Addressee>, StepFault>
+    ensures ok { IfOk result (λ all. all.items ≡ addressees routed.now) }
+    ensures fault { IfErr result (λ fault. fault ≡ StepFault.Memory) }
+{
+    let mut out = Vec::new(alloc);
+    match add_all(alloc, routed, &mut out) {
+        Ok(()) => Ok(out),
+        Err(fault) => {
+            drop(out);
+            Err(fault)
+        }
+    }
 }
 
 /// The copies of a publication, which was accepted at a moment under a number, as it was routed.
+#[tactic(auto, using(crate::proofs::Addressed::copied_are))]
 pub(crate) fn copies_of(
     alloc: Global,
     number: u64,
     moment: u64,
     message: &Message,
     routed: &Routed,
-) -> Result<Vec<MessageCopy>, StepFault>
-    ensures ok { IfOk result (λ copies. copies.items
+) -> Result<Copies, StepFault>
+    ensures ok { IfOk result (λ copies. copies
         ≡ all_copied number moment message.now routed.now) }
     ensures fault { IfErr result (λ fault. fault ≡ StepFault.Memory) }
 {
-    let mut out = Vec::new(alloc);
-    match add_all(alloc, number, moment, message, routed, &mut out) {
-        Ok(()) => Ok(out),
-        Err(fault) => {
-            drop(out);
-            Err(fault)
+    let all = all_of(alloc, routed)?;
+    match message.content(moment) {
+        Ok(content) => Ok(Copies::new(number, content, all)),
+        Err(_) => {
+            drop(all);
+            Err(StepFault::Memory)
         }
     }
 }

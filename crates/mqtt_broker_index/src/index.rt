@@ -15,9 +15,8 @@ use crate::copies::copies_of;
 use crate::look::Look;
 use mqtt_base::Qos;
 use mqtt_broker_decisions::Message;
-use mqtt_broker_publish::{Router, Routing};
+use mqtt_broker_publish::{Copies, Router, Routing};
 use mqtt_broker_step::{Step, StepFault};
-use mqtt_records_message::MessageCopy;
 use mqtt_routes::{Routed, Routes, RoutesFault, Subscription};
 use mqtt_topic::TopicName;
 use std::alloc::Global;
@@ -205,8 +204,8 @@ fn accepted(
     step: &Step,
     message: &Message,
     routed: &Routed,
-) -> Result<Vec<MessageCopy>, StepFault>
-    ensures copies { IfOk result (λ copies. copies.items
+) -> Result<Copies, StepFault>
+    ensures copies { IfOk result (λ copies. copies
         ≡ all_copied (next_publication step.now.broker.records) (moment_of step.now.broker)
         message.now routed.now) }
     ensures fault { IfErr result (λ fault. fault ≡ StepFault.Memory) }

@@ -6,8 +6,7 @@ use Rattle.mqtt_records_message.specs.declared.message.RetainedMessage.{Retained
 use Rattle.mqtt_records.specs.declared.session.Session.{Session}
 use Rattle.mqtt_records_rows.specs.Order.{row_at}
 use Rattle.mqtt_records.specs.Session.{birth_of}
-use Rattle.mqtt_records.specs.Records.{kept_place}
-use Rattle.mqtt_rules.specs.State.{Broker, Env, next_of, session_at}
+use Rattle.mqtt_rules.specs.State.{Broker, Env, session_at}
 use Rattle.mqtt_rules.specs.Deeds.{Act, Message, Origin, then, whose}
 use Rattle.mqtt_rules.specs.Laws.{is_entering}
 use Rattle.mqtt_rules.specs.Outbound.{room_at}

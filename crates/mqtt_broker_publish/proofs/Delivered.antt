@@ -1,5 +1,5 @@
 -- Copies are handed over, one after the other: the room for those that are left.
-use Rattle.std.proofs.Common.{◌≡◌, ℕ, suc, ◌<◌, ◌≤◌, Bool, true, false, ◌&&◌, List, [], ◌∷◌, length, map, filter, nat_eq, refl, ap, sym, subst, ◌∙◌, arith, inl, inr}
+use Rattle.std.proofs.Common.{◌≡◌, ℕ, suc, ◌<◌, ◌≤◌, true, false, ◌&&◌, List, [], ◌∷◌, length, map, filter, nat_eq, refl, ap, sym, subst, ◌∙◌, arith, inl, inr}
 use Rattle.std.specs.Prelude.{Option, Some, None, option_map}
 use Rattle.std.specs.List.{AllByRecursion}
 use Rattle.std.proofs.lemmas.Bool.{eqb-true, cases_Bool}
@@ -22,6 +22,8 @@ use Rattle.mqtt_broker_step.proofs.Then.{same_act, same_left}
 use Rattle.mqtt_broker_queue.specs.Entering.{HasEnteredAt, HasRoomAt}
 use Rattle.mqtt_broker_queue.proofs.Entered.{client_enter}
 use Rattle.mqtt_broker_queue.proofs.Taking.{same_whose}
+use Rattle.mqtt_broker_publish.specs.declared.copies.Addressee.{Addressee}
+use Rattle.mqtt_broker_publish.specs.Copies.{InCommon, copies_for}
 use Rattle.mqtt_broker_publish.specs.Delivering.{addressed, addressed_all, offers, delivers_all, HasRoom, HasRoomIn, whose_at, SameSessions}
 use Rattle.mqtt_broker_publish.proofs.Leading.{LeadsOn, leads_first, leads_next, leads_left, leads_last, same_env}
 use Rattle.mqtt_rules.proofs.acts.Offers.{of_offer}
@@ -218,6 +220,12 @@ hands_left copy rest xs all fault first s new is w left =
 pub hands_last : (rest all : List MessageCopy) (first s : Stepping) → length rest ≡ 0 → Handing rest all first s → Does (delivers_all (addressed_all all)) first s
 hands_last [] all first s none w = leads_last (delivers_all (addressed_all all)) first s w.leads
 hands_last (copy ∷ rest) all first s none w = absurd cc
+
+-- once nobody is left who gets a copy all were handed over
+pub hands_last_for : (p : InCommon) (rest : List Addressee) (all : List MessageCopy) (first s : Stepping) → length rest ≡ 0 → Handing (copies_for p rest) all first s
+    → Does (delivers_all (addressed_all all)) first s
+hands_last_for p [] all first s none w = hands_last [] all first s refl w
+hands_last_for p (to ∷ rest) all first s none w = absurd cc
 
 -- the next one finds room, and has a spelling
 pub hands_room : (copy : MessageCopy) (rest xs all : List MessageCopy) (first s : Stepping) → xs ≡ copy ∷ rest → Handing xs all first s → is_queued (addressed copy) ≡ true

@@ -1,5 +1,5 @@
 -- Acts in which members of groups are chosen, for one publication at most (MQTT 5.0, 4.8.2).
-use Rattle.std.specs.Prelude.{◌≡◌, ℕ, Bool, List, Option, Some, None}
+use Rattle.std.specs.Prelude.{◌≡◌, ℕ, Bool, List, Some, None}
 use Rattle.std.specs.List.{AllByRecursion}
 use Rattle.mqtt_records_message.specs.Queue.{IsSpelled}
 use Rattle.mqtt_records_message.specs.declared.message.MessageCopy.{MessageCopy}
@@ -54,4 +54,4 @@ pub record IsAccepted (m : Message) (s : Stepping) (copies : List MessageCopy) (
 
 abbrev pub IsRouted : Message → Stepping → Routing → Type 0
 IsRouted m s Refused = IsRefused m s
-IsRouted m s (Accepted copies wanted) = IsAccepted m s copies.items wanted
+IsRouted m s (Accepted copies wanted) = IsAccepted m s copies wanted

@@ -1,3 +1,4 @@
+pub mod Copies
 pub mod Delivering
 pub mod Retaining
 pub mod Choosing

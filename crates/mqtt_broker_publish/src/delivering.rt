@@ -2,13 +2,17 @@
 ghost use Rattle.std.specs.Prelude.{◌≡◌, true, OnOk, IfErr};
 ghost use Rattle.std.specs.List.{AllByRecursion};
 ghost use Rattle.mqtt_records_message.specs.Queue.{IsSpelled};
+ghost use Rattle.mqtt_rules.specs.Deeds.{always, of_session};
+ghost use Rattle.mqtt_rules.specs.Outbound.{enter_deeds};
 ghost use Rattle.mqtt_rules.specs.Routing.{deliver, is_queued, is_queued_at};
 ghost use Rattle.mqtt_broker_step.specs.Stepping.{Does, Leaves};
 ghost use Rattle.mqtt_broker_queue.specs.Entering.{HasEnteredAt, HasRoomAt};
+ghost use Rattle.mqtt_broker_publish.specs.Copies.{copy_for, copies_for};
 ghost use Rattle.mqtt_broker_publish.specs.Delivering.{addressed, addressed_all, delivers_all, HasRoomIn, SameSessions};
 
+use crate::common::{Common, apart};
+use crate::copies::{Addressee, Copies};
 use crate::offering::offer_copy;
-use crate::sharing::Encoded;
 use mqtt_base::Qos;
 use mqtt_broker_queue::enter;
 use mqtt_broker_step::{Step, StepFault};
@@ -25,15 +29,102 @@ fn is_queued(qos: Qos) -> bool
     }
 }
 
-/// A copy, whose PUBLISH has a spelling, enters its session's queue, which has room for it, and if that is full
-/// the oldest that wait make way for it; one of QoS 0 goes out at once (4.3), and shares the bytes that were encoded last
-/// if they are the same.
+/// The copy for a session, whose PUBLISH has a spelling, enters the session's queue, which has room for it.
+fn enter_copy(
+    alloc: Global,
+    step: &mut Step,
+    common: &Common,
+    to: Addressee,
+) -> Result<(), StepFault>
+    requires spelled { IsSpelled (copy_for common.now to) }
+    requires room { HasRoomAt to.birth step.old }
+    ensures ok { OnOk result (Does (λ env. of_session to.birth
+        (λ s. always (enter_deeds env (copy_for common.now to) s))) step.old step.new) }
+    ensures entered { OnOk result (HasEnteredAt to.birth step.old step.new) }
+    ensures left { IfErr result (λ fault. Leaves (λ env. of_session to.birth
+        (λ s. always (enter_deeds env (copy_for common.now to) s))) fault step.old step.new) }
+{
+    let birth = to.birth;
+    match common.copy(to) {
+        Ok(copy) => enter(alloc, step, birth, copy),
+        Err(error) => Err(StepFault::from(error)),
+    }
+}
+
+/// The copy for a session, whose PUBLISH has a spelling, enters the session's queue, which has room for it, and if that
+/// is full the oldest that wait make way for it; one of QoS 0 goes out at once (4.3), and shares the bytes that were
+/// encoded last if they are the same.
 fn deliver(
     alloc: Global,
     step: &mut Step,
-    copy: MessageCopy,
-    last: &mut Option<Encoded>,
+    common: &mut Common,
+    to: Addressee,
 ) -> Result<(), StepFault>
+    requires spelled { IsSpelled (copy_for common.old to) }
+    requires room { is_queued (addressed (copy_for common.old to)) ≡ true
+        → HasRoomAt to.birth step.old }
+    ensures ok { OnOk result (Does (λ env. deliver env (addressed (copy_for common.old to)))
+        step.old step.new) }
+    ensures entered { OnOk result (is_queued (addressed (copy_for common.old to)) ≡ true
+        → HasEnteredAt to.birth step.old step.new) }
+    ensures same { common.new ≡ common.old }
+    ensures left { IfErr result (λ fault. Leaves
+        (λ env. deliver env (addressed (copy_for common.old to))) fault step.old step.new) }
+{
+    if is_queued(to.qos) {
+        enter_copy(alloc, step, common, to)
+    } else {
+        offer_copy(alloc, step, common, to)
+    }
+}
+
+/// The copies for these sessions are handed over in order.
+fn deliver_to(
+    alloc: Global,
+    step: &mut Step,
+    common: &mut Common,
+    all: Vec<Addressee>,
+) -> Result<(), StepFault>
+    requires spelled { AllByRecursion IsSpelled (copies_for common.old all.items) }
+    requires room { HasRoomIn step.old (addressed_all (copies_for common.old all.items)) }
+    ensures ok { OnOk result (Does
+        (delivers_all (addressed_all (copies_for common.old all.items))) step.old step.new) }
+    ensures sessions { OnOk result (SameSessions step.old.broker.records
+        step.new.broker.records) }
+    ensures left { IfErr result (λ fault. Leaves
+        (delivers_all (addressed_all (copies_for common.old all.items)))
+        fault step.old step.new) }
+{
+    for to in all {
+        deliver(alloc, step, common, to)?;
+    }
+    Ok(())
+}
+
+/// The copies of a publication, whose PUBLISH have spellings, are handed over in order. Each queue has room for those
+/// that are to enter it, and if it is full the oldest that wait make way. Those of QoS 0 that say the same share one
+/// encoding.
+pub(crate) fn deliver_copies(
+    alloc: Global,
+    step: &mut Step,
+    copies: Copies,
+) -> Result<(), StepFault>
+    requires spelled { AllByRecursion IsSpelled copies }
+    requires room { HasRoomIn step.old (addressed_all copies) }
+    ensures ok { OnOk result (Does (delivers_all (addressed_all copies)) step.old step.new) }
+    ensures sessions { OnOk result (SameSessions step.old.broker.records
+        step.new.broker.records) }
+    ensures left { IfErr result (λ fault. Leaves
+        (delivers_all (addressed_all copies)) fault step.old step.new) }
+{
+    let Copies { mut common, all } = copies;
+    let done = deliver_to(alloc, step, &mut common, all);
+    drop(common);
+    done
+}
+
+/// A copy that is alone is handed over.
+fn deliver_one(alloc: Global, step: &mut Step, copy: MessageCopy) -> Result<(), StepFault>
     requires spelled { IsSpelled copy }
     requires room { is_queued (addressed copy) ≡ true → HasRoomAt copy.id.birth step.old }
     ensures ok { OnOk result (Does (λ env. deliver env (addressed copy)) step.old step.new) }
@@ -42,38 +133,14 @@ fn deliver(
     ensures left { IfErr result (λ fault. Leaves
         (λ env. deliver env (addressed copy)) fault step.old step.new) }
 {
-    let birth = copy.id.birth;
-    if is_queued(copy.qos) {
-        enter(alloc, step, birth, copy)
-    } else {
-        offer_copy(alloc, step, birth, copy, last)
-    }
-}
-
-/// Copies are handed over in order; `last` is what was encoded last of those of QoS 0.
-fn deliver_each(
-    alloc: Global,
-    step: &mut Step,
-    copies: Vec<MessageCopy>,
-    last: &mut Option<Encoded>,
-) -> Result<(), StepFault>
-    requires spelled { AllByRecursion IsSpelled copies.items }
-    requires room { HasRoomIn step.old (addressed_all copies.items) }
-    ensures ok { OnOk result (Does (delivers_all (addressed_all copies.items))
-        step.old step.new) }
-    ensures sessions { OnOk result (SameSessions step.old.broker.records
-        step.new.broker.records) }
-    ensures left { IfErr result (λ fault. Leaves
-        (delivers_all (addressed_all copies.items)) fault step.old step.new) }
-{
-    for copy in copies {
-        deliver(alloc, step, copy, last)?;
-    }
-    Ok(())
+    let (mut common, to) = apart(copy);
+    let done = deliver(alloc, step, &mut common, to);
+    drop(common);
+    done
 }
 
 /// Copies, whose PUBLISH have spellings, are handed over in order. Each queue has room for those that are
-/// to enter it, and if it is full the oldest that wait make way. Those of QoS 0 that say the same share one encoding.
+/// to enter it, and if it is full the oldest that wait make way.
 pub fn deliver_all(
     alloc: Global,
     step: &mut Step,
@@ -88,8 +155,8 @@ pub fn deliver_all(
     ensures left { IfErr result (λ fault. Leaves
         (delivers_all (addressed_all copies.items)) fault step.old step.new) }
 {
-    let mut last = None;
-    let done = deliver_each(alloc, step, copies, &mut last);
-    drop(last);
-    done
+    for copy in copies {
+        deliver_one(alloc, step, copy)?;
+    }
+    Ok(())
 }

@@ -5,6 +5,8 @@
 mod aliasing;
 mod answering;
 mod client_publish;
+mod common;
+mod copies;
 mod delivering;
 mod fresh;
 mod meant;
@@ -14,12 +16,12 @@ mod publishing;
 mod releasing;
 mod retaining;
 mod router;
-mod sharing;
 mod standing;
 mod taking;
 
 pub use answering::{answer, open_by, publish_again};
 pub use client_publish::{Handled, on_publish};
+pub use copies::{Addressee, Copies};
 pub use delivering::deliver_all;
 pub use ping::pingreq;
 pub use publishing::publish;

@@ -1,58 +1,66 @@
 //! A copy of QoS 0 goes out at once (MQTT 5.0, 3.1.2.11.4, 4.3.1).
-ghost use Rattle.std.specs.Prelude.{◌≡◌, option_copied, OnOk, IfErr};
+ghost use Rattle.std.specs.Prelude.{◌≡◌, Some, option_copied, OnOk, IfErr};
+ghost use Rattle.mqtt_codec.specs.declared.packet.Packet.{Packet};
+ghost use Rattle.mqtt_codec.specs.Packets.{shortest_of};
 ghost use Rattle.mqtt_records_message.specs.Queue.{IsSpelled};
-ghost use Rattle.mqtt_rules.specs.State.{is_of, line_of};
+ghost use Rattle.mqtt_rules.specs.Deeds.{always, offer};
+ghost use Rattle.mqtt_rules.specs.State.{Line, line_of};
 ghost use Rattle.mqtt_broker_step.specs.Stepping.{Did, IsLeft};
+ghost use Rattle.mqtt_broker_publish.specs.Copies.{copy_for};
 ghost use Rattle.mqtt_broker_publish.specs.Delivering.{offers};
 
-use crate::sharing::{Encoded, encoding};
-use mqtt_broker_packets::publish_len;
+use crate::common::Common;
+use crate::copies::Addressee;
+use bytes::Bytes;
 use mqtt_broker_step::{LineState, Step, StepFault};
-use mqtt_records_message::MessageCopy;
 use std::alloc::Global;
-
-/// Whether the session with a birth is connected on a line.
-fn is_of(line: &LineState, birth: u64) -> bool
-    ensures { result ≡ is_of line.now.session birth }
-{
-    match line.session() {
-        Some(session) => session == birth,
-        None => false,
-    }
-}
 
 /// The line that a session is connected on.
 fn line_of(step: &Step, birth: u64) -> Option<&LineState>
     ensures { option_copied result ≡ line_of birth step.now.broker }
 {
-    step.lines().iter().find(|line| is_of(line, birth))
+    step.lines().iter().find(|line| line.is_of(birth))
 }
 
-/// A copy of QoS 0, whose PUBLISH has a spelling, goes out at once, if its session is connected; it is left
-/// out if it is larger than the client takes (3.1.2.11.4, 4.3.1). It shares the bytes that were encoded last if they
+/// A packet's bytes go out on a line, unless they are more than its client takes (3.1.2.11.4).
+fn send_within(step: &mut Step, line: u64, largest: u32, bytes: Bytes) -> Result<(), StepFault>
+    ensures ok { (l : Line) (packet : Packet) → l.number ≡ line → l.largest ≡ largest
+        → bytes ≡ shortest_of packet
+        → OnOk result (Did (always (offer (Some l) packet)) step.old step.new) }
+    ensures left { (l : Line) (packet : Packet) → l.number ≡ line → l.largest ≡ largest
+        → bytes ≡ shortest_of packet
+        → IfErr result (λ fault. IsLeft (always (offer (Some l) packet)) fault step.old step.new) }
+{
+    if bytes.len() > largest as usize {
+        drop(bytes);
+        return Ok(());
+    }
+    step.send_spelled(line, bytes)
+}
+
+/// The copy of QoS 0 for a session, whose PUBLISH has a spelling, goes out at once, if the session is connected; it is
+/// left out if it is larger than the client takes (3.1.2.11.4, 4.3.1). It shares the bytes that were encoded last if they
 /// are the same.
 pub(crate) fn offer_copy(
     alloc: Global,
     step: &mut Step,
-    birth: u64,
-    copy: MessageCopy,
-    last: &mut Option<Encoded>,
+    common: &mut Common,
+    to: Addressee,
 ) -> Result<(), StepFault>
-    requires { IsSpelled copy }
-    ensures ok { OnOk result (Did (offers birth copy) step.old step.new) }
-    ensures left { IfErr result (λ fault. IsLeft (offers birth copy) fault step.old step.new) }
+    requires { IsSpelled (copy_for common.old to) }
+    ensures ok { OnOk result (Did (offers to.birth (copy_for common.old to)) step.old step.new) }
+    ensures same { common.new ≡ common.old }
+    ensures left { IfErr result (λ fault.
+        IsLeft (offers to.birth (copy_for common.old to)) fault step.old step.new) }
 {
-    let Some(line) = line_of(step, birth) else {
-        drop(copy);
+    let Some(line) = line_of(step, to.birth) else {
+        drop(to);
         return Ok(());
     };
-    if publish_len(&copy) > line.largest() as usize {
-        drop(copy);
-        return Ok(());
-    }
     let number = line.number();
-    match encoding(alloc, step.moment(), copy, last) {
-        Ok(bytes) => step.send_spelled(number, bytes),
+    let largest = line.largest();
+    match common.encoding(alloc, step.moment(), to) {
+        Ok(bytes) => send_within(step, number, largest, bytes),
         Err(error) => Err(StepFault::from(error)),
     }
 }

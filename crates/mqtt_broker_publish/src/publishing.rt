@@ -8,11 +8,11 @@ ghost use Rattle.mqtt_rules.specs.Routing.{publish};
 ghost use Rattle.mqtt_broker_step.specs.Stepping.{Does, Leaves};
 ghost use Rattle.mqtt_broker_publish.specs.Delivering.{addressed_all, HasRoomIn, SameSessions};
 
-use crate::delivering::deliver_all;
+use crate::copies::Copies;
+use crate::delivering::deliver_copies;
 use crate::retaining::retain;
 use mqtt_broker_decisions::Message;
 use mqtt_broker_step::{Step, StepFault};
-use mqtt_records_message::MessageCopy;
 use std::alloc::Global;
 
 /// A publication is accepted, retained if it is to be, and handed over in these copies, whose PUBLISH
@@ -21,19 +21,29 @@ pub fn publish(
     alloc: Global,
     step: &mut Step,
     message: &Message,
-    copies: Vec<MessageCopy>,
+    copies: Copies,
 ) -> Result<(), StepFault>
-    requires spelled { AllByRecursion IsSpelled copies.items }
-    requires room { HasRoomIn step.old (addressed_all copies.items) }
+    requires spelled { AllByRecursion IsSpelled copies }
+    requires room { HasRoomIn step.old (addressed_all copies) }
     ensures ok { (origin : Origin) → OnOk result (Does
-        (λ env. publish env origin message.now (addressed_all copies.items)) step.old step.new) }
+        (λ env. publish env origin message.now (addressed_all copies)) step.old step.new) }
     ensures sessions { OnOk result (SameSessions step.old.broker.records
         step.new.broker.records) }
     ensures left { (origin : Origin) → IfErr result (λ fault. Leaves
-        (λ env. publish env origin message.now (addressed_all copies.items))
+        (λ env. publish env origin message.now (addressed_all copies))
         fault step.old step.new) }
 {
-    let number = step.accept()?;
-    retain(alloc, step, number, message)?;
-    deliver_all(alloc, step, copies)
+    match step.accept() {
+        Ok(number) => match retain(alloc, step, number, message) {
+            Ok(()) => deliver_copies(alloc, step, copies),
+            Err(fault) => {
+                drop(copies);
+                Err(fault)
+            }
+        },
+        Err(fault) => {
+            drop(copies);
+            Err(fault)
+        }
+    }
 }

@@ -4,9 +4,9 @@ ghost use Rattle.mqtt_routes.specs.Subscriptions.{Subscriber};
 ghost use Rattle.mqtt_rules.specs.Routing.{subscribers};
 ghost use Rattle.mqtt_broker_publish.specs.Choosing.{IsLawfulMessage, IsRouted};
 
+use crate::copies::Copies;
 use mqtt_broker_decisions::Message;
 use mqtt_broker_step::{Step, StepFault};
-use mqtt_records_message::MessageCopy;
 use std::alloc::Global;
 
 /// Where a publication goes.
@@ -17,7 +17,7 @@ pub enum Routing {
     /// It is accepted.
     Accepted {
         /// Its copies, each with the birth of its session in its name.
-        copies: Vec<MessageCopy>,
+        copies: Copies,
         /// Whether somebody is there for it.
         wanted: bool,
     },

@@ -12,12 +12,12 @@ ghost use Rattle.mqtt_broker_step.specs.Stepping.{Did, Does, env_in, IsLeft, Lea
 ghost use Rattle.mqtt_broker_publish.specs.Delivering.{addressed_all, HasRoomIn};
 
 use crate::answering::{answer, open_by};
+use crate::copies::Copies;
 use crate::publishing::publish;
 use mqtt_base::Reason;
 use mqtt_broker_decisions::{Message, accepted_code};
 use mqtt_broker_step::{Step, StepFault};
 use mqtt_codec::Delivery;
-use mqtt_records_message::MessageCopy;
 use std::alloc::Global;
 
 /// A PUBLISH that isn't accepted is answered with Quota exceeded (3.4.2.1, 3.5.2.1).
@@ -48,23 +48,23 @@ pub fn publish_taken(
     birth: u64,
     delivery: Delivery,
     message: &Message,
-    copies: Vec<MessageCopy>,
+    copies: Copies,
     wanted: bool,
 ) -> Result<(), StepFault>
-    requires spelled { AllByRecursion IsSpelled copies.items }
-    requires room { HasRoomIn step.old (addressed_all copies.items) }
+    requires spelled { AllByRecursion IsSpelled copies }
+    requires room { HasRoomIn step.old (addressed_all copies) }
     ensures ok { (choice : MemberChoice) (l : Line) (s : Session) (p : Publish)
         → l.number ≡ line → session_at birth step.old.broker.records ≡ Some s
         → p.delivery ≡ delivery
         → is_wanted (env_in choice step.old) message.now step.old.broker.records ≡ wanted
         → OnOk result (Did (publish_new (env_in choice step.old) l s p message.now
-        (Some (addressed_all copies.items))) step.old step.new) }
+        (Some (addressed_all copies))) step.old step.new) }
     ensures left { (choice : MemberChoice) (l : Line) (s : Session) (p : Publish)
         → l.number ≡ line → session_at birth step.old.broker.records ≡ Some s
         → p.delivery ≡ delivery
         → is_wanted (env_in choice step.old) message.now step.old.broker.records ≡ wanted
         → IfErr result (λ fault. IsLeft (publish_new (env_in choice step.old) l s p message.now
-        (Some (addressed_all copies.items))) fault step.old step.new) }
+        (Some (addressed_all copies))) fault step.old step.new) }
 {
     publish(alloc, step, message, copies)?;
     open_by(step, birth, delivery)?;

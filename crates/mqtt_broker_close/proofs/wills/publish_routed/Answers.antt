@@ -26,13 +26,13 @@ returns-in-Refused-clause-left c = λ who.
 pub returns-in-Accepted-clause-ok : goal.returns-in-Accepted-clause-ok
 returns-in-Accepted-clause-ok c = λ who birth client.
     let m = c.args.message.now in
-    let copies = c.in-Accepted.copies.items in
+    let copies = c.in-Accepted.copies in
     let w : IsAccepted m c.args.step.now copies c.in-Accepted.wanted = subst (λ (r : Routing). IsRouted m c.args.step.now r) c.in-Accepted.is c.requires.routed in
     on_ok c.publish.result (accepted_is m who copies c.in-Accepted.wanted c.args.step.now c.publish.new.step w) (c.publish.ensures.ok FromWill)
 
 pub returns-in-Accepted-clause-left : goal.returns-in-Accepted-clause-left
 returns-in-Accepted-clause-left c = λ who.
     let m = c.args.message.now in
-    let copies = c.in-Accepted.copies.items in
+    let copies = c.in-Accepted.copies in
     let w : IsAccepted m c.args.step.now copies c.in-Accepted.wanted = subst (λ (r : Routing). IsRouted m c.args.step.now r) c.in-Accepted.is c.requires.routed in
     if_err c.publish.result (λ fault. accepted_left m who copies c.in-Accepted.wanted fault c.args.step.now c.publish.new.step w) (c.publish.ensures.left FromWill)

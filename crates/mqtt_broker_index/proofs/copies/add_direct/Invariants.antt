@@ -1,7 +1,7 @@
 use Rattle.std.proofs.Common.{◌≡◌, ◌++◌, take, map}
 use Rattle.mqtt_base.specs.declared.session.Cause.TheVariants.{Direct}
-use Rattle.mqtt_broker_index.specs.Indexing.{copied}
+use Rattle.mqtt_broker_index.specs.Indexing.{addressee}
 use Rattle.mqtt_broker_index.proofs.copies.add_direct.Given as goal
 
 abbrev pub invariant-loop-copy : goal.invariant-loop-copy
-invariant-loop-copy l = l.out.items ≡ l.fn.out.items ++ map (copied l.number l.moment l.message Direct) (take l.copy-index l.copies)
+invariant-loop-copy l = l.out.items ≡ l.fn.out.items ++ map (addressee Direct) (take l.copy-index l.copies)

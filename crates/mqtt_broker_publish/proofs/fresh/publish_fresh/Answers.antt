@@ -20,25 +20,25 @@ returns-in-Ok-Refused-clause-left g c = λ l s p number stands same.
 
 pub publish_taken-requires-clause-spelled : goal.publish_taken-requires-clause-spelled
 publish_taken-requires-clause-spelled g c =
-    let taken : IsAccepted c.args.message.now c.args.step.now c.in-Ok-Accepted.copies.items c.in-Ok-Accepted.wanted =
+    let taken : IsAccepted c.args.message.now c.args.step.now c.in-Ok-Accepted.copies c.in-Ok-Accepted.wanted =
     rw c.in-Ok-Accepted.field-0-is at c.in-Ok-Accepted.ensures.routed in
     taken.spelled
 
 pub publish_taken-requires-clause-room : goal.publish_taken-requires-clause-room
 publish_taken-requires-clause-room g c =
-    let taken : IsAccepted c.args.message.now c.args.step.now c.in-Ok-Accepted.copies.items c.in-Ok-Accepted.wanted =
+    let taken : IsAccepted c.args.message.now c.args.step.now c.in-Ok-Accepted.copies c.in-Ok-Accepted.wanted =
     rw c.in-Ok-Accepted.field-0-is at c.in-Ok-Accepted.ensures.routed in
     taken.room
 
 pub returns-in-Ok-Accepted-clause-ok : goal.returns-in-Ok-Accepted-clause-ok
 returns-in-Ok-Accepted-clause-ok g c = λ l s p number stands same.
-    taken_ok l s p c.args.message.now c.publish_taken.result c.in-Ok-Accepted.copies.items c.in-Ok-Accepted.wanted c.args.step.now c.publish_taken.new.step
+    taken_ok l s p c.args.message.now c.publish_taken.result c.in-Ok-Accepted.copies c.in-Ok-Accepted.wanted c.args.step.now c.publish_taken.new.step
     (rw c.in-Ok-Accepted.field-0-is at c.in-Ok-Accepted.ensures.routed)
     (λ choice wanted. c.publish_taken.ensures.ok choice l s p number stands same wanted)
 
 pub returns-in-Ok-Accepted-clause-left : goal.returns-in-Ok-Accepted-clause-left
 returns-in-Ok-Accepted-clause-left g c = λ l s p number stands same.
-    taken_err l s p c.args.message.now c.publish_taken.result c.in-Ok-Accepted.copies.items c.in-Ok-Accepted.wanted c.args.step.now c.publish_taken.new.step
+    taken_err l s p c.args.message.now c.publish_taken.result c.in-Ok-Accepted.copies c.in-Ok-Accepted.wanted c.args.step.now c.publish_taken.new.step
     (rw c.in-Ok-Accepted.field-0-is at c.in-Ok-Accepted.ensures.routed)
     (λ choice wanted. c.publish_taken.ensures.left choice l s p number stands same wanted)
 

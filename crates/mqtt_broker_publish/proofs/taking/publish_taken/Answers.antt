@@ -12,7 +12,7 @@ use Rattle.mqtt_broker_publish.proofs.taking.publish_taken.Goals as goal
 pub returns-clause-ok : goal.returns-clause-ok
 returns-clause-ok c = λ choice l x p number found same wanted.
     on_ok c.answer.result
-    (taken_is choice c.args.line c.args.birth c.accepted_code.result.0 c.args.delivery c.args.message.now c.args.wanted l x p (addressed_all c.args.copies.items)
+    (taken_is choice c.args.line c.args.birth c.accepted_code.result.0 c.args.delivery c.args.message.now c.args.wanted l x p (addressed_all c.args.copies)
     c.args.step.now c.publish.new.step c.open_by.new.step c.answer.new.step
     (record { number = number; found = found; delivery = same; is_there = wanted }) c.accepted_code.ensures c.in_ok-publish.ensures.sessions
     (c.in_ok-publish.ensures.ok FromClient) c.in_ok-open_by.ensures.ok)
@@ -21,7 +21,7 @@ returns-clause-ok c = λ choice l x p number found same wanted.
 pub returns-clause-left : goal.returns-clause-left
 returns-clause-left c = λ choice l x p number found same wanted.
     if_err c.answer.result
-    (λ fault. answer_left choice c.args.line c.args.birth c.accepted_code.result.0 c.args.delivery c.args.message.now c.args.wanted l x p (addressed_all c.args.copies.items) fault
+    (λ fault. answer_left choice c.args.line c.args.birth c.accepted_code.result.0 c.args.delivery c.args.message.now c.args.wanted l x p (addressed_all c.args.copies) fault
     c.args.step.now c.publish.new.step c.open_by.new.step c.answer.new.step
     (record { number = number; found = found; delivery = same; is_there = wanted }) c.accepted_code.ensures c.in_ok-publish.ensures.sessions
     (c.in_ok-publish.ensures.ok FromClient) c.in_ok-open_by.ensures.ok)
@@ -29,16 +29,16 @@ returns-clause-left c = λ choice l x p number found same wanted.
 
 pub returns-in_err-publish-clause-left : goal.returns-in_err-publish-clause-left
 returns-in_err-publish-clause-left c = λ choice l x p number found same wanted.
-    let left : IsLeft (publish_new (env_in choice c.args.step.now) l x p c.args.message.now (Some (addressed_all c.args.copies.items))) c.in_err-publish.field-0.0 c.args.step.now c.publish.new.step =
-    publish_left choice c.args.line c.args.birth c.args.delivery c.args.message.now c.args.wanted l x p (addressed_all c.args.copies.items) c.in_err-publish.field-0.0 c.args.step.now c.publish.new.step
+    let left : IsLeft (publish_new (env_in choice c.args.step.now) l x p c.args.message.now (Some (addressed_all c.args.copies))) c.in_err-publish.field-0.0 c.args.step.now c.publish.new.step =
+    publish_left choice c.args.line c.args.birth c.args.delivery c.args.message.now c.args.wanted l x p (addressed_all c.args.copies) c.in_err-publish.field-0.0 c.args.step.now c.publish.new.step
     (record { number = number; found = found; delivery = same; is_there = wanted }) (c.in_err-publish.ensures.left FromClient) in
     let is : c.from_residual.result ≡ Err c.in_err-publish.field-0.0 = search rules in
-    subst (λ (r : Result ⊤ StepFault). IfErr r (λ fault. IsLeft (publish_new (env_in choice c.args.step.now) l x p c.args.message.now (Some (addressed_all c.args.copies.items))) fault c.args.step.now c.publish.new.step)) (sym is) left
+    subst (λ (r : Result ⊤ StepFault). IfErr r (λ fault. IsLeft (publish_new (env_in choice c.args.step.now) l x p c.args.message.now (Some (addressed_all c.args.copies))) fault c.args.step.now c.publish.new.step)) (sym is) left
 
 pub returns-in_err-open_by-clause-left : goal.returns-in_err-open_by-clause-left
 returns-in_err-open_by-clause-left c = λ choice l x p number found same wanted.
-    let left : IsLeft (publish_new (env_in choice c.args.step.now) l x p c.args.message.now (Some (addressed_all c.args.copies.items))) c.in_err-open_by.field-0.0 c.args.step.now c.open_by.new.step =
-    open_left choice c.args.line c.args.birth c.args.delivery c.args.message.now c.args.wanted l x p (addressed_all c.args.copies.items) c.in_err-open_by.field-0.0 c.args.step.now c.publish.new.step c.open_by.new.step
+    let left : IsLeft (publish_new (env_in choice c.args.step.now) l x p c.args.message.now (Some (addressed_all c.args.copies))) c.in_err-open_by.field-0.0 c.args.step.now c.open_by.new.step =
+    open_left choice c.args.line c.args.birth c.args.delivery c.args.message.now c.args.wanted l x p (addressed_all c.args.copies) c.in_err-open_by.field-0.0 c.args.step.now c.publish.new.step c.open_by.new.step
     (record { number = number; found = found; delivery = same; is_there = wanted }) c.in_ok-publish.ensures.sessions (c.in_ok-publish.ensures.ok FromClient) c.in_err-open_by.ensures.left in
     let is : c.from_residual-in_err-open_by.result ≡ Err c.in_err-open_by.field-0.0 = search rules in
-    subst (λ (r : Result ⊤ StepFault). IfErr r (λ fault. IsLeft (publish_new (env_in choice c.args.step.now) l x p c.args.message.now (Some (addressed_all c.args.copies.items))) fault c.args.step.now c.open_by.new.step)) (sym is) left
+    subst (λ (r : Result ⊤ StepFault). IfErr r (λ fault. IsLeft (publish_new (env_in choice c.args.step.now) l x p c.args.message.now (Some (addressed_all c.args.copies))) fault c.args.step.now c.open_by.new.step)) (sym is) left

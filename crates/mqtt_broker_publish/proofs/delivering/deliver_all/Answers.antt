@@ -2,10 +2,10 @@ use Rattle.std.proofs.Common.{◌≡◌, ◌∷◌, length, rules, arith}
 use Rattle.mqtt_broker_step.specs.Stepping.{Leaves}
 use Rattle.mqtt_broker_publish.specs.Delivering.{addressed_all, delivers_all}
 use Rattle.mqtt_broker_publish.proofs.Delivered.{hands_room, hands_step, hands_left, hands_last}
-use Rattle.mqtt_broker_publish.proofs.delivering.deliver_each.Goals as goal
+use Rattle.mqtt_broker_publish.proofs.delivering.deliver_all.Goals as goal
 
-pub deliver-requires-clause-room : goal.deliver-requires-clause-room
-deliver-requires-clause-room c =
+pub deliver_one-requires-clause-room : goal.deliver_one-requires-clause-room
+deliver_one-requires-clause-room c =
     let steps : c.loop-copy.copy-iterator.rest.items ≡ c.in-Some.copy ∷ c.next.new.self.rest.items = search rules in
     hands_room c.in-Some.copy c.next.new.self.rest.items c.loop-copy.copy-iterator.rest.items c.args.copies.items c.args.step.now c.loop-copy.step
     steps c.loop-copy.invariant
@@ -13,15 +13,15 @@ deliver-requires-clause-room c =
 pub loop-copy-preserved : goal.loop-copy-preserved
 loop-copy-preserved c =
     let steps : c.loop-copy.copy-iterator.rest.items ≡ c.in-Some.copy ∷ c.next.new.self.rest.items = search rules in
-    hands_step c.in-Some.copy c.next.new.self.rest.items c.loop-copy.copy-iterator.rest.items c.args.copies.items c.args.step.now c.loop-copy.step c.deliver.new.step
-    steps c.loop-copy.invariant c.in_ok-deliver.ensures.ok c.in_ok-deliver.ensures.entered
+    hands_step c.in-Some.copy c.next.new.self.rest.items c.loop-copy.copy-iterator.rest.items c.args.copies.items c.args.step.now c.loop-copy.step c.deliver_one.new.step
+    steps c.loop-copy.invariant c.in_ok-deliver_one.ensures.ok c.in_ok-deliver_one.ensures.entered
 
-pub returns-in_err-deliver-clause-left : goal.returns-in_err-deliver-clause-left
-returns-in_err-deliver-clause-left c =
+pub returns-in_err-deliver_one-clause-left : goal.returns-in_err-deliver_one-clause-left
+returns-in_err-deliver_one-clause-left c =
     let steps : c.loop-copy.copy-iterator.rest.items ≡ c.in-Some.copy ∷ c.next.new.self.rest.items = search rules in
-    let left : Leaves (delivers_all (addressed_all c.args.copies.items)) c.in_err-deliver.field-0.0 c.args.step.now c.deliver.new.step =
-    hands_left c.in-Some.copy c.next.new.self.rest.items c.loop-copy.copy-iterator.rest.items c.args.copies.items c.in_err-deliver.field-0.0 c.args.step.now c.loop-copy.step c.deliver.new.step
-    steps c.loop-copy.invariant c.in_err-deliver.ensures.left in
+    let left : Leaves (delivers_all (addressed_all c.args.copies.items)) c.in_err-deliver_one.field-0.0 c.args.step.now c.deliver_one.new.step =
+    hands_left c.in-Some.copy c.next.new.self.rest.items c.loop-copy.copy-iterator.rest.items c.args.copies.items c.in_err-deliver_one.field-0.0 c.args.step.now c.loop-copy.step c.deliver_one.new.step
+    steps c.loop-copy.invariant c.in_err-deliver_one.ensures.left in
     search (rules, left)
 
 pub returns-clause-ok : goal.returns-clause-ok
