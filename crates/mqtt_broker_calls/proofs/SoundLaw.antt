@@ -17,6 +17,7 @@ use Rattle.mqtt_rules.proofs.numbers.NumberCopies.{step_accepted, opening_accept
 use Rattle.mqtt_rules.proofs.numbers.NumberSteps.{step_timed, opening_timed}
 use Rattle.mqtt_rules.proofs.order.OrderedFull.{step_queues, opening_queues}
 use Rattle.mqtt_rules.proofs.order.OrderedLimits.{step_sessions, opening_sessions, step_retained, opening_retained}
+use Rattle.mqtt_rules_sharing_laws.proofs.Steps.{step_shared, opening_shared}
 use Rattle.mqtt_rules.proofs.fit.RowsFit.{step_coherent, step_last, opening_coherent, opened_last}
 use Rattle.mqtt_broker_calls.specs.Sound.{IsSound, IsWithin}
 use Rattle.mqtt_broker_calls.proofs.Flights.{lawful_flight}
@@ -31,6 +32,7 @@ step_sound limits choice now call b unspent taken h = record {
   timed = (step_timed limits choice now call b h.timed).1;
   last = step_last limits choice now call b h.last;
   accepted = step_accepted limits choice now call b h.accepted;
+  shared = step_shared limits choice now call b h.shared h.accepted;
   flight = step_keeps limits choice now call b h.flight;
   orders = step_orders limits choice now call b h.limited h.coherent h.timed h.last unspent h.orders;
   filters = step_filters limits choice now call b h.filters;
@@ -47,6 +49,7 @@ opening_sound limits choice now r limited lawful unspent = record {
   timed = (opening_timed limits choice now r lawful.numbers.moment).1;
   last = opened_last limits choice now r;
   accepted = opening_accepted limits choice now r (lawful_accepted r lawful);
+  shared = opening_shared limits choice now r lawful.shared (lawful_accepted r lawful);
   flight = opening_keeps limits choice now r (lawful_flight r lawful);
   orders = opening_orders limits choice now r limited (lawful_coherent r lawful) lawful unspent;
   filters = opening_filters limits choice now r lawful;

@@ -1,6 +1,7 @@
 -- What holds of a broker between its calls (MQTT 5.0, 2.2.1, 3, 4.1).
 use Rattle.std.specs.Prelude.{ℕ, ◌≤◌, length}
 use Rattle.mqtt_records.specs.declared.records.Records.{Records}
+use Rattle.mqtt_records.specs.Contents.{SharesContents}
 use Rattle.mqtt_records.specs.Records.{IsNumber}
 use Rattle.mqtt_rules.specs.declared.Limits.{Limits}
 use Rattle.mqtt_rules.specs.State.{Broker}
@@ -13,7 +14,7 @@ use Rattle.mqtt_broker_step.specs.Subscribing.{HaveFiltersOnce}
 use Rattle.mqtt_broker_queue.specs.Queues.{HasKeptOrders}
 
 -- limits within those of the tables; coherent records, of which the stored moment and the moment are such as are kept;
--- copies and retained messages of accepted publications; packet identifiers in flight that differ; orders of release that
+-- copies and retained messages of accepted publications, those of one saying the same; packet identifiers in flight that differ; orders of release that
 -- are such as are kept; each filter of a session once; lines that stand for the connected sessions; and contents that packets
 -- can carry
 pub record IsSound (limits : Limits) (b : Broker) : Type 0 where
@@ -22,6 +23,7 @@ pub record IsSound (limits : Limits) (b : Broker) : Type 0 where
   pub timed : IsTimed b
   pub last : IsNumber b.now
   pub accepted : HasAcceptedNumbers b.records
+  pub shared : SharesContents b.records
   pub flight : HasDistinctIdentifiers b.records
   pub orders : (birth : ℕ) → HasKeptOrders birth b.records
   pub filters : HaveFiltersOnce b.records

@@ -4,12 +4,14 @@ use Rattle.mqtt_records.specs.declared.change.Change.{Change}
 use Rattle.mqtt_records.specs.declared.records.Records.{Records}
 use Rattle.mqtt_records.specs.Records.{FitAll}
 use Rattle.mqtt_rules.specs.declared.Limits.{Limits}
+use Rattle.mqtt_records.specs.Contents.{FitContents}
 use Rattle.mqtt_records.specs.Saying.{AllSayable}
 use Rattle.mqtt_rules.specs.Contents.{TakesLawful, of_rows}
 use Rattle.mqtt_rules.specs.Deeds.{Deed, rows_of_all, after_all}
 use Rattle.mqtt_rules.specs.State.{Broker}
 use Rattle.mqtt_rules.specs.Step.{Call, at_moment, deeds, is_spent, is_step_spent, rows_written, stamped, stepped, told, with_moment}
 use Rattle.mqtt_rules.proofs.fit.RowsFit.{step_fits}
+use Rattle.mqtt_rules_sharing_laws.proofs.Steps as sharing
 use Rattle.mqtt_rules.proofs.contents.SayableRows.{step_said}
 use Rattle.mqtt_rules.proofs.contents.SpelledContents.{rows_are as row_sizes}
 use Rattle.mqtt_rules.proofs.numbers.Counters.{moment_stays, now_stays}
@@ -62,6 +64,11 @@ module _ (now : ℕ) (call : Call) (again : Bool) (s : Stepping) (h : DidCall no
   call_sayable sound taken =
       subst AllSayable (sym rows_are) (step_said of_rows row_sizes s.limits h.choice now call s.start taken sound.contents)
 
+  call_contents : IsSound s.limits s.start → FitContents (with_stamp s).rows s.start.records
+  call_contents sound =
+      subst (λ (rows : List Change). FitContents rows s.start.records) (sym rows_are)
+      (sharing.step_fits s.limits h.choice now call s.start sound.shared sound.accepted)
+
   call_followed : IsSound s.limits s.start → TakesLawful call → CanAllBeFollowed (with_stamp s).rows s.start.records
   call_followed sound taken =
       subst (λ (rows : List Change). CanAllBeFollowed rows s.start.records) (sym rows_are)
@@ -72,6 +79,7 @@ module _ (now : ℕ) (call : Call) (again : Bool) (s : Stepping) (h : DidCall no
   call_finishes sound taken = record {
     fit = call_fits sound;
     sayable = call_sayable sound taken;
+    contents = call_contents sound;
     indexed = sound_indexed s.limits s.start sound;
     followed = call_followed sound taken;
   }

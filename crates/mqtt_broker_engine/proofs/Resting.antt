@@ -1,5 +1,5 @@
 -- An engine at rest: a step begins in it, or it refuses a call before one begins.
-use Rattle.std.proofs.Common.{◌≡◌, ℕ, true, false, refl, ap, sym, subst, ◌∙◌, inl}
+use Rattle.std.proofs.Common.{◌≡◌, ℕ, true, false, arith, refl, ap, sym, subst, ◌∙◌, inl}
 use Rattle.std.specs.Prelude.{Result, Err}
 use Rattle.mqtt_records.specs.declared.keep.Keep.{Ghosts}
 use Rattle.mqtt_records.specs.declared.records.Records.{Records}
@@ -7,7 +7,8 @@ use Rattle.mqtt_routes.specs.Subscriptions.{HeldSessions}
 use Rattle.mqtt_rules.specs.declared.Limits.{Limits}
 use Rattle.mqtt_rules.specs.Routing.{subscribers}
 use Rattle.mqtt_rules.specs.State.{Broker}
-use Rattle.mqtt_rules.specs.Step.{Call}
+use Rattle.mqtt_rules.specs.Step.{Call, at_moment}
+use Rattle.mqtt_rules.proofs.fit.RowsFit.{moment_last}
 use Rattle.mqtt_broker_step.specs.declared.call.EngineError.{EngineError}
 use Rattle.mqtt_broker_step.specs.declared.call.EngineError.TheVariants.{Memory, Stopped}
 use Rattle.mqtt_broker_step.specs.Stepping.{Stepping, at_rest}
@@ -19,6 +20,24 @@ use Rattle.mqtt_broker_engine.specs.declared.parts.EngineParts.{EngineParts}
 use Rattle.mqtt_broker_engine.specs.Calling.{Called}
 use Rattle.mqtt_broker_engine.specs.Finishing.{IsAtRest, IsMidCall, running_before, running_of}
 use Rattle.mqtt_broker_engine.specs.Running.{Running}
+
+-- ---- time goes on
+
+-- a later moment alone leaves a sound broker sound
+pub sound_at : (limits : Limits) (now : ℕ) (b : Broker) → IsSound limits b → IsSound limits (at_moment now b)
+sound_at limits now b h = record {
+  limited = h.limited;
+  coherent = h.coherent;
+  timed = omega (arith, h.timed);
+  last = moment_last b now h.last;
+  accepted = h.accepted;
+  shared = h.shared;
+  flight = h.flight;
+  orders = h.orders;
+  filters = h.filters;
+  lines = record { ascending = h.lines.ascending; given = h.lines.given; once = h.lines.once; stands = h.lines.stands; connected = h.lines.connected };
+  contents = record { stored = h.contents.stored; lines = h.contents.lines };
+}
 
 -- ---- a step begins
 

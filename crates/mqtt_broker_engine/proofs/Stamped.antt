@@ -6,6 +6,7 @@ use Rattle.mqtt_records.specs.declared.change.Change.TheVariants.{SetCounter}
 use Rattle.mqtt_records.specs.declared.change.Counter.TheVariants.{Moment}
 use Rattle.mqtt_records.specs.declared.records.Records.{Records}
 use Rattle.mqtt_records.specs.Records.{FitAll}
+use Rattle.mqtt_records.specs.Contents.{FitContents}
 use Rattle.mqtt_records.specs.Saying.{AllSayable}
 use Rattle.mqtt_routes.specs.Subscriptions.{Subscriber}
 use Rattle.mqtt_rules.specs.declared.Limits.{Limits}
@@ -16,8 +17,9 @@ use Rattle.mqtt_rules.specs.Routing.{subscribers}
 use Rattle.mqtt_rules.specs.State.{Broker}
 use Rattle.mqtt_rules.specs.Step.{BrokerOpening, is_opening_spent, is_spent, opened, opening, opening_deeds, rows_written, stamped, unopened, with_moment}
 use Rattle.mqtt_rules.proofs.contents.LawfulContents.{lawful_contents}
-use Rattle.mqtt_rules.proofs.fit.LawfulRecords.{lawful_coherent}
+use Rattle.mqtt_rules.proofs.fit.LawfulRecords.{lawful_coherent, lawful_accepted}
 use Rattle.mqtt_rules.proofs.fit.RowsFit.{opening_fits}
+use Rattle.mqtt_rules_sharing_laws.proofs.Steps as sharing
 use Rattle.mqtt_rules.proofs.contents.SayableRows.{opening_said}
 use Rattle.mqtt_rules.proofs.contents.SpelledContents.{rows_are as row_sizes}
 use Rattle.mqtt_rules.proofs.numbers.Counters.{moment_stays, now_stays}
@@ -100,6 +102,12 @@ module _ (limits : Limits) (now : ℕ) (r : Records) (s : Stepping) (h : DidOpen
   -- and can be said in a table
   pub open_sayable : IsLawful r → AllSayable s.rows
   open_sayable lawful = subst AllSayable (sym rows_are) (opening_said of_rows row_sizes limits h.choice now r (lawful_contents r lawful))
+
+  -- and say what is said under a publication's number
+  pub open_contents : IsLawful r → FitContents s.rows s.start.records
+  open_contents lawful =
+      subst (λ (b : Broker). FitContents s.rows b.records) (sym start_is)
+      (subst (λ (rows : List Change). FitContents rows r) (sym rows_are) (sharing.opening_fits limits h.choice now r lawful.shared (lawful_accepted r lawful)))
 
   -- once it is stored it is an opening of the broker
   pub open_is : (new : Stepping) → is_spent s.rows ≡ false → new ≡ at_rest s.limits s.broker → BrokerOpening limits r now new.broker

@@ -3,6 +3,7 @@ use Rattle.std.specs.Prelude.{◌≡◌, ◌≢◌, ◌⊎◌, Bool, true, false
 use Rattle.mqtt_records.specs.declared.keep.Keep.{Ghosts}
 use Rattle.mqtt_records.specs.declared.records.Records.{Records}
 use Rattle.mqtt_records.specs.Records.{FitAll}
+use Rattle.mqtt_records.specs.Contents.{FitContents}
 use Rattle.mqtt_records.specs.Saying.{AllSayable}
 use Rattle.mqtt_rules.specs.Routing.{subscribers}
 use Rattle.mqtt_rules.specs.State.{Broker}
@@ -49,10 +50,12 @@ pub record IsMidCall {K : Type 0} (g : Ghosts K) (p : EngineParts K) : Type 0 wh
 
 -- ---- how a call is finished
 
--- a step may be stored: its rows fit, unless a number is spent, and can be said, and an index can follow them
+-- a step may be stored: its rows fit, unless a number is spent, can be said, and say what is said under a publication's number,
+-- and an index can follow them
 pub record CanFinish (s : Stepping) : Type 0 where
   pub fit : is_spent s.rows ≡ false → FitAll s.rows s.start.records
   pub sayable : AllSayable s.rows
+  pub contents : FitContents s.rows s.start.records
   pub indexed : CanBeIndexed s.start.records
   pub followed : CanAllBeFollowed s.rows s.start.records
 

@@ -13,6 +13,7 @@ use Rattle.mqtt_base.specs.declared.session.Qos.TheVariants.{AtMostOnce, AtLeast
 use Rattle.mqtt_records_lawful.specs.Lawful.{IsCause, IsLawful, IsLawfulCopy, IsLawfulQueue, IsLawfulRetained, IsLawfulSession, IsPhase, IsSubscription, AreSubscriptions, last_of}
 use Rattle.mqtt_records_message.specs.Queue.{CopyRow}
 use Rattle.mqtt_records_message.specs.declared.message.RetainedMessage.{RetainedMessage}
+use Rattle.mqtt_records.specs.Contents.{SharesContents}
 use Rattle.mqtt_records.specs.Records.{IsNumber, kept_place}
 use Rattle.mqtt_records.specs.Session.{birth_of, copy_place}
 use Rattle.mqtt_records.specs.declared.records.Records.{Records}
@@ -55,6 +56,7 @@ pub record Facts (r : Records) : Type 0 where
   pub filters : HaveFiltersOnce r
   pub flight : HasDistinctIdentifiers r
   pub contents : HasLawfulContentsOf of_packets r
+  pub shared : SharesContents r
 
 -- ---- phases and causes
 
@@ -205,6 +207,7 @@ module _ (r : Records) (w : IsWritten r) where
     filters = each_more Its HasEachFilterOnce (λ s h. record { differ = h.subscriptions.filters }) r.sessions its;
     flight = lawful_flight r w.lawful;
     contents = w.contents;
+    shared = w.lawful.shared;
   }
 
 -- ---- what is unique by what is found
@@ -394,6 +397,7 @@ module _ (r : Records) (f : Facts r) where
       topics = unique_differ kept_place (λ k. k.content.topic) r.retained f.coherent.ordered.retained.ascending f.coherent.topics;
       each = each_among (IsLawfulRetained (last_of r)) r.retained retained_lawful;
     };
+    shared = f.shared;
   }
 
   -- records with all these parts are such as a broker has written

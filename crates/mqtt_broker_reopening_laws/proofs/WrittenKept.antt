@@ -11,6 +11,9 @@ use Rattle.mqtt_rules.specs.State.{Broker, MemberChoice, stored}
 use Rattle.mqtt_rules.specs.Step.{Call, is_opening_spent, is_step_spent, opened, stepped}
 use Rattle.mqtt_rules.proofs.contents.ContentLaw.{step_contents, opening_contents}
 use Rattle.mqtt_rules.proofs.flight.FlightStep.{step_keeps, opening_keeps}
+use Rattle.mqtt_records_contents.proofs.Nothing.{nothing_shared}
+use Rattle.mqtt_rules.proofs.fit.LawfulRecords.{lawful_accepted}
+use Rattle.mqtt_rules_sharing_laws.proofs.Steps.{opening_shared, step_shared}
 use Rattle.mqtt_rules.proofs.numbers.NumberSteps.{step_timed, opening_timed}
 use Rattle.mqtt_rules.proofs.fit.RowsFit.{opened_last, opening_coherent, step_coherent, step_last}
 use Rattle.mqtt_rules.proofs.contents.SpelledContents.{packets_are}
@@ -54,6 +57,7 @@ step_facts limits choice now call b within taken unspent h =
       filters = step_filters limits choice now call b f.filters;
       flight = step_keeps limits choice now call b f.flight;
       contents = (step_contents of_packets packets_are limits choice now call b taken (packet_contents b h)).stored;
+      shared = step_shared limits choice now call b f.shared (lawful_accepted (stored b) h.written.lawful);
     }
 
 opening_facts : (limits : Limits) (choice : MemberChoice) (now : ℕ) (r : Records) → AreWithin limits → is_opening_spent limits choice now r ≡ false → IsWritten r → Facts (stored (opened limits choice now r))
@@ -71,6 +75,7 @@ opening_facts limits choice now r within unspent w =
       filters = opening_filters limits choice now r w.lawful;
       flight = opening_keeps limits choice now r f.flight;
       contents = (opening_contents of_packets packets_are limits choice now r w.contents).stored;
+      shared = opening_shared limits choice now r f.shared (lawful_accepted r w.lawful);
     }
 
 -- ---- steps and openings
@@ -111,6 +116,7 @@ nothing_written = record {
     numbers = record { births = omega arith; publications = omega arith; subscribes = omega arith; autos = omega arith; moment = omega arith };
     sessions = record { table = record { ascending = tt; within = omega arith }; clients = tt; places = tt; each = tt };
     retained = record { table = record { ascending = tt; within = omega arith }; topics = tt; each = tt };
+    shared = nothing_shared;
   };
   contents = record { sessions = tt; retained = tt };
   filters = tt;

@@ -2,6 +2,7 @@
 ghost use Rattle.std.specs.Prelude.{◌≡◌, ◌≢◌, ◌⊎◌, false, IfOk, IfErr, OnOk, OnErr, IsErrOf};
 ghost use Rattle.mqtt_records.specs.declared.records.Records.{Records};
 ghost use Rattle.mqtt_records.specs.Records.{changed_all, FitAll};
+ghost use Rattle.mqtt_records.specs.Contents.{FitContents};
 ghost use Rattle.mqtt_records.specs.Saying.{AllSayable};
 ghost use Rattle.mqtt_rules.specs.Step.{at_moment, is_spent};
 ghost use Rattle.mqtt_broker_step.specs.Undoing.{moment_of};
@@ -111,8 +112,8 @@ impl Step {
     }
 }
 
-/// Tells the store of a step that was done in place. The step's rows have to fit, and to be such as can be
-/// said in a table. If the store refuses, the step is taken back, and the store's own refusal is answered.
+/// Tells the store of a step that was done in place. The step's rows have to fit, to be such as can be said in a
+/// table, and to say what is said under a publication's number. If the store refuses, the step is taken back, and the store's own refusal is answered.
 /// `Memory` (1) and `Size` (3): nothing changed, here or there. `Disk` (2): the device failed.
 pub fn commit_kept<K: Keep>(keep: &mut K, step: &mut Step) -> Result<Outcome, KeepError>
     requires loaded { K.is_loaded keep.old }
@@ -120,6 +121,7 @@ pub fn commit_kept<K: Keep>(keep: &mut K, step: &mut Step) -> Result<Outcome, Ke
     requires fit { is_spent step.old.rows ≡ false
         → FitAll step.old.rows step.old.start.records }
     requires sayable { AllSayable step.old.rows }
+    requires contents { FitContents step.old.rows step.old.start.records }
 
     // None of the rows gives a number above the last.
     ensures unspent { is_spent step.old.rows ≡ false }
@@ -157,8 +159,8 @@ pub fn commit_kept<K: Keep>(keep: &mut K, step: &mut Step) -> Result<Outcome, Ke
     }
 }
 
-/// Tells the store of a step that was done in place. The step's rows have to fit, and to be such as can be
-/// said in a table. If the store refuses, the step is taken back.
+/// Tells the store of a step that was done in place. The step's rows have to fit, to be such as can be said in a
+/// table, and to say what is said under a publication's number. If the store refuses, the step is taken back.
 /// `Memory` (1): nothing changed, here or there. `Stopped` (2): the store failed.
 pub fn commit<K: Keep>(keep: &mut K, step: &mut Step) -> Result<Outcome, EngineError>
     requires loaded { K.is_loaded keep.old }
@@ -166,6 +168,7 @@ pub fn commit<K: Keep>(keep: &mut K, step: &mut Step) -> Result<Outcome, EngineE
     requires fit { is_spent step.old.rows ≡ false
         → FitAll step.old.rows step.old.start.records }
     requires sayable { AllSayable step.old.rows }
+    requires contents { FitContents step.old.rows step.old.start.records }
 
     // None of the rows gives a number above the last.
     ensures unspent { is_spent step.old.rows ≡ false }

@@ -5,6 +5,7 @@ ghost use Rattle.mqtt_records.specs.declared.keep.KeepError.{KeepError};
 ghost use Rattle.mqtt_records.specs.declared.keep.KeepError.TheVariants.{Memory};
 ghost use Rattle.mqtt_records.specs.Records.{changed_all, FitAll};
 ghost use Rattle.mqtt_records.specs.Saying.{AllSayable};
+ghost use Rattle.mqtt_records.specs.Contents.{FitContents};
 
 use crate::change::Change;
 use crate::records::Records;
@@ -77,11 +78,12 @@ pub trait Keep: Drop {
         ensures cause { IsErrOf result KeepError.Disk ⊎ IsErrOf result KeepError.Size
             → counted self.new ≢ counted self.old };
 
-    /// Makes all changes, in order, or none. They have to fit what it has, and be such as rows can say.
+    /// Makes all changes, in order, or none. They have to fit what it has, be such as rows can say, and say what is said
+    /// under a publication's number.
     fn apply(&mut self, changes: &[Change]) -> Result<(), KeepError>
         requires { is_loaded self.old }
         ensures ok { (r : Records) → holds self.old r → FitAll changes.now r
-            → AllSayable changes.now
+            → AllSayable changes.now → FitContents changes.now r
             → OnOk result (holds self.new (changed_all changes.now r)) }
         ensures loaded { OnOk result (is_loaded self.new) }
 
@@ -89,11 +91,11 @@ pub trait Keep: Drop {
         ensures same { IsErrOf result KeepError.Memory ⊎ IsErrOf result KeepError.Size
             → is_loaded self.new
             × ((r : Records) → holds self.old r → FitAll changes.now r → AllSayable changes.now
-            → holds self.new r) }
+            → FitContents changes.now r → holds self.new r) }
 
         // A crash leaves the records before or after, never some of the changes.
         ensures crash { (r left : Records) → holds self.old r → FitAll changes.now r
-            → AllSayable changes.now → leaves self.new left
+            → AllSayable changes.now → FitContents changes.now r → leaves self.new left
             → (left ≡ r) ⊎ (left ≡ changed_all changes.now r) }
         ensures sound { is_sound self.new → is_sound self.old }
 

@@ -3,3 +3,4 @@ mod Said
 mod Neighbours
 mod Listed
 pub mod Shared
+pub mod Nothing

@@ -2,8 +2,8 @@
 use Rattle.std.proofs.Common.{◌≡◌, ◌⊎◌, ◌↔◌, List, [], ◌∷◌, ◌++◌, map, flat_map, refl, sym, ap, subst, inl, inr}
 use Rattle.mqtt_records.specs.declared.session.Session.{Session}
 use Rattle.mqtt_records.specs.declared.records.Records.{Records}
-use Rattle.mqtt_records_contents.specs.Members.{Has}
-use Rattle.mqtt_records_contents.specs.Contents.{StoredMessage, copy_message, retained_message, IsMessageOf, SharesContents}
+use Rattle.mqtt_records.specs.Members.{Has}
+use Rattle.mqtt_records.specs.Contents.{StoredMessage, copy_message, retained_message, IsMessageOf, SharesContents}
 use Rattle.mqtt_records_contents.specs.Listed.{messages_of, AllAgree}
 
 module _ {X : Type 0} where

@@ -2,7 +2,7 @@
 use Rattle.std.proofs.Common.{◌≡◌, ◌⊎◌, ℕ, Bool, true, false, cond, ◌||◌, nat_eq, nat_lt, not, List, [], ◌∷◌, filter, length, inl, inr, refl}
 use Rattle.std.proofs.lemmas.Bool.{cases_Bool}
 use Rattle.mqtt_records_rows.specs.Order.{has_row, insert_row, put_row, remove_row, change_row}
-use Rattle.mqtt_records_contents.specs.Members.{Has}
+use Rattle.mqtt_records.specs.Members.{Has}
 
 -- what passes a test is one of those that were tried
 pub passed_has : {X : Type 0} (p : X → Bool) (xs : List X) (x : X) → Has (filter p xs) x → Has xs x

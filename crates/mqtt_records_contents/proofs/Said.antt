@@ -14,8 +14,8 @@ use Rattle.mqtt_records.specs.declared.change.Counter.TheVariants.{Births, Publi
 use Rattle.mqtt_records.specs.declared.records.Records.{Records}
 use Rattle.mqtt_records.specs.Records.{changed, changed_all, in_session, kept_place, put_session}
 use Rattle.mqtt_records.specs.Session.{birth_of, copy_place, fresh, in_phase, with_columns, with_will, with_subscription, without_subscription, with_open, without_open, with_copy, with_phase, without_copy}
-use Rattle.mqtt_records_contents.specs.Members.{Has}
-use Rattle.mqtt_records_contents.specs.Contents.{StoredMessage, copy_message, retained_message, IsMessageOf, SharesContents, FitsContents, FitContents}
+use Rattle.mqtt_records.specs.Members.{Has}
+use Rattle.mqtt_records.specs.Contents.{StoredMessage, copy_message, retained_message, IsMessageOf, SharesContents, FitsContents, FitContents}
 use Rattle.mqtt_records_contents.proofs.Lists.{either_has, put_has, changed_has, removed_has}
 use Rattle.mqtt_records_contents.proofs.Shared.{shared_less, shared_with}
 

@@ -1,7 +1,7 @@
 -- Contents stay shared if what is said after a change was said before, or is new and agrees with it.
 use Rattle.std.proofs.Common.{◌≡◌, ◌⊎◌, ℕ, sym, ap, ◌∙◌, inl, inr}
 use Rattle.mqtt_records.specs.declared.records.Records.{Records}
-use Rattle.mqtt_records_contents.specs.Contents.{StoredMessage, IsMessageOf, AgreesWith, SharesContents}
+use Rattle.mqtt_records.specs.Contents.{StoredMessage, IsMessageOf, AgreesWith, SharesContents}
 
 abbrev number : StoredMessage → ℕ
 number m = m.publication

@@ -1,3 +1,1 @@
-pub mod Members
-pub mod Contents
 pub mod Listed

@@ -4,8 +4,8 @@ use Rattle.std.specs.Borrow.{Bor}
 use Rattle.std.specs.List.{AllAdjacentBelow}
 use Rattle.mqtt_records_message.specs.declared.message.Content.{Content}
 use Rattle.mqtt_records.specs.declared.records.Records.{Records}
-use Rattle.mqtt_records_contents.specs.Members.{Has}
-use Rattle.mqtt_records_contents.specs.Contents.{StoredMessage, stored_message, copy_message, retained_message}
+use Rattle.mqtt_records.specs.Members.{Has}
+use Rattle.mqtt_records.specs.Contents.{StoredMessage, stored_message, copy_message, retained_message}
 
 -- the same, but for the moments at which they were accepted
 abbrev pub AreAlike : Content → Content → Type 0

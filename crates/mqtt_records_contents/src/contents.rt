@@ -1,6 +1,6 @@
 //! Whether the copies of each publication and its retained message say the same (3.3).
 ghost use Rattle.std.specs.Prelude.{◌≡◌, ◌↔◌, ◌++◌, flat_map, map, IfOk, IsTrue, OnOk};
-ghost use Rattle.mqtt_records_contents.specs.Contents.{SharesContents, copy_message, retained_message};
+ghost use Rattle.mqtt_records.specs.Contents.{SharesContents, copy_message, retained_message};
 ghost use Rattle.mqtt_records_contents.specs.Listed.{messages_of, said, Agrees, AllAgree, NeighboursAgree};
 
 use crate::alike::are_alike;

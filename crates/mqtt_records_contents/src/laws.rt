@@ -3,7 +3,7 @@ ghost use Rattle.std.specs.Prelude.{List};
 ghost use Rattle.mqtt_records.specs.declared.change.Change.{Change};
 ghost use Rattle.mqtt_records.specs.declared.records.Records.{Records};
 ghost use Rattle.mqtt_records.specs.Records.{nothing, changed, changed_all};
-ghost use Rattle.mqtt_records_contents.specs.Contents.{SharesContents, FitsContents, FitContents};
+ghost use Rattle.mqtt_records.specs.Contents.{SharesContents, FitsContents, FitContents};
 
 /// Before the first session contents are shared.
 pub fn nothing_shares_contents()

@@ -89,7 +89,7 @@ const CHANGED: Said = Said {
 
 /// Whether copies of two sessions agree, of which one says what the first publication does.
 fn agrees(alloc: Global, said: Said) -> Result<bool, AllocError> {
-    shares(alloc, [&[FIRST], &[said]], &[])
+    shares(alloc, &[FIRST], &[said], &[])
 }
 
 /// All, but for the one at a place.
@@ -108,12 +108,9 @@ fn a_publication_of_one_agrees(rt: HostRuntime) -> Result<(), Fail> {
     let shared = shares_contents(alloc, &nothing);
     drop(nothing);
     assert!(rt; shared?, "before the first session");
-    assert!(rt; shares(alloc, [&[], &[]], &[])?, "empty queues");
-    assert!(rt; shares(alloc, [&[FIRST], &[]], &[])?, "one copy");
-    assert!(rt;
-        shares(alloc, [&[], &[]], &[FIRST])?,
-        "one retained message"
-    );
+    assert!(rt; shares(alloc, &[], &[], &[])?, "empty queues");
+    assert!(rt; shares(alloc, &[FIRST], &[], &[])?, "one copy");
+    assert!(rt; shares(alloc, &[], &[], &[FIRST])?, "one retained message");
     Ok(())
 }
 
@@ -186,7 +183,7 @@ fn copies_agree_in_each_property(rt: HostRuntime) -> Result<(), Fail> {
             ..FIRST
         };
         assert!(rt; !agrees(alloc, said)?, "another value");
-        assert!(rt; shares(alloc, [&[said], &[said]], &[])?, "both with it");
+        assert!(rt; shares(alloc, &[said], &[said], &[])?, "both with it");
     }
     let named = Some(PropRef {
         name: PropName::UserProperty,
@@ -209,17 +206,17 @@ fn copies_agree_in_each_property(rt: HostRuntime) -> Result<(), Fail> {
 #[test]
 fn retained_messages_agree_too(rt: HostRuntime) -> Result<(), Fail> {
     let alloc = rt.alloc();
-    assert!(rt; shares(alloc, [&[FIRST], &[]], &[FIRST])?, "with a copy");
+    assert!(rt; shares(alloc, &[FIRST], &[], &[FIRST])?, "with a copy");
     assert!(rt;
-        !shares(alloc, [&[FIRST], &[]], &[CHANGED])?,
+        !shares(alloc, &[FIRST], &[], &[CHANGED])?,
         "not with a copy"
     );
     assert!(rt;
-        !shares(alloc, [&[], &[]], &[FIRST, CHANGED])?,
+        !shares(alloc, &[], &[], &[FIRST, CHANGED])?,
         "not with each other"
     );
     assert!(rt;
-        shares(alloc, [&[OTHER], &[]], &[FIRST])?,
+        shares(alloc, &[OTHER], &[], &[FIRST])?,
         "of another publication"
     );
     Ok(())
@@ -240,7 +237,7 @@ fn other_numbers_may_differ(rt: HostRuntime) -> Result<(), Fail> {
         "with the same bytes"
     );
     assert!(rt;
-        shares(alloc, [&[FIRST, OTHER], &[OTHER, FIRST]], &[OTHER])?,
+        shares(alloc, &[FIRST, OTHER], &[OTHER, FIRST], &[OTHER])?,
         "two of each"
     );
     Ok(())
@@ -250,19 +247,19 @@ fn other_numbers_may_differ(rt: HostRuntime) -> Result<(), Fail> {
 fn each_of_a_number_is_looked_at(rt: HostRuntime) -> Result<(), Fail> {
     let alloc = rt.alloc();
     assert!(rt;
-        !shares(alloc, [&[FIRST, FIRST], &[FIRST, CHANGED]], &[])?,
+        !shares(alloc, &[FIRST, FIRST], &[FIRST, CHANGED], &[])?,
         "the last"
     );
     assert!(rt;
-        !shares(alloc, [&[CHANGED, FIRST], &[FIRST]], &[])?,
+        !shares(alloc, &[CHANGED, FIRST], &[FIRST], &[])?,
         "the first"
     );
     assert!(rt;
-        !shares(alloc, [&[FIRST, CHANGED], &[]], &[])?,
+        !shares(alloc, &[FIRST, CHANGED], &[], &[])?,
         "two in one queue"
     );
     assert!(rt;
-        !shares(alloc, [&[FIRST, OTHER, CHANGED], &[]], &[])?,
+        !shares(alloc, &[FIRST, OTHER, CHANGED], &[], &[])?,
         "another between them"
     );
     let lower = Said {
@@ -270,7 +267,7 @@ fn each_of_a_number_is_looked_at(rt: HostRuntime) -> Result<(), Fail> {
         ..OTHER
     };
     assert!(rt;
-        !shares(alloc, [&[OTHER, FIRST, lower], &[CHANGED]], &[])?,
+        !shares(alloc, &[OTHER, FIRST, lower], &[CHANGED], &[])?,
         "numbers that fall"
     );
     Ok(())

@@ -163,12 +163,13 @@ fn session(
 fn fill(
     records: &mut Records,
     alloc: Global,
-    queues: [&[Said]; 2],
+    one: &[Said],
+    other: &[Said],
     kept: &[Said],
 ) -> Result<(), AllocError> {
-    let first = session(alloc, 1, "r1", queues[0])?;
+    let first = session(alloc, 1, "r1", one)?;
     records.sessions.put(first);
-    let second = session(alloc, 2, "r2", queues[1])?;
+    let second = session(alloc, 2, "r2", other)?;
     records.sessions.put(second);
     let mut place = 0;
     for said in kept {
@@ -182,9 +183,14 @@ fn fill(
 }
 
 /// Whether records of two queues and these retained messages share contents.
-pub fn shares(alloc: Global, queues: [&[Said]; 2], kept: &[Said]) -> Result<bool, AllocError> {
+pub fn shares(
+    alloc: Global,
+    one: &[Said],
+    other: &[Said],
+    kept: &[Said],
+) -> Result<bool, AllocError> {
     let mut records = Records::new(alloc)?;
-    let filled = fill(&mut records, alloc, queues, kept);
+    let filled = fill(&mut records, alloc, one, other, kept);
     let shared = shares_contents(alloc, &records);
     drop(records);
     match filled {

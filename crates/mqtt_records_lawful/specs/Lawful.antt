@@ -28,6 +28,7 @@ use Rattle.mqtt_records.specs.declared.records.Records.{Records}
 use Rattle.mqtt_records_lawful.specs.declared.rows.Last.{Last}
 use Rattle.mqtt_records.specs.Session.{birth_of, place_of, number_of, copy_place, auto}
 use Rattle.mqtt_records.specs.Records.{kept_place, IsNumber}
+use Rattle.mqtt_records.specs.Contents.{SharesContents}
 
 -- ---- numbers
 
@@ -221,3 +222,4 @@ pub record IsLawful (r : Records) : Type 0 where
   pub numbers : AreNumbers (last_of r)
   pub sessions : AreLawfulSessions (last_of r) r.sessions
   pub retained : AreLawfulRetained (last_of r) r.retained
+  pub shared : SharesContents r  -- copies and retained messages of one publication say the same

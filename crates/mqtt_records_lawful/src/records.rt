@@ -7,6 +7,7 @@ use crate::rows::{Last, are_lawful};
 use crate::session::have_places_apart;
 use mqtt_base::{LAST_NUMBER, RETAINED_LIMIT, SESSION_LIMIT};
 use mqtt_records::{Records, Session};
+use mqtt_records_contents::shares_contents;
 use mqtt_records_message::RetainedMessage;
 use mqtt_records_rows::{Boxed, Rows, are_named_apart};
 use std::alloc::{AllocError, Global};
@@ -61,7 +62,8 @@ fn are_retained(
 }
 
 /// Whether a store may be opened with these records: each row keeps the rules that its type doesn't,
-/// none is of a number or a moment that hasn't been, and what is to be unique is.
+/// none is of a number or a moment that hasn't been, what is to be unique is, and copies and retained
+/// messages of one publication say the same.
 pub fn is_lawful(alloc: Global, records: &Records) -> Result<bool, AllocError>
     ensures { IfOk result (λ lawful. IsTrue lawful ↔ IsLawful records.now) }
 {
@@ -69,6 +71,7 @@ pub fn is_lawful(alloc: Global, records: &Records) -> Result<bool, AllocError>
     Ok(
         are_numbers(last)
             && are_sessions(alloc, &records.sessions, last)?
-            && are_retained(alloc, &records.retained, last)?,
+            && are_retained(alloc, &records.retained, last)?
+            && shares_contents(alloc, records)?,
     )
 }

@@ -52,7 +52,7 @@ pub struct Kept {
     pub copies: [Copied; 2],
     pub retained: [Said; 2],
     pub retained_place: u64,
-    pub retained_publication: u64,
+    pub retained_publications: [u64; 2],
 }
 
 /// What is sent.
@@ -66,7 +66,7 @@ pub const SAID: Said = Said {
 /// A copy that was handed over.
 pub const RELEASED: Copied = Copied {
     place: 1,
-    publication: 3,
+    publication: 4,
     birth: 1,
     group: Some("g/a/b"),
     subscribe: 0,
@@ -82,6 +82,7 @@ pub const RELEASED: Copied = Copied {
 /// A copy of a retained message that was sent.
 pub const SENT: Copied = Copied {
     place: 2,
+    publication: 3,
     group: None,
     subscribe: 4,
     qos: Qos::AtLeastOnce,
@@ -91,7 +92,7 @@ pub const SENT: Copied = Copied {
 
 /// Records that keep every rule.
 pub const SOUND: Kept = Kept {
-    numbers: [2, 3, 4, 12, 50],
+    numbers: [2, 4, 4, 12, 50],
     clients: ["r1", "auto-12"],
     closed: Some(50),
     will: SAID,
@@ -102,7 +103,7 @@ pub const SOUND: Kept = Kept {
     copies: [RELEASED, SENT],
     retained: [SAID, Said { topic: "c", ..SAID }],
     retained_place: 9,
-    retained_publication: 3,
+    retained_publications: [1, 2],
 };
 
 /// A text that is one.
@@ -354,10 +355,10 @@ fn fill(records: &mut Records, alloc: Global, kept: Kept) -> Result<(), AllocErr
     records.sessions.put(first);
     let second = second_session(alloc, kept)?;
     records.sessions.put(second);
-    let publication = kept.retained_publication;
-    let one = retained(alloc, kept.retained[0], 1, publication)?;
+    let [first, second] = kept.retained_publications;
+    let one = retained(alloc, kept.retained[0], 1, first)?;
     records.retained.put(one);
-    let other = retained(alloc, kept.retained[1], kept.retained_place, publication)?;
+    let other = retained(alloc, kept.retained[1], kept.retained_place, second)?;
     records.retained.put(other);
     Ok(())
 }

@@ -109,15 +109,15 @@ fn judge_retained_place(alloc: Global, retained_place: u64) -> Result<bool, Allo
     )
 }
 
-/// Whether the records with retained messages of another publication are lawful.
-fn judge_retained_publication(
+/// Whether the records with retained messages of other publications are lawful.
+fn judge_retained_publications(
     alloc: Global,
-    retained_publication: u64,
+    retained_publications: [u64; 2],
 ) -> Result<bool, AllocError> {
     judge(
         alloc,
         Kept {
-            retained_publication,
+            retained_publications,
             ..SOUND
         },
     )
@@ -138,23 +138,23 @@ fn sound_records_are_lawful(rt: HostRuntime) -> Result<(), Fail> {
 fn numbers_are_given_before_they_are_used(rt: HostRuntime) -> Result<(), Fail> {
     let alloc = rt.alloc();
     assert!(rt;
-        !judge_numbers(alloc, [1, 3, 4, 12, 50])?,
+        !judge_numbers(alloc, [1, 4, 4, 12, 50])?,
         "a birth above the births"
     );
     assert!(rt;
-        !judge_numbers(alloc, [2, 2, 4, 12, 50])?,
+        !judge_numbers(alloc, [2, 3, 4, 12, 50])?,
         "a publication above the publications"
     );
     assert!(rt;
-        !judge_numbers(alloc, [2, 3, 3, 12, 50])?,
+        !judge_numbers(alloc, [2, 4, 3, 12, 50])?,
         "a place above the subscribes"
     );
     assert!(rt;
-        !judge_numbers(alloc, [2, 3, 4, 11, 50])?,
+        !judge_numbers(alloc, [2, 4, 4, 11, 50])?,
         "a name above the autos"
     );
     assert!(rt;
-        !judge_numbers(alloc, [2, 3, 4, 12, 49])?,
+        !judge_numbers(alloc, [2, 4, 4, 12, 49])?,
         "moments above the moment"
     );
     Ok(())
@@ -165,14 +165,14 @@ fn numbers_are_at_most_the_last(rt: HostRuntime) -> Result<(), Fail> {
     let alloc = rt.alloc();
     let n = LAST_NUMBER;
     assert!(rt; judge_numbers(alloc, [n, n, n, n, n])?, "the last of each");
-    assert!(rt; !judge_numbers(alloc, [n + 1, 3, 4, 12, 50])?, "births");
+    assert!(rt; !judge_numbers(alloc, [n + 1, 4, 4, 12, 50])?, "births");
     assert!(rt;
         !judge_numbers(alloc, [2, n + 1, 4, 12, 50])?,
         "publications"
     );
-    assert!(rt; !judge_numbers(alloc, [2, 3, n + 1, 12, 50])?, "subscribes");
-    assert!(rt; !judge_numbers(alloc, [2, 3, 4, n + 1, 50])?, "autos");
-    assert!(rt; !judge_numbers(alloc, [2, 3, 4, 12, n + 1])?, "moment");
+    assert!(rt; !judge_numbers(alloc, [2, 4, n + 1, 12, 50])?, "subscribes");
+    assert!(rt; !judge_numbers(alloc, [2, 4, 4, n + 1, 50])?, "autos");
+    assert!(rt; !judge_numbers(alloc, [2, 4, 4, 12, n + 1])?, "moment");
     Ok(())
 }
 
@@ -403,6 +403,7 @@ fn copies_in_a_queue_differ(rt: HostRuntime) -> Result<(), Fail> {
         !judge_second(
             alloc,
             Copied {
+                publication: 4,
                 group: Some("g/a/b"),
                 ..SENT
             }
@@ -413,6 +414,7 @@ fn copies_in_a_queue_differ(rt: HostRuntime) -> Result<(), Fail> {
         judge_second(
             alloc,
             Copied {
+                publication: 4,
                 group: Some("h/a/b"),
                 ..SENT
             }
@@ -570,8 +572,68 @@ fn retained_messages_have_numbers(rt: HostRuntime) -> Result<(), Fail> {
         !judge_retained_place(alloc, LAST_NUMBER + 1)?,
         "a place above the last"
     );
-    assert!(rt; !judge_retained_publication(alloc, 4)?, "not yet accepted");
-    assert!(rt; !judge_retained_publication(alloc, 0)?, "no publication");
+    assert!(rt;
+        !judge_retained_publications(alloc, [1, 5])?,
+        "not yet accepted"
+    );
+    assert!(rt;
+        !judge_retained_publications(alloc, [0, 2])?,
+        "no publication"
+    );
     assert!(rt; !judge_closed(alloc, 51)?, "a close later than now");
+    Ok(())
+}
+
+#[test]
+fn what_is_said_of_one_publication_is_the_same(rt: HostRuntime) -> Result<(), Fail> {
+    let alloc = rt.alloc();
+    let also = Copied {
+        publication: 4,
+        ..SENT
+    };
+    assert!(rt; judge_second(alloc, also)?, "two copies of one publication");
+    let earlier = Said {
+        arrived: 49,
+        ..SAID
+    };
+    assert!(rt;
+        judge_second(
+            alloc,
+            Copied {
+                content: earlier,
+                ..also
+            }
+        )?,
+        "that came to them at other moments"
+    );
+    for content in [
+        Said {
+            topic: "a/c",
+            ..SAID
+        },
+        Said {
+            indicators: 0,
+            ..SAID
+        },
+        Said { payload: 3, ..SAID },
+    ] {
+        let other = Copied { content, ..also };
+        assert!(rt;
+            !judge_second(alloc, other)?,
+            "topic, properties or payload"
+        );
+    }
+    assert!(rt;
+        judge_retained_publications(alloc, [4, 2])?,
+        "a retained message alike"
+    );
+    assert!(rt;
+        !judge_retained_publications(alloc, [1, 4])?,
+        "and one that isn't"
+    );
+    assert!(rt;
+        !judge_retained_publications(alloc, [2, 2])?,
+        "two retained messages"
+    );
     Ok(())
 }

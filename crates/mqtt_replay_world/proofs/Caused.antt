@@ -1,6 +1,7 @@
 -- Why a replay ends for its store, by what its world tells.
 use Rattle.std.proofs.Common.{◌≡◌, ◌≢◌, ◌⊎◌, ℕ, false, inl, inr, arith, refl, sym, subst, ◌∙◌, true≢false}
 use Rattle.std.specs.Prelude.{Result, IfErr, Ok, Err, IsErrOf}
+use Rattle.mqtt_records_contents.proofs.Nothing.{nothing_shared}
 use Rattle.mqtt_records_lawful.specs.Lawful.{IsLawful}
 use Rattle.mqtt_records.specs.Records.{nothing}
 use Rattle.mqtt_records.specs.declared.keep.Keep.{Ghosts}
@@ -54,6 +55,7 @@ nothing_lawful = record {
   numbers = record { births = omega arith; publications = omega arith; subscribes = omega arith; autos = omega arith; moment = omega arith };
   sessions = record { table = record { ascending = tt; within = omega arith }; clients = tt; places = tt; each = tt };
   retained = record { table = record { ascending = tt; within = omega arith }; topics = tt; each = tt };
+  shared = nothing_shared;
 }
 
 nothing_unspent : (limits : Limits) → SpentOpening limits nothing 0 → ⊥

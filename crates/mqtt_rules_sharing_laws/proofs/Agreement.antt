@@ -8,7 +8,7 @@ use Rattle.mqtt_records.specs.declared.change.Change.TheVariants.{SetCounter, Pu
 use Rattle.mqtt_records.specs.declared.change.Counter.TheVariants.{Births, Publications, Subscribes, Autos, Moment}
 use Rattle.mqtt_records.specs.declared.records.Records.{Records}
 use Rattle.mqtt_records.specs.Records.{changed, changed_all}
-use Rattle.mqtt_records_contents.specs.Contents.{StoredMessage, stored_message, copy_message, retained_message, IsMessageOf, FitsContents, FitContents}
+use Rattle.mqtt_records.specs.Contents.{StoredMessage, stored_message, copy_message, retained_message, IsMessageOf, FitsContents, FitContents}
 use Rattle.mqtt_rules.specs.State.{Broker, session_at}
 use Rattle.mqtt_rules.specs.Deeds.{Whose, Part, Resume, Enter, Deed, Accept, Begin, Name, Count, At, Finish, Keep, Forget, part_rows_of, rows_of, after, after_all}
 use Rattle.mqtt_rules.proofs.acts.Goods.{AreGood}

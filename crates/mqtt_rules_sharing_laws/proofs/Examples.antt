@@ -6,8 +6,8 @@ use Rattle.mqtt_base.specs.declared.session.Qos.TheVariants.{AtLeastOnce}
 use Rattle.mqtt_codec.specs.declared.publish.Delivery.TheVariants as delivery
 use Rattle.mqtt_records_message.specs.declared.message.RetainedMessage.{RetainedMessage}
 use Rattle.mqtt_records.specs.declared.session.Session.{Session}
-use Rattle.mqtt_records_contents.specs.Members.{Has}
-use Rattle.mqtt_records_contents.specs.Contents.{StoredMessage, retained_message, IsMessageOf, SharesContents}
+use Rattle.mqtt_records.specs.Members.{Has}
+use Rattle.mqtt_records.specs.Contents.{StoredMessage, retained_message, IsMessageOf, SharesContents}
 use Rattle.mqtt_rules.specs.State.{Broker, stored}
 use Rattle.mqtt_rules.specs.Step.{Input}
 use Rattle.mqtt_rules.proofs.examples.Play.{at, step, runs, blank, hello, in_line, keeps, subscribed, topic, hi}

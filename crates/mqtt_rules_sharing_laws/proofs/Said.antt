@@ -14,8 +14,8 @@ use Rattle.mqtt_records.specs.declared.change.Counter.TheVariants.{Births, Publi
 use Rattle.mqtt_records.specs.declared.records.Records.{Records}
 use Rattle.mqtt_records.specs.Session.{birth_of, copy_place, fresh, with_columns, with_will, with_subscription, without_subscription, with_open, without_open, with_copy, with_phase, without_copy, in_phase}
 use Rattle.mqtt_records.specs.Records.{changed, in_session, with_counter, kept_place}
-use Rattle.mqtt_records_contents.specs.Members.{Has}
-use Rattle.mqtt_records_contents.specs.Contents.{StoredMessage, copy_message, retained_message, IsMessageOf}
+use Rattle.mqtt_records.specs.Members.{Has}
+use Rattle.mqtt_records.specs.Contents.{StoredMessage, copy_message, retained_message, IsMessageOf}
 
 -- ---- items of a list that was changed
 

@@ -7,8 +7,9 @@ use Rattle.mqtt_records_message.specs.Queue.{CopyRow}
 use Rattle.mqtt_records.specs.declared.change.Change.{Change}
 use Rattle.mqtt_records.specs.declared.records.Records.{Records}
 use Rattle.mqtt_records.specs.Records.{changed, changed_all, nothing}
-use Rattle.mqtt_records_contents.specs.Members.{Has}
-use Rattle.mqtt_records_contents.specs.Contents.{StoredMessage, IsMessageOf, SharesContents, FitContents}
+use Rattle.mqtt_records.specs.Members.{Has}
+use Rattle.mqtt_records.specs.Contents.{StoredMessage, IsMessageOf, SharesContents, FitContents}
+use Rattle.mqtt_records_contents.proofs.Nothing.{nothing_shared}
 use Rattle.mqtt_rules.specs.declared.Limits.{Limits}
 use Rattle.mqtt_rules.specs.State.{Broker, MemberChoice, stored}
 use Rattle.mqtt_rules.specs.Deeds.{Deed, rows_of, rows_of_all, stored_after, after, after_all}
@@ -46,11 +47,6 @@ keeps b shared h = record {
   ];
   within = λ m p. elim p [ inl said ↦ accepted_number b.records m h said | inr none ↦ absurd none ];
 }
-
--- nothing is said in an empty store
-pub nothing_shared : SharesContents nothing
-nothing_shared m (inl it) = absurd it.2.1
-nothing_shared m (inr it) = absurd it.1
 
 -- ---- behind it
 

@@ -2,7 +2,7 @@
 ghost use Rattle.std.specs.Prelude.{ℕ, List};
 ghost use Rattle.mqtt_records.specs.Records.{nothing};
 ghost use Rattle.mqtt_records.specs.declared.records.Records.{Records};
-ghost use Rattle.mqtt_records_contents.specs.Contents.{FitContents, SharesContents};
+ghost use Rattle.mqtt_records.specs.Contents.{FitContents, SharesContents};
 ghost use Rattle.mqtt_rules.specs.Laws.{Event, after_events, blank};
 ghost use Rattle.mqtt_rules.specs.Numbers.{HasAcceptedNumbers};
 ghost use Rattle.mqtt_rules.specs.State.{Broker, MemberChoice, stored};

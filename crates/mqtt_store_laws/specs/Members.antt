@@ -9,7 +9,7 @@ use Rattle.mqtt_records_message.specs.declared.message.Will.{Will}
 use Rattle.mqtt_records.specs.declared.subscription.Subscription.{Subscription}
 use Rattle.mqtt_records_rows.specs.Order.{IsAscending}
 use Rattle.mqtt_records.specs.Session.{birth_of, copy_place, place_of, number_of, columns_of}
-use Rattle.mqtt_records_contents.specs.Members.{Has, InPart, InQueue}
+use Rattle.mqtt_records.specs.Members.{Has, InPart, InQueue}
 
 -- it isn't the copy at that place of that session
 abbrev pub IsOther : ℕ → CopyRow → ℕ → ℕ → Type 0

@@ -6,7 +6,7 @@ ghost use Rattle.mqtt_records.specs.declared.records.Records.{Records};
 ghost use Rattle.mqtt_records.specs.declared.change.Change.TheVariants.{PutCopy, SetCopy, RemoveCopy, RemoveSession};
 ghost use Rattle.mqtt_records.specs.Session.{in_phase};
 ghost use Rattle.mqtt_records.specs.Records.{changed, Fits};
-ghost use Rattle.mqtt_records_contents.specs.Members.{InQueue};
+ghost use Rattle.mqtt_records.specs.Members.{InQueue};
 ghost use Rattle.mqtt_store_laws.specs.Members.{IsKept, IsOther, AllOrdered, SameRows};
 
 /// A copy that is put stands in its place, and every other copy as before.

@@ -7,7 +7,7 @@ ghost use Rattle.mqtt_records.specs.declared.change.Change.TheVariants.{PutSessi
 ghost use Rattle.mqtt_records.specs.Session.{birth_of};
 ghost use Rattle.mqtt_records.specs.Records.{changed, Fits, kept_place};
 ghost use Rattle.mqtt_records_rows.specs.Order.{IsAscending};
-ghost use Rattle.mqtt_records_contents.specs.Members.{Has};
+ghost use Rattle.mqtt_records.specs.Members.{Has};
 ghost use Rattle.mqtt_store_laws.specs.Members.{HasColumns};
 
 /// A session's own row that is put stands, and every other session's as before.

@@ -5,7 +5,7 @@ ghost use Rattle.mqtt_records.specs.declared.subscription.Subscription.{Subscrip
 ghost use Rattle.mqtt_records.specs.declared.records.Records.{Records};
 ghost use Rattle.mqtt_records.specs.declared.change.Change.TheVariants.{PutWill, RemoveWill, PutInbound, RemoveInbound, PutSubscription, RemoveSubscription};
 ghost use Rattle.mqtt_records.specs.Records.{changed, Fits};
-ghost use Rattle.mqtt_records_contents.specs.Members.{InPart};
+ghost use Rattle.mqtt_records.specs.Members.{InPart};
 ghost use Rattle.mqtt_store_laws.specs.Members.{AllOrdered, will_of, inbound_of, subscriptions_of};
 
 /// A Will that is put is its session's, and every other session's stands as before.

@@ -9,7 +9,7 @@ use Rattle.mqtt_records.specs.declared.records.Records.{Records}
 use Rattle.mqtt_records.specs.declared.session.Session.{Session as SessionItem}
 use Rattle.mqtt_records.specs.Records.{kept_place}
 use Rattle.mqtt_records_rows.specs.Order.{IsAscending}
-use Rattle.mqtt_records_contents.specs.Members.{Has as HasItem}
+use Rattle.mqtt_records.specs.Members.{Has as HasItem}
 use Rattle.mqtt_store_schema.specs.declared.schema.StoreTable.{StoreTable}
 use Rattle.mqtt_store_schema.specs.declared.schema.StoreTable.TheVariants.{Meta, Session, Will, Subscription, Inbound, Copy, Retained}
 use Rattle.mqtt_store_laws.specs.Members.{HasColumns, AllOrdered, SameRows}

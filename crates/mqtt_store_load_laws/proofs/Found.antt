@@ -16,7 +16,7 @@ use Rattle.mqtt_records.specs.declared.session.Columns.{Columns}
 use Rattle.mqtt_records.specs.declared.session.Session.{Session as SessionItem}
 use Rattle.mqtt_records.specs.declared.subscription.Subscription.{Subscription as SubscriptionItem}
 use Rattle.mqtt_records.specs.Session.{columns_of}
-use Rattle.mqtt_records_contents.specs.Members.{Has as HasItem, queue_of}
+use Rattle.mqtt_records.specs.Members.{Has as HasItem, queue_of}
 use Rattle.mqtt_store_rows.specs.Ones.{one_number}
 use Rattle.mqtt_store_rows.specs.Values.{IsIdentifier}
 use Rattle.mqtt_store_rows.specs.Rows.{SaysSession, SaysWill, SaysSubscription, SaysOpen, SaysCopy, SaysRetained}

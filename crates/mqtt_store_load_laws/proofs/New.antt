@@ -6,7 +6,7 @@ use Rattle.sqlite_value.specs.Order.{Row, column, bytes}
 use Rattle.sqlite_rules.specs.Lists.{Has}
 use Rattle.sqlite.specs.Effect.{Database}
 use Rattle.mqtt_records.specs.Records.{nothing}
-use Rattle.mqtt_records_contents.specs.Members.{Has as HasItem}
+use Rattle.mqtt_records.specs.Members.{Has as HasItem}
 use Rattle.mqtt_store_schema.specs.Creation.{IsNewStore, number_row, first_numbers}
 use Rattle.mqtt_store_laws.specs.Items.{IsNumberRow, IsSessionRow, IsWillRow, IsSubscriptionRow, IsOpenRow, IsCopyRow, IsRetainedRow}
 use Rattle.mqtt_store_laws.specs.Written.{AreWritten, KeepsRows, numbers_in}

@@ -8,7 +8,7 @@ use Rattle.mqtt_records_message.specs.declared.message.Will.{Will}
 use Rattle.mqtt_records.specs.declared.records.Records.{Records}
 use Rattle.mqtt_records.specs.declared.session.Session.{Session}
 use Rattle.mqtt_records.specs.Session.{columns_of}
-use Rattle.mqtt_records_contents.specs.Members.{Has as HasItem, InPart, queue_of}
+use Rattle.mqtt_records.specs.Members.{Has as HasItem, InPart, queue_of}
 use Rattle.mqtt_store_rows.specs.Rows.{SaysNumber, SaysNumbers, SaysSession, SaysWill, SaysSubscription, SaysOpen, SaysCopy}
 use Rattle.mqtt_store_rows.specs.Lists.{AreRows, IsOf, Takes}
 use Rattle.mqtt_store_rows.specs.Gives.{Parts, no_parts, list_of, TakesParts, AreSessions, counters_of}

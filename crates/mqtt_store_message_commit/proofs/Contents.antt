@@ -5,9 +5,9 @@ use Rattle.mqtt_records.specs.declared.change.Change.{Change}
 use Rattle.mqtt_records.specs.declared.change.Change.TheVariants.{RemoveSession, RemoveCopy}
 use Rattle.mqtt_records.specs.declared.records.Records.{Records}
 use Rattle.mqtt_records.specs.Records.{changed}
+use Rattle.mqtt_records.specs.Contents.{FitContents}
 use Rattle.mqtt_store_columns.specs.Shortened.{ends_session, goes_anyway, shortened}
 use Rattle.mqtt_store_columns.proofs.Shortened.{records_same, both_true, written_head}
-use Rattle.mqtt_store_message_laws.specs.Messages.{FitContents}
 
 -- a copy that is removed before its session says nothing, nor do copies of it that are removed between
 module _ (birth place : ℕ) where

@@ -4,11 +4,11 @@ use Rattle.sqlite_trees.specs.Tree.{Trees}
 use Rattle.mqtt_records.specs.declared.change.Change.{Change}
 use Rattle.mqtt_records.specs.declared.records.Records.{Records}
 use Rattle.mqtt_records.specs.Records.{changed, changed_all, FitAll}
+use Rattle.mqtt_records.specs.Contents.{FitContents}
 use Rattle.mqtt_store_schema_two.specs.declared.tables.Making.{Making}
 use Rattle.mqtt_store_laws.specs.Written.{AllSayable}
 use Rattle.mqtt_store_columns.specs.Shortened.{shortened}
 use Rattle.mqtt_store_columns.proofs.Shortened.{shortened_same, shortened_fit, shortened_sayable}
-use Rattle.mqtt_store_message_laws.specs.Messages.{FitContents}
 use Rattle.mqtt_store_message_laws.specs.Written.{KeepsRowsTwo, AreInOrderTwo}
 use Rattle.mqtt_store_message_laws.proofs.changes.Tables.{does_keep, asks_stand}
 use Rattle.mqtt_store_message_commit.specs.Making.{MakeAll, NeedAll}

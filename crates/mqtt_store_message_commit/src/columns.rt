@@ -2,7 +2,7 @@
 ghost use Rattle.std.specs.Prelude.{◌≡◌, map};
 ghost use Rattle.mqtt_props.specs.Properties.{block, props};
 ghost use Rattle.mqtt_records_message.specs.PassedOn.{identified};
-ghost use Rattle.mqtt_store_message_laws.specs.Messages.{copy_message, retained_message};
+ghost use Rattle.mqtt_records.specs.Contents.{copy_message, retained_message};
 ghost use Rattle.mqtt_store_message_laws.specs.Items.{message_columns, queued_columns, kept_columns};
 
 use mqtt_records_message::{CopyRow, RetainedMessage};

@@ -17,8 +17,8 @@ use Rattle.mqtt_records.specs.declared.records.Records.{Records}
 use Rattle.mqtt_records.specs.declared.session.Session.{Session}
 use Rattle.mqtt_records.specs.Records.{nothing}
 use Rattle.mqtt_records.specs.Session.{fresh}
-use Rattle.mqtt_records_contents.specs.Members.{Has, InQueue}
-use Rattle.mqtt_records_contents.specs.Contents.{StoredMessage, stored_message, copy_message, IsMessageOf, SharesContents}
+use Rattle.mqtt_records.specs.Members.{Has, InQueue}
+use Rattle.mqtt_records.specs.Contents.{StoredMessage, stored_message, copy_message, IsMessageOf, SharesContents}
 use Rattle.mqtt_store_laws.specs.Written.{AreWritten}
 use Rattle.mqtt_store_message_laws.specs.Items.{IsMessageRow, IsQueuedRow, IsKeptRow}
 

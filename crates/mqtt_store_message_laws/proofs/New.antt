@@ -12,8 +12,8 @@ use Rattle.sqlite_trees.specs.View.{is_int}
 use Rattle.sqlite_rules.specs.Lists.{Has}
 use Rattle.sqlite.specs.Effect.{Database}
 use Rattle.mqtt_records.specs.Records.{nothing}
-use Rattle.mqtt_records_contents.specs.Members.{Has as HasItem}
-use Rattle.mqtt_records_contents.specs.Contents.{StoredMessage, IsMessageOf}
+use Rattle.mqtt_records.specs.Members.{Has as HasItem}
+use Rattle.mqtt_records.specs.Contents.{StoredMessage, IsMessageOf}
 use Rattle.mqtt_store_schema.specs.Creation.{number_row, numbers_of}
 use Rattle.mqtt_store_schema_two.specs.Creation.{IsNewSecond}
 use Rattle.mqtt_store_schema_two.specs.declared.tables.Making.TheVariants.{New}

@@ -7,7 +7,7 @@ use Rattle.mqtt_props.specs.Properties.{props, block}
 use Rattle.mqtt_records_message.specs.declared.message.RetainedMessage.{RetainedMessage}
 use Rattle.mqtt_records_message.specs.PassedOn.{identified}
 use Rattle.mqtt_records_message.specs.Queue.{CopyRow}
-use Rattle.mqtt_records_contents.specs.Contents.{StoredMessage}
+use Rattle.mqtt_records.specs.Contents.{StoredMessage}
 use Rattle.mqtt_store_laws.specs.Items.{cause_number, cause_text, cause_n, packet_identifier, phase_number, release_order}
 use Rattle.mqtt_store_message.specs.Rows.{MessageColumns, message_row, QueuedColumns, queued_row, KeptColumns, kept_row}
 

@@ -8,7 +8,7 @@ use Rattle.mqtt_records_message.specs.declared.message.RetainedMessage.{Retained
 use Rattle.mqtt_records_message.specs.Queue.{CopyRow}
 use Rattle.mqtt_records.specs.declared.change.Change.{Change}
 use Rattle.mqtt_records.specs.declared.change.Change.TheVariants as change
-use Rattle.mqtt_records_contents.specs.Contents.{StoredMessage, copy_message, retained_message}
+use Rattle.mqtt_records.specs.Contents.{StoredMessage, copy_message, retained_message}
 use Rattle.mqtt_store_schema_two.specs.declared.tables.Making.{Making}
 use Rattle.mqtt_store_write.specs.Layout.{second_layout}
 use Rattle.mqtt_store_write.specs.Content.{is_of}

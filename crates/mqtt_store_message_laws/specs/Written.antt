@@ -6,8 +6,8 @@ use Rattle.sqlite_rules.specs.Lists.{Has}
 use Rattle.mqtt_records.specs.declared.records.Records.{Records}
 use Rattle.mqtt_records.specs.Records.{kept_place}
 use Rattle.mqtt_records_rows.specs.Order.{IsAscending}
-use Rattle.mqtt_records_contents.specs.Members.{Has as HasItem}
-use Rattle.mqtt_records_contents.specs.Contents.{IsMessageOf, SharesContents}
+use Rattle.mqtt_records.specs.Members.{Has as HasItem}
+use Rattle.mqtt_records.specs.Contents.{IsMessageOf, SharesContents}
 use Rattle.mqtt_store_schema_two.specs.declared.tables.Making.{Making}
 use Rattle.mqtt_store_schema_two.specs.declared.tables.Making.TheVariants.{New, TakenOver}
 use Rattle.mqtt_store_write.specs.Content.{IsShapedAt}

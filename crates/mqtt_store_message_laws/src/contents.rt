@@ -2,8 +2,8 @@
 ghost use Rattle.std.specs.Prelude.{◌⊎◌, ℕ, List};
 ghost use Rattle.sqlite_trees.specs.Tree.{Trees};
 ghost use Rattle.mqtt_records.specs.declared.records.Records.{Records};
-ghost use Rattle.mqtt_records_contents.specs.Members.{Has};
-ghost use Rattle.mqtt_records_contents.specs.Contents.{StoredMessage, IsMessageOf, AgreesWith, SharesContents};
+ghost use Rattle.mqtt_records.specs.Members.{Has};
+ghost use Rattle.mqtt_records.specs.Contents.{StoredMessage, IsMessageOf, AgreesWith, SharesContents};
 ghost use Rattle.mqtt_store_schema_two.specs.declared.tables.Making.{Making};
 ghost use Rattle.mqtt_store_write.specs.Content.{IsShapedAt};
 ghost use Rattle.mqtt_store_message.specs.Places.{message_tree, queued_tree, kept_tree};

@@ -7,7 +7,7 @@ ghost use Rattle.mqtt_records_message.specs.Queue.{CopyRow};
 ghost use Rattle.mqtt_records.specs.declared.change.Change.TheVariants.{PutCopy, SetCopy, RemoveCopy, RemoveSession, PutRetained, RemoveRetained};
 ghost use Rattle.mqtt_records.specs.declared.records.Records.{Records};
 ghost use Rattle.mqtt_records.specs.Records.{changed, Fits};
-ghost use Rattle.mqtt_records_contents.specs.Contents.{copy_message, retained_message, AgreesWith};
+ghost use Rattle.mqtt_records.specs.Contents.{copy_message, retained_message, AgreesWith};
 ghost use Rattle.mqtt_store_schema_two.specs.declared.tables.Making.{Making};
 ghost use Rattle.mqtt_store_write.specs.Content.{is_of};
 ghost use Rattle.mqtt_store_write.specs.Layout.{second_layout};

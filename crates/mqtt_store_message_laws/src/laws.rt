@@ -10,7 +10,7 @@ ghost use Rattle.mqtt_records.specs.declared.change.Change.TheVariants.{SetCopy}
 ghost use Rattle.mqtt_records.specs.declared.change.Counter.{Counter};
 ghost use Rattle.mqtt_records.specs.declared.records.Records.{Records};
 ghost use Rattle.mqtt_records.specs.Records.{nothing, changed, changed_all, Fits, FitAll};
-ghost use Rattle.mqtt_records_contents.specs.Contents.{FitsContents, FitContents};
+ghost use Rattle.mqtt_records.specs.Contents.{FitsContents, FitContents};
 ghost use Rattle.mqtt_store_schema_two.specs.Creation.{IsNewSecond};
 ghost use Rattle.mqtt_store_schema_two.specs.declared.tables.Making.{Making};
 ghost use Rattle.mqtt_store_schema_two.specs.declared.tables.Making.TheVariants.{New};

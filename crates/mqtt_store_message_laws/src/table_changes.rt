@@ -4,11 +4,11 @@ ghost use Rattle.sqlite_trees.specs.Tree.{Trees};
 ghost use Rattle.mqtt_records.specs.declared.change.Change.{Change};
 ghost use Rattle.mqtt_records.specs.declared.records.Records.{Records};
 ghost use Rattle.mqtt_records.specs.Records.{changed, changed_all, Fits, FitAll};
+ghost use Rattle.mqtt_records.specs.Contents.{FitsContents, FitContents};
 ghost use Rattle.mqtt_store_schema_two.specs.declared.tables.Making.{Making};
 ghost use Rattle.mqtt_store_message.specs.Step.{Asks, Does, AskAll, DoAll};
 ghost use Rattle.mqtt_store_message.specs.declared.change.TableChange.{TableChange};
 ghost use Rattle.mqtt_store_laws.specs.Written.{IsSayable, AllSayable};
-ghost use Rattle.mqtt_store_message_laws.specs.Messages.{FitsContents, FitContents};
 ghost use Rattle.mqtt_store_message_laws.specs.TableChanges.{IsTableChangeFor, AreTableChangesFor};
 ghost use Rattle.mqtt_store_message_laws.specs.Written.{KeepsRowsTwo, AreInOrderTwo};
 

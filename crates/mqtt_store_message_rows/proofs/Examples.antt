@@ -19,7 +19,7 @@ use Rattle.mqtt_records.specs.declared.records.Records.{Records}
 use Rattle.mqtt_records.specs.declared.session.Session.{Session}
 use Rattle.mqtt_records.specs.Records.{nothing}
 use Rattle.mqtt_records.specs.Session.{fresh}
-use Rattle.mqtt_records_contents.specs.Contents.{StoredMessage, stored_message}
+use Rattle.mqtt_records.specs.Contents.{StoredMessage, stored_message}
 use Rattle.mqtt_store_message_rows.specs.Rows.{SaysMessage}
 use Rattle.mqtt_store_message_rows.specs.Joins.{SaysCopy, SaysRetained}
 use Rattle.mqtt_store_message_rows.specs.Gives.{AreQueues, IsReferred}

@@ -9,7 +9,7 @@ use Rattle.mqtt_base.specs.declared.limits.TheConstants.{QUEUE_LIMIT}
 use Rattle.mqtt_records.specs.declared.records.Records.{Records}
 use Rattle.mqtt_records.specs.declared.session.Session.{Session}
 use Rattle.mqtt_records_rows.specs.Order.{IsAbove, IsAscending}
-use Rattle.mqtt_records_contents.specs.Contents.{StoredMessage}
+use Rattle.mqtt_records.specs.Contents.{StoredMessage}
 use Rattle.mqtt_store_rows.specs.Gives.{IsWithin, AreWithin}
 use Rattle.mqtt_store_message_rows.specs.declared.message.TheConstants.{MESSAGE_LIMIT}
 use Rattle.mqtt_store_message_rows.specs.Joins.{publication_of}

@@ -6,7 +6,7 @@ use Rattle.mqtt_records.specs.declared.records.Records.{Records}
 use Rattle.mqtt_records.specs.declared.session.Session.{Session}
 use Rattle.mqtt_records.specs.Session.{birth_of}
 use Rattle.mqtt_records_rows.specs.Order.{IsAscending}
-use Rattle.mqtt_records_contents.specs.Contents.{StoredMessage}
+use Rattle.mqtt_records.specs.Contents.{StoredMessage}
 use Rattle.mqtt_store_rows.specs.declared.meta.Counters.{Counters}
 use Rattle.mqtt_store_rows.specs.Ones.{one_number, same_counters}
 use Rattle.mqtt_store_rows.specs.Gives.{counters_of, AreWithin}

@@ -6,7 +6,7 @@ use Rattle.mqtt_records_message.specs.Queue.{CopyRow}
 use Rattle.mqtt_records.specs.declared.session.Session.{Session}
 use Rattle.mqtt_records.specs.Session.{birth_of}
 use Rattle.mqtt_records_rows.specs.Order.{IsAbove, IsBelow, IsAscending, IsTable}
-use Rattle.mqtt_records_contents.specs.Contents.{StoredMessage}
+use Rattle.mqtt_records.specs.Contents.{StoredMessage}
 use Rattle.mqtt_store_rows.specs.Lists.{AreRows, BeginsOther, Takes, TakesAll}
 use Rattle.mqtt_store_rows.specs.Rows.{SaysCopy as SaysWholeCopy}
 use Rattle.mqtt_store_rows.specs.Gives.{Parts, AreSessions, IsWithin}

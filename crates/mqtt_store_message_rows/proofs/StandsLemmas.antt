@@ -7,7 +7,7 @@ use Rattle.mqtt_records_message.specs.declared.message.Content.{Content}
 use Rattle.mqtt_records_rows.specs.Order.{IsAscending, row_at, remove_row}
 use Rattle.mqtt_records_rows.proofs.LookUps.{row_at-here}
 use Rattle.mqtt_records_rows.proofs.OrderLemmas.{above_none, remove-none}
-use Rattle.mqtt_records_contents.specs.Contents.{StoredMessage, stored_message}
+use Rattle.mqtt_records.specs.Contents.{StoredMessage, stored_message}
 use Rattle.mqtt_store_message_rows.specs.Joins.{publication_of, Stands}
 use Rattle.mqtt_store_message_rows.specs.Ones.{same_stored}
 

@@ -7,7 +7,7 @@ use Rattle.mqtt_records_message.specs.Queue.{CopyRow}
 use Rattle.mqtt_records.specs.declared.session.Session.{Session}
 use Rattle.mqtt_records.specs.declared.records.Records.{Records}
 use Rattle.mqtt_records_rows.specs.Order.{IsTable}
-use Rattle.mqtt_records_contents.specs.Contents.{StoredMessage}
+use Rattle.mqtt_records.specs.Contents.{StoredMessage}
 use Rattle.mqtt_store_rows.specs.Lists.{AreRows, Takes}
 use Rattle.mqtt_store_rows.specs.Gives.{Parts, counters_of, AreSessions}
 use Rattle.mqtt_store_message_rows.specs.declared.message.TheConstants.{MESSAGE_LIMIT}

@@ -5,7 +5,7 @@ use Rattle.mqtt_records_message.specs.declared.message.MessageCopy.{MessageCopy}
 use Rattle.mqtt_records_message.specs.declared.message.RetainedMessage.{RetainedMessage}
 use Rattle.mqtt_records_message.specs.Queue.{CopyRow, IsSpelled}
 use Rattle.mqtt_records_rows.specs.Order.{row_at}
-use Rattle.mqtt_records_contents.specs.Contents.{StoredMessage, stored_message, copy_message, retained_message}
+use Rattle.mqtt_records.specs.Contents.{StoredMessage, stored_message, copy_message, retained_message}
 use Rattle.mqtt_store_message_rows.specs.Rows.{SaysOwn, SaysQueued, SaysKept}
 
 abbrev pub publication_of : StoredMessage → ℕ

@@ -14,7 +14,7 @@ use Rattle.mqtt_records_message.specs.declared.message.MessageCopy.{MessageCopy}
 use Rattle.mqtt_records_message.specs.declared.message.RetainedMessage.{RetainedMessage}
 use Rattle.mqtt_records_message.specs.Queue.{CopyRow}
 use Rattle.mqtt_records_rows.specs.Order.{row_at}
-use Rattle.mqtt_records_contents.specs.Contents.{StoredMessage, stored_message, retained_message}
+use Rattle.mqtt_records.specs.Contents.{StoredMessage, stored_message, retained_message}
 use Rattle.mqtt_store_rows.specs.Values.{IsIdentifier}
 use Rattle.mqtt_store_rows.specs.Ones.{one_number, one_text, one_blob, one_flag, one_qos, one_passed, one_id, one_phase, same_content, same_message, same_copy, same_retained}
 use Rattle.mqtt_store_message_rows.specs.Rows.{SaysMessage, pairs, ArePairs, SaysIdentifiers}

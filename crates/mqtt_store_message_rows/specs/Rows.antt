@@ -13,7 +13,7 @@ use Rattle.mqtt_records_message.specs.declared.message.RetainedMessage.{Retained
 use Rattle.mqtt_records_message.specs.PassedOn.{identified}
 use Rattle.mqtt_records_message.specs.Queue.{CopyRow}
 use Rattle.mqtt_records.specs.Records.{IsNumber}
-use Rattle.mqtt_records_contents.specs.Contents.{StoredMessage}
+use Rattle.mqtt_records.specs.Contents.{StoredMessage}
 use Rattle.mqtt_store_rows.specs.declared.meta.Counters.{Counters}
 use Rattle.mqtt_store_rows.specs.Values.{number, flag, IsCounted, IsIdentifier, IsShort}
 use Rattle.mqtt_store_rows.specs.Blocks.{SaysPassed}

@@ -4,7 +4,7 @@ ghost use Rattle.sqlite_value.specs.Value.{owned};
 ghost use Rattle.sqlite_value.specs.declared.value.Value.TheVariants as sql;
 ghost use Rattle.mqtt_records_message.specs.declared.message.RetainedMessage.{RetainedMessage};
 ghost use Rattle.mqtt_records_message.specs.declared.message.Content.{Content};
-ghost use Rattle.mqtt_records_contents.specs.Contents.{stored_message};
+ghost use Rattle.mqtt_records.specs.Contents.{stored_message};
 ghost use Rattle.mqtt_store_message_rows.specs.Joins.{Stands, SaysRetained};
 
 use crate::refers::{Messages, Refers, content_at};

@@ -3,7 +3,7 @@ ghost use Rattle.std.specs.Prelude.{◌≡◌, ◌≤◌, List, length};
 ghost use Rattle.std.specs.List.{AllByRecursion};
 ghost use Rattle.mqtt_records.specs.declared.records.Records.{Records};
 ghost use Rattle.mqtt_records_rows.specs.Order.{IsAscending};
-ghost use Rattle.mqtt_records_contents.specs.Contents.{StoredMessage};
+ghost use Rattle.mqtt_records.specs.Contents.{StoredMessage};
 ghost use Rattle.mqtt_store_rows.specs.Gives.{AreWithin};
 ghost use Rattle.mqtt_store_message_rows.specs.declared.message.TheConstants.{MESSAGE_LIMIT};
 ghost use Rattle.mqtt_store_message_rows.specs.Joins.{publication_of};

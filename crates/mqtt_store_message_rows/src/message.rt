@@ -1,6 +1,6 @@
 //! What copies and retained messages of one publication share, and its row (3.3).
 ghost use Rattle.std.specs.Prelude.{◌≡◌, ◌⊎◌, IfOk, IfErr, IsErrOf};
-ghost use Rattle.mqtt_records_contents.specs.Contents.{StoredMessage};
+ghost use Rattle.mqtt_records.specs.Contents.{StoredMessage};
 ghost use Rattle.mqtt_store_message_rows.specs.Rows.{SaysMessage};
 
 use bytes::Bytes;
@@ -27,7 +27,7 @@ pub struct Message {
 }
 
 impl Model for Message {
-    ghost use Rattle.mqtt_records_contents.specs.Contents.{StoredMessage};
+    ghost use Rattle.mqtt_records.specs.Contents.{StoredMessage};
 
     ghost Value = { StoredMessage };
 

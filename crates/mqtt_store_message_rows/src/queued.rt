@@ -8,7 +8,7 @@ ghost use Rattle.mqtt_base.specs.declared.session.CopyId.{CopyId};
 ghost use Rattle.mqtt_records_message.specs.declared.message.Content.{Content};
 ghost use Rattle.mqtt_records_message.specs.declared.message.MessageCopy.{MessageCopy};
 ghost use Rattle.mqtt_records_message.specs.Queue.{CopyRow};
-ghost use Rattle.mqtt_records_contents.specs.Contents.{stored_message};
+ghost use Rattle.mqtt_records.specs.Contents.{stored_message};
 ghost use Rattle.mqtt_store_rows.specs.Values.{number};
 ghost use Rattle.mqtt_store_rows.specs.Rows.{SaysId};
 ghost use Rattle.mqtt_store_message_rows.specs.Joins.{Stands, SaysSent, SaysCopy};

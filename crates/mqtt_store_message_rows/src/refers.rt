@@ -5,7 +5,7 @@ ghost use Rattle.sqlite_value.specs.Value.{owned};
 ghost use Rattle.sqlite_value.specs.declared.value.Value.TheVariants as sql;
 ghost use Rattle.mqtt_records_message.specs.declared.message.Content.{Content};
 ghost use Rattle.mqtt_records_rows.specs.Order.{IsTable};
-ghost use Rattle.mqtt_records_contents.specs.Contents.{StoredMessage, stored_message};
+ghost use Rattle.mqtt_records.specs.Contents.{StoredMessage, stored_message};
 ghost use Rattle.mqtt_store_rows.specs.Lists.{AreRows, TakesAll};
 ghost use Rattle.mqtt_store_message_rows.specs.Joins.{Stands};
 

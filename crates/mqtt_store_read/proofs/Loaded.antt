@@ -7,6 +7,7 @@ use Rattle.sqlite_trees.specs.Tree.{Trees}
 use Rattle.sqlite_trees.specs.declared.store.Store.{Ghosts}
 use Rattle.sqlite.specs.Held.{Held, state}
 use Rattle.sqlite.specs.Effect.{Database}
+use Rattle.mqtt_records_contents.proofs.Nothing.{nothing_shared}
 use Rattle.mqtt_records_lawful.specs.Lawful.{IsLawful}
 use Rattle.mqtt_records.specs.declared.records.Records.{Records}
 use Rattle.mqtt_records.specs.declared.keep.KeepError.{KeepError}
@@ -81,6 +82,7 @@ nothing_lawful = record {
   numbers = record { births = omega arith; publications = omega arith; subscribes = omega arith; autos = omega arith; moment = omega arith };
   sessions = record { table = record { ascending = tt; within = omega arith }; clients = tt; places = tt; each = tt };
   retained = record { table = record { ascending = tt; within = omega arith }; topics = tt; each = tt };
+  shared = nothing_shared;
 }
 
 -- a new store has no records

@@ -29,16 +29,18 @@ fn change<S: Alter>(
     Ok(())
 }
 
-/// Why a load refuses the database after so many steps of the course and a change, and how many failures it counted. Disk
-/// if the change isn't made.
+/// Why a load refuses the database after so many steps of the course and two changes, and how many failures it counted.
+/// Disk if a change isn't made.
 fn refused_after(
     alloc: Global,
     steps: usize,
+    before: &str,
     text: &str,
     zeros: usize,
 ) -> Result<(Option<KeepError>, u64), KeepError> {
     let mut conn = database(alloc, steps)?;
-    let is_changed = change(alloc, &mut conn, text, zeros).is_ok();
+    let is_begun = change(alloc, &mut conn, before, 0).is_ok();
+    let is_changed = is_begun && change(alloc, &mut conn, text, zeros).is_ok();
     let (answer, failures) = found(alloc, conn);
     if !is_changed {
         return Err(KeepError::Disk);
@@ -55,7 +57,7 @@ fn first_wrong(
     want: Option<KeepError>,
 ) -> &'static str {
     for line in changes.lines() {
-        if !line.starts_with("--") && refused_after(alloc, steps, line, 0) != Ok((want, 0)) {
+        if !line.starts_with("--") && refused_after(alloc, steps, "", line, 0) != Ok((want, 0)) {
             return line;
         }
     }
@@ -99,19 +101,27 @@ fn a_database_at_the_edge_is_taken(rt: HostRuntime) -> Result<(), Fail> {
     Ok(())
 }
 
-/// A change of a payload of zeros, and how many of them its row takes: topic, properties and payload have at most 200,000
-/// bytes.
-const PAYLOADS: [(&str, usize); 3] = [
-    ("UPDATE will SET payload = ?1", 199_998),
-    ("UPDATE copy SET payload = ?1", 199_996),
-    ("UPDATE retained SET payload = ?1", 199_996),
+/// What else of the publication goes, a change of a payload of zeros, and how many of them its row takes: topic, properties
+/// and payload have at most 200,000 bytes.
+const PAYLOADS: [(&str, &str, usize); 3] = [
+    ("", "UPDATE will SET payload = ?1", 199_998),
+    (
+        "DELETE FROM retained",
+        "UPDATE copy SET payload = ?1",
+        199_996,
+    ),
+    (
+        "DELETE FROM copy",
+        "UPDATE retained SET payload = ?1",
+        199_996,
+    ),
 ];
 
 #[test]
 fn a_row_has_so_many_bytes(rt: HostRuntime) -> Result<(), Fail> {
-    for (text, most) in PAYLOADS {
-        let at_most = refused_after(rt.alloc(), LONG, text, most)?;
-        let above = refused_after(rt.alloc(), LONG, text, most + 1)?;
+    for (before, text, most) in PAYLOADS {
+        let at_most = refused_after(rt.alloc(), LONG, before, text, most)?;
+        let above = refused_after(rt.alloc(), LONG, before, text, most + 1)?;
         assert_eq!(rt; at_most, (None, 0), "{text}");
         assert_eq!(rt; above, (Some(KeepError::Corrupt), 0), "{text}");
     }

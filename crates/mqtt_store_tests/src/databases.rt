@@ -228,6 +228,14 @@ INSERT INTO copy SELECT birth, 2, pub, 2, '', 1, pid, phase, rel, topic, qos, re
 INSERT INTO copy SELECT birth, 2, pub, cause, cause_text, cause_n, 2, phase, rel, topic, qos, retain, props, payload, arrived FROM copy
 -- an order of 0
 UPDATE copy SET phase = 2, rel = 0
+-- another topic than its retained message
+UPDATE copy SET topic = 'a/c'
+-- another payload than its retained message
+UPDATE copy SET payload = x'6869ff'
+-- another property than its retained message
+UPDATE copy SET props = x'0726000178000179'
+-- another payload than a second copy of its publication
+DELETE FROM retained; INSERT INTO copy SELECT birth, 2, pub, 2, '', 1, 2, phase, rel, topic, qos, retain, props, x'ff', arrived FROM copy
 -- two equal orders
 UPDATE copy SET phase = 2, rel = 1; INSERT INTO copy SELECT birth, 2, pub, 2, '', 1, 2, phase, rel, topic, qos, retain, props, payload, arrived FROM copy
 "
@@ -245,7 +253,7 @@ INSERT INTO inbound WITH RECURSIVE n (i) AS (SELECT 11 UNION ALL SELECT i + 1 FR
 -- 1,000 copies and one
 UPDATE meta SET n = 1001 WHERE name = 'publications'; INSERT INTO copy WITH RECURSIVE n (i) AS (SELECT 2 UNION ALL SELECT i + 1 FROM n WHERE i < 1000) SELECT 1, i, i, 0, '', 0, NULL, 0, NULL, 'a/b', 2, 0, x'00', x'', 0 FROM n; INSERT INTO copy VALUES (1, 1001, 1001, 0, '', 0, NULL, 0, NULL, 'a/b', 2, 0, x'00', x'', 0)
 -- 1,000 retained messages and one
-INSERT INTO retained WITH RECURSIVE n (i) AS (SELECT 2 UNION ALL SELECT i + 1 FROM n WHERE i < 1000) SELECT i, 't/' || i, 'p1', 1, 0, x'00', x'', 0 FROM n; INSERT INTO retained VALUES (1001, 'more', 'p1', 1, 0, x'00', x'', 0)
+UPDATE meta SET n = 1001 WHERE name = 'publications'; INSERT INTO retained WITH RECURSIVE n (i) AS (SELECT 2 UNION ALL SELECT i + 1 FROM n WHERE i < 1000) SELECT i, 't/' || i, 'p1', i, 0, x'00', x'', 0 FROM n; INSERT INTO retained VALUES (1001, 'more', 'p1', 1001, 0, x'00', x'', 0)
 "
 }
 
@@ -261,7 +269,7 @@ INSERT INTO inbound WITH RECURSIVE n (i) AS (SELECT 11 UNION ALL SELECT i + 1 FR
 -- 1,000 copies
 UPDATE meta SET n = 1001 WHERE name = 'publications'; INSERT INTO copy WITH RECURSIVE n (i) AS (SELECT 2 UNION ALL SELECT i + 1 FROM n WHERE i < 1000) SELECT 1, i, i, 0, '', 0, NULL, 0, NULL, 'a/b', 2, 0, x'00', x'', 0 FROM n
 -- 1,000 retained messages
-INSERT INTO retained WITH RECURSIVE n (i) AS (SELECT 2 UNION ALL SELECT i + 1 FROM n WHERE i < 1000) SELECT i, 't/' || i, 'p1', 1, 0, x'00', x'', 0 FROM n
+UPDATE meta SET n = 1001 WHERE name = 'publications'; INSERT INTO retained WITH RECURSIVE n (i) AS (SELECT 2 UNION ALL SELECT i + 1 FROM n WHERE i < 1000) SELECT i, 't/' || i, 'p1', i, 0, x'00', x'', 0 FROM n
 "
 }
 
@@ -305,7 +313,13 @@ UPDATE copy SET cause = 1, cause_text = 'g/a/b'
 -- a shared copy of another filter
 UPDATE copy SET cause = 1, cause_text = 'g/+/#'
 -- Subscription Identifiers before a User Property
-UPDATE copy SET props = x'0b0b010b0226000178000179'
+DELETE FROM retained; UPDATE copy SET props = x'0b0b010b0226000178000179'
+-- Subscription Identifiers of a copy alone
+UPDATE copy SET props = x'040b010b02'
+-- another topic, of a publication of its own
+UPDATE meta SET n = 2 WHERE name = 'publications'; UPDATE copy SET pub = 2, topic = 'a/c'
+-- a retained message that came at another moment
+UPDATE meta SET n = 1 WHERE name = 'moment'; UPDATE retained SET arrived = 1
 -- a second copy
 INSERT INTO copy SELECT birth, 2, pub, 2, '', 1, 2, phase, rel, topic, qos, retain, props, payload, arrived FROM copy
 -- the greatest place

@@ -12,7 +12,7 @@ use Rattle.mqtt_records.specs.declared.change.Change.TheVariants.{PutCopy, Remov
 use Rattle.mqtt_records.specs.Records.{changed, Fits}
 use Rattle.mqtt_records.specs.Session.{copy_place, with_copy, without_copy}
 use Rattle.mqtt_records_rows.specs.Order.{IsAscending}
-use Rattle.mqtt_records_contents.specs.Members.{Has as HasItem}
+use Rattle.mqtt_records.specs.Members.{Has as HasItem}
 use Rattle.mqtt_store_laws.specs.Members.{IsKept, IsOrdered, AllOrdered, IsOther}
 use Rattle.mqtt_store_laws.proofs.records.Queues.{put_new, put_old, removed_copy_new, removed_copy_old}
 use Rattle.mqtt_store_write.specs.Layout.{first_layout}

@@ -17,7 +17,7 @@ use Rattle.mqtt_records.specs.declared.records.Records.{Records}
 use Rattle.mqtt_records.specs.declared.change.Change.TheVariants.{SetCopy}
 use Rattle.mqtt_records.specs.Records.{changed}
 use Rattle.mqtt_records.specs.Session.{in_phase, with_phase}
-use Rattle.mqtt_records_contents.specs.Members.{Has as HasItem, InQueue}
+use Rattle.mqtt_records.specs.Members.{Has as HasItem, InQueue}
 use Rattle.mqtt_store_laws.specs.Members.{IsKept, IsOther}
 use Rattle.mqtt_store_laws.proofs.records.Queues.{set_new, set_old}
 use Rattle.mqtt_store_write.specs.Layout.{first_layout}

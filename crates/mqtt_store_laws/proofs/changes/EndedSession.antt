@@ -5,7 +5,7 @@ use Rattle.sqlite_trees.specs.Tree.{Trees}
 use Rattle.mqtt_records.specs.declared.records.Records.{Records}
 use Rattle.mqtt_records.specs.declared.change.Change.TheVariants.{RemoveSession}
 use Rattle.mqtt_records.specs.Records.{changed}
-use Rattle.mqtt_records_contents.specs.Members.{Has as HasItem, queue_of}
+use Rattle.mqtt_records.specs.Members.{Has as HasItem, queue_of}
 use Rattle.mqtt_store_laws.specs.Members.{HasColumns, will_of, subscriptions_of, inbound_of}
 use Rattle.mqtt_store_laws.proofs.records.Owns.{columns_out_new, columns_out_old}
 use Rattle.mqtt_store_write.specs.Content.{is_of, RemovesSession}

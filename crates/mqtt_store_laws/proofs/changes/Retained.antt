@@ -13,7 +13,7 @@ use Rattle.mqtt_records_message.specs.declared.message.RetainedMessage.{Retained
 use Rattle.mqtt_records.specs.declared.records.Records.{Records}
 use Rattle.mqtt_records.specs.declared.change.Change.TheVariants.{PutRetained, RemoveRetained}
 use Rattle.mqtt_records.specs.Records.{changed, Fits}
-use Rattle.mqtt_records_contents.specs.Members.{Has as HasItem}
+use Rattle.mqtt_records.specs.Members.{Has as HasItem}
 use Rattle.mqtt_store_laws.specs.Members.{HasColumns}
 use Rattle.mqtt_store_laws.proofs.records.Owns.{retained_new, retained_old, retained_out_new, retained_out_old}
 use Rattle.mqtt_store_write.specs.Layout.{first_layout}

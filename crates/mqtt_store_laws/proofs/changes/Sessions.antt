@@ -8,7 +8,7 @@ use Rattle.mqtt_records.specs.declared.records.Records.{Records}
 use Rattle.mqtt_records.specs.declared.change.Change.TheVariants.{PutSession, SetSession}
 use Rattle.mqtt_records.specs.Records.{changed, Fits}
 use Rattle.mqtt_records.specs.Session.{with_columns}
-use Rattle.mqtt_records_contents.specs.Members.{Has as HasItem, queue_of}
+use Rattle.mqtt_records.specs.Members.{Has as HasItem, queue_of}
 use Rattle.mqtt_store_laws.specs.Members.{HasColumns, will_of, subscriptions_of, inbound_of}
 use Rattle.mqtt_store_laws.proofs.records.Owns.{columns_put_new, columns_put_old, columns_set_new, columns_set_old, any_some}
 use Rattle.mqtt_store_write.specs.Layout.{first_layout}

@@ -14,7 +14,7 @@ use Rattle.mqtt_records.specs.declared.records.Records.{Records}
 use Rattle.mqtt_records.specs.Records.{changed, changed_all, counter_of, Fits, FitAll}
 use Rattle.mqtt_records.specs.Session.{birth_of, copy_place}
 use Rattle.mqtt_records_rows.specs.Order.{has_row}
-use Rattle.mqtt_records_contents.specs.Members.{InQueue}
+use Rattle.mqtt_records.specs.Members.{InQueue}
 use Rattle.mqtt_store_laws.proofs.records.Members.{found_has}
 use Rattle.mqtt_store_laws.proofs.records.Owns.{some_row}
 use Rattle.mqtt_store_write.specs.Layout.{first_layout}

@@ -8,7 +8,7 @@ use Rattle.mqtt_records.specs.declared.records.Records.{Records}
 use Rattle.mqtt_records.specs.declared.change.Change.TheVariants.{PutSubscription, RemoveSubscription}
 use Rattle.mqtt_records.specs.Records.{changed, Fits}
 use Rattle.mqtt_records.specs.Session.{with_subscription, without_subscription}
-use Rattle.mqtt_records_contents.specs.Members.{Has as HasItem}
+use Rattle.mqtt_records.specs.Members.{Has as HasItem}
 use Rattle.mqtt_store_laws.proofs.records.Lists.{subscription_new, subscription_out_new}
 use Rattle.mqtt_store_write.specs.Layout.{first_layout}
 use Rattle.mqtt_store_write.specs.Columns.{subscription_row}

@@ -9,7 +9,7 @@ use Rattle.mqtt_records_message.specs.Queue.{CopyRow}
 use Rattle.mqtt_records.specs.declared.records.Records.{Records}
 use Rattle.mqtt_records_rows.specs.Order.{IsAbove, IsAscending}
 use Rattle.mqtt_records.specs.Session.{birth_of, place_of, number_of, copy_place, columns_of}
-use Rattle.mqtt_records_contents.specs.Members.{Has, InPart, queue_of}
+use Rattle.mqtt_records.specs.Members.{Has, InPart, queue_of}
 use Rattle.mqtt_store_laws.specs.Members.{listed, will_of, subscriptions_of, inbound_of, SameRows, IsOrdered, AllOrdered}
 use Rattle.mqtt_store_laws.proofs.records.Members.{has_all, has_above}
 use Rattle.mqtt_store_laws.proofs.records.Queues.{one_session}

@@ -11,7 +11,7 @@ use Rattle.mqtt_records.specs.declared.change.Change.TheVariants.{PutWill, Remov
 use Rattle.mqtt_records_rows.specs.Order.{IsAbove, IsAscending, HasRoomFor, row_at}
 use Rattle.mqtt_records.specs.Session.{birth_of, number_of, place_of, without_filter, with_will, with_open, without_open, with_subscription, without_subscription}
 use Rattle.mqtt_records.specs.Records.{changed, Fits, HasSome, TakesSubscription}
-use Rattle.mqtt_records_contents.specs.Members.{Has, InPart}
+use Rattle.mqtt_records.specs.Members.{Has, InPart}
 use Rattle.mqtt_store_laws.specs.Members.{will_of, inbound_of, subscriptions_of, IsOrdered, AllOrdered}
 use Rattle.mqtt_store_laws.proofs.records.Members.{has_all, inserted_new, inserted_old, removed_new, removed_old, found_has, edited_new, edited_old}
 use Rattle.mqtt_store_laws.proofs.records.Queues.{one_session}

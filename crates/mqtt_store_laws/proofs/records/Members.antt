@@ -6,7 +6,7 @@ use Rattle.mqtt_records.specs.declared.session.Session.{Session}
 use Rattle.mqtt_records_rows.specs.Order.{IsAbove, IsAscending, row_at, insert_row, remove_row, change_row}
 use Rattle.mqtt_records.specs.Session.{birth_of}
 use Rattle.mqtt_records.specs.Records.{HasSome}
-use Rattle.mqtt_records_contents.specs.Members.{Has, InPart}
+use Rattle.mqtt_records.specs.Members.{Has, InPart}
 
 -- what holds of all members holds of each
 pub has_all : {X : Type 0} (P : X → Type 0) (xs : List X) (x : X) → AllByRecursion P xs → Has xs x → P x

@@ -11,7 +11,7 @@ use Rattle.mqtt_records.specs.declared.change.Change.TheVariants.{PutSession, Se
 use Rattle.mqtt_records_rows.specs.Order.{IsAscending, HasRoomFor, row_at, has_row, insert_row, change_row}
 use Rattle.mqtt_records.specs.Session.{birth_of, columns_of, with_columns, fresh}
 use Rattle.mqtt_records.specs.Records.{changed, HasSome, kept_place}
-use Rattle.mqtt_records_contents.specs.Members.{Has}
+use Rattle.mqtt_records.specs.Members.{Has}
 use Rattle.mqtt_store_laws.specs.Members.{HasColumns}
 use Rattle.mqtt_store_laws.proofs.records.Members.{changed_new, changed_old, inserted_new, inserted_old, removed_new, removed_old, found_has}
 

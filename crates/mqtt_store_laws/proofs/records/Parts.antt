@@ -7,7 +7,7 @@ use Rattle.mqtt_records.specs.declared.session.Columns.{Columns}
 use Rattle.mqtt_records_rows.specs.Order.{IsAscending, HasRoomFor, has_row, insert_row, remove_row, change_row}
 use Rattle.mqtt_records.specs.Session.{birth_of, columns_of, with_columns, fresh}
 use Rattle.mqtt_records.specs.Records.{put_session}
-use Rattle.mqtt_records_contents.specs.Members.{Has, InPart}
+use Rattle.mqtt_records.specs.Members.{Has, InPart}
 use Rattle.mqtt_store_laws.proofs.records.Members.{changed_new, changed_old, inserted_new, inserted_old, removed_new, removed_old, edited_new, edited_old}
 
 -- a row that stands is found

@@ -9,7 +9,7 @@ use Rattle.mqtt_records.specs.declared.change.Change.TheVariants.{PutCopy, SetCo
 use Rattle.mqtt_records_rows.specs.Order.{IsAscending, HasRoomFor}
 use Rattle.mqtt_records.specs.Session.{birth_of, copy_place, in_phase, with_copy, with_phase, without_copy}
 use Rattle.mqtt_records.specs.Records.{changed, Fits}
-use Rattle.mqtt_records_contents.specs.Members.{Has, queue_of, InQueue}
+use Rattle.mqtt_records.specs.Members.{Has, queue_of, InQueue}
 use Rattle.mqtt_store_laws.specs.Members.{IsOther, IsKept}
 use Rattle.mqtt_store_laws.proofs.records.Members.{has_all, has_above, changed_new, changed_old, inserted_new, inserted_old, removed_new, removed_old, found_has, edited_new, edited_old}
 

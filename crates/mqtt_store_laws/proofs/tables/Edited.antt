@@ -9,7 +9,7 @@ use Rattle.mqtt_records.specs.declared.records.Records.{Records}
 use Rattle.mqtt_records_rows.specs.Order.{IsAscending}
 use Rattle.mqtt_records.specs.Session.{birth_of, columns_of}
 use Rattle.mqtt_records.specs.Records.{in_session}
-use Rattle.mqtt_records_contents.specs.Members.{InPart, InQueue, queue_of}
+use Rattle.mqtt_records.specs.Members.{InPart, InQueue, queue_of}
 use Rattle.mqtt_store_laws.specs.Members.{HasColumns, will_of, subscriptions_of, inbound_of}
 use Rattle.mqtt_store_laws.specs.Items.{IsSessionRow, IsWillRow, IsSubscriptionRow, IsOpenRow, IsCopyRow}
 use Rattle.mqtt_store_laws.specs.Written.{AreWritten, AreSayable, IsWillOf, IsSubscriptionOf, IsOpenOf, IsCopyOf, IsSayableWill, IsSayableSubscription, IsSayableCopy}

@@ -11,7 +11,7 @@ use Rattle.sqlite_value.proofs.OrderLemmas.{value_cmp_total}
 use Rattle.sqlite_trees.specs.Tree.{Trees, rowid, has_rowid}
 use Rattle.sqlite_rules.specs.Lists.{Has}
 use Rattle.sqlite_rules.proofs.PlaceLemmas.{tied_same}
-use Rattle.mqtt_records_contents.specs.Members.{Has as HasItem}
+use Rattle.mqtt_records.specs.Members.{Has as HasItem}
 use Rattle.mqtt_store_write.specs.Layout.{Layout}
 use Rattle.mqtt_store_write.specs.Content.{IsShapedAt}
 use Rattle.mqtt_store_write.specs.Numbers.{number_row, SetsNumber}

@@ -5,7 +5,7 @@ use Rattle.mqtt_records.specs.declared.change.Change.{Change}
 use Rattle.mqtt_records.specs.declared.change.Change.TheVariants as change
 use Rattle.mqtt_records.specs.declared.records.Records.{Records}
 use Rattle.mqtt_records.specs.Records.{changed, changed_all, Fits, FitAll}
-use Rattle.mqtt_records_contents.specs.Contents.{FitsContents, FitContents}
+use Rattle.mqtt_records.specs.Contents.{FitsContents, FitContents}
 use Rattle.mqtt_store_schema_two.specs.declared.tables.Making.{Making}
 use Rattle.mqtt_store_laws.specs.Written.{IsSayable, AllSayable}
 use Rattle.mqtt_store_message_laws.specs.Steps.{MakesRowsTwo, MakeRowsTwo}

@@ -12,7 +12,7 @@ use Rattle.mqtt_records.specs.declared.records.Records.{Records}
 use Rattle.mqtt_records.specs.Records.{counter_of, Fits}
 use Rattle.mqtt_records.specs.Session.{birth_of, copy_place}
 use Rattle.mqtt_records_rows.specs.Order.{has_row}
-use Rattle.mqtt_records_contents.specs.Members.{InQueue}
+use Rattle.mqtt_records.specs.Members.{InQueue}
 use Rattle.mqtt_store_schema_two.specs.declared.tables.Making.{Making}
 use Rattle.mqtt_store_write.specs.Numbers.{number_row}
 use Rattle.mqtt_store_message.specs.Places.{queued_tree}

@@ -4,8 +4,8 @@ use Rattle.sqlite_trees.specs.Tree.{Trees}
 use Rattle.mqtt_records.specs.declared.records.Records.{Records}
 use Rattle.mqtt_records.specs.Records.{kept_place}
 use Rattle.mqtt_records_rows.specs.Order.{IsAscending}
-use Rattle.mqtt_records_contents.specs.Members.{Has as HasItem}
-use Rattle.mqtt_records_contents.specs.Contents.{StoredMessage, IsMessageOf, AgreesWith, SharesContents}
+use Rattle.mqtt_records.specs.Members.{Has as HasItem}
+use Rattle.mqtt_records.specs.Contents.{StoredMessage, IsMessageOf, AgreesWith, SharesContents}
 use Rattle.mqtt_store_schema_two.specs.declared.tables.Making.{Making}
 use Rattle.mqtt_store_write.specs.Layout.{second_layout}
 use Rattle.mqtt_store_write.proofs.tables.Whole.{Spares}

@@ -7,11 +7,11 @@ use Rattle.mqtt_records.specs.declared.change.Change.{Change}
 use Rattle.mqtt_records.specs.declared.change.Change.TheVariants.{PutCopy, RemoveCopy, RemoveSession, PutRetained, RemoveRetained}
 use Rattle.mqtt_records.specs.declared.records.Records.{Records}
 use Rattle.mqtt_records.specs.Records.{changed, Fits}
+use Rattle.mqtt_records.specs.Contents.{copy_message, retained_message, AgreesWith}
 use Rattle.mqtt_store_schema_two.specs.declared.tables.Making.{Making}
 use Rattle.mqtt_store_message.specs.Comings.{PutsQueued, RemovesQueued, PutsKept, RemovesKept}
 use Rattle.mqtt_store_message.specs.Endings.{EndsSession}
 use Rattle.mqtt_store_laws.specs.Written.{IsSayableCopy, IsSayableRetained}
-use Rattle.mqtt_store_message_laws.specs.Messages.{copy_message, retained_message, AgreesWith}
 use Rattle.mqtt_store_message_laws.specs.Items.{queued_columns, kept_columns}
 use Rattle.mqtt_store_message_laws.specs.Written.{KeepsRowsTwo, AreInOrderTwo}
 use Rattle.mqtt_store_message_laws.specs.Steps.{PutsMessageOf, DropsLast}

@@ -8,8 +8,8 @@ use Rattle.mqtt_records.specs.declared.records.Records.{Records}
 use Rattle.mqtt_records.specs.Records.{in_session, kept_place}
 use Rattle.mqtt_records.specs.Session.{columns_of}
 use Rattle.mqtt_records_rows.specs.Order.{IsAscending}
-use Rattle.mqtt_records_contents.specs.Members.{Has as HasItem, InQueue}
-use Rattle.mqtt_records_contents.specs.Contents.{StoredMessage, IsMessageOf, AgreesWith, SharesContents}
+use Rattle.mqtt_records.specs.Members.{Has as HasItem, InQueue}
+use Rattle.mqtt_records.specs.Contents.{StoredMessage, IsMessageOf, AgreesWith, SharesContents}
 use Rattle.mqtt_store_schema_two.specs.declared.tables.Making.{Making}
 use Rattle.mqtt_store_message.specs.Places.{message_tree, queued_tree, kept_tree}
 use Rattle.mqtt_store_laws.specs.Members.{HasColumns, will_of, subscriptions_of, inbound_of, AllOrdered}

@@ -6,8 +6,8 @@ use Rattle.mqtt_records_message.specs.Queue.{CopyRow}
 use Rattle.mqtt_records.specs.declared.records.Records.{Records}
 use Rattle.mqtt_records.specs.declared.change.Change.TheVariants.{RemoveSession}
 use Rattle.mqtt_records.specs.Records.{changed}
-use Rattle.mqtt_records_contents.specs.Members.{Has as HasItem, InQueue, queue_of}
-use Rattle.mqtt_records_contents.specs.Contents.{IsMessageOf}
+use Rattle.mqtt_records.specs.Members.{Has as HasItem, InQueue, queue_of}
+use Rattle.mqtt_records.specs.Contents.{IsMessageOf}
 use Rattle.mqtt_records_contents.proofs.Shared.{shared_less, agree_less}
 use Rattle.mqtt_store_schema_two.specs.declared.tables.Making.{Making}
 use Rattle.mqtt_store_schema_two.specs.declared.tables.Making.TheVariants.{New, TakenOver}

@@ -11,7 +11,7 @@ use Rattle.mqtt_records.specs.declared.records.Records.{Records}
 use Rattle.mqtt_records.specs.declared.change.Change.TheVariants.{PutSession, SetSession, PutWill, RemoveWill, PutSubscription, RemoveSubscription, PutInbound, RemoveInbound}
 use Rattle.mqtt_records.specs.Records.{changed, in_session, Fits}
 use Rattle.mqtt_records.specs.Session.{columns_of, with_columns, with_will, with_subscription, without_subscription, with_open, without_open}
-use Rattle.mqtt_records_contents.specs.Members.{Has as HasItem, InPart, queue_of}
+use Rattle.mqtt_records.specs.Members.{Has as HasItem, InPart, queue_of}
 use Rattle.mqtt_store_schema_two.specs.declared.tables.Making.{Making}
 use Rattle.mqtt_store_write.specs.Layout.{second_layout}
 use Rattle.mqtt_store_write.specs.Columns.{session_row, will_row, subscription_row}

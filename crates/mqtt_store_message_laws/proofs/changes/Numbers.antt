@@ -8,7 +8,7 @@ use Rattle.mqtt_records.specs.declared.change.Counter.TheVariants.{Births, Publi
 use Rattle.mqtt_records.specs.declared.change.Change.TheVariants.{SetCounter}
 use Rattle.mqtt_records.specs.declared.records.Records.{Records}
 use Rattle.mqtt_records.specs.Records.{changed, with_counter, counter_of}
-use Rattle.mqtt_records_contents.specs.Members.{Has as HasItem}
+use Rattle.mqtt_records.specs.Members.{Has as HasItem}
 use Rattle.mqtt_store_schema_two.specs.declared.tables.Making.{Making}
 use Rattle.mqtt_store_write.specs.Layout.{second_layout}
 use Rattle.mqtt_store_write.specs.Numbers.{number_row, SetsNumber}

@@ -5,8 +5,8 @@ use Rattle.mqtt_records_message.specs.declared.message.RetainedMessage.{Retained
 use Rattle.mqtt_records.specs.declared.records.Records.{Records}
 use Rattle.mqtt_records.specs.declared.change.Change.TheVariants.{PutRetained, RemoveRetained}
 use Rattle.mqtt_records.specs.Records.{changed, Fits}
-use Rattle.mqtt_records_contents.specs.Members.{Has as HasItem}
-use Rattle.mqtt_records_contents.specs.Contents.{StoredMessage, retained_message, IsMessageOf, AgreesWith}
+use Rattle.mqtt_records.specs.Members.{Has as HasItem}
+use Rattle.mqtt_records.specs.Contents.{StoredMessage, retained_message, IsMessageOf, AgreesWith}
 use Rattle.mqtt_records_contents.proofs.Shared.{shared_with, agree_with, shared_less, agree_less}
 use Rattle.mqtt_store_schema_two.specs.declared.tables.Making.{Making}
 use Rattle.mqtt_store_write.specs.Layout.{second_layout}

@@ -6,7 +6,7 @@ use Rattle.mqtt_records.specs.declared.records.Records.{Records}
 use Rattle.mqtt_records.specs.declared.change.Change.TheVariants.{SetCopy}
 use Rattle.mqtt_records.specs.Records.{changed}
 use Rattle.mqtt_records.specs.Session.{with_phase}
-use Rattle.mqtt_records_contents.specs.Contents.{IsMessageOf}
+use Rattle.mqtt_records.specs.Contents.{IsMessageOf}
 use Rattle.mqtt_records_contents.proofs.Shared.{shared_less, agree_less}
 use Rattle.mqtt_store_schema_two.specs.declared.tables.Making.{Making}
 use Rattle.mqtt_store_message.specs.Places.{message_tree, queued_tree, kept_tree}

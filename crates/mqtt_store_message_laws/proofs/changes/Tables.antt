@@ -9,6 +9,7 @@ use Rattle.mqtt_records.specs.declared.change.Counter.{Counter}
 use Rattle.mqtt_records.specs.declared.records.Records.{Records}
 use Rattle.mqtt_records.specs.declared.subscription.Subscription.{Subscription}
 use Rattle.mqtt_records.specs.Records.{changed, changed_all, Fits, FitAll}
+use Rattle.mqtt_records.specs.Contents.{FitsContents, FitContents}
 use Rattle.mqtt_store_schema_two.specs.declared.tables.Making.{Making}
 use Rattle.mqtt_store_write.specs.Columns.{subscription_row}
 use Rattle.mqtt_store_write.specs.Layout.{second_layout}
@@ -22,7 +23,6 @@ use Rattle.mqtt_store_message.specs.declared.change.TableChange.TheVariants.{Set
 use Rattle.mqtt_store_laws.specs.Items.{subscription_columns}
 use Rattle.mqtt_store_laws.specs.Steps.{counter_name}
 use Rattle.mqtt_store_laws.specs.Written.{IsSayable, AllSayable}
-use Rattle.mqtt_store_message_laws.specs.Messages.{FitsContents, FitContents}
 use Rattle.mqtt_store_message_laws.specs.TableChanges.{IsNumberChange, IsSubscriptionChange, IsSubscriptionRemoval, IsTableChangeFor, AreTableChangesFor}
 use Rattle.mqtt_store_message_laws.specs.Written.{KeepsRowsTwo, AreInOrderTwo}
 use Rattle.mqtt_store_message_laws.proofs.changes.All.{makes_keep}

@@ -6,8 +6,8 @@ use Rattle.mqtt_records.specs.declared.records.Records.{Records}
 use Rattle.mqtt_records.specs.declared.change.Change.TheVariants.{PutCopy, SetCopy, RemoveCopy, RemoveSession}
 use Rattle.mqtt_records.specs.Records.{changed, Fits}
 use Rattle.mqtt_records.specs.Session.{in_phase}
-use Rattle.mqtt_records_contents.specs.Members.{InQueue}
-use Rattle.mqtt_records_contents.specs.Contents.{StoredMessage, copy_message, IsMessageOf}
+use Rattle.mqtt_records.specs.Members.{InQueue}
+use Rattle.mqtt_records.specs.Contents.{StoredMessage, copy_message, IsMessageOf}
 use Rattle.mqtt_store_laws.specs.Members.{IsKept}
 use Rattle.mqtt_store_laws.proofs.records.Queues.{put_new, put_old, removed_copy_new, removed_copy_old, set_new, set_old, ended_new, ended_old}
 use Rattle.mqtt_store_message_laws.proofs.messages.Shared.{same_or_other, at_or_other}

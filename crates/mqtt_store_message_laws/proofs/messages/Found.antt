@@ -8,7 +8,7 @@ use Rattle.sqlite_rules.proofs.ListLemmas.{has_kept}
 use Rattle.mqtt_store_write.proofs.deletes.Removal.{map_has}
 use Rattle.mqtt_store_write.proofs.tables.Rows.{has_permuted}
 use Rattle.mqtt_store_message.specs.References.{as_row, as_rows, Finds, FindsAll}
-use Rattle.mqtt_records_contents.specs.Members.{Has as HasItem}
+use Rattle.mqtt_records.specs.Members.{Has as HasItem}
 use Rattle.mqtt_store_laws.specs.Members.{listed}
 use Rattle.mqtt_store_laws.proofs.tables.Keys.{same_number}
 

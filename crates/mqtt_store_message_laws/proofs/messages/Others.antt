@@ -11,8 +11,8 @@ use Rattle.mqtt_records.specs.declared.records.Records.{Records}
 use Rattle.mqtt_records.specs.Records.{changed, Fits, in_session, with_counter}
 use Rattle.mqtt_records.specs.Session.{birth_of}
 use Rattle.mqtt_records_rows.specs.Order.{IsAscending}
-use Rattle.mqtt_records_contents.specs.Members.{Has, InQueue, queue_of}
-use Rattle.mqtt_records_contents.specs.Contents.{StoredMessage, IsMessageOf, SharesContents}
+use Rattle.mqtt_records.specs.Members.{Has, InQueue, queue_of}
+use Rattle.mqtt_records.specs.Contents.{StoredMessage, IsMessageOf, SharesContents}
 use Rattle.mqtt_records_contents.proofs.Shared.{shared_less}
 use Rattle.mqtt_store_laws.proofs.records.Parts.{part_new, part_old, put_part_new, put_part_old}
 

@@ -5,8 +5,8 @@ use Rattle.mqtt_records.specs.declared.records.Records.{Records}
 use Rattle.mqtt_records.specs.declared.change.Change.TheVariants.{PutRetained, RemoveRetained}
 use Rattle.mqtt_records.specs.Records.{changed, Fits, kept_place}
 use Rattle.mqtt_records_rows.specs.Order.{IsAscending}
-use Rattle.mqtt_records_contents.specs.Members.{Has}
-use Rattle.mqtt_records_contents.specs.Contents.{StoredMessage, retained_message, IsMessageOf}
+use Rattle.mqtt_records.specs.Members.{Has}
+use Rattle.mqtt_records.specs.Contents.{StoredMessage, retained_message, IsMessageOf}
 use Rattle.mqtt_store_laws.proofs.records.Owns.{retained_new, retained_old, retained_out_new, retained_out_old}
 use Rattle.mqtt_store_message_laws.proofs.messages.Shared.{same_or_other}
 

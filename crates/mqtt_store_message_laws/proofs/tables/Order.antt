@@ -22,7 +22,7 @@ use Rattle.mqtt_store_message.specs.Rows.{message_row}
 use Rattle.mqtt_store_message.specs.Messages.{is_referred}
 use Rattle.mqtt_store_message.specs.Letting.{is_let_go}
 use Rattle.mqtt_store_message.proofs.Behind.{asked}
-use Rattle.mqtt_records_contents.specs.Contents.{StoredMessage}
+use Rattle.mqtt_records.specs.Contents.{StoredMessage}
 use Rattle.mqtt_store_message_laws.specs.Items.{message_columns}
 use Rattle.mqtt_store_message_laws.specs.Written.{AreInOrderTwo}
 use Rattle.mqtt_store_message_laws.specs.Steps.{SweepsEach, PutsMessageOf, DropsLast}

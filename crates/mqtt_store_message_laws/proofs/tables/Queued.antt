@@ -17,7 +17,7 @@ use Rattle.mqtt_records.specs.declared.records.Records.{Records}
 use Rattle.mqtt_records.specs.declared.change.Change.TheVariants.{PutCopy, SetCopy, RemoveCopy, RemoveSession}
 use Rattle.mqtt_records.specs.Records.{changed, Fits}
 use Rattle.mqtt_records.specs.Session.{in_phase}
-use Rattle.mqtt_records_contents.specs.Members.{InQueue, queue_of}
+use Rattle.mqtt_records.specs.Members.{InQueue, queue_of}
 use Rattle.mqtt_store_schema_two.specs.declared.tables.Making.{Making}
 use Rattle.mqtt_store_write.specs.Layout.{second_layout}
 use Rattle.mqtt_store_write.specs.Content.{is_of, without, IsShapedAt}

@@ -17,7 +17,7 @@ use Rattle.mqtt_store_message.specs.Rows.{message_row}
 use Rattle.mqtt_store_laws.specs.Written.{AreWritten}
 use Rattle.mqtt_store_laws.proofs.tables.Keys.{found_number}
 use Rattle.mqtt_records.specs.declared.records.Records.{Records}
-use Rattle.mqtt_records_contents.specs.Contents.{StoredMessage, IsMessageOf, AgreesWith}
+use Rattle.mqtt_records.specs.Contents.{StoredMessage, IsMessageOf, AgreesWith}
 use Rattle.mqtt_store_message_laws.specs.Items.{IsMessageRow, message_columns}
 use Rattle.mqtt_store_message_laws.specs.Steps.{PutsMessageOf}
 

@@ -13,7 +13,7 @@ use Rattle.mqtt_props.specs.Properties.{Prop, FitsBlock, block}
 use Rattle.mqtt_props.specs.Reading.{block_at}
 use Rattle.mqtt_props.proofs.Blocks.{block_again}
 use Rattle.mqtt_records.specs.declared.records.Records.{Records}
-use Rattle.mqtt_records_contents.specs.Contents.{StoredMessage, IsMessageOf, SharesContents}
+use Rattle.mqtt_records.specs.Contents.{StoredMessage, IsMessageOf, SharesContents}
 use Rattle.mqtt_store_schema_two.specs.declared.tables.Making.{Making}
 use Rattle.mqtt_store_write.specs.Content.{IsShapedAt}
 use Rattle.mqtt_store_message.specs.Places.{message_tree}

@@ -1,4 +1,4 @@
-use Rattle.mqtt_broker_engine.proofs.Stamped.{open_fits, open_is, open_left, open_sayable}
+use Rattle.mqtt_broker_engine.proofs.Stamped.{open_contents, open_fits, open_is, open_left, open_sayable}
 use Rattle.mqtt_broker_engine.proofs.opening.tell.Goals as goal
 
 pub commit_kept-requires-clause-fit : goal.commit_kept-requires-clause-fit
@@ -10,6 +10,11 @@ pub commit_kept-requires-clause-sayable : goal.commit_kept-requires-clause-sayab
 commit_kept-requires-clause-sayable g c =
     let o = c.requires.opened in
     open_sayable o.0 o.1 o.2 c.args.step.now o.5 o.4
+
+pub commit_kept-requires-clause-contents : goal.commit_kept-requires-clause-contents
+commit_kept-requires-clause-contents g c =
+    let o = c.requires.opened in
+    open_contents o.0 o.1 o.2 c.args.step.now o.5 o.4
 
 pub returns-in-Ok-clause-opened : goal.returns-in-Ok-clause-opened
 returns-in-Ok-clause-opened g c = λ limits now r did.

@@ -1,6 +1,6 @@
 -- What was added and what the rest say is all.
 use Rattle.std.proofs.Common.{◌≡◌, ◌++◌, map, length}
-use Rattle.mqtt_records_contents.specs.Contents.{copy_message}
+use Rattle.mqtt_records.specs.Contents.{copy_message}
 use Rattle.mqtt_records_contents.specs.Listed.{said}
 use Rattle.mqtt_records_contents.proofs.contents.push_queue.Given as goal
 

@@ -1,6 +1,6 @@
 -- What was added and what the queues of the rest say is all.
 use Rattle.std.proofs.Common.{◌≡◌, ◌++◌, flat_map, map, length}
-use Rattle.mqtt_records_contents.specs.Contents.{copy_message}
+use Rattle.mqtt_records.specs.Contents.{copy_message}
 use Rattle.mqtt_records_contents.specs.Listed.{said}
 use Rattle.mqtt_records_contents.proofs.contents.push_sessions.Given as goal
 

@@ -1,4 +1,5 @@
-use Rattle.mqtt_rules_sharing_laws.proofs.Steps.{nothing_shared, opening_fits, opening_shared, run_shared, step_fits, step_shared}
+use Rattle.mqtt_records_contents.proofs.Nothing.{nothing_shared}
+use Rattle.mqtt_rules_sharing_laws.proofs.Steps.{opening_fits, opening_shared, run_shared, step_fits, step_shared}
 use Rattle.mqtt_rules_sharing_laws.proofs.laws.contents_are_shared.Goals as goal
 
 pub returns-clause-run : goal.returns-clause-run

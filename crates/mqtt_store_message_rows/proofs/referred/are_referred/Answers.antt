@@ -3,7 +3,7 @@ use Rattle.std.specs.Prelude.{IsTrue}
 use Rattle.std.specs.List.{AllByRecursion}
 use Rattle.std.specs.List.Sorted.{IsNonDecreasing, IsPermutation}
 use Rattle.std.proofs.lemmas.List.Sorted.{IsNonDecreasingBy-from_sort, IsPermutation-sym}
-use Rattle.mqtt_records_contents.specs.Contents.{StoredMessage}
+use Rattle.mqtt_records.specs.Contents.{StoredMessage}
 use Rattle.mqtt_store_message_rows.specs.Gives.{numbers_in, is_among}
 use Rattle.mqtt_store_message_rows.proofs.ReferredLemmas.{same_referred}
 use Rattle.mqtt_store_message_rows.proofs.referred.are_referred.Goals as goal

@@ -1,7 +1,7 @@
 use Rattle.std.proofs.Common.{◌≡◌, List, subst}
 use Rattle.std.specs.List.{AllByRecursion}
 use Rattle.sqlite_value.specs.Order.{Row}
-use Rattle.mqtt_records_contents.specs.Contents.{StoredMessage}
+use Rattle.mqtt_records.specs.Contents.{StoredMessage}
 use Rattle.mqtt_store_rows.specs.Lists.{AreRows}
 use Rattle.mqtt_store_rows.proofs.OneLemmas.{same_rows}
 use Rattle.mqtt_store_message_rows.specs.Rows.{SaysMessage}

@@ -35,6 +35,9 @@ commit-requires-clause-fit g c = c.requires.can.fit
 pub commit-requires-clause-sayable : goal.commit-requires-clause-sayable
 commit-requires-clause-sayable g c = c.requires.can.sayable
 
+pub commit-requires-clause-contents : goal.commit-requires-clause-contents
+commit-requires-clause-contents g c = c.requires.can.contents
+
 pub returns-in-Ok : goal.returns-in-Ok
 returns-in-Ok g c =
     let p = c.args.self.now in

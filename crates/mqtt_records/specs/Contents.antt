@@ -8,7 +8,7 @@ use Rattle.mqtt_records.specs.declared.change.Change.{Change}
 use Rattle.mqtt_records.specs.declared.change.Change.TheVariants.{SetCounter, PutSession, SetSession, RemoveSession, PutWill, RemoveWill, PutSubscription, RemoveSubscription, PutInbound, RemoveInbound, PutCopy, SetCopy, RemoveCopy, PutRetained, RemoveRetained}
 use Rattle.mqtt_records.specs.declared.records.Records.{Records}
 use Rattle.mqtt_records.specs.Records.{changed}
-use Rattle.mqtt_records_contents.specs.Members.{Has, InQueue}
+use Rattle.mqtt_records.specs.Members.{Has, InQueue}
 
 -- a publication by its number, with its properties as they are passed on
 pub record StoredMessage : Type 0 where
