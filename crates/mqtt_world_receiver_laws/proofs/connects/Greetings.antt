@@ -46,14 +46,14 @@ abbrev found_in : ℕ → List BrokerLine → Option BrokerLine
 found_in n ls = find (λ (l : BrokerLine). nat_eq l.number n) ls
 
 greeted_in : (now n birth window : ℕ) (ls : List BrokerLine) → session_on n ls ≡ Some None
-    → (l : BrokerLine) × (found_in n (on_line now n (Greet birth 0 window any_size 0) ls) ≡ Some l) × IsGreeted n birth window l
+    → (l : BrokerLine) × (found_in n (on_line now n (Greet birth 0 window any_size) ls) ≡ Some l) × IsGreeted n birth window l
 greeted_in now n birth window [] h = absurd cc
 greeted_in now n birth window (l ∷ ls) h = elim (cases_Bool (nat_eq l.number n)) [
-  | inl here ↦ (line_after now (Greet birth 0 window any_size 0) l, rw (here, here) refl, record { number = eqb-true l.number n here; connected = refl; quiet = refl; window_is = refl; largest_is = refl })
+  | inl here ↦ (line_after now (Greet birth 0 window any_size) l, rw (here, here) refl, record { number = eqb-true l.number n here; connected = refl; quiet = refl; window_is = refl; largest_is = refl })
   | inr further ↦ let x = greeted_in now n birth window ls (rw further at h) in (x.0, rw (further, further) x.1, x.2)
 ]
 
-greeted_by : (now n birth window : ℕ) (ls : List BrokerLine) (b : Broker) → session_on n ls ≡ Some None → b.lines ≡ on_line now n (Greet birth 0 window any_size 0) ls → HasGreeted n birth window b
+greeted_by : (now n birth window : ℕ) (ls : List BrokerLine) (b : Broker) → session_on n ls ≡ Some None → b.lines ≡ on_line now n (Greet birth 0 window any_size) ls → HasGreeted n birth window b
 greeted_by now n birth window ls b on e = let x = greeted_in now n birth window ls on in record { line = x.0; at = ap (found_in n) e ∙ x.1; greeted = x.2 }
 
 -- what goes out again leaves the lines as they are
@@ -90,7 +90,7 @@ resumed_line limits choice now r l s b a =
     let still : session_on n left.lines ≡ Some None = (left_leaves o s n c (Some None) t a.kept.session on).line_is in
     let dues = due_from [] (queue_on [] x) in
     let same : x.birth ≡ s.birth = taken_birth o c.now s in
-    let lines : (after_answer limits choice now n (connect false) r b).lines ≡ on_line left.now n (Greet x.birth 0 r.window any_size 0) left.lines =
+    let lines : (after_answer limits choice now n (connect false) r b).lines ≡ on_line left.now n (Greet x.birth 0 r.window any_size) left.lines =
     done_lines (rows_of_all ds first.records) (after_all ds first)
     ∙ (ap (λ (zs : List Deed). (after_all zs first).lines) is
     ∙ (ap (λ (z : Broker). z.lines) (after_append front resumes c) ∙ repeats_lines c.now n x dues (λ d. d.identifier) _)) in
@@ -106,7 +106,7 @@ begun_line limits choice now clean r l b front ns c =
     let d = after_all front (heard_of now n b) in
     let birth = suc d.records.births in
     let begins = begin l (greeting clean r.client r.window) false r.client birth in
-    let lines : (after_answer limits choice now n (connect clean) r b).lines ≡ on_line d.now n (Greet birth 0 r.window any_size 0) d.lines =
+    let lines : (after_answer limits choice now n (connect clean) r b).lines ≡ on_line d.now n (Greet birth 0 r.window any_size) d.lines =
     done_lines (rows_of_all ds first.records) (after_all ds first)
     ∙ (ap (λ (zs : List Deed). (after_all zs first).lines) c.deeds_are ∙ ap (λ (z : Broker). z.lines) (after_append front begins (heard_of now n b))) in
     greeted_by d.now n birth r.window d.lines _ c.waits lines

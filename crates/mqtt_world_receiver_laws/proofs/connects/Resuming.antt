@@ -167,7 +167,7 @@ went_at_left (Some x) birth n ls t = all ls
 
 -- the session is on its new line alone, on which nothing went out
 pub greeted_went : (now n birth keep_alive window largest : ℕ) (ls : List BrokerLine) → AllByRecursion (IsOffIt birth) ls → went_at n ls ≡ Some []
-    → its_went birth (on_line now n (Greet birth keep_alive window largest most) ls) ≡ Some []
+    → its_went birth (on_line now n (Greet birth keep_alive window largest) ls) ≡ Some []
 greeted_went now n birth keep_alive window largest [] off is = absurd cc
 greeted_went now n birth keep_alive window largest (l ∷ ls) off is = elim (cases_Bool (nat_eq l.number n)) [
   | inl here ↦
@@ -411,7 +411,7 @@ module _ (number : Numbering) (largest : ℕ) (copies : List Lot) (limits : Limi
     left = after_all (left_by o s heard_first.now) heard_first
 
     abbrev end : Broker
-    end = after (On n (Greet x.birth 0 r.window 0xffffffff 0)) (after (At (whose x) (Resume never None)) left)
+    end = after (On n (Greet x.birth 0 r.window 0xffffffff)) (after (At (whose x) (Resume never None)) left)
 
     abbrev told_all : List Output
     told_all = connack true ∷ all_packets (resumed_with (queue_of copies)) copies
@@ -446,14 +446,14 @@ module _ (number : Numbering) (largest : ℕ) (copies : List Lot) (limits : Limi
         let off : AllByRecursion (IsOffIt s.birth) left.lines = subst (AllByRecursion (IsOffIt s.birth)) (sym lines) (none_has o s.birth heard_first.lines alone) in
         let went : went_at n left.lines ≡ Some [] =
         ap (went_at n) lines ∙ (went_at_left o s.birth n heard_first.lines t ∙ (went_at_heard first.now n b.lines ∙ (ap (option_map (λ (y : BrokerLine). y.went)) a.line ∙ ap Some a.fresh))) in
-        ap (λ (k : ℕ). its_went s.birth (on_line left.now n (Greet k 0 r.window 0xffffffff 0) left.lines)) birth_same
+        ap (λ (k : ℕ). its_went s.birth (on_line left.now n (Greet k 0 r.window 0xffffffff) left.lines)) birth_same
         ∙ greeted_went left.now n s.birth 0 r.window 0xffffffff left.lines off went
 
     went_ends : its_went s.birth (after_all (deeds limits choice now (Input n packet) b) first).lines ≡ Some []
     went_ends = ap (λ (ds : List Deed). its_went s.birth (after_all ds first).lines) deeds_are ∙ (ap (λ (d : Broker). its_went s.birth d.lines) ends ∙ went_end)
 
     on_end : session_on n end.lines ≡ Some (Some x.birth)
-    on_end = greeted_line left.now n x.birth 0 r.window 0xffffffff 0 left.lines waits_still
+    on_end = greeted_line left.now n x.birth 0 r.window 0xffffffff left.lines waits_still
 
     still_now : still_standing copies2 ≡ map (lot_on []) s.queue
     still_now =
