@@ -254,6 +254,12 @@ fn each_of_a_number_is_looked_at(rt: HostRuntime) -> Result<(), Fail> {
         !shares(alloc, &[CHANGED, FIRST], &[FIRST], &[])?,
         "the first"
     );
+    Ok(())
+}
+
+#[test]
+fn copies_of_one_queue_agree(rt: HostRuntime) -> Result<(), Fail> {
+    let alloc = rt.alloc();
     assert!(rt;
         !shares(alloc, &[FIRST, CHANGED], &[], &[])?,
         "two in one queue"
@@ -262,6 +268,12 @@ fn each_of_a_number_is_looked_at(rt: HostRuntime) -> Result<(), Fail> {
         !shares(alloc, &[FIRST, OTHER, CHANGED], &[], &[])?,
         "another between them"
     );
+    Ok(())
+}
+
+#[test]
+fn numbers_may_fall(rt: HostRuntime) -> Result<(), Fail> {
+    let alloc = rt.alloc();
     let lower = Said {
         publication: 6,
         ..OTHER
