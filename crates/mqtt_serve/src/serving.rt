@@ -59,7 +59,7 @@ fn links_of(rt: &HostRuntime, link: PollLink) -> Result<Links<PollLink>, ServeFa
     }
 }
 
-/// What was written goes out at once.
+/// Sends what was written on at once, so that a program that waits for the line sees it.
 fn flush<W: Write>(writer: &mut W) -> Result<(), ServeFault>
     ensures same { Keeps (W.contents writer.old) (W.contents writer.new) }
     ensures fault { IfErr result (λ fault. fault ≡ ServeFault.Write) }
