@@ -48,16 +48,23 @@ key_of Inbound = 0 ∷ 1 ∷ []
 key_of Copy = 0 ∷ 1 ∷ []
 key_of Retained = 0 ∷ []
 
--- the columns of a row in the tree
+-- these columns of a row in a tree
+abbrev pub shown_at : List ℕ → Row → Row
+shown_at columns row = map (column row) columns
+
 abbrev pub shown : StoreTable → Row → Row
-shown table row = map (column row) (columns_of table)
+shown table = shown_at (columns_of table)
 
 -- by the first of the columns, and then by the next
 abbrev pub by_columns : List ℕ → Row → Row → Ordering
 by_columns [] a b = Equal
 by_columns (at ∷ more) a b = then_cmp (on (λ row. column row at) value_cmp) (by_columns more) a b
 
--- all rows of the table, each once, in the order of the key
-pub record IsListing (table : StoreTable) (db : Trees) (rows : List Row) : Type 0 where
-  pub each : IsPermutation (map (shown table) (db (tree_of table))) rows
-  pub sorted : IsSorted (by_columns (key_of table)) rows
+-- these columns of all rows of a tree, each row once, in the order of those that are the key
+pub record IsListingOf (columns key : List ℕ) (stored rows : List Row) : Type 0 where
+  pub each : IsPermutation (map (shown_at columns) stored) rows
+  pub sorted : IsSorted (by_columns key) rows
+
+-- all rows of the table, in the order of its key
+abbrev pub IsListing : StoreTable → Trees → List Row → Type 0
+IsListing table db = IsListingOf (columns_of table) (key_of table) (db (tree_of table))
