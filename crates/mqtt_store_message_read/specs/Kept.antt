@@ -16,16 +16,24 @@ abbrev pub HasNoneOfFirst : Making → Trees → Type 0
 HasNoneOfFirst New db = Unit {0}
 HasNoneOfFirst TakenOver db = (db (tree_of Copy) ≡ []) × (db (tree_of Retained) ≡ [])
 
--- the rows of all tables
-pub record AreListedTwo (making : Making) (db : Trees) (rows : Rows) : Type 0 where
+-- the rows of the tables that both schemas have
+pub record AreSharedListed (db : Trees) (rows : Rows) : Type 0 where
   pub meta : IsListing Meta db rows.meta
   pub sessions : IsListing Session db rows.sessions
   pub wills : IsListing Will db rows.wills
   pub subscriptions : IsListing Subscription db rows.subscriptions
   pub inbound : IsListing Inbound db rows.inbound
+
+-- the rows of the tables that schema 2 adds
+pub record AreAddedListed (making : Making) (db : Trees) (rows : Rows) : Type 0 where
   pub messages : IsAddedListing making Message db rows.messages
   pub queued : IsAddedListing making Queued db rows.queued
   pub kept : IsAddedListing making Kept db rows.kept
+
+-- the rows of all tables
+pub record AreListedTwo (making : Making) (db : Trees) (rows : Rows) : Type 0 where
+  pub shared : AreSharedListed db rows
+  pub added : AreAddedListed making db rows
   pub old : HasNoneOfFirst making db
 
 -- the rows of the tables give these records, and they are lawful
