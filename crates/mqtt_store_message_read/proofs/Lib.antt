@@ -1,0 +1,5 @@
+pub mod Selects
+pub mod Rising
+pub mod Unique
+pub mod Loaded
+pub mod Refused
