@@ -3,3 +3,4 @@ pub mod Rising
 pub mod Unique
 pub mod Loaded
 pub mod Refused
+pub mod Vacant
