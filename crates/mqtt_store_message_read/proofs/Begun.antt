@@ -1,5 +1,5 @@
 -- A new store of schema 2 has no records.
-use Rattle.std.proofs.Common.{[], List, refl, arith}
+use Rattle.std.proofs.Common.{[], refl, arith}
 use Rattle.sqlite.specs.Effect.{Database}
 use Rattle.mqtt_records.specs.Records.{nothing}
 use Rattle.mqtt_store_rows.specs.Gives.{counters_of}

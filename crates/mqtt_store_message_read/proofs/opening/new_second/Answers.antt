@@ -1,6 +1,6 @@
-use Rattle.mqtt_store_schema_two.specs.declared.tables.Making.TheVariants.{New}
 use Rattle.std.proofs.Common.{sym, subst}
 use Rattle.sqlite.specs.Held.{state}
+use Rattle.mqtt_store_schema_two.specs.declared.tables.Making.TheVariants.{New}
 use Rattle.mqtt_store_message_read.specs.Kept.{HasRecordsTwo}
 use Rattle.mqtt_store_message_read.proofs.Begun.{new_second_has}
 use Rattle.mqtt_store_message_read.proofs.opening.new_second.Goals as goal
