@@ -201,6 +201,13 @@ records births publications subscribes autos moment sessions retained =
 same_records : (a b c d e f g h i j : ℕ) (k l : List SessionItem) (m n : List RetainedMessage) → a ≡ b → c ≡ d → e ≡ f → g ≡ h → i ≡ j → k ≡ l → m ≡ n → records a c e g i k m ≡ records b d f h j l n
 same_records a b c d e f g h i j k l m n p q r s t u v = rw (p, q, r, s, t, u, v) refl
 
+-- tables that show the lines of records are of one schema
+pub one_schema : (schema other : ℕ) (db : Trees) (q r : Records) → HasFirstLines schema db q → HasFirstLines other db r → schema ≡ other
+one_schema schema other db q r h k =
+    let to = same_item (shown Meta) number_line (HasItem (numbers_at schema q)) (HasItem (numbers_at other r)) (db 0) h.meta k.meta (λ x y a b e. number_same x y e) in
+    let there = to (codes "schema", schema) (inr (inr (inr (inr (inr (inl refl)))))) in
+    the_one (codes "schema") _ _ (kept_in (named (codes "schema")) (numbers_at other r) _ there refl)
+
 module _ (schema : ℕ) (db : Trees) (q r : Records) (h : HasFirstLines schema db q) (k : HasFirstLines schema db r) (fits : AreSayable q) (suits : AreSayable r) where
   numbers_to : (x : List ℕ × ℕ) → HasItem (numbers_at schema q) x → HasItem (numbers_at schema r) x
   numbers_to = same_item (shown Meta) number_line (HasItem (numbers_at schema q)) (HasItem (numbers_at schema r)) (db 0) h.meta k.meta (λ x y a b e. number_same x y e)

@@ -1,5 +1,5 @@
 -- Records whose items have the same lines in the tables of schema 2 are the same.
-use Rattle.std.proofs.Common.{◌≡◌, ℕ, refl, subst, sym, inl, inr}
+use Rattle.std.proofs.Common.{◌≡◌, ℕ, refl, subst, sym, inl, inr, arith}
 use Rattle.sqlite_trees.specs.Tree.{Trees}
 use Rattle.mqtt_props.specs.Properties.{FitsBlock}
 use Rattle.mqtt_records_message.specs.declared.message.RetainedMessage.{RetainedMessage}
@@ -15,7 +15,8 @@ use Rattle.mqtt_store_laws.specs.Written.{AreSayable, IsCopyOf}
 use Rattle.mqtt_store_laws.proofs.records.Determined.{same_members}
 use Rattle.mqtt_store_load_laws.proofs.Same.{at, same_number}
 use Rattle.mqtt_store_load_laws.proofs.Table.{rewritten, same_item}
-use Rattle.mqtt_store_load_laws.proofs.First.{HasFirstRows, HasFirstLines, first_shown, first_alike}
+use Rattle.mqtt_store_load_laws.proofs.First.{HasFirstRows, HasFirstLines, first_shown, one_schema, first_alike}
+use Rattle.mqtt_store_load_laws.proofs.Alike.{AreDistinct as AreDistinctFirst}
 use Rattle.mqtt_store_message_laws.specs.Written.{HasRowsTwo}
 use Rattle.mqtt_store_message_read.specs.declared.reading.AddedTable.TheVariants.{Message, Queued, Kept}
 use Rattle.mqtt_store_message_read.specs.Listing.{added_tree}
@@ -80,3 +81,7 @@ alike making db q r h k =
     first_alike 2 db q r h.lines.first k.lines.first h.sayable k.sayable h.ordered k.ordered
     (λ b x. (copies_to making db q r h k (b, x), copies_to making db r q k h (b, x)))
     (same_members kept_place q.retained r.retained h.by_place k.by_place (retained_to making db q r h k) (retained_to making db r q k h))
+
+-- tables aren't shown by records of both schemas
+pub told_apart : (making : Making) (db : Trees) (q r : Records) → AreDistinctFirst db q → AreDistinct making db r → ⊥
+told_apart making db q r h k = let same = one_schema 1 2 db q r h.lines.first k.lines.first in absurd (omega (arith, same))

@@ -3,4 +3,7 @@
 
 mod laws;
 
-pub use laws::{found_in_second_is_kept, kept_in_second_is_found, rows_of_second_are_of_one};
+pub use laws::{
+    found_in_second_is_kept, kept_in_second_is_found, rows_of_second_are_of_one,
+    schemas_are_told_apart,
+};
