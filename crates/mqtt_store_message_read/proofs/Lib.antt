@@ -1,0 +1,6 @@
+pub mod Selects
+pub mod Rising
+pub mod Unique
+pub mod Loaded
+pub mod Refused
+pub mod Vacant
