@@ -4,3 +4,4 @@ pub mod Unique
 pub mod Loaded
 pub mod Refused
 pub mod Vacant
+pub mod Begun

@@ -1,5 +1,5 @@
 -- What the rows of all tables of schema 2 give.
-use Rattle.std.proofs.Common.{◌≡◌, ◌≢◌, [], List, Result, Ok, Err, IfOk, IfErr, sym, subst}
+use Rattle.std.proofs.Common.{Result, Ok, Err, IfOk, sym, subst}
 use Rattle.sqlite_trees.specs.Tree.{Trees}
 use Rattle.mqtt_records_lawful.specs.Lawful.{IsLawful}
 use Rattle.mqtt_records.specs.declared.records.Records.{Records}

@@ -3,10 +3,12 @@
 
 mod laws;
 mod loading;
+mod opening;
 mod reading;
 mod refusing;
 
 pub use laws::second_database_has_one;
 pub use loading::records_in;
+pub use opening::begin_second;
 pub use reading::{AddedTable, rows_of_added};
 pub use refusing::{first_records_or_refusal, records_or_refusal};

@@ -100,7 +100,9 @@ fn a_new_store_has_nothing(rt: HostRuntime) -> Result<(), Fail> {
 #[test]
 fn a_store_of_schema_1_is_read(rt: HostRuntime) -> Result<(), Fail> {
     let mut conn = first(rt.alloc())?;
-    conn.execute_batch("INSERT INTO session VALUES (1, 'r1', 60, 7); UPDATE meta SET n = 1 WHERE name = 'births'")?;
+    conn.execute_batch(
+        "INSERT INTO session VALUES (1, 'r1', 60, NULL); UPDATE meta SET n = 1 WHERE name = 'births'",
+    )?;
     let records = first_records_or_refusal(rt.alloc(), &mut conn)?;
     assert_eq!(rt; (records.births, records.sessions.len()), (1, 1));
     drop(records);

@@ -1,4 +1,4 @@
-use Rattle.std.proofs.Common.{ap, inl, inr, arith, Err}
+use Rattle.std.proofs.Common.{ap, inl, arith, Err}
 use Rattle.sqlite.specs.Held.{state}
 use Rattle.sqlite.specs.State.{HasCleanDisk}
 use Rattle.mqtt_store_message_read.proofs.Refused.{refusal_is}
