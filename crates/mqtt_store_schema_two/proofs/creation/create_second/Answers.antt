@@ -34,6 +34,6 @@ returns-clause-crash g c =
     subst (λ h. Survives old (state g.S.Store h) (MakesSecond old)) same
     (survives_then old tx (state g.S.Store end) _ _ (MakesSecond old) (λ _ db none. absurd none)
     (λ clean db is none.
-        let mid : HasCleanDisk tx = omega (arith, c.commit.ensures.survives.clean, clean) in
-        new_trees tx.now db is (c.in_ok-make_all.ensures.made mid (begun_has old (state g.S.Store c.transaction-tx.result.conn.now) (ap (state g.S.Store) c.transaction-tx.ensures.begun) none)).0)
+    let mid : HasCleanDisk tx = omega (arith, c.commit.ensures.survives.clean, clean) in
+    new_trees tx.now db is (c.in_ok-make_all.ensures.made mid (begun_has old (state g.S.Store c.transaction-tx.result.conn.now) (ap (state g.S.Store) c.transaction-tx.ensures.begun) none)).0)
     inside c.commit.ensures.survives)
