@@ -126,6 +126,7 @@ pub record FirstRows : Type 0 where
   pub subscriptions : List Row
   pub inbound : List Row
 
+-- a load reads these rows of the tables
 pub record AreFirstListed (db : Trees) (rows : FirstRows) : Type 0 where
   pub meta : IsListing Meta db rows.meta
   pub sessions : IsListing Session db rows.sessions
