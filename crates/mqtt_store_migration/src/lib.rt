@@ -1,0 +1,6 @@
+//! A database of schema 1 becomes one of schema 2 that keeps the same records (MQTT 5.0, 4.1). Private.
+#![tactic(auto)]
+
+mod laws;
+
+pub use laws::puts_make_records;
