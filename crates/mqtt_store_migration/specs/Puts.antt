@@ -4,13 +4,11 @@ use Rattle.mqtt_records.specs.declared.change.Change.{Change}
 use Rattle.mqtt_records.specs.declared.change.Change.TheVariants.{PutCopy, PutRetained}
 use Rattle.mqtt_records.specs.declared.records.Records.{Records}
 use Rattle.mqtt_records.specs.declared.session.Session.{Session}
-
-abbrev pub without_copies : Session → Session
-without_copies s = record s { queue = [] }
+use Rattle.mqtt_store_message_rows.specs.Gives.{without_queue}
 
 -- with empty queues, and nothing retained
 abbrev pub emptied : Records → Records
-emptied r = record r { sessions = map without_copies r.sessions; retained = [] }
+emptied r = record r { sessions = map without_queue r.sessions; retained = [] }
 
 -- each copy of a session is put, in the order of its queue
 abbrev pub queue_puts : Session → List Change

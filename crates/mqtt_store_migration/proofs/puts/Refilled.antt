@@ -1,24 +1,24 @@
 -- The copies and retained messages of records, put one after the other, make them of what is left without.
 use Rattle.std.proofs.Common.{◌≡◌, ◌≢◌, ℕ, ◌<◌, ◌≤◌, Bool, true, false, ◌||◌, List, [], ◌∷◌, ◌++◌, map, length, length-append, append_assoc, append-nil, refl, sym, ap, subst, ◌∙◌, arith, inl, inr}
-use Rattle.std.specs.Prelude.{Option, Some, flat_map}
+use Rattle.std.specs.Prelude.{Option, flat_map}
 use Rattle.std.specs.List.{AllByRecursion}
 use Rattle.std.proofs.lemmas.Bool.{lt-ltb}
 use Rattle.std.proofs.lemmas.List.Elements.{All-from_recursion}
 use Rattle.mqtt_base.specs.declared.limits.TheConstants.{QUEUE_LIMIT, RETAINED_LIMIT}
 use Rattle.mqtt_records_message.specs.declared.message.RetainedMessage.{RetainedMessage}
 use Rattle.mqtt_records_message.specs.Queue.{CopyRow}
-use Rattle.mqtt_records.specs.declared.change.Change.{Change}
 use Rattle.mqtt_records.specs.declared.change.Change.TheVariants.{PutCopy, PutRetained}
 use Rattle.mqtt_records.specs.declared.records.Records.{Records}
 use Rattle.mqtt_records.specs.declared.session.Session.{Session}
 use Rattle.mqtt_records.specs.Contents.{StoredMessage, IsMessageOf, AgreesWith, SharesContents, copy_message, retained_message}
-use Rattle.mqtt_records.specs.Members.{Has, InQueue}
-use Rattle.mqtt_records.specs.Records.{changed, changed_all, kept_place, Fits, FitsCopy, FitsRetained, HasSome, HasSession}
+use Rattle.mqtt_records.specs.Members.{Has}
+use Rattle.mqtt_records.specs.Records.{changed, kept_place, Fits, FitsCopy, FitsRetained, HasSome}
 use Rattle.mqtt_records.specs.Session.{birth_of, copy_place, with_copy}
 use Rattle.mqtt_records_rows.specs.Distinct.{AllDiffer}
-use Rattle.mqtt_records_rows.specs.Order.{IsAscending, IsTable, IsBelow, HasRoomFor, has_row, row_at, change_row, put_row}
+use Rattle.mqtt_records_rows.specs.Order.{IsAscending, IsTable, IsBelow, HasRoomFor, has_row}
 use Rattle.mqtt_records_rows.proofs.LookUps.{put_row-last}
-use Rattle.mqtt_store_migration.specs.Puts.{without_copies, emptied, queue_puts, puts_of}
+use Rattle.mqtt_store_message_rows.specs.Gives.{without_queue}
+use Rattle.mqtt_store_migration.specs.Puts.{emptied, queue_puts, puts_of}
 use Rattle.mqtt_store_migration.proofs.puts.Made.{AreMade, none_made, one_made, then_made}
 use Rattle.mqtt_store_migration.proofs.puts.Rows.{has_middle, of_middle, has_front, below_middle, found_middle, changed_middle}
 
@@ -56,9 +56,9 @@ agrees_in_part r part m shared is within n says same = shared m is n (within n s
 module _ (r : Records) (rows : AreRows r) where
   -- sessions before one have their copies, it has these, and those behind have none
   abbrev with_queue : List Session → Session → List CopyRow → List Session → Records
-  with_queue pre s queue rest = record (emptied r) { sessions = pre ++ record s { queue = queue } ∷ map without_copies rest }
+  with_queue pre s queue rest = record (emptied r) { sessions = pre ++ record s { queue = queue } ∷ map without_queue rest }
 
-  no_copies : (rest : List Session) (t : Session) (x : CopyRow) → Has (map without_copies rest) t → Has t.queue x → ⊥
+  no_copies : (rest : List Session) (t : Session) (x : CopyRow) → Has (map without_queue rest) t → Has t.queue x → ⊥
   no_copies [] t x has there = has
   no_copies (s ∷ rest) t x (inl here) there = subst (λ (u : Session). Has u.queue x) here there
   no_copies (s ∷ rest) t x (inr later) there = no_copies rest t x later there
@@ -68,7 +68,7 @@ module _ (r : Records) (rows : AreRows r) where
   IsOwn sessions t x = (u : Session) × Has sessions u × (u.birth ≡ t.birth) × Has u.queue x
 
   own : (pre : List Session) (s : Session) (queue : List CopyRow) (rest : List Session) (t : Session) (x : CopyRow) → ((y : CopyRow) → Has queue y → Has s.queue y)
-      → Has (pre ++ record s { queue = queue } ∷ map without_copies rest) t → Has t.queue x → IsOwn (pre ++ s ∷ rest) t x
+      → Has (pre ++ record s { queue = queue } ∷ map without_queue rest) t → Has t.queue x → IsOwn (pre ++ s ∷ rest) t x
   own [] s queue rest t x sub (inl here) there = (s, inl refl, ap birth_of (sym here), sub x (subst (λ (u : Session). Has u.queue x) here there))
   own [] s queue rest t x sub (inr later) there = absurd (no_copies rest t x later there)
   own (p ∷ pre) s queue rest t x sub (inl here) there = (t, inl here, refl, there)
@@ -105,7 +105,7 @@ module _ (r : Records) (rows : AreRows r) where
       copy_fits : Fits (PutCopy s.birth x) (at queue)
       copy_fits = (
         subst (λ (o : Option Session). HasSome o (λ session. HasRoomFor copy_place QUEUE_LIMIT x.place session.queue))
-            (sym (found_middle birth_of pre (record s { queue = queue }) (map without_copies rest) low)) (has_room copy_place QUEUE_LIMIT x.place queue less),
+            (sym (found_middle birth_of pre (record s { queue = queue }) (map without_queue rest) low)) (has_room copy_place QUEUE_LIMIT x.place queue less),
         of_middle (FitsCopy s.birth) queue x later (subst (AllByRecursion (FitsCopy s.birth)) is queue_is.each),
       )
 
@@ -121,8 +121,8 @@ module _ (r : Records) (rows : AreRows r) where
 
       copy_ends : changed (PutCopy s.birth x) (at queue) ≡ at (queue ++ x ∷ [])
       copy_ends = ap (λ (l : List Session). record (emptied r) { sessions = l })
-          (changed_middle birth_of (with_copy x) pre (record s { queue = queue }) (map without_copies rest) low
-          ∙ ap (λ (l : List CopyRow). pre ++ record s { queue = l } ∷ map without_copies rest) (put_row-last copy_place QUEUE_LIMIT x queue x_low less))
+          (changed_middle birth_of (with_copy x) pre (record s { queue = queue }) (map without_queue rest) low
+          ∙ ap (λ (l : List CopyRow). pre ++ record s { queue = l } ∷ map without_queue rest) (put_row-last copy_place QUEUE_LIMIT x queue x_low less))
 
     -- the copies of a queue that are left, put one after the other, make it
     queue_made : (queue later : List CopyRow) → s.queue ≡ queue ++ later → AreMade (map (PutCopy s.birth) later) (at queue) (at s.queue)
@@ -137,13 +137,13 @@ module _ (r : Records) (rows : AreRows r) where
   with_sessions l = record r { sessions = l; retained = [] }
 
   -- the copies of the sessions that are left, put one after the other, make their queues
-  sessions_made : (pre rest : List Session) → r.sessions ≡ pre ++ rest → AreMade (flat_map queue_puts rest) (with_sessions (pre ++ map without_copies rest)) (with_sessions r.sessions)
+  sessions_made : (pre rest : List Session) → r.sessions ≡ pre ++ rest → AreMade (flat_map queue_puts rest) (with_sessions (pre ++ map without_queue rest)) (with_sessions r.sessions)
   sessions_made pre [] split = none_made (with_sessions (pre ++ [])) (with_sessions r.sessions) (ap with_sessions (sym split))
   sessions_made pre (s ∷ rest) split =
       let next = sessions_made (pre ++ s ∷ []) rest (split ∙ sym (append_assoc pre (s ∷ []) rest)) in
-      then_made (queue_puts s) (flat_map queue_puts rest) (with_sessions (pre ++ map without_copies (s ∷ rest))) (with_sessions (pre ++ s ∷ map without_copies rest)) (with_sessions r.sessions)
+      then_made (queue_puts s) (flat_map queue_puts rest) (with_sessions (pre ++ map without_queue (s ∷ rest))) (with_sessions (pre ++ s ∷ map without_queue rest)) (with_sessions r.sessions)
       (queue_made pre s rest split [] s.queue refl)
-      (subst (λ (l : List Session). AreMade (flat_map queue_puts rest) (with_sessions l) (with_sessions r.sessions)) (append_assoc pre (s ∷ []) (map without_copies rest)) next)
+      (subst (λ (l : List Session). AreMade (flat_map queue_puts rest) (with_sessions l) (with_sessions r.sessions)) (append_assoc pre (s ∷ []) (map without_queue rest)) next)
 
   -- ---- retained messages
 
