@@ -16,7 +16,7 @@ use Rattle.mqtt_store_message_commit.proofs.Contents.{shortened_agree}
 
 module _ (making : Making) where
   -- if the tables have rows of records, all changes that fit leave those of the changed records
-  makes_keep : (changes : List Change) (db next : Trees) (r : Records) → KeepsRowsTwo making db r → AreInOrderTwo making db → FitAll changes r → FitContents changes r → AllSayable changes → MakeAll making changes db next
+  pub makes_keep : (changes : List Change) (db next : Trees) (r : Records) → KeepsRowsTwo making db r → AreInOrderTwo making db → FitAll changes r → FitContents changes r → AllSayable changes → MakeAll making changes db next
       → KeepsRowsTwo making next (changed_all changes r) × AreInOrderTwo making next
   makes_keep [] db next r k o fits agrees says same = (subst (λ (t : Trees). KeepsRowsTwo making t r) (sym same) k, subst (AreInOrderTwo making) (sym same) o)
   makes_keep (c ∷ cs) db next r k o fits agrees says made =

@@ -41,8 +41,9 @@ fn write_parts<S: Alter>(
     change_tables(alloc, tx, &it)
 }
 
-/// Writes what a change says.
-fn write_change<S: Alter>(
+/// Writes what one change says, in a transaction that is under way. `OutOfMemory` for want of memory,
+/// `TooBig` if SQL has no such number.
+pub fn write_change<S: Alter>(
     alloc: Global,
     tx: &mut Transaction<'_, S>,
     change: &Change,

@@ -8,7 +8,7 @@ mod laws;
 mod parts;
 
 pub use change::table_change_of;
-pub use commit::commit_changes;
+pub use commit::{commit_changes, write_change};
 pub use laws::{
     committed_step_keeps_rows, settled_rows_are_in_order, step_keeps_rows, step_keeps_the_list,
 };

@@ -1,0 +1,4 @@
+pub mod puts
+pub mod tables
+pub mod Making
+pub mod Committed

@@ -1,0 +1,20 @@
+use Rattle.sqlite.specs.Held.{state}
+use Rattle.mqtt_store_schema_two.specs.declared.tables.Making.TheVariants.{TakenOver}
+use Rattle.mqtt_store_message.proofs.Inside.{clean_before}
+use Rattle.mqtt_store_migration.proofs.tables.Filled.{filled}
+use Rattle.mqtt_store_migration.proofs.migration.write_second.Goals as goal
+
+pub returns-clause-kept : goal.returns-clause-kept
+returns-clause-kept g c clean whole keeps lawful =
+    let mid = state g.S.Store c.make_second.new.tx.conn.now in
+    let new = state g.S.Store c.put_all.new.tx.conn.now in
+    let tidy = clean_before mid new c.put_all.ensures.inside clean in
+    let first = c.in_ok-make_second.ensures.kept tidy c.args.records.now whole keeps in
+    let second = c.in_ok-make_second.ensures.whole tidy whole in
+    filled mid new c.args.records.now c.put_all.result lawful keeps.sayable first second (c.put_all.ensures.put TakenOver clean second).0
+
+pub returns-clause-whole : goal.returns-clause-whole
+returns-clause-whole g c clean whole =
+    let mid = state g.S.Store c.make_second.new.tx.conn.now in
+    let new = state g.S.Store c.put_all.new.tx.conn.now in
+    (c.put_all.ensures.put TakenOver clean (c.in_ok-make_second.ensures.whole (clean_before mid new c.put_all.ensures.inside clean) whole)).1

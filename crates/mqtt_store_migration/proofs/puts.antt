@@ -1,0 +1,4 @@
+pub mod Rows
+pub mod Made
+pub mod Refilled
+pub mod Lawful

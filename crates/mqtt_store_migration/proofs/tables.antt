@@ -1,0 +1,4 @@
+pub mod Emptied
+pub mod Rest
+pub mod Bare
+pub mod Filled

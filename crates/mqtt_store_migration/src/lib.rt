@@ -1,0 +1,10 @@
+//! A database of schema 1 becomes one of schema 2 that keeps the same records (MQTT 5.0, 4.1). Private.
+#![tactic(auto)]
+
+mod filling;
+mod laws;
+mod migration;
+mod second;
+
+pub use laws::puts_make_records;
+pub use migration::migrate;
