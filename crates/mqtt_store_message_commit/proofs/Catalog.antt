@@ -16,7 +16,7 @@ use Rattle.mqtt_store_message.specs.declared.change.TableChange.TheVariants.{Set
 use Rattle.mqtt_store_message_commit.specs.Making.{MakeAll}
 
 -- it is no tree of an index
-no_index : (making : Making) → IsNoIndex (schema_of (second_layout making)) catalog_tree
+pub no_index : (making : Making) → IsNoIndex (schema_of (second_layout making)) catalog_tree
 no_index New = (omega arith, (omega arith, (omega arith, (omega arith, (omega arith, (omega arith, (omega arith, (omega arith, tt))))))))
 no_index TakenOver = (omega arith, (omega arith, (omega arith, (omega arith, (omega arith, (omega arith, (omega arith, (omega arith, (omega arith, (omega arith, tt))))))))))
 

@@ -34,5 +34,6 @@ returns-in-Ok-clause-crash g c =
     (λ clean db is may.
     let mid : HasCleanDisk tx = omega (arith, c.commit.ensures.survives.clean, clean) in
     let keeps = c.in-Ok.ensures.kept mid (begun_whole old begun may.settled begins) (rw c.transaction-tx.ensures.begun may.keeps) may.lawful in
-    commits c.args.records.now old tx db keeps is may)
+    let lists = c.in-Ok.ensures.lists mid (begun_whole old begun may.settled begins) (rw c.transaction-tx.ensures.begun may.keeps) in
+    commits c.args.records.now old tx db keeps lists is may)
     (begun_survives old begun tx (λ _. ⊥) begins c.in-Ok.ensures.inside.survives) c.commit.ensures.survives)
