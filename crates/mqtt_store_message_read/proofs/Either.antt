@@ -36,6 +36,7 @@ one_first db q r (inl h) (inr k) = absurd (let e = same_count db keep_schema (fi
 one_first db q r (inr h) (inl k) = absurd (let e = same_count db (first 0) keep_schema h.0 k.0 in cc)
 one_first db q r (inr h) (inr k) = h.1 ∙ sym k.1
 
+-- a database of either schema has the records of one store
 pub either_one : (db : Database) (q r : Records) → KeepsEither db q → KeepsEither db r → q ≡ r
 either_one db q r (inl h) (inl k) = one_first db q r h k
 either_one db q r (inl h) (inr k) = absurd (no_second db q r h k)
