@@ -31,6 +31,7 @@ module _ {X : Type 0} (test : X → Bool) where
   behind [] ys none = refl
   behind (x ∷ xs) ys none = let first = none_first x xs none in rw first.0 (behind xs ys first.1)
 
+  -- and none is among some of the rows
   pub none_kept : (keeps : X → Bool) (xs : List X) → find test xs ≡ None → find test (filter keeps xs) ≡ None
   none_kept keeps [] none = refl
   none_kept keeps (x ∷ xs) none =

@@ -51,6 +51,7 @@ gone_own n (t ∷ ts) = elim (cases_Bool (nat_eq t.line n)) [
   | inr other ↦ rw (other, other) (gone_own n ts)
 ]
 
+-- and no other goes
 pub gone_other : (n k : ℕ) (ts : List Telling) → nat_eq k n ≡ false → told_on n (without_telling k ts) ≡ told_on n ts
 gone_other n k [] apart = refl
 gone_other n k (t ∷ ts) apart = elim (cases_Bool (nat_eq t.line k)) [
@@ -87,6 +88,7 @@ greeted_own n most P ts was new = by (nat_eq most 0)
     by true = was
     by false = subst P (sym (begun_own n (none_told most) ts)) new
 
+-- and so has any other client
 pub greeted_other : (n k most : ℕ) (ts : List Telling) → nat_eq k n ≡ false → told_on n (greeted k most ts) ≡ told_on n ts
 greeted_other n k most ts apart = by (nat_eq most 0)
   where
