@@ -53,7 +53,7 @@ numbers b = map line_number b.lines
 
 same_number : (now : ℕ) (part : LinePart) (l : Line) → (line_after now part l).number ≡ l.number
 same_number now Hear l = refl
-same_number now (Greet birth keep_alive window largest) l = refl
+same_number now (Greet birth keep_alive window largest most) l = refl
 same_number now (SetAlias alias topic) l = refl
 same_number now (Went place) l = refl
 

@@ -326,7 +326,7 @@ plain_good (Send n packet) b plain = tt
 plain_good (Gone n) b plain = tt
 
 abbrev only : Records → Broker
-only r = record { records = r; lines = []; given = 0; now = 0 }
+only r = record { records = r; lines = []; given = 0; now = 0; tellings = [] }
 
 keeping : (env : Env) → Keeping env HaveIdentities Good
 keeping env = record {

@@ -10,8 +10,8 @@ use Rattle.mqtt_records.specs.Records.{changed_all}
 use Rattle.mqtt_records.specs.Session.{birth_of}
 use Rattle.mqtt_records_rows.specs.Order.{row_at}
 use Rattle.mqtt_rules.specs.declared.Report.{Report}
-use Rattle.mqtt_rules.specs.State.{Line, Broker, session_at}
-use Rattle.mqtt_rules.specs.Deeds.{Deed, Part, At, Act, whose, after, after_all, rows_of, rows_of_all, stored_after, lines_after, given_after, part_rows, part_rows_of, lines_at, part_report, with_session, always, series, output, closing, report}
+use Rattle.mqtt_rules.specs.State.{Line, Telling, Broker, session_at}
+use Rattle.mqtt_rules.specs.Deeds.{Deed, Part, At, Act, whose, after, after_all, rows_of, rows_of_all, stored_after, lines_after, given_after, tellings_after, part_rows, part_rows_of, lines_at, part_report, with_session, always, series, output, closing, report}
 use Rattle.mqtt_rules.specs.Step.{is_spent}
 use Rattle.mqtt_rules.proofs.acts.Goods.{after_append}
 use Rattle.mqtt_broker_step.specs.declared.fault.StepFault.{StepFault}
@@ -83,22 +83,23 @@ map_some h x y e = rw e refl
 nothing_more : {X Y : Type 0} (h : X → Option Y) (ys : List Y) (x : X) → h x ≡ None → ys ≡ ys ++ filter_map h (x ∷ [])
 nothing_more h ys x e = sym (append-nil ys) ∙ ap (λ zs. ys ++ zs) (sym (map_none h x e))
 
--- of what a deed tells, and of the lines, nothing
+-- of what a deed tells, and of the lines and of what they were told, nothing
 pub record IsQuiet (d : Deed) (b : Broker) : Type 0 where
   pub lines : lines_after b.now d b.lines ≡ b.lines
   pub given : given_after d b.given ≡ b.given
+  pub tellings : tellings_after d b.lines b.tellings ≡ b.tellings
   pub output : output d ≡ None
   pub closing : closing d ≡ None
 
-three : {A B C R : Type 0} (mk : A → B → C → R) {a1 a2 : A} {b1 b2 : B} {c1 c2 : C} → a1 ≡ a2 → b1 ≡ b2 → c1 ≡ c2 → mk a1 b1 c1 ≡ mk a2 b2 c2
-three mk p q r = cc
+four : {A B C D R : Type 0} (mk : A → B → C → D → R) {a1 a2 : A} {b1 b2 : B} {c1 c2 : C} {d1 d2 : D} → a1 ≡ a2 → b1 ≡ b2 → c1 ≡ c2 → d1 ≡ d2 → mk a1 b1 c1 d1 ≡ mk a2 b2 c2 d2
+four mk p q r s = cc
 
-abbrev broker_with : Broker → Records → List Line → ℕ → Broker
-broker_with b r ls given = record b { records = r; lines = ls; given = given }
+abbrev broker_with : Broker → Records → List Line → ℕ → List Telling → Broker
+broker_with b r ls given ts = record b { records = r; lines = ls; given = given; tellings = ts }
 
 after_row : (d : Deed) (c : Change) (b : Broker) → IsQuiet d b → rows_of d b.records ≡ c ∷ [] → with_change c b ≡ after d b
 after_row d c b quiet rows =
-    three (broker_with b) (sym (ap (λ cs. changed_all cs b.records) rows)) (sym quiet.lines) (sym quiet.given)
+    four (broker_with b) (sym (ap (λ cs. changed_all cs b.records) rows)) (sym quiet.lines) (sym quiet.given) (sym quiet.tellings)
 
 row_listed : (d : Deed) (c : Change) (r : Records) → rows_of d r ≡ c ∷ [] → c ∷ [] ≡ rows_of_all (d ∷ []) r
 row_listed d c r rows = ap (λ cs. cs ++ []) (sym rows)
@@ -153,7 +154,7 @@ rows_of_part birth part c r x found rows = ap (part_rows_of part) (stands birth 
 pub did_part : (birth : ℕ) (part : Part) (c : Change) (x : Session) (s : Stepping) → session_at birth s.broker.records ≡ Some x → part_rows part x ≡ c ∷ []
     → lines_at x.birth part s.broker.lines ≡ s.broker.lines → part_report (whose x) part ≡ None → Did (to_session birth part) s (written c s)
 did_part birth part c x s found rows lines none = record {
-  is = did_row (At (whose x) part) c s (record { lines = lines; given = refl; output = refl; closing = refl }) none (rows_of_part birth part c s.broker.records x found rows)
+  is = did_row (At (whose x) part) c s (record { lines = lines; given = refl; tellings = refl; output = refl; closing = refl }) none (rows_of_part birth part c s.broker.records x found rows)
       ∙ ap (λ ds. did ds s) (sym (part_of birth part s.broker x found));
 }
 
@@ -161,7 +162,7 @@ did_part birth part c x s found rows lines none = record {
 pub did_part_told : (birth : ℕ) (part : Part) (c : Change) (y : Report) (x : Session) (s : Stepping) → session_at birth s.broker.records ≡ Some x → part_rows part x ≡ c ∷ []
     → lines_at x.birth part s.broker.lines ≡ s.broker.lines → part_report (whose x) part ≡ Some y → Did (to_session birth part) s (told y (written c s))
 did_part_told birth part c y x s found rows lines tells = record {
-  is = did_row_told (At (whose x) part) c y s (record { lines = lines; given = refl; output = refl; closing = refl }) tells (rows_of_part birth part c s.broker.records x found rows)
+  is = did_row_told (At (whose x) part) c y s (record { lines = lines; given = refl; tellings = refl; output = refl; closing = refl }) tells (rows_of_part birth part c s.broker.records x found rows)
       ∙ ap (λ ds. did ds s) (sym (part_of birth part s.broker x found));
 }
 

@@ -17,3 +17,4 @@ pub mod AliasDeeds
 pub mod NumbersBefore
 pub mod Then
 pub mod PlaceLists
+pub mod Telling

@@ -1,10 +1,10 @@
 -- What the deeds of a line make of a step.
-use Rattle.std.proofs.Common.{◌≡◌, ℕ, Bool, cond, List, [], ◌∷◌, nat_eq, refl, ap, sym, ◌∙◌, append-nil, inl, inr}
+use Rattle.std.proofs.Common.{◌≡◌, ℕ, Bool, cond, List, [], ◌∷◌, nat_eq, refl, ap, ap₂, sym, ◌∙◌, append-nil, inl, inr}
 use Rattle.std.specs.Prelude.{Some, None}
 use Rattle.std.proofs.lemmas.Bool.{cases_Bool}
 use Rattle.mqtt_records_rows.specs.Order.{row_at, change_row}
-use Rattle.mqtt_rules.specs.State.{Line}
-use Rattle.mqtt_rules.specs.Deeds.{LinePart, On, always, on_line, line_after}
+use Rattle.mqtt_rules.specs.State.{Line, Telling, Broker}
+use Rattle.mqtt_rules.specs.Deeds.{LinePart, On, always, on_line, line_after, told_part}
 use Rattle.mqtt_broker_step.specs.declared.line.LineChange.{LineChange}
 use Rattle.mqtt_broker_step.specs.Lines.{line_changed, line_number}
 use Rattle.mqtt_broker_step.specs.Undoing.{with_lines, with_line_changed}
@@ -38,24 +38,28 @@ on_line_none moment n part (x ∷ xs) none = elim (cases_Bool (nat_eq x.number n
       rw later (ap (λ (ys : List Line). x ∷ ys) (on_line_none moment n part xs there))
 ]
 
-did_lines : (n : ℕ) (part : LinePart) (ls : List Line) (s : Stepping) → ls ≡ on_line s.broker.now n part s.broker.lines
+-- a deed of a line tells its client nothing of topics
+abbrev pub IsUntelling : ℕ → LinePart → Stepping → Type 0
+IsUntelling n part s = told_part n part s.broker.tellings ≡ s.broker.tellings
+
+did_lines : (n : ℕ) (part : LinePart) (ls : List Line) (s : Stepping) → IsUntelling n part s → ls ≡ on_line s.broker.now n part s.broker.lines
     → with_broker (with_lines ls s.broker) s ≡ did (On n part ∷ []) s
-did_lines n part ls s is = same_parts s
-    (ap (λ (xs : List Line). with_lines xs s.broker) is)
+did_lines n part ls s untold is = same_parts s
+    (ap₂ (λ (xs : List Line) (ts : List Telling). let b : Broker = record s.broker { lines = xs; tellings = ts } in b) is (sym untold))
     (sym (append-nil s.rows)) (sym (append-nil s.outputs)) (sym (append-nil s.closed)) (sym (append-nil s.reports))
 
 -- a deed of a line that stands is done by changing that line as the rules have it
-pub on_ok_line : (n : ℕ) (part : LinePart) (change : LineChange) (l : Line) (s new : Stepping) → row_at line_number n s.broker.lines ≡ Some l
+pub on_ok_line : (n : ℕ) (part : LinePart) (change : LineChange) (l : Line) (s new : Stepping) → IsUntelling n part s → row_at line_number n s.broker.lines ≡ Some l
     → line_changed change l ≡ line_after s.broker.now part l → new ≡ with_broker (with_line_changed n change s.broker) s
     → Did (always (On n part ∷ [])) s new
-on_ok_line n part change l s new found is changed = record {
-  is = changed ∙ did_lines n part (change_row line_number n (line_changed change) s.broker.lines) s
+on_ok_line n part change l s new untold found is changed = record {
+  is = changed ∙ did_lines n part (change_row line_number n (line_changed change) s.broker.lines) s untold
       (on_line_found s.broker.now n part change l s.broker.lines found is);
 }
 
 -- a deed of a line that doesn't stand does nothing
-pub on_no_line : (n : ℕ) (part : LinePart) (s : Stepping) → row_at line_number n s.broker.lines ≡ None → Did (always (On n part ∷ [])) s s
-on_no_line n part s none = record { is = did_lines n part s.broker.lines s (sym (on_line_none s.broker.now n part s.broker.lines none)) }
+pub on_no_line : (n : ℕ) (part : LinePart) (s : Stepping) → IsUntelling n part s → row_at line_number n s.broker.lines ≡ None → Did (always (On n part ∷ [])) s s
+on_no_line n part s untold none = record { is = did_lines n part s.broker.lines s untold (sym (on_line_none s.broker.now n part s.broker.lines none)) }
 
 -- a line changed as its deed has it
 on_line_is : (moment n : ℕ) (part : LinePart) (ls : List Line) → change_row line_number n (line_after moment part) ls ≡ on_line moment n part ls
@@ -63,9 +67,9 @@ on_line_is moment n part [] = refl
 on_line_is moment n part (x ∷ xs) = ap (λ (ys : List Line). cond (nat_eq x.number n) (line_after moment part x ∷ xs) (x ∷ ys)) (on_line_is moment n part xs)
 
 -- a deed of a line is done by changing the line with its number as the rules have it, whether one stands or not
-pub on_line_ok : (n : ℕ) (part : LinePart) (s new : Stepping)
+pub on_line_ok : (n : ℕ) (part : LinePart) (s new : Stepping) → IsUntelling n part s
     → new ≡ with_broker (with_lines (change_row line_number n (line_after s.broker.now part) s.broker.lines) s.broker) s
     → Did (always (On n part ∷ [])) s new
-on_line_ok n part s new changed = record {
-  is = changed ∙ did_lines n part (change_row line_number n (line_after s.broker.now part) s.broker.lines) s (on_line_is s.broker.now n part s.broker.lines);
+on_line_ok n part s new untold changed = record {
+  is = changed ∙ did_lines n part (change_row line_number n (line_after s.broker.now part) s.broker.lines) s untold (on_line_is s.broker.now n part s.broker.lines);
 }

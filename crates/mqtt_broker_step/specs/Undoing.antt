@@ -14,8 +14,9 @@ use Rattle.mqtt_broker_step.specs.declared.undo.Undo.{Undo}
 use Rattle.mqtt_broker_step.specs.declared.undo.Undo.TheVariants.{Make, PutSession, PutLine, RemoveLine, EditLine, SetMoment}
 use Rattle.mqtt_broker_step.specs.Lines.{line_number, line_changed}
 
+-- nothing is told of topics (ours)
 abbrev pub broker_of : Records → List Line → ℕ → ℕ → Broker
-broker_of r ls given moment = record { records = r; lines = ls; given = given; now = moment }
+broker_of r ls given moment = record { records = r; lines = ls; given = given; now = moment; tellings = [] }
 
 abbrev pub with_records : Records → Broker → Broker
 with_records r b = record b { records = r }

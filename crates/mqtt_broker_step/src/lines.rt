@@ -81,7 +81,7 @@ impl Step {
     }
 
     /// A session is connected on a line, with the client's Keep Alive in seconds, Receive Maximum and
-    /// Maximum Packet Size in bytes (3.1.2.10, 3.1.2.11).
+    /// Maximum Packet Size in bytes. It is told nothing of topics (3.1.2.10, 3.1.2.11).
     pub fn greet(
         &mut self,
         line: u64,
@@ -90,10 +90,10 @@ impl Step {
         window: u16,
         largest: u32,
     ) -> Result<(), StepFault>
-        ensures ok { OnOk result (Did (always (On line (Greet birth keep_alive window largest) ∷ []))
-            self.old self.new) }
+        ensures ok { OnOk result (Did
+            (always (On line (Greet birth keep_alive window largest 0) ∷ [])) self.old self.new) }
         ensures left { IfErr result (λ fault. IsLeft
-            (always (On line (Greet birth keep_alive window largest) ∷ [])) fault
+            (always (On line (Greet birth keep_alive window largest 0) ∷ [])) fault
             self.old self.new) }
     {
         let Some(state) = self.line(line) else {
@@ -133,6 +133,7 @@ impl Step {
         ensures left { IfErr result (λ fault.
             IsLeft (always (Gone line ∷ [])) fault self.old self.new) }
     {
+        self.tables.show_untold();
         self.tables.take_line(line)?;
         self.shut(line)
     }

@@ -34,6 +34,7 @@ impl Step {
         ensures left { (packet : ThePacket) → IfErr result (λ fault.
             IsLeft (always (Send line packet ∷ [])) fault self.old self.new) }
     {
+        self.tables.show_untold();
         self.put_out(line, bytes)
     }
 

@@ -8,7 +8,7 @@ ghost use Rattle.mqtt_records.specs.Session.{birth_of, copy_place};
 ghost use Rattle.mqtt_records.specs.declared.change.Change.TheVariants.{RemoveSession, RemoveCopy, RemoveRetained};
 ghost use Rattle.mqtt_topic.specs.Aliases.{IsInRange};
 ghost use Rattle.mqtt_rules.specs.Laws.{HasTables};
-ghost use Rattle.mqtt_rules.specs.State.{Line, session_at, session_named};
+ghost use Rattle.mqtt_rules.specs.State.{IsUntold, Line, session_at, session_named};
 ghost use Rattle.mqtt_broker_step.specs.Lines.{line_changed, line_number, with_alias};
 ghost use Rattle.mqtt_broker_step.specs.Backs.{TakesLineBack};
 ghost use Rattle.mqtt_broker_step.specs.Undoing.{become, settled, taken_back, undone, broker_of, with_change, with_lines, with_line_changed, with_linked, with_moment_of, moment_of};
@@ -216,6 +216,13 @@ impl Tables {
         ensures few { length self.now.broker.lines ≤ line_limit }
     {
         self.lines.as_slice()
+    }
+
+    /// Shows that nothing is told of topics. Takes no memory.
+    pub(crate) fn show_untold(&self)
+        ensures { IsUntold self.now.broker }
+    {
+        self.lines.as_slice();
     }
 
     /// Changes a part of a line, if it stands. Want of memory changes nothing.

@@ -18,6 +18,7 @@ pub mod ExamplesSizes
 pub mod ExamplesSpent
 pub mod ExamplesTakeover
 pub mod ExamplesTick
+pub mod ExamplesTold
 pub mod ExamplesTopics
 pub mod ExamplesWindow
 pub mod Groups

@@ -99,7 +99,7 @@ abbrev pub window_of : Connect → ℕ
 window_of c = number_or 65535 ReceiveMaximum c.properties
 
 abbrev pub greet : Line → Connect → ℕ → Deed
-greet l c birth = On l.number (Greet birth c.keep_alive (window_of c) (largest_of c))
+greet l c birth = On l.number (Greet birth c.keep_alive (window_of c) (largest_of c) 0)
 
 abbrev pub assigned : Bool → List ℕ → List Prop
 assigned false client = []

@@ -1,5 +1,5 @@
 -- A step is a list of deeds, in the order of what they tell. All else of a step is read off its deeds.
-use Rattle.std.specs.Prelude.{ℕ, Bool, true, false, cond, not, List, [], ◌∷◌, ◌++◌, filter, map, nat_eq, nat_le, Option, Some, None}
+use Rattle.std.specs.Prelude.{ℕ, Bool, true, false, cond, not, List, [], ◌∷◌, ◌++◌, filter, find, map, nat_eq, nat_le, Option, Some, None, unwrap_or}
 use Rattle.mqtt_base.specs.declared.limits.TheConstants.{ALIAS_LIMIT}
 use Rattle.mqtt_base.specs.declared.session.Qos.{Qos}
 use Rattle.mqtt_base.specs.declared.session.Phase.{Phase}
@@ -7,7 +7,10 @@ use Rattle.mqtt_base.specs.declared.session.Phase.TheVariants.{Waiting}
 use Rattle.mqtt_base.specs.declared.session.Ending.{Ending}
 use Rattle.mqtt_props.specs.Properties.{Prop}
 use Rattle.mqtt_codec.specs.declared.packet.Packet.{Packet}
+use Rattle.mqtt_codec.specs.declared.packet.Packet.TheVariants.{Publish}
 use Rattle.mqtt_topic.specs.Aliases.{no_aliases, after_resolve}
+use Rattle.mqtt_topic_aliases.specs.declared.form.Form.TheVariants.{Plain}
+use Rattle.mqtt_topic_aliases.specs.Told.{ToldTopics, none_told, after_send}
 use Rattle.mqtt_flow_inbound.specs.Identifiers.{ids_without}
 use Rattle.mqtt_records_message.specs.declared.message.MessageCopy.{MessageCopy}
 use Rattle.mqtt_records_message.specs.declared.message.RetainedMessage.{RetainedMessage}
@@ -25,7 +28,8 @@ use Rattle.mqtt_records.specs.Records.{changed_all}
 use Rattle.mqtt_rules.specs.declared.Report.{Report}
 use Rattle.mqtt_rules.specs.declared.Report.TheVariants as reports
 use Rattle.mqtt_rules.specs.Packets.{size_of}
-use Rattle.mqtt_rules.specs.State.{Line, Broker, session_at, is_of, next_of}
+use Rattle.mqtt_rules.specs.Forms.{form_for, in_form}
+use Rattle.mqtt_rules.specs.State.{Line, Telling, Broker, session_at, line_at, told_on, is_of, next_of}
 
 -- whose a deed is: a session by its birth, with its client identifier
 pub record Whose : Type 0 where
@@ -66,7 +70,7 @@ pub data Part : Type 0 where
 -- what happens to one line
 pub data LinePart : Type 0 where
   Hear : LinePart
-  Greet : (birth keep_alive window largest : ℕ) → LinePart
+  Greet : (birth keep_alive window largest most : ℕ) → LinePart
   SetAlias : (alias : ℕ) (topic : List ℕ) → LinePart
   Went : (place : ℕ) → LinePart  -- a copy's PUBLISH goes out on it
 
@@ -152,7 +156,7 @@ fresh_line n now = record {
 
 abbrev pub line_after : ℕ → LinePart → Line → Line
 line_after now Hear l = record l { heard = now }
-line_after now (Greet birth keep_alive window largest) l =
+line_after now (Greet birth keep_alive window largest most) l =
     record l { session = Some birth; keep_alive = keep_alive; window = window; largest = largest }
 line_after now (SetAlias alias topic) l = record l { aliases = after_resolve l.aliases topic (Some alias) }
 line_after now (Went place) l = record l { went = l.went ++ place ∷ [] }
@@ -180,12 +184,41 @@ abbrev pub given_after : Deed → ℕ → ℕ
 given_after (Link n) given = n
 given_after d given = given
 
+-- what a packet tells that goes out on a line: a PUBLISH in the form that names its topic tells it an alias (3.3.2.3.4)
+abbrev pub tells : Option Line → Packet → ToldTopics → ToldTopics
+tells None packet told = told
+tells (Some l) (Publish p) told = after_send (form_for l.largest told p) p.topic told
+tells (Some l) packet told = told
+
+abbrev pub tells_on : ℕ → Option Line → Packet → List Telling → List Telling
+tells_on n o packet [] = []
+tells_on n o packet (t ∷ ts) =
+    cond (nat_eq t.line n) (record t { topics = tells o packet t.topics } ∷ ts) (t ∷ tells_on n o packet ts)
+
+abbrev pub without_telling : ℕ → List Telling → List Telling
+without_telling n ts = filter (λ t. not (nat_eq t.line n)) ts
+
+-- with a CONNECT that is accepted the connection has a table of its own, unless its client takes no alias
+abbrev pub greeted : ℕ → ℕ → List Telling → List Telling
+greeted n most ts = cond (nat_eq most 0) ts (without_telling n ts ++ record { line = n; topics = none_told most } ∷ [])
+
+abbrev pub told_part : ℕ → LinePart → List Telling → List Telling
+told_part n (Greet birth keep_alive window largest most) ts = greeted n most ts
+told_part n part ts = ts
+
+abbrev pub tellings_after : Deed → List Line → List Telling → List Telling
+tellings_after (On n part) ls ts = told_part n part ts
+tellings_after (Send n packet) ls ts = tells_on n (find (λ l. nat_eq l.number n) ls) packet ts
+tellings_after (Gone n) ls ts = without_telling n ts
+tellings_after d ls ts = ts
+
 abbrev pub after : Deed → Broker → Broker
 after d b = record {
   records = stored_after d b.records;
   lines = lines_after b.now d b.lines;
   given = given_after d b.given;
   now = b.now;
+  tellings = tellings_after d b.lines b.tellings;
 }
 
 abbrev pub after_all : List Deed → Broker → Broker
@@ -239,6 +272,20 @@ offer (Some l) packet = cond (nat_le (size_of packet) l.largest) (Send l.number 
 abbrev pub output : Deed → Option (ℕ × Packet)
 output (Send n packet) = Some (n, packet)
 output d = None
+
+-- a packet as it goes out: a PUBLISH in its form (3.3.2.3.4)
+abbrev pub spoken : Option Line → ToldTopics → Packet → Packet
+spoken (Some l) told (Publish p) = Publish (in_form (unwrap_or (form_for l.largest told p) Plain) p)
+spoken o told packet = packet
+
+abbrev pub wire : Deed → Broker → List (ℕ × Packet)
+wire (Send n packet) b = (n, spoken (line_at n b) (told_on n b.tellings) packet) ∷ []
+wire d b = []
+
+-- each on what the ones before it left
+abbrev pub wires : List Deed → Broker → List (ℕ × Packet)
+wires [] b = []
+wires (d ∷ ds) b = wire d b ++ wires ds (after d b)
 
 abbrev pub closing : Deed → Option ℕ
 closing (Gone n) = Some n

@@ -1,11 +1,12 @@
 -- The state of a broker: what it stores, and the lines that clients have opened (MQTT 5.0, 4.1).
-use Rattle.std.specs.Prelude.{ℕ, suc, ◌+◌, min, Bool, false, List, find, map, nat_eq, bytes_eq, Option, Some, None, is_none}
+use Rattle.std.specs.Prelude.{◌≡◌, ℕ, suc, ◌+◌, min, Bool, false, List, [], find, map, nat_eq, bytes_eq, Option, Some, None, is_none}
 use Rattle.mqtt_flow.specs.declared.entry.Entry.{Entry as FlowEntry}
 use Rattle.mqtt_flow.specs.declared.entry.QueuedCopy.{QueuedCopy}
 use Rattle.mqtt_flow_inbound.specs.Identifiers.{is_among}
 use Rattle.mqtt_base.specs.declared.limits.TheConstants.{LAST_NUMBER}
 use Rattle.mqtt_props.specs.declared.table.PropName.TheVariants.{MessageExpiryInterval}
 use Rattle.mqtt_topic.specs.Aliases.{AliasTable}
+use Rattle.mqtt_topic_aliases.specs.Told.{ToldTopics, none_told}
 use Rattle.mqtt_records_message.specs.declared.message.MessageCopy.{MessageCopy}
 use Rattle.mqtt_records_message.specs.Queue.{CopyRow}
 use Rattle.mqtt_records.specs.declared.session.Session.{Session}
@@ -28,11 +29,17 @@ pub record Line : Type 0 where
   pub aliases : AliasTable  -- what Topic Aliases stand for (3.3.2.3.4)
   pub went : List ℕ  -- the places of the copies whose PUBLISH went out on it
 
+-- the topics that the client on a line was told by aliases, from its CONNECT on (3.3.2.3.4)
+pub record Telling : Type 0 where
+  pub line : ℕ
+  pub topics : ToldTopics
+
 pub record Broker : Type 0 where
   pub records : Records  -- what is stored
   pub lines : List Line  -- in the order in which they were linked
   pub given : ℕ  -- lines so far
   pub now : ℕ  -- the greatest moment handed in
+  pub tellings : List Telling  -- of lines whose clients take aliases
 
 -- Stored: the part of the state that the store keeps
 abbrev pub stored : Broker → Records
@@ -63,6 +70,18 @@ is_connected s = is_none s.closed
 
 abbrev pub line_at : ℕ → Broker → Option Line
 line_at n b = find (λ l. nat_eq l.number n) b.lines
+
+-- what the client on a line was told; nothing, and nothing may be, if its CONNECT was not accepted
+abbrev pub topics_in : Option Telling → ToldTopics
+topics_in None = none_told 0
+topics_in (Some t) = t.topics
+
+abbrev pub told_on : ℕ → List Telling → ToldTopics
+told_on n ts = topics_in (find (λ t. nat_eq t.line n) ts)
+
+-- no client that stands on a line takes aliases
+abbrev pub IsUntold : Broker → Type 0
+IsUntold b = b.tellings ≡ []
 
 abbrev pub is_of : Option ℕ → ℕ → Bool
 is_of None birth = false

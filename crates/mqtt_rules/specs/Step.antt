@@ -224,7 +224,7 @@ abbrev pub opening : Env → Act
 opening env b = series (map (λ s. close_if (is_connected s) env s) b.records.sessions) b
 
 abbrev pub unopened : ℕ → Records → Broker
-unopened now r = record { records = r; lines = []; given = 0; now = max (capped r.moment) (capped now) }
+unopened now r = record { records = r; lines = []; given = 0; now = max (capped r.moment) (capped now); tellings = [] }
 
 abbrev pub opening_deeds : Limits → MemberChoice → ℕ → Records → List Deed
 opening_deeds limits choice now r = let b = unopened now r in opening (env_of limits choice b) b

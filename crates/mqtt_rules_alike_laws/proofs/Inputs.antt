@@ -92,23 +92,23 @@ module _ (P : Type 0) where
     -- ---- PUBLISH
 
     new_alike : (p : Publish) (m : Message) (o : Option (List CopyTo)) → AlikeActs P (publish_new env l s p m o) (publish_new (beside env old) l (with_queue q s) p m o)
-    new_alike p m None = record { does = λ b ss k. same_deeds P (publish_new env l s p m None b) }
+    new_alike p m None = record { does = λ b ts ss k. same_deeds P (publish_new env l s p m None b) }
     new_alike p m (Some ds) = record {
-      does = λ b ss k.
+      does = λ b ts ss k.
           subst (λ (t : Bool). Each (AlikeDeeds P) (publish_new env l s p m (Some ds) b)
-          (series (publish (beside env old) FromClient m ds ∷ always (opens s p.delivery) ∷ always (answer l.number p.delivery (code_accepted t)) ∷ []) (like ss b)))
+          (series (publish (beside env old) FromClient m ds ∷ always (opens s p.delivery) ∷ always (answer l.number p.delivery (code_accepted t)) ∷ []) (like ts ss b)))
           (wanted_same env old b.records ss k m)
-          ((three_alike P (publish_alike P env old FromClient m ds) (always_same P (opens s p.delivery)) (always_same P (answer l.number p.delivery (code_accepted (is_wanted env m b.records))))).does b ss k);
+          ((three_alike P (publish_alike P env old FromClient m ds) (always_same P (opens s p.delivery)) (always_same P (answer l.number p.delivery (code_accepted (is_wanted env m b.records))))).does b ts ss k);
     }
 
     by_alike : (x : Published) (p : Publish) (m : Message) → AlikeActs P (publish_by x env l s p m) (publish_by x (beside env old) l (with_queue q s) p m)
-    by_alike Again p m = record { does = λ b ss k. same_deeds P (publish_by Again env l s p m b) }
+    by_alike Again p m = record { does = λ b ts ss k. same_deeds P (publish_by Again env l s p m b) }
     by_alike Over p m = record { does = (drop_alike P env old receive_maximum_exceeded l).does }
     by_alike New p m = record {
-      does = λ b ss k.
-          subst (λ (o : Option (List CopyTo)). Each (AlikeDeeds P) (publish_by New env l s p m b) (publish_new (beside env old) l (with_queue q s) p m o (like ss b)))
-          (accepted_same env old m b ss k)
-          ((new_alike p m (accepted_copies env m b)).does b ss k);
+      does = λ b ts ss k.
+          subst (λ (o : Option (List CopyTo)). Each (AlikeDeeds P) (publish_by New env l s p m b) (publish_new (beside env old) l (with_queue q s) p m o (like ts ss b)))
+          (accepted_same env old m b ts ss k)
+          ((new_alike p m (accepted_copies env m b)).does b ts ss k);
     }
 
     meant_alike : (x : Meaning) (p : Publish) → AlikeActs P (publish_meant x env l s p) (publish_meant x (beside env old) l (with_queue q s) p)
@@ -125,8 +125,8 @@ module _ (P : Type 0) where
     -- ---- a receiver's answers
 
     turned_alike : (a : Answer) → MayAnswer a → AlikeActs P (on_answer a env l s) (on_answer a (beside env old) l (with_queue q s))
-    turned_alike (Ok None) m = record { does = λ b ss k. tt }
-    turned_alike (Ok (Some t)) m = record { does = λ b ss k. turn_alike P b.now l.number s q h t m }
+    turned_alike (Ok None) m = record { does = λ b ts ss k. tt }
+    turned_alike (Ok (Some t)) m = record { does = λ b ts ss k. turn_alike P b.now l.number s q h t m }
     turned_alike (Err fault) m = record { does = (drop_alike P env old protocol_error l).does }
 
     answer_alike : (a : List FlowEntry → Answer) → ((es : List FlowEntry) → MayAnswer (a es))

@@ -15,9 +15,9 @@ use Rattle.mqtt_records.specs.Records.{changed, changed_all, in_session, put_ses
 use Rattle.mqtt_records.specs.Session.{birth_of, copy_place, fresh, in_phase, with_columns, with_will, with_subscription, without_subscription, with_open, without_open, with_copy, with_phase, without_copy}
 use Rattle.mqtt_records_rows.specs.Order.{has_row, put_row, change_row}
 use Rattle.mqtt_routes.specs.Intended.{greatest}
-use Rattle.mqtt_rules.specs.State.{Line, Broker, session_at}
-use Rattle.mqtt_rules.specs.Deeds.{Whose, Part, Resume, Close, SetExpiry, DropWill, Subscribe, Unsubscribe, Open, Release, Enter, Mark, Leave, Deed, Accept, Begin, Name, Count, At, Finish, Keep, Forget, RefuseWill, Link, On, Send, Gone, after, after_all, rows_of, part_rows, part_rows_of, lines_after, given_after, without_place}
-use Rattle.mqtt_rules_alike_laws.specs.Alike.{Each, AlikeRows, AlikeSessions, AlikeRecords, AlikeBrokers, AlikeDeeds, same, leaves, sends, with_queue, with_sessions, with_records}
+use Rattle.mqtt_rules.specs.State.{Line, Broker, session_at, Telling}
+use Rattle.mqtt_rules.specs.Deeds.{Whose, Part, Resume, Close, SetExpiry, DropWill, Subscribe, Unsubscribe, Open, Release, Enter, Mark, Leave, Deed, Accept, Begin, Name, Count, At, Finish, Keep, Forget, RefuseWill, Link, On, Send, Gone, after, after_all, rows_of, part_rows, part_rows_of, lines_after, given_after, tellings_after, without_place}
+use Rattle.mqtt_rules_alike_laws.specs.Alike.{Each, AlikeRows, AlikeSessions, AlikeRecords, AlikeBrokers, AlikeDeeds, same, leaves, sends, with_queue, with_sessions, with_parts}
 use Rattle.mqtt_rules_alike_laws.proofs.Pairs.{Both, by_cond, each_refl, map_same, both_at, each_changed, each_removed, each_put, has_same}
 
 -- ---- what is alike to itself
@@ -34,7 +34,7 @@ session_alike s = record { rest = refl; queue = each_refl AlikeRows row_alike s.
 pub deed_alike : (P : Type 0) (d : Deed) → AlikeDeeds P d d
 deed_alike P d = same refl
 
--- ---- what is alike to a session, to records, to a broker: the same with other rows
+-- ---- what is alike to a session, to records, to a broker: the same with other rows, and with other tellings
 
 -- a session with an alike queue is alike
 pub queue_put : (s : Session) (q : List CopyRow) → Each AlikeRows s.queue q → AlikeSessions s (with_queue q s)
@@ -56,20 +56,20 @@ records_put r ss h = record { rest = refl; sessions = h }
 pub by_sessions : (P : Records → Type 0) (r : Records) → ((ss : List Session) → Each AlikeSessions r.sessions ss → P (with_sessions ss r)) → (o : Records) → AlikeRecords r o → P o
 by_sessions P r k o h = subst P (ap (with_sessions o.sessions) h.rest) (k o.sessions h.sessions)
 
-abbrev pub like : List Session → Broker → Broker
-like ss b = with_records (with_sessions ss b.records) b
+abbrev pub like : List Telling → List Session → Broker → Broker
+like ts ss b = with_parts (with_sessions ss b.records) ts b
 
 -- a broker with alike sessions is alike
-pub broker_put : (b : Broker) (ss : List Session) → Each AlikeSessions b.records.sessions ss → AlikeBrokers b (like ss b)
-broker_put b ss h = record { rest = refl; records = records_put b.records ss h }
+pub broker_put : (b : Broker) (ts : List Telling) (ss : List Session) → Each AlikeSessions b.records.sessions ss → AlikeBrokers b (like ts ss b)
+broker_put b ts ss h = record { rest = refl; records = records_put b.records ss h }
 
 -- and an alike broker is one with alike sessions
-pub broker_is : (b c : Broker) → AlikeBrokers b c → like c.records.sessions b ≡ c
-broker_is b c h = ap (λ (r : Records). with_records r b) (ap (with_sessions c.records.sessions) h.records.rest) ∙ h.rest
+pub broker_is : (b c : Broker) → AlikeBrokers b c → like c.tellings c.records.sessions b ≡ c
+broker_is b c h = ap (λ (r : Records). with_parts r c.tellings b) (ap (with_sessions c.records.sessions) h.records.rest) ∙ h.rest
 
 -- what holds of a broker with alike sessions holds of alike brokers
-pub by_broker : (P : Broker → Type 0) (b : Broker) → ((ss : List Session) → Each AlikeSessions b.records.sessions ss → P (like ss b)) → (c : Broker) → AlikeBrokers b c → P c
-by_broker P b k c h = subst P (broker_is b c h) (k c.records.sessions h.records.sessions)
+pub by_broker : (P : Broker → Type 0) (b : Broker) → ((ts : List Telling) (ss : List Session) → Each AlikeSessions b.records.sessions ss → P (like ts ss b)) → (c : Broker) → AlikeBrokers b c → P c
+by_broker P b k c h = subst P (broker_is b c h) (k c.tellings c.records.sessions h.records.sessions)
 
 -- ---- what is found
 
@@ -209,16 +209,16 @@ module _ (P : Type 0) where
   pub rows_alike : (d e : Deed) → AlikeDeeds P d e → (r : Records) (ss : List Session) → Each AlikeSessions r.sessions ss → rows_of d r ≡ rows_of e (with_sessions ss r)
   rows_alike d e k r ss h = rows_same d r ss h ∙ (deeds_do d e k (with_sessions ss r) 0 [] 0).0
 
-  abbrev with_all : Records → List Line → ℕ → ℕ → Broker
-  with_all r ls given now = record { records = r; lines = ls; given = given; now = now }
+  abbrev with_all : Records → List Line → ℕ → ℕ → List Telling → Broker
+  with_all r ls given now ts = record { records = r; lines = ls; given = given; now = now; tellings = ts }
 
   -- an alike deed leaves alike brokers alike
-  pub after_alike : (d e : Deed) → AlikeDeeds P d e → (b : Broker) (ss : List Session) → Each AlikeSessions b.records.sessions ss → AlikeBrokers (after d b) (after e (like ss b))
-  after_alike d e k b ss h =
+  pub after_alike : (d e : Deed) → AlikeDeeds P d e → (b : Broker) (ts : List Telling) (ss : List Session) → Each AlikeSessions b.records.sessions ss → AlikeBrokers (after d b) (after e (like ts ss b))
+  after_alike d e k b ts ss h =
       let does = deeds_do d e k b.records b.now b.lines b.given in
       let o = with_sessions ss b.records in
       record {
-        rest = ap₂ (λ ls n. with_all (changed_all (rows_of e o) o) ls n b.now) does.1 does.2;
+        rest = ap₂ (λ ls n. with_all (changed_all (rows_of e o) o) ls n b.now (tellings_after e b.lines ts)) does.1 does.2;
         records = subst (λ (rows : List Change). AlikeRecords (changed_all (rows_of d b.records) b.records) (changed_all rows o)) (rows_alike d e k b.records ss h)
             (changed_all_alike (rows_of d b.records) b.records o (records_put b.records ss h));
       }

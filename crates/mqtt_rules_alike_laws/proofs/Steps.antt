@@ -13,7 +13,7 @@ use Rattle.mqtt_rules.specs.Deeds.{Deed, Send, after_all, rows_of, rows_of_all, 
 use Rattle.mqtt_rules.specs.Inbound.{pump_turns, pump_deeds}
 use Rattle.mqtt_rules.specs.Laws.{Event, Asked, Reopened, after_event, after_events}
 use Rattle.mqtt_rules.specs.Outbound.{all_turn_deeds}
-use Rattle.mqtt_rules.specs.State.{Line, Broker, MemberChoice}
+use Rattle.mqtt_rules.specs.State.{Line, Broker, MemberChoice, Telling}
 use Rattle.mqtt_rules.specs.Step.{Call, NewLine, Input, BadInput, Lost, Pump, Tick, publish_out, is_none_done, is_again, outcome_of, told, deeds, at_moment, env_of, stamped, rows_written, with_moment, done, stepped, is_spent, is_step_spent, unopened, opening_deeds, opened}
 use Rattle.mqtt_rules_alike_laws.specs.Alike.{IsPump, Each, AlikeSessions, AlikeRecords, AlikeBrokers, AlikeDeeds, AlikePublishes, same, leaves, sends, AlikeOutputs, AlikeOutcomes, with_sessions}
 use Rattle.mqtt_rules_alike_laws.proofs.Pairs.{Both, each_picked, picked_same}
@@ -42,13 +42,13 @@ module _ (P : Type 0) where
   moment_alike : (rows : List Change) (b c : Broker) → AlikeBrokers b c → AlikeBrokers (with_moment rows b) (with_moment rows c)
   moment_alike [] b c h = h
   moment_alike (row ∷ rows) b c h = by_broker (λ (x : Broker). AlikeBrokers (with_moment (row ∷ rows) b) (with_moment (row ∷ rows) x)) b
-      (λ ss k. record { rest = refl; records = record { rest = refl; sessions = k } }) c h
+      (λ ts ss k. record { rest = refl; records = record { rest = refl; sessions = k } }) c h
 
-  done_alike : (ds es : List Deed) → Each (AlikeDeeds P) ds es → (b : Broker) (ss : List Session) → Each AlikeSessions b.records.sessions ss → AlikeBrokers (done ds b) (done es (like ss b))
-  done_alike ds es k b ss h =
-      let c = like ss b in
-      subst (λ (rows : List Change). AlikeBrokers (done ds b) (with_moment rows (after_all es (like ss b)))) (all_rows_same ds es k b.records c.records (records_put b.records ss h))
-      (moment_alike (rows_of_all ds b.records) (after_all ds b) (after_all es c) (all_after_alike P ds es k b c (broker_put b ss h)))
+  done_alike : (ds es : List Deed) → Each (AlikeDeeds P) ds es → (b : Broker) (ts : List Telling) (ss : List Session) → Each AlikeSessions b.records.sessions ss → AlikeBrokers (done ds b) (done es (like ts ss b))
+  done_alike ds es k b ts ss h =
+      let c = like ts ss b in
+      subst (λ (rows : List Change). AlikeBrokers (done ds b) (with_moment rows (after_all es (like ts ss b)))) (all_rows_same ds es k b.records c.records (records_put b.records ss h))
+      (moment_alike (rows_of_all ds b.records) (after_all ds b) (after_all es c) (all_after_alike P ds es k b c (broker_put b ts ss h)))
 
   -- ---- what is told
 
@@ -115,8 +115,8 @@ may_call (Pump n) = tt
 may_call Tick = tt
 
 module _ (limits : Limits) (choice : MemberChoice) (now : ℕ) where
-  put_deeds : (call : Call) (b : Broker) (ss : List Session) → Each AlikeSessions b.records.sessions ss → Each (AlikeDeeds (IsPump call)) (deeds limits choice now call b) (deeds limits choice now call (like ss b))
-  put_deeds call b ss h = (call_alike (IsPump call) (env_of limits choice b) ss call (may_call call)).does (at_moment now b) ss h
+  put_deeds : (call : Call) (b : Broker) (ts : List Telling) (ss : List Session) → Each AlikeSessions b.records.sessions ss → Each (AlikeDeeds (IsPump call)) (deeds limits choice now call b) (deeds limits choice now call (like ts ss b))
+  put_deeds call b ts ss h = (call_alike (IsPump call) (env_of limits choice b) ss call (may_call call)).does (at_moment now b) ts ss h
 
   -- a call does alike deeds on brokers that are alike
   pub deeds_alike : (call : Call) (b c : Broker) → AlikeBrokers b c → Each (AlikeDeeds (IsPump call)) (deeds limits choice now call b) (deeds limits choice now call c)
@@ -125,7 +125,7 @@ module _ (limits : Limits) (choice : MemberChoice) (now : ℕ) where
   -- a step leaves alike brokers alike
   pub step_alike : (call : Call) (b c : Broker) → AlikeBrokers b c → AlikeBrokers (stepped limits choice now call b) (stepped limits choice now call c)
   step_alike call b c h = by_broker (λ (x : Broker). AlikeBrokers (stepped limits choice now call b) (stepped limits choice now call x)) b
-      (λ ss k. done_alike (IsPump call) (deeds limits choice now call b) (deeds limits choice now call (like ss b)) (put_deeds call b ss k) (at_moment now b) ss k) c h
+      (λ ts ss k. done_alike (IsPump call) (deeds limits choice now call b) (deeds limits choice now call (like ts ss b)) (put_deeds call b ts ss k) (at_moment now b) ts ss k) c h
 
   -- a step on alike brokers tells alike
   pub told_alike : (call : Call) (b c : Broker) → AlikeBrokers b c → AlikeOutcomes (IsPump call) (told limits choice now call b) (told limits choice now call c)
@@ -135,7 +135,7 @@ module _ (limits : Limits) (choice : MemberChoice) (now : ℕ) where
   pub written_same : (call : Call) (b c : Broker) → AlikeBrokers b c
       → rows_written (deeds limits choice now call b) (at_moment now b) ≡ rows_written (deeds limits choice now call c) (at_moment now c)
   written_same call b c h = by_broker (λ (x : Broker). rows_written (deeds limits choice now call b) (at_moment now b) ≡ rows_written (deeds limits choice now call x) (at_moment now x)) b
-      (λ ss k. ap (stamped (at_moment now b).now b.records.moment) (all_rows_same (IsPump call) (deeds limits choice now call b) (deeds limits choice now call (like ss b)) (put_deeds call b ss k) b.records (with_sessions ss b.records) (records_put b.records ss k))) c h
+      (λ ts ss k. ap (stamped (at_moment now b).now b.records.moment) (all_rows_same (IsPump call) (deeds limits choice now call b) (deeds limits choice now call (like ts ss b)) (put_deeds call b ts ss k) b.records (with_sessions ss b.records) (records_put b.records ss k))) c h
 
   -- a step is spent on both or on none
   pub spent_same : (call : Call) (b c : Broker) → AlikeBrokers b c → is_step_spent limits choice now call b ≡ is_step_spent limits choice now call c
@@ -147,7 +147,7 @@ module _ (limits : Limits) (choice : MemberChoice) (now : ℕ) where
   pub opened_alike : (r o : Records) → AlikeRecords r o → AlikeBrokers (opened limits choice now r) (opened limits choice now o)
   opened_alike r o h = by_sessions (λ (x : Records). AlikeBrokers (opened limits choice now r) (opened limits choice now x)) r
       (λ ss k. done_alike ⊥ (opening_deeds limits choice now r) (opening_deeds limits choice now (with_sessions ss r))
-      ((opening_alike ⊥ (env_of limits choice (unopened now r)) ss).does (unopened now r) ss k) (unopened now r) ss k) o h
+      ((opening_alike ⊥ (env_of limits choice (unopened now r)) ss).does (unopened now r) [] ss k) (unopened now r) [] ss k) o h
 
 -- ---- runs
 

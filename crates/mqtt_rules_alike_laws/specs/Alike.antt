@@ -7,7 +7,7 @@ use Rattle.mqtt_records_message.specs.Queue.{CopyRow}
 use Rattle.mqtt_records.specs.declared.session.Session.{Session}
 use Rattle.mqtt_records.specs.declared.records.Records.{Records}
 use Rattle.mqtt_rules.specs.Packets.{publish_of}
-use Rattle.mqtt_rules.specs.State.{Broker, queued_copy}
+use Rattle.mqtt_rules.specs.State.{Telling, Broker, queued_copy}
 use Rattle.mqtt_rules.specs.Deeds.{Whose, Leave, Deed, At, Send}
 use Rattle.mqtt_rules.specs.Step.{Call, NewLine, Input, BadInput, Lost, Pump, Tick, Outcome}
 
@@ -49,9 +49,12 @@ pub record AlikeRecords (one other : Records) : Type 0 where
 abbrev pub with_records : Records → Broker → Broker
 with_records r b = record b { records = r }
 
--- the same lines, and alike in what is stored
+abbrev pub with_parts : Records → List Telling → Broker → Broker
+with_parts r ts b = record b { records = r; tellings = ts }
+
+-- the same lines, and alike in what is stored; what clients were told of topics may be any
 pub record AlikeBrokers (one other : Broker) : Type 0 where
-  pub rest : with_records other.records one ≡ other
+  pub rest : with_parts other.records other.tellings one ≡ other
   pub records : AlikeRecords one.records other.records
 
 -- ---- what they do

@@ -15,7 +15,8 @@ ghost use Rattle.mqtt_rules_alike_laws.specs.Slim.{slim, slim_broker};
 /// Brokers that are alike but for what their waiting copies say do alike: by each call they come to brokers that are alike
 /// again, with alike deeds, the same reports and closed lines, and the same packets, but that each one's pump says what its
 /// own copies say; they write the same rows, and refuse the same calls for a spent number. So they do if what they
-/// stored is opened again, and in every run of calls and openings (3.3, 4.6).
+/// stored is opened again, and in every run of calls and openings. What their clients were told of topics may be any
+/// on either side (3.3, 4.6).
 pub fn alike_steps()
     ensures states { (limits : Limits) (choice : MemberChoice) (now : ℕ) (call : Call) (b c : Broker) → AlikeBrokers b c
         → AlikeBrokers (stepped limits choice now call b) (stepped limits choice now call c) }

@@ -2,6 +2,7 @@
 pub mod AwaitingOthers
 pub mod Calling
 pub mod CallsOfOthers
+pub mod Carried
 pub mod FreshLines
 pub mod IdleLines
 pub mod LateConnect

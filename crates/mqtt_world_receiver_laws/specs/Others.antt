@@ -10,7 +10,7 @@ use Rattle.mqtt_world_receiver_laws.specs.Calls.{IsOnlyAt}
 
 -- another session is connected on the line, if one is
 abbrev pub IsPartOfOthers : ℕ → LinePart → Type 0
-IsPartOfOthers birth (Greet other keep_alive window largest) = nat_eq other birth ≡ false
+IsPartOfOthers birth (Greet other keep_alive window largest most) = nat_eq other birth ≡ false
 IsPartOfOthers birth part = ⊤
 
 -- about another session than the one of this birth, on other lines than these; a session that begins has another name

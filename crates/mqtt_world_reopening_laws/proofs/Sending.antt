@@ -1,19 +1,26 @@
 -- A broker that began with nothing stored goes on sending well, with whatever code a fault was told: its code is in what goes out
 -- alone, so what is stored is as with the code of a fault (MQTT 5.0, 2.2.1, 4.1, 4.13).
-use Rattle.std.proofs.Common.{◌≡◌, ℕ, Bool, true, false, List, [], ◌∷◌, Option, Some, None, refl, ap, subst, ◌∙◌}
+use Rattle.std.proofs.Common.{◌≡◌, ℕ, Bool, true, false, List, [], ◌∷◌, ◌++◌, Option, Some, None, nat_eq, refl, sym, ap, subst, ◌∙◌, inl, inr}
+use Rattle.std.specs.Prelude.{find}
+use Rattle.std.proofs.lemmas.Bool.{cases_Bool}
+use Rattle.mqtt_codec.specs.declared.packet.Packet.{Packet}
 use Rattle.mqtt_codec_parts.specs.Faults.{answer_to}
 use Rattle.mqtt_codec_parts.specs.declared.fault.Fault.TheVariants.{Malformed}
 use Rattle.mqtt_records.specs.Records.{nothing}
+use Rattle.mqtt_records.specs.declared.change.Change.{Change}
 use Rattle.mqtt_records.specs.declared.records.Records.{Records}
 use Rattle.mqtt_rules.specs.Contents.{TakesLawful}
 use Rattle.mqtt_rules.specs.Laws.{Asked, Event, Reopened, after_event, after_events, blank}
 use Rattle.mqtt_rules.specs.Piece.{code_of}
-use Rattle.mqtt_rules.specs.State.{Broker, Env, Line, MemberChoice, line_at}
-use Rattle.mqtt_rules.specs.Step.{BadInput, Call, Input, Lost, NewLine, Pump, Tick, at_moment, done, env_of, is_opening_spent, is_spent, is_step_spent, on_fault, rows_written, stepped}
-use Rattle.mqtt_rules.specs.Deeds.{with_line}
+use Rattle.mqtt_rules.specs.Closing.{close}
+use Rattle.mqtt_rules.specs.Packets.{connack, disconnect}
+use Rattle.mqtt_rules.specs.State.{Broker, Env, Line, MemberChoice, Telling, line_at}
+use Rattle.mqtt_rules.specs.Step.{BadInput, Call, Input, Lost, NewLine, Pump, Tick, at_moment, done, env_of, is_opening_spent, is_spent, is_step_spent, late_code, on_fault, rows_written, stamped, stepped, with_moment}
+use Rattle.mqtt_rules.specs.Deeds.{Send, after, after_all, rows_of_all, tells, tells_on, with_line}
 use Rattle.mqtt_rules.specs.declared.Limits.{Limits}
 use Rattle.mqtt_rules.proofs.contents.LawfulContents.{lawful_contents}
 use Rattle.mqtt_rules.proofs.fit.LawfulRecords.{lawful_coherent}
+use Rattle.mqtt_topic_aliases.specs.Told.{ToldTopics}
 use Rattle.mqtt_world_acceptance_laws.specs.Fair.{opened_world}
 use Rattle.mqtt_rules_spelling_laws.specs.Sending.{HaveSentPhases, IsAsked, SendsWell, TellsFault}
 use Rattle.mqtt_rules_spelling_laws.proofs.Steps.{well_begun, well_reopened, well_stepped}
@@ -23,17 +30,53 @@ use Rattle.mqtt_world_reopening_laws.specs.Reached.{WasLeft}
 
 -- ---- a fault's code is in what goes out alone
 
+-- a packet that tells nothing leaves what clients were told
+told_nothing : (n : ℕ) (o : Option Line) (packet : Packet) → ((told : ToldTopics) → tells o packet told ≡ told) → (ts : List Telling) → tells_on n o packet ts ≡ ts
+told_nothing n o packet none [] = refl
+told_nothing n o packet none (t ∷ ts) = elim (cases_Bool (nat_eq t.line n)) [
+  | inl here ↦ rw here (ap (λ (told : ToldTopics). let x : Telling = record t { topics = told } in x ∷ ts) (none t.topics))
+  | inr other ↦ rw other (ap (λ (us : List Telling). t ∷ us) (told_nothing n o packet none ts))
+]
+
+sent_same : (n : ℕ) (packet : Packet) (b : Broker) → ((o : Option Line) (told : ToldTopics) → tells o packet told ≡ told) → after (Send n packet) b ≡ b
+sent_same n packet b none =
+    let o = find (λ (l : Line). nat_eq l.number n) b.lines in
+    ap (λ (ts : List Telling). let x : Broker = record b { tellings = ts } in x) (told_nothing n o packet (none o) b.tellings)
+
+-- such are DISCONNECT and CONNACK
+goodbye_tells : (code : ℕ) (o : Option Line) (told : ToldTopics) → tells o (disconnect code) told ≡ told
+goodbye_tells code None told = refl
+goodbye_tells code (Some l) told = refl
+
+refusal_tells : (code : ℕ) (o : Option Line) (told : ToldTopics) → tells o (connack false code []) told ≡ told
+refusal_tells code None told = refl
+refusal_tells code (Some l) told = refl
+
+-- what becomes of a line that closes once a packet went out on it, and the rows of that
+abbrev closes_on : Env → Line → Broker → Broker → Broker
+closes_on env l b c = with_moment (rows_of_all (close env true l c ++ []) b.records) (after_all (close env true l c ++ []) c)
+
+abbrev rows_on : Env → Line → Broker → Broker → List Change
+rows_on env l b c = stamped b.now b.records.moment (rows_of_all (close env true l c ++ []) b.records)
+
+module _ (env : Env) (l : Line) (b : Broker) where
+  two_done : (p q : Packet) → ((o : Option Line) (told : ToldTopics) → tells o p told ≡ told) → ((o : Option Line) (told : ToldTopics) → tells o q told ≡ told)
+      → closes_on env l b (after (Send l.number p) b) ≡ closes_on env l b (after (Send l.number q) b)
+  two_done p q first second = ap (closes_on env l b) (sent_same l.number p b first ∙ sym (sent_same l.number q b second))
+
+  two_rows : (p q : Packet) → ((o : Option Line) (told : ToldTopics) → tells o p told ≡ told) → ((o : Option Line) (told : ToldTopics) → tells o q told ≡ told)
+      → rows_on env l b (after (Send l.number p) b) ≡ rows_on env l b (after (Send l.number q) b)
+  two_rows p q first second = ap (rows_on env l b) (sent_same l.number p b first ∙ sym (sent_same l.number q b second))
+
 same_done : (env : Env) (l : Line) (t : Bool) (code other : ℕ) (o : Option ℕ) (b : Broker) → done (on_fault env l t code o b) b ≡ done (on_fault env l t other o b) b
-same_done env l true code other None b = refl
+same_done env l true code other None b = two_done env l b (connack false code []) (connack false other []) (refusal_tells code) (refusal_tells other)
 same_done env l false code other None b = refl
-same_done env l true code other (Some birth) b = refl
-same_done env l false code other (Some birth) b = refl
+same_done env l t code other (Some birth) b = two_done env l b (disconnect (late_code code)) (disconnect (late_code other)) (goodbye_tells (late_code code)) (goodbye_tells (late_code other))
 
 same_rows : (env : Env) (l : Line) (t : Bool) (code other : ℕ) (o : Option ℕ) (b : Broker) → rows_written (on_fault env l t code o b) b ≡ rows_written (on_fault env l t other o b) b
-same_rows env l true code other None b = refl
+same_rows env l true code other None b = two_rows env l b (connack false code []) (connack false other []) (refusal_tells code) (refusal_tells other)
 same_rows env l false code other None b = refl
-same_rows env l true code other (Some birth) b = refl
-same_rows env l false code other (Some birth) b = refl
+same_rows env l t code other (Some birth) b = two_rows env l b (disconnect (late_code code)) (disconnect (late_code other)) (goodbye_tells (late_code code)) (goodbye_tells (late_code other))
 
 line_done : (env : Env) (t : Bool) (code other : ℕ) (o : Option Line) (b : Broker)
     → done (with_line o (λ l. on_fault env l t code l.session) b) b ≡ done (with_line o (λ l. on_fault env l t other l.session) b) b

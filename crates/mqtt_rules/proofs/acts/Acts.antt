@@ -281,7 +281,7 @@ is_beside part = false
 beside_line : (now : ℕ) (part : LinePart) (l : Line) → is_beside part ≡ true → ((line_after now part l).number ≡ l.number) × ((line_after now part l).session ≡ l.session)
 beside_line now Hear l h = (refl, refl)
 beside_line now (SetAlias alias topic) l h = (refl, refl)
-beside_line now (Greet birth keep_alive window largest) l h = absurd cc
+beside_line now (Greet birth keep_alive window largest most) l h = absurd cc
 beside_line now (Went place) l h = absurd cc
 
 -- what happens on a line, other than a greeting, keeps who stands on the others

@@ -198,7 +198,7 @@ module _ (sizes : Sizes) where
 
   topics_part : (now n : ℕ) (part : LinePart) (l : Line) (b : Broker) → Brings (On n part) b → HasTopics l → HasTopics (line_after now part l)
   topics_part now n Hear l b q h = h
-  topics_part now n (Greet birth keep_alive window largest) l b q h = h
+  topics_part now n (Greet birth keep_alive window largest most) l b q h = h
   topics_part now n (SetAlias alias topic) l b q h = topics_resolved l.aliases topic alias q h
   topics_part now n (Went place) l b q h = h
 

@@ -41,6 +41,7 @@ due_at_once = record {
   lines = fresh_line 1 0 ∷ [];
   given = 1;
   now = 0;
+  tellings = [];
 }
 
 abbrev after_ticks : ℕ → Broker

@@ -40,7 +40,7 @@ abbrev pub usual : Limits
 usual = record { full = Refuse; queue = 1000; sessions = 1000; retained = 1000 }
 
 abbrev pub blank : Broker
-blank = record { records = nothing; lines = []; given = 0; now = 0 }
+blank = record { records = nothing; lines = []; given = 0; now = 0; tellings = [] }
 
 -- the first eligible member of each group
 abbrev pub first : MemberChoice

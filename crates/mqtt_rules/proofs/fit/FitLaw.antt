@@ -223,7 +223,7 @@ open_will : (birth : ℕ) (will : Option Will) (k : ℕ) (r : Records) → field
 open_will birth None k r = field_kept open_of birth k (with_will None) r (λ s. refl) (λ s. refl)
 open_will birth (Some w) k r = field_kept open_of birth k (with_will (Some w)) r (λ s. refl) (λ s. refl)
 
-open_part : (part : Part) (s : Session) (k : ℕ) (r : Records) → IsBeside (At (whose s) part) (record { records = r; lines = []; given = 0; now = 0 }) → field_at open_of k (changed_all (part_rows part s) r) ≡ field_at open_of k r
+open_part : (part : Part) (s : Session) (k : ℕ) (r : Records) → IsBeside (At (whose s) part) (record { records = r; lines = []; given = 0; now = 0; tellings = [] }) → field_at open_of k (changed_all (part_rows part s) r) ≡ field_at open_of k r
 open_part (Resume expiry will) s k r beside =
     let row : Columns = record { birth = s.birth; client = s.client; expiry = expiry; closed = None } in
     open_will s.birth will k (changed (SetSession row) r) ∙ field_kept open_of s.birth k (with_columns row) r (λ t. refl) (λ t. refl)

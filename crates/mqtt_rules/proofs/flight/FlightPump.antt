@@ -4,6 +4,7 @@ use Rattle.std.specs.Prelude.{Option, Some, None}
 use Rattle.std.specs.List.{AllByRecursion}
 use Rattle.std.proofs.lemmas.Bool.{cases_Bool}
 use Rattle.std.proofs.lemmas.Cmp.{nat_eq_equiv}
+use Rattle.mqtt_base.specs.Codes.{success}
 use Rattle.mqtt_base.specs.Phases.{identifier_of}
 use Rattle.mqtt_base.specs.declared.session.Qos.{Qos}
 use Rattle.mqtt_base.specs.declared.session.Qos.TheVariants.{AtMostOnce, AtLeastOnce, ExactlyOnce}
@@ -28,7 +29,7 @@ use Rattle.mqtt_records_rows.proofs.LookUps.{row_at-remove_row}
 use Rattle.mqtt_rules.specs.State.{Broker, Line, session_at}
 use Rattle.mqtt_rules.specs.Deeds.{whose, Mark, Leave, Went, At, On, Send, after, after_all}
 use Rattle.mqtt_rules.specs.Outbound.{of_entry, all_turn_deeds, way_of}
-use Rattle.mqtt_rules.specs.Packets.{publish_of}
+use Rattle.mqtt_rules.specs.Packets.{publish_of, pubrel}
 use Rattle.mqtt_rules.specs.Inbound.{pump_deeds}
 use Rattle.mqtt_rules.specs.Flight.{identifier_in, identifier_at, IsFlight, HasDistinctIdentifiers}
 use Rattle.mqtt_rules.proofs.flight.FlightRows.{all_found, change_row-other}
@@ -170,7 +171,7 @@ module _ (size : CopyRow → ℕ) (way : Way) (now line : ℕ) (s : Session) (we
   take_outgrow : (i : ℕ) (e : CopyRow) (es queue : List CopyRow) (p : Pacing) (b : Broker) (rest : Pacing → List Turn) → identifier_of e.phase ≡ Some i → Place e es queue p b → Next es rest → Told (then_on (in_room 1 (turns.Outgrow e.place i p.order)) e.phase p rest) b
   take_outgrow i e es queue p b rest its at next =
       let phase = Oversize i p.order in
-      next (paced (turns.Outgrow e.place i p.order) e.phase p) (change_row copy_place e.place (in_phase phase) queue) (after (At (whose s) (Mark e.place phase)) b)
+      next (paced (turns.Outgrow e.place i p.order) e.phase p) (change_row copy_place e.place (in_phase phase) queue) (after (Send line (pubrel i success)) (after (At (whose s) (Mark e.place phase)) b))
       (covers-kept e.place phase e p.used queue at.there (sym its) at.covers)
       (ahead-marked e.place phase queue es at.above at.ahead)
       (sits-marked (whose s) e.place phase queue b.records at.sits (flight-kept e.place phase e queue at.there (sym its) (flight_of s.birth queue b.records at.sits)))

@@ -128,21 +128,21 @@ on_gone n k b =
     mapped true = refl
     mapped false = refl
 
-on_greeted : (n k birth keep_alive window largest : ℕ) (b : Broker) (old : Option ℕ) → session_on n b ≡ Some old
-    → session_on k (after (On n (Greet birth keep_alive window largest)) b) ≡ cond (nat_eq n k) (Some (Some birth)) (session_on k b)
-on_greeted n k birth keep_alive window largest b old there =
-    let part = Greet birth keep_alive window largest in
+on_greeted : (n k birth keep_alive window largest most : ℕ) (b : Broker) (old : Option ℕ) → session_on n b ≡ Some old
+    → session_on k (after (On n (Greet birth keep_alive window largest most)) b) ≡ cond (nat_eq n k) (Some (Some birth)) (session_on k b)
+on_greeted n k birth keep_alive window largest most b old there =
+    let part = Greet birth keep_alive window largest most in
     let f = line_after b.now part in
     among_is k (after (On n part) b) ∙ ap (session_among k) (on_line_is b.now n part b.lines)
     ∙ ap (option_map (λ (l : Line). l.session)) (row_at-change_row line_number k n f b.lines (numbered b.now part)) ∙ either (nat_eq n k) refl
     ∙ ap (λ (o : Option (Option ℕ)). cond (nat_eq n k) (Some (Some birth)) o) (sym (among_is k b))
   where
-    greeted : (o : Option Line) → option_map (λ (l : Line). l.session) o ≡ Some old → option_map (λ (l : Line). l.session) (option_map (line_after b.now (Greet birth keep_alive window largest)) o) ≡ Some (Some birth)
+    greeted : (o : Option Line) → option_map (λ (l : Line). l.session) o ≡ Some old → option_map (λ (l : Line). l.session) (option_map (line_after b.now (Greet birth keep_alive window largest most)) o) ≡ Some (Some birth)
     greeted None e = absurd cc
     greeted (Some l) e = refl
 
     either : (t : Bool) → nat_eq n k ≡ t
-        → option_map (λ (l : Line). l.session) (cond t (option_map (line_after b.now (Greet birth keep_alive window largest)) (row_at line_number k b.lines)) (row_at line_number k b.lines))
+        → option_map (λ (l : Line). l.session) (cond t (option_map (line_after b.now (Greet birth keep_alive window largest most)) (row_at line_number k b.lines)) (row_at line_number k b.lines))
         ≡ cond t (Some (Some birth)) (session_among k b.lines)
     either false is = refl
     either true is = greeted (row_at line_number k b.lines) (sym (among_is k b) ∙ ap (λ (m : ℕ). session_on m b) (sym (eqb-true n k is)) ∙ there)
@@ -263,13 +263,13 @@ unique_greeted : (l : Line) (c : Greeting) (birth : ℕ) (b d : Broker) → HasU
     → (closed_at birth b.records ≡ Some None → ⊥) → ((k : ℕ) → closed_at k d.records ≡ cond (nat_eq birth k) (Some None) (closed_at k b.records)) → HasUniqueLines (after (greet l c birth) d)
 unique_greeted l c birth b d u lines given free shut closed =
     let e = after (greet l c birth) d in
-    let part = Greet birth c.keep_alive (window_of c) (largest_of c) in
+    let part = Greet birth c.keep_alive (window_of c) (largest_of c) 0 in
     let same : (k : ℕ) → session_on k d ≡ session_on k b = λ k. ap (λ (ls : List Line). option_map (λ (x : Line). x.session) (find (λ (x : Line). nat_eq x.number k) ls)) lines in
     let up : IsAscending line_number d.lines = subst (IsAscending line_number) (sym lines) u.ascending in
     let low : IsBelow line_number (suc d.given) d.lines = subst (λ (n : ℕ). IsBelow line_number (suc n) d.lines) (sym given) (subst (IsBelow line_number (suc b.given)) (sym lines) u.given) in
     unique_of e
     (joined_greeted (sessions_on b) (closed_of b) (sessions_on e) (closed_of e) (joined_of b u) l.number birth free shut
-    (λ k. on_greeted l.number k birth c.keep_alive (window_of c) (largest_of c) d None (same l.number ∙ free) ∙ ap (λ (o : Option (Option ℕ)). cond (nat_eq l.number k) (Some (Some birth)) o) (same k)) closed)
+    (λ k. on_greeted l.number k birth c.keep_alive (window_of c) (largest_of c) 0 d None (same l.number ∙ free) ∙ ap (λ (o : Option (Option ℕ)). cond (nat_eq l.number k) (Some (Some birth)) o) (same k)) closed)
     (subst (IsAscending line_number) (sym (on_line_is d.now l.number part d.lines)) (change-ascending line_number l.number (line_after d.now part) d.lines (numbered d.now part) up))
     (subst (IsBelow line_number (suc d.given)) (sym (on_line_is d.now l.number part d.lines)) (below_change line_number (suc d.given) l.number (line_after d.now part) d.lines (numbered d.now part) low))
 

@@ -32,7 +32,7 @@ use Rattle.mqtt_rules.proofs.lines.LineLaw.{here, on_line_of, on_gone, closed_by
 module _ (P : Broker → Type 0) (stays : (ds : List Deed) (x : Broker) → AreGood IsStill ds x → P x → P (after_all ds x)) where
   -- a session's line is dropped: it goes, the session closes, and what is due of it is done
   dropped : (env : Env) (code : ℕ) (l : Line) (s : Session) (b : Broker) → l.session ≡ Some s.birth → session_at s.birth b.records ≡ Some s
-      → P (after_all (Gone l.number ∷ At (whose s) (Close b.now) ∷ []) b) → P (after_all (drop_line env code l b) b)
+      → P (after_all (Send l.number (disconnect code) ∷ Gone l.number ∷ At (whose s) (Close b.now) ∷ []) b) → P (after_all (drop_line env code l b) b)
   dropped env code l s b its there p = by l.session its
     where
       b1 : Broker
@@ -67,7 +67,7 @@ module _ (P : Broker → Type 0) (stays : (ds : List Deed) (x : Broker) → AreG
   over : (env : Env) (client : List ℕ) (b : Broker) → Coheres b.records
       → (session_named client b.records ≡ None → P b)
       → ((s : Session) → session_named client b.records ≡ Some s → line_of s.birth b ≡ None → P b)
-      → ((s : Session) (l : Line) → session_named client b.records ≡ Some s → line_of s.birth b ≡ Some l → l.session ≡ Some s.birth → session_at s.birth b.records ≡ Some s → P (after_all (Gone l.number ∷ At (whose s) (Close b.now) ∷ []) b))
+      → ((s : Session) (l : Line) → session_named client b.records ≡ Some s → line_of s.birth b ≡ Some l → l.session ≡ Some s.birth → session_at s.birth b.records ≡ Some s → P (after_all (Send l.number (disconnect session_taken_over) ∷ Gone l.number ∷ At (whose s) (Close b.now) ∷ []) b))
       → P (taken_over env client b)
   over env client b h nobody nowhere line = by (session_named client b.records) refl
     where

@@ -93,7 +93,7 @@ on_line_is now n part (l ∷ ls) = ap (λ (rest : List Line). cond (nat_eq l.num
 -- what happens on a line keeps its number
 pub numbered : (now : ℕ) (part : LinePart) (l : Line) → (line_after now part l).number ≡ l.number
 numbered now Hear l = refl
-numbered now (Greet birth keep_alive window largest) l = refl
+numbered now (Greet birth keep_alive window largest most) l = refl
 numbered now (SetAlias alias topic) l = refl
 numbered now (Went place) l = refl
 
@@ -131,7 +131,7 @@ IsQuietPart (Close moment) = ⊥
 IsQuietPart part = ⊤
 
 abbrev pub IsQuietOn : LinePart → Type 0
-IsQuietOn (Greet birth keep_alive window largest) = ⊥
+IsQuietOn (Greet birth keep_alive window largest most) = ⊥
 IsQuietOn part = ⊤
 
 -- no line comes or goes, and no session is connected by it
@@ -160,7 +160,7 @@ like_on now n Hear ls q = subst (AreLike ls) (sym (on_line_is now n Hear ls)) (l
 like_on now n (SetAlias alias topic) ls q =
     subst (AreLike ls) (sym (on_line_is now n (SetAlias alias topic) ls)) (like_changed (line_after now (SetAlias alias topic)) (λ l. refl) (λ l. refl) n ls)
 like_on now n (Went place) ls q = subst (AreLike ls) (sym (on_line_is now n (Went place) ls)) (like_changed (line_after now (Went place)) (λ l. refl) (λ l. refl) n ls)
-like_on now n (Greet birth keep_alive window largest) ls q = absurd q
+like_on now n (Greet birth keep_alive window largest most) ls q = absurd q
 
 like_deed : (d : Deed) (b : Broker) → IsStill d b → AreLike b.lines (after d b).lines
 like_deed (At who part) b q = like_part who.birth part b.lines

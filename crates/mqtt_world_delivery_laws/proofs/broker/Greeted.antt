@@ -48,7 +48,7 @@ module _ (window n : ℕ) where
   -- ---- deeds
 
   abbrev FitsOn : ℕ → LinePart → Type 0
-  FitsOn m (Greet birth keep_alive most largest) = (nat_eq m n ≡ false) ⊎ ((most ≡ window) × (largest ≡ any_size))
+  FitsOn m (Greet birth keep_alive most largest aliases) = (nat_eq m n ≡ false) ⊎ ((most ≡ window) × (largest ≡ any_size))
   FitsOn m part = ⊤
 
   abbrev Fits : Deed → Broker → Type 0
@@ -56,7 +56,7 @@ module _ (window n : ℕ) where
   Fits d b = ⊤
 
   still_fits : (d : Deed) (b : Broker) → IsStill d b → Fits d b
-  still_fits (On m (Greet birth keep_alive most largest)) b q = absurd q
+  still_fits (On m (Greet birth keep_alive most largest aliases)) b q = absurd q
   still_fits (On m Hear) b q = tt
   still_fits (On m (SetAlias alias topic)) b q = tt
   still_fits (On m (Went place)) b q = tt
@@ -162,9 +162,9 @@ module _ (window n : ℕ) where
   part_takes now m Hear l q is h = h
   part_takes now m (SetAlias alias topic) l q is h = h
   part_takes now m (Went place) l q is h = h
-  part_takes now m (Greet birth keep_alive most largest) l (inl other) is h =
+  part_takes now m (Greet birth keep_alive most largest aliases) l (inl other) is h =
       λ e k on. let clash : true ≡ false = sym (nat_eq_equiv.refl n) ∙ (ap (λ (x : ℕ). nat_eq x n) (sym e ∙ is) ∙ other) in absurd cc
-  part_takes now m (Greet birth keep_alive most largest) l (inr said) is h = λ e k on. said
+  part_takes now m (Greet birth keep_alive most largest aliases) l (inr said) is h = λ e k on. said
 
   on_takes : (now m : ℕ) (part : LinePart) (ls : List BrokerLine) → FitsOn m part → Take ls → Take (on_line now m part ls)
   on_takes now m part [] q h = tt

@@ -84,7 +84,7 @@ module _ (joined : ℕ → Bool) where
 
   abbrev IsSafePart : ℕ → LinePart → Type 0
   IsSafePart m Hear = ⊤
-  IsSafePart m (Greet birth keep_alive window largest) = ⊥
+  IsSafePart m (Greet birth keep_alive window largest most) = ⊥
   IsSafePart m (SetAlias alias topic) = ⊤
   IsSafePart m (Went place) = joined m ≡ true
 
@@ -95,7 +95,7 @@ module _ (joined : ℕ → Bool) where
 
   part_as : (now m : ℕ) (part : LinePart) (l : Line) → l.number ≡ m → IsSafePart m part → IsAsWas l → IsAsWas (line_after now part l)
   part_as now m Hear l is q h = h
-  part_as now m (Greet birth keep_alive window largest) l is q h = absurd q
+  part_as now m (Greet birth keep_alive window largest most) l is q h = absurd q
   part_as now m (SetAlias alias topic) l is q h = h
   part_as now m (Went place) l is q h = record {
     same = h.same;
@@ -312,11 +312,11 @@ module _ (joined : ℕ → Bool) where
 
   -- ---- CONNECT
 
-  greeted : (now m birth keep_alive window largest : ℕ) (ls : List Line) → AllByRecursion IsUnused ls → AllByRecursion IsUnused (on_line now m (Greet birth keep_alive window largest) ls)
-  greeted now m birth keep_alive window largest [] h = tt
-  greeted now m birth keep_alive window largest (l ∷ ls) h = elim (cases_Bool (nat_eq l.number m)) [
+  greeted : (now m birth keep_alive window largest most : ℕ) (ls : List Line) → AllByRecursion IsUnused ls → AllByRecursion IsUnused (on_line now m (Greet birth keep_alive window largest most) ls)
+  greeted now m birth keep_alive window largest most [] h = tt
+  greeted now m birth keep_alive window largest most (l ∷ ls) h = elim (cases_Bool (nat_eq l.number m)) [
     | inl this ↦ rw this ((λ none. absurd cc), h.1)
-    | inr other ↦ rw other (h.0, greeted now m birth keep_alive window largest ls h.1)
+    | inr other ↦ rw other (h.0, greeted now m birth keep_alive window largest most ls h.1)
   ]
 
   repeated : {X : Type 0} (now line : ℕ) (s : Session) (xs : List X) (id : X → ℕ) (b : Broker) → HaveSentNothing b
@@ -334,8 +334,8 @@ module _ (joined : ℕ → Bool) where
     waits : HaveSentNothing ready
     waits = unused_of ready (leads_prepare env everyone Keep IsSafe (safe_law env) c b k tt).1
 
-    greets : (birth : ℕ) → AllByRecursion IsUnused (on_line ready.now l.number (Greet birth c.keep_alive (window_of c) (largest_of c)) ready.lines)
-    greets birth = greeted ready.now l.number birth c.keep_alive (window_of c) (largest_of c) ready.lines waits
+    greets : (birth : ℕ) → AllByRecursion IsUnused (on_line ready.now l.number (Greet birth c.keep_alive (window_of c) (largest_of c) 0) ready.lines)
+    greets birth = greeted ready.now l.number birth c.keep_alive (window_of c) (largest_of c) 0 ready.lines waits
 
     behind : (ds : List Deed) → HaveSentNothing (after_all ds ready) → HaveSentNothing (after_all (prepare env c b ++ ds) b)
     behind ds h = subst HaveSentNothing (sym (after_append (prepare env c b) ds b)) h

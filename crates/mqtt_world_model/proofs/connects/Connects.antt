@@ -119,11 +119,11 @@ resumed_face expiry x r at =
     ap (option_map face) (change_row-here birth_of x.birth (with_will None) (with_columns row x) set (λ y. refl) first)
 
 -- behind a greeting the session stands on the line
-pub greeted_line : (now n k keep_alive window largest : ℕ) (ls : List BrokerLine) → session_on n ls ≡ Some None → session_on n (on_line now n (Greet k keep_alive window largest) ls) ≡ Some (Some k)
-greeted_line now n k keep_alive window largest [] h = absurd cc
-greeted_line now n k keep_alive window largest (l ∷ ls) h = elim (cases_Bool (nat_eq l.number n)) [
+pub greeted_line : (now n k keep_alive window largest most : ℕ) (ls : List BrokerLine) → session_on n ls ≡ Some None → session_on n (on_line now n (Greet k keep_alive window largest most) ls) ≡ Some (Some k)
+greeted_line now n k keep_alive window largest most [] h = absurd cc
+greeted_line now n k keep_alive window largest most (l ∷ ls) h = elim (cases_Bool (nat_eq l.number n)) [
   | inl here ↦ rw (here, here) refl
-  | inr further ↦ rw (further, further) (greeted_line now n k keep_alive window largest ls (rw further at h))
+  | inr further ↦ rw (further, further) (greeted_line now n k keep_alive window largest most ls (rw further at h))
 ]
 
 -- PUBREL that go out again have nothing to do with another session
@@ -162,7 +162,7 @@ resume_leaves now l client x b at on =
     let f : Face = record (face x) { expiry = never; closed = None; will = None } in
     let head : Leaves x.birth l.number first b f (Some (Some x.birth)) (CONNACK true ∷ []) [] = record {
       face_is = ap (λ (o : Option Session). face_at x.birth (changed_all (part_rows_of (Resume never None) o) b.records)) at ∙ resumed_face never x b.records at;
-      line_is = greeted_line b.now l.number x.birth 0 _ _ b.lines on;
+      line_is = greeted_line b.now l.number x.birth 0 _ _ 0 b.lines on;
       told_is = rw it refl;
       closings_is = refl;
       numbers_is = refl;

@@ -25,7 +25,7 @@ use Rattle.mqtt_world_model.proofs.others.Quiet.{IsQuietPart, IsQuietOn, IsQuiet
 abbrev pub IsAside : List ℕ → ℕ → ℕ → Deed → Type 0
 IsAside client birth n (Accept number origin m) = ⊤
 IsAside client birth n (Begin row will) = (birth < row.birth) × (row.client ≡ client → ⊥)
-IsAside client birth n (On m (Greet other keep_alive window largest)) = (nat_eq m n ≡ false) × (nat_eq other birth ≡ false)
+IsAside client birth n (On m (Greet other keep_alive window largest most)) = (nat_eq m n ≡ false) × (nat_eq other birth ≡ false)
 IsAside client birth n (Link m) = n < m
 IsAside client birth n d = ⊥
 
@@ -67,7 +67,7 @@ aside_face client birth n (Gone m) r q = absurd q
 aside_line : (client : List ℕ) (birth n now : ℕ) (d : Deed) (ls : List Line) → IsAside client birth n d → session_on n (lines_after now d ls) ≡ session_on n ls
 aside_line client birth n now (Accept number origin m) ls q = refl
 aside_line client birth n now (Begin row will) ls q = refl
-aside_line client birth n now (On m (Greet other keep_alive window largest)) ls q = line_on now n m (Greet other keep_alive window largest) ls (inl q.0)
+aside_line client birth n now (On m (Greet other keep_alive window largest most)) ls q = line_on now n m (Greet other keep_alive window largest most) ls (inl q.0)
 aside_line client birth n now (On m Hear) ls q = absurd q
 aside_line client birth n now (On m (SetAlias alias topic)) ls q = absurd q
 aside_line client birth n now (On m (Went place)) ls q = absurd q
@@ -278,7 +278,7 @@ module _ (birth n : ℕ) where
 
   part_line : (now : ℕ) (part : LinePart) (l : Line) → IsQuietOn part → IsOurLine birth n l → IsOurLine birth n (line_after now part l)
   part_line now Hear l q p = p
-  part_line now (Greet other keep_alive window largest) l q p = absurd q
+  part_line now (Greet other keep_alive window largest most) l q p = absurd q
   part_line now (SetAlias alias topic) l q p = p
   part_line now (Went place) l q p = p
 
@@ -319,9 +319,9 @@ module _ (birth n : ℕ) where
   at_lines k (Mark place phase) ls h = h
   at_lines k (Leave e ending) ls h = without_ours k e.place ls h
 
-  greeted : (now m other keep_alive window largest : ℕ) (l : Line) → nat_eq m n ≡ false → nat_eq other birth ≡ false → l.number ≡ m
-      → IsOurLine birth n (line_after now (Greet other keep_alive window largest) l)
-  greeted now m other keep_alive window largest l q p is = record {
+  greeted : (now m other keep_alive window largest most : ℕ) (l : Line) → nat_eq m n ≡ false → nat_eq other birth ≡ false → l.number ≡ m
+      → IsOurLine birth n (line_after now (Greet other keep_alive window largest most) l)
+  greeted now m other keep_alive window largest most l q p is = record {
     ours = λ e. absurd (not_same m n q (sym is ∙ e));
     quiet = λ e. absurd (not_same m n q (sym is ∙ e));
     alone = λ e. let same : other ≡ birth = cc in absurd (not_same other birth p same);
@@ -341,8 +341,8 @@ module _ (birth n : ℕ) where
   far_lines client now (Link m) ls (inl q) h = absurd q
   far_lines client now (Link m) ls (inr q) h = linked_ours now m ls q h
   far_lines client now (On m part) ls (inl q) h = on_ours now m part ls (λ l e p. part_line now part l q p) h
-  far_lines client now (On m (Greet other keep_alive window largest)) ls (inr q) h =
-      on_ours now m (Greet other keep_alive window largest) ls (λ l e p. greeted now m other keep_alive window largest l q.0 q.1 e) h
+  far_lines client now (On m (Greet other keep_alive window largest most)) ls (inr q) h =
+      on_ours now m (Greet other keep_alive window largest most) ls (λ l e p. greeted now m other keep_alive window largest most l q.0 q.1 e) h
   far_lines client now (On m Hear) ls (inr q) h = absurd q
   far_lines client now (On m (SetAlias alias topic)) ls (inr q) h = absurd q
   far_lines client now (On m (Went place)) ls (inr q) h = absurd q

@@ -48,7 +48,7 @@ IsQuietPart (Leave e ending) = ⊤
 
 abbrev pub IsQuietOn : LinePart → Type 0
 IsQuietOn Hear = ⊤
-IsQuietOn (Greet birth keep_alive window largest) = ⊥
+IsQuietOn (Greet birth keep_alive window largest most) = ⊥
 IsQuietOn (SetAlias alias topic) = ⊤
 IsQuietOn (Went place) = ⊤
 
@@ -189,7 +189,7 @@ line_gone n m (l ∷ ls) q = elim (cases_Bool (nat_eq l.number m)) [
 
 kept_session : (now : ℕ) (part : LinePart) (l : Line) → IsQuietOn part → (line_after now part l).session ≡ l.session
 kept_session now Hear l q = refl
-kept_session now (Greet birth keep_alive window largest) l q = absurd q
+kept_session now (Greet birth keep_alive window largest most) l q = absurd q
 kept_session now (SetAlias alias topic) l q = refl
 kept_session now (Went place) l q = refl
 

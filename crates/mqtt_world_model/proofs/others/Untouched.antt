@@ -52,7 +52,7 @@ AreAway n (d ∷ ds) = IsAway n d × AreAway n ds
 
 kept_glance : (now : ℕ) (part : LinePart) (l : Line) → IsQuietOn part → glance (line_after now part l) ≡ glance l
 kept_glance now Hear l q = refl
-kept_glance now (Greet birth keep_alive window largest) l q = absurd q
+kept_glance now (Greet birth keep_alive window largest most) l q = absurd q
 kept_glance now (SetAlias alias topic) l q = refl
 kept_glance now (Went place) l q = refl
 

@@ -35,7 +35,7 @@ there_linked n x (l ∷ ls) h = elim (cases_Bool (nat_eq l.number n)) [
 
 same_number : (now : ℕ) (part : LinePart) (l : BrokerLine) → (line_after now part l).number ≡ l.number
 same_number now Hear l = refl
-same_number now (Greet birth keep_alive window largest) l = refl
+same_number now (Greet birth keep_alive window largest most) l = refl
 same_number now (SetAlias alias topic) l = refl
 same_number now (Went place) l = refl
 

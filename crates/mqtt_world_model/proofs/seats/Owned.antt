@@ -25,7 +25,7 @@ use Rattle.mqtt_world_model.proofs.others.Far.{not_same}
 -- ---- deeds that leave the line with this number without Keep Alive
 
 abbrev pub IsPatient : Deed → Type 0
-IsPatient (On m (Greet birth keep_alive window largest)) = keep_alive ≡ 0
+IsPatient (On m (Greet birth keep_alive window largest most)) = keep_alive ≡ 0
 IsPatient (Link m) = ⊥
 IsPatient d = ⊤
 
@@ -54,7 +54,7 @@ module _ (n : ℕ) where
 
   part_after : (now : ℕ) (part : LinePart) (l : Line) → IsPatient (On n part) → HasNoKeepAlive l → HasNoKeepAlive (line_after now part l)
   part_after now Hear l q h = h
-  part_after now (Greet birth keep_alive window largest) l q h = λ e. q
+  part_after now (Greet birth keep_alive window largest most) l q h = λ e. q
   part_after now (SetAlias alias topic) l q h = h
   part_after now (Went place) l q h = h
 
@@ -90,7 +90,7 @@ module _ (n : ℕ) where
     where
       same : (k : ℕ) (x : LinePart) → IsPatient (On k x) → IsPatient (On n x)
       same k Hear q = tt
-      same k (Greet birth keep_alive window largest) q = q
+      same k (Greet birth keep_alive window largest most) q = q
       same k (SetAlias alias topic) q = tt
       same k (Went place) q = tt
   patient_line now (At who part) ls q h = at_part who.birth part ls h

@@ -173,7 +173,7 @@ module _ (number : Numbering) (largest : ℕ) (copies : List Lot) (limits : Limi
     went_ends : its_went birth (after_all (deeds limits choice now (Input n packet) b) first).lines ≡ Some []
     went_ends =
         ap (λ (ds : List Deed). its_went birth (after_all ds first).lines) c.deeds_are
-        ∙ (ap (λ (x : Broker). its_went birth x.lines) ends ∙ greeted_went d.now n birth 0 r.window 0xffffffff d.lines c.off c.went)
+        ∙ (ap (λ (x : Broker). its_went birth x.lines) ends ∙ greeted_went d.now n birth 0 r.window 0xffffffff 0 d.lines c.off c.went)
 
     makes : Makes number copies2 ids limits choice now (Input n packet) q n birth b (connack false ∷ []) false (is_one_of r.line.old_number ns)
     makes = record {
@@ -186,7 +186,7 @@ module _ (number : Numbering) (largest : ℕ) (copies : List Lot) (limits : Limi
       queued =
           subst (λ (z : Option (List ℕ)). StandOn copies2 [] z) (sym went_ends) (still_cut copies);
       linked = ap (λ (ds : List Deed). linked_of (session_on n (after_all ds first).lines)) c.deeds_are
-          ∙ (ap (λ (x : Broker). linked_of (session_on n x.lines)) ends ∙ ap linked_of (greeted_line d.now n birth 0 r.window 0xffffffff d.lines c.waits));
+          ∙ (ap (λ (x : Broker). linked_of (session_on n x.lines)) ends ∙ ap linked_of (greeted_line d.now n birth 0 r.window 0xffffffff 0 d.lines c.waits));
       heard = ap (λ (ds : List Deed). filter_map (heard_in number) (sent_to (Some n) new (filter_map output ds))) c.deeds_are ∙ told_is;
       tagged = subst (λ (ds : List Deed). AllByRecursion (IsTagged number ids) (sent_to (Some n) new (filter_map output ds))) (sym c.deeds_are) tagged_are;
       closes = ap (λ (ds : List Deed). is_one_of (Some n) (filter_map closing ds)) c.deeds_are ∙ (ap (is_one_of (Some n)) closes_are ∙ c.open_still);

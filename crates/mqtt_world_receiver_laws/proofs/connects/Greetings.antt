@@ -3,6 +3,7 @@
 use Rattle.std.proofs.Common.{◌≡◌, ℕ, suc, Bool, true, false, List, [], ◌∷◌, ◌++◌, length, map, Option, Some, None, nat_eq, nat_lt, refl, ap, subst, ◌∙◌, append-nil, inl, inr}
 use Rattle.std.specs.Prelude.{find, option_map}
 use Rattle.std.proofs.lemmas.Bool.{cases_Bool, eqb-true}
+use Rattle.mqtt_base.specs.Codes.{success}
 use Rattle.mqtt_flow.specs.Outbound.{due_from}
 use Rattle.mqtt_flow.specs.Receiver.{connect}
 use Rattle.mqtt_flow.specs.declared.entry.Turn.TheVariants as turns
@@ -16,8 +17,9 @@ use Rattle.mqtt_world_model.proofs.seats.Seeing.{done_lines}
 use Rattle.mqtt_records.specs.declared.session.Session.{Session}
 use Rattle.mqtt_rules.proofs.acts.Goods.{after_append}
 use Rattle.mqtt_rules.specs.Connect.{begin, on_connect, resume}
-use Rattle.mqtt_rules.specs.Deeds.{Deed, Greet, Hear, On, after_all, line_after, on_line, rows_of_all}
+use Rattle.mqtt_rules.specs.Deeds.{Deed, Greet, Hear, On, Send, after, after_all, line_after, on_line, rows_of_all}
 use Rattle.mqtt_rules.specs.Outbound.{all_turn_deeds}
+use Rattle.mqtt_rules.specs.Packets.{pubrel}
 use Rattle.mqtt_rules.specs.State.{Line as BrokerLine, Broker, MemberChoice, line_at, line_of, queue_on}
 use Rattle.mqtt_rules.specs.Step.{Input, at_moment, deeds, env_of}
 use Rattle.mqtt_rules.specs.declared.Limits.{Limits}
@@ -46,20 +48,20 @@ abbrev found_in : ℕ → List BrokerLine → Option BrokerLine
 found_in n ls = find (λ (l : BrokerLine). nat_eq l.number n) ls
 
 greeted_in : (now n birth window : ℕ) (ls : List BrokerLine) → session_on n ls ≡ Some None
-    → (l : BrokerLine) × (found_in n (on_line now n (Greet birth 0 window any_size) ls) ≡ Some l) × IsGreeted n birth window l
+    → (l : BrokerLine) × (found_in n (on_line now n (Greet birth 0 window any_size 0) ls) ≡ Some l) × IsGreeted n birth window l
 greeted_in now n birth window [] h = absurd cc
 greeted_in now n birth window (l ∷ ls) h = elim (cases_Bool (nat_eq l.number n)) [
-  | inl here ↦ (line_after now (Greet birth 0 window any_size) l, rw (here, here) refl, record { number = eqb-true l.number n here; connected = refl; quiet = refl; window_is = refl; largest_is = refl })
+  | inl here ↦ (line_after now (Greet birth 0 window any_size 0) l, rw (here, here) refl, record { number = eqb-true l.number n here; connected = refl; quiet = refl; window_is = refl; largest_is = refl })
   | inr further ↦ let x = greeted_in now n birth window ls (rw further at h) in (x.0, rw (further, further) x.1, x.2)
 ]
 
-greeted_by : (now n birth window : ℕ) (ls : List BrokerLine) (b : Broker) → session_on n ls ≡ Some None → b.lines ≡ on_line now n (Greet birth 0 window any_size) ls → HasGreeted n birth window b
+greeted_by : (now n birth window : ℕ) (ls : List BrokerLine) (b : Broker) → session_on n ls ≡ Some None → b.lines ≡ on_line now n (Greet birth 0 window any_size 0) ls → HasGreeted n birth window b
 greeted_by now n birth window ls b on e = let x = greeted_in now n birth window ls on in record { line = x.0; at = ap (found_in n) e ∙ x.1; greeted = x.2 }
 
 -- what goes out again leaves the lines as they are
 repeats_lines : {X : Type 0} (now n : ℕ) (s : Session) (xs : List X) (id : X → ℕ) (b : Broker) → (after_all (all_turn_deeds now n s (map (λ x. turns.Repeat (id x)) xs)) b).lines ≡ b.lines
 repeats_lines now n s [] id b = refl
-repeats_lines now n s (x ∷ xs) id b = repeats_lines now n s xs id b
+repeats_lines now n s (x ∷ xs) id b = repeats_lines now n s xs id (after (Send n (pubrel (id x) success)) b)
 
 waits_on : (l : BrokerLine) (b : Broker) → line_at l.number b ≡ Some l → l.session ≡ None → session_on l.number b.lines ≡ Some None
 waits_on l b at waits = ap (option_map (λ (x : BrokerLine). x.session)) at ∙ ap Some waits
@@ -90,7 +92,7 @@ resumed_line limits choice now r l s b a =
     let still : session_on n left.lines ≡ Some None = (left_leaves o s n c (Some None) t a.kept.session on).line_is in
     let dues = due_from [] (queue_on [] x) in
     let same : x.birth ≡ s.birth = taken_birth o c.now s in
-    let lines : (after_answer limits choice now n (connect false) r b).lines ≡ on_line left.now n (Greet x.birth 0 r.window any_size) left.lines =
+    let lines : (after_answer limits choice now n (connect false) r b).lines ≡ on_line left.now n (Greet x.birth 0 r.window any_size 0) left.lines =
     done_lines (rows_of_all ds first.records) (after_all ds first)
     ∙ (ap (λ (zs : List Deed). (after_all zs first).lines) is
     ∙ (ap (λ (z : Broker). z.lines) (after_append front resumes c) ∙ repeats_lines c.now n x dues (λ d. d.identifier) _)) in
@@ -106,7 +108,7 @@ begun_line limits choice now clean r l b front ns c =
     let d = after_all front (heard_of now n b) in
     let birth = suc d.records.births in
     let begins = begin l (greeting clean r.client r.window) false r.client birth in
-    let lines : (after_answer limits choice now n (connect clean) r b).lines ≡ on_line d.now n (Greet birth 0 r.window any_size) d.lines =
+    let lines : (after_answer limits choice now n (connect clean) r b).lines ≡ on_line d.now n (Greet birth 0 r.window any_size 0) d.lines =
     done_lines (rows_of_all ds first.records) (after_all ds first)
     ∙ (ap (λ (zs : List Deed). (after_all zs first).lines) c.deeds_are ∙ ap (λ (z : Broker). z.lines) (after_append front begins (heard_of now n b))) in
     greeted_by d.now n birth r.window d.lines _ c.waits lines

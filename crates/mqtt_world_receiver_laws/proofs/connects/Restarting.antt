@@ -35,7 +35,8 @@ use Rattle.mqtt_world_receiver_laws.specs.Seen.{AreQueued, Numbering, StandOn, s
 use Rattle.mqtt_world_receiver_laws.specs.Served.{GoesOn, HasLines, IsNewCopy, IsServed, IsTidy, RunsFor, RunsWithAll}
 use Rattle.mqtt_world_receiver_laws.specs.Tags.{AreNumbered, WasTagged}
 use Rattle.mqtt_world_receiver_laws.proofs.own.Answering.{closed_row, session_closed}
-use Rattle.mqtt_world_receiver_laws.proofs.others.CallsOfOthers.{done_all, linked_on, moment_numbers, moment_served, served_law}
+use Rattle.mqtt_world_receiver_laws.proofs.others.CallsOfOthers.{done_all, moment_numbers, moment_served, served_law}
+use Rattle.mqtt_world_receiver_laws.proofs.others.Carried.{linked_on}
 use Rattle.mqtt_world_receiver_laws.proofs.connects.Refusals.{run_append}
 use Rattle.mqtt_world_receiver_laws.proofs.connects.Resuming.{renewed_ids, renewed_standing, still_renewed}
 use Rattle.mqtt_world_receiver_laws.proofs.others.Serving.{kept_part}

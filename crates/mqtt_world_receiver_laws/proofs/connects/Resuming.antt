@@ -38,7 +38,7 @@ use Rattle.mqtt_rules.proofs.flight.FlightRows.{change_row-here}
 use Rattle.mqtt_rules.proofs.acts.Goods.{after_append}
 use Rattle.mqtt_rules.specs.Closing.{never}
 use Rattle.mqtt_rules.specs.Connect.{clear, connack_properties, connect_by, joins, joins_after, of_client, on_connect, prepare, refusal, resume}
-use Rattle.mqtt_rules.specs.Deeds.{At, Deed, Greet, Hear, On, Resume, after, after_all, always, closing, line_after, on_line, only_if, output, part_rows_of, series, stored_after, whose, with_line}
+use Rattle.mqtt_rules.specs.Deeds.{At, Deed, Greet, Hear, On, Resume, Send, after, after_all, always, closing, line_after, on_line, only_if, output, part_rows_of, series, stored_after, whose, with_line}
 use Rattle.mqtt_rules.specs.Outbound.{all_turn_deeds}
 use Rattle.mqtt_records_message.specs.PassedOn.{property}
 use Rattle.mqtt_rules.specs.Packets as packets_of
@@ -166,15 +166,15 @@ went_at_left (Some x) birth n ls t = all ls
     ]
 
 -- the session is on its new line alone, on which nothing went out
-pub greeted_went : (now n birth keep_alive window largest : ℕ) (ls : List BrokerLine) → AllByRecursion (IsOffIt birth) ls → went_at n ls ≡ Some []
-    → its_went birth (on_line now n (Greet birth keep_alive window largest) ls) ≡ Some []
-greeted_went now n birth keep_alive window largest [] off is = absurd cc
-greeted_went now n birth keep_alive window largest (l ∷ ls) off is = elim (cases_Bool (nat_eq l.number n)) [
+pub greeted_went : (now n birth keep_alive window largest most : ℕ) (ls : List BrokerLine) → AllByRecursion (IsOffIt birth) ls → went_at n ls ≡ Some []
+    → its_went birth (on_line now n (Greet birth keep_alive window largest most) ls) ≡ Some []
+greeted_went now n birth keep_alive window largest most [] off is = absurd cc
+greeted_went now n birth keep_alive window largest most (l ∷ ls) off is = elim (cases_Bool (nat_eq l.number n)) [
   | inl here ↦
       let none : Some l.went ≡ Some [] = rw here at is in
       let its : nat_eq birth birth ≡ true = nat_eq_equiv.refl birth in
       rw (here, its) none
-  | inr further ↦ let other = off.0 in rw (further, other) (greeted_went now n birth keep_alive window largest ls off.1 (rw further at is))
+  | inr further ↦ let other = off.0 in rw (further, other) (greeted_went now n birth keep_alive window largest most ls off.1 (rw further at is))
 ]
 
 -- ---- PUBRELs, again
@@ -187,10 +187,14 @@ all_repeats : {X : Type 0} (xs : List X) (id : X → ℕ) → AllByRecursion IsR
 all_repeats [] id = tt
 all_repeats (x ∷ xs) id = (tt, all_repeats xs id)
 
+-- the broker but for what its clients were told of topics
+abbrev but_told : Broker → Broker
+but_told b = record b { tellings = [] }
+
 module _ (number : Numbering) (ids : List CopyId) (now n : ℕ) (x : Session) where
-  repeats_after : (ts : List Turn) (b : Broker) → AllByRecursion IsRepeat ts → after_all (all_turn_deeds now n x ts) b ≡ b
+  repeats_after : (ts : List Turn) (b : Broker) → AllByRecursion IsRepeat ts → but_told (after_all (all_turn_deeds now n x ts) b) ≡ but_told b
   repeats_after [] b h = refl
-  repeats_after (turns.Repeat i ∷ ts) b h = repeats_after ts b h.1
+  repeats_after (turns.Repeat i ∷ ts) b h = repeats_after ts (after (Send n (packets_of.pubrel i success)) b) h.1
   repeats_after (turns.Send place i ∷ ts) b h = absurd h.0
   repeats_after (turns.Resend place i ∷ ts) b h = absurd h.0
   repeats_after (turns.Release place i order ∷ ts) b h = absurd h.0
@@ -411,7 +415,7 @@ module _ (number : Numbering) (largest : ℕ) (copies : List Lot) (limits : Limi
     left = after_all (left_by o s heard_first.now) heard_first
 
     abbrev end : Broker
-    end = after (On n (Greet x.birth 0 r.window 0xffffffff)) (after (At (whose x) (Resume never None)) left)
+    end = after (On n (Greet x.birth 0 r.window 0xffffffff 0)) (after (At (whose x) (Resume never None)) left)
 
     abbrev told_all : List Output
     told_all = connack true ∷ all_packets (resumed_with (queue_of copies)) copies
@@ -422,8 +426,10 @@ module _ (number : Numbering) (largest : ℕ) (copies : List Lot) (limits : Limi
         ∙ (ap (λ (ds : List Deed). On n Hear ∷ ds) (append-nil (on_connect (env_of limits choice b) l (greeting false r.client r.window) heard_first))
         ∙ ap (λ (ds : List Deed). On n Hear ∷ ds) (connect_is o (env_of limits choice b) l r.client r.window s heard_first its t kept))
 
-    ends : after_all all_deeds first ≡ end
-    ends = after_append (left_by o s heard_first.now) resumes heard_first ∙ repeats_after number ids heard_first.now n x ts end are_repeats
+    ends : but_told (after_all all_deeds first) ≡ but_told end
+    ends =
+        ap but_told (after_append (left_by o s heard_first.now) resumes heard_first)
+        ∙ repeats_after number ids heard_first.now n x ts (after (Send n (packets_of.connack true success (connack_properties false []))) end) are_repeats
 
     birth_same : x.birth ≡ s.birth
     birth_same = taken_birth o heard_first.now s
@@ -446,14 +452,14 @@ module _ (number : Numbering) (largest : ℕ) (copies : List Lot) (limits : Limi
         let off : AllByRecursion (IsOffIt s.birth) left.lines = subst (AllByRecursion (IsOffIt s.birth)) (sym lines) (none_has o s.birth heard_first.lines alone) in
         let went : went_at n left.lines ≡ Some [] =
         ap (went_at n) lines ∙ (went_at_left o s.birth n heard_first.lines t ∙ (went_at_heard first.now n b.lines ∙ (ap (option_map (λ (y : BrokerLine). y.went)) a.line ∙ ap Some a.fresh))) in
-        ap (λ (k : ℕ). its_went s.birth (on_line left.now n (Greet k 0 r.window 0xffffffff) left.lines)) birth_same
-        ∙ greeted_went left.now n s.birth 0 r.window 0xffffffff left.lines off went
+        ap (λ (k : ℕ). its_went s.birth (on_line left.now n (Greet k 0 r.window 0xffffffff 0) left.lines)) birth_same
+        ∙ greeted_went left.now n s.birth 0 r.window 0xffffffff 0 left.lines off went
 
     went_ends : its_went s.birth (after_all (deeds limits choice now (Input n packet) b) first).lines ≡ Some []
     went_ends = ap (λ (ds : List Deed). its_went s.birth (after_all ds first).lines) deeds_are ∙ (ap (λ (d : Broker). its_went s.birth d.lines) ends ∙ went_end)
 
     on_end : session_on n end.lines ≡ Some (Some x.birth)
-    on_end = greeted_line left.now n x.birth 0 r.window 0xffffffff left.lines waits_still
+    on_end = greeted_line left.now n x.birth 0 r.window 0xffffffff 0 left.lines waits_still
 
     still_now : still_standing copies2 ≡ map (lot_on []) s.queue
     still_now =

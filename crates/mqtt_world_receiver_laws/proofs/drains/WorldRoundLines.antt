@@ -41,13 +41,13 @@ way_first n x y xs ys a b c h = elim (cases_Bool (nat_eq x.number n)) [
 
 same_window : (now : ℕ) (part : LinePart) (l : BrokerLine) → IsQuietOn part → (line_after now part l).window ≡ l.window
 same_window now Hear l q = refl
-same_window now (Greet birth keep_alive window largest) l q = absurd q
+same_window now (Greet birth keep_alive window largest most) l q = absurd q
 same_window now (SetAlias alias topic) l q = refl
 same_window now (Went place) l q = refl
 
 same_largest : (now : ℕ) (part : LinePart) (l : BrokerLine) → IsQuietOn part → (line_after now part l).largest ≡ l.largest
 same_largest now Hear l q = refl
-same_largest now (Greet birth keep_alive window largest) l q = absurd q
+same_largest now (Greet birth keep_alive window largest most) l q = absurd q
 same_largest now (SetAlias alias topic) l q = refl
 same_largest now (Went place) l q = refl
 

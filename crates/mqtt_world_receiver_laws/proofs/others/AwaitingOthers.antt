@@ -49,7 +49,8 @@ use Rattle.mqtt_world_receiver_laws.specs.Handing.{IsRun}
 use Rattle.mqtt_world_receiver_laws.specs.Own.{IsAwaiting, IsFreeLine}
 use Rattle.mqtt_world_receiver_laws.specs.Seen.{AreQueued, Numbering, seen}
 use Rattle.mqtt_world_receiver_laws.specs.Served.{IsCallOfOthers, IsOverdue}
-use Rattle.mqtt_world_receiver_laws.proofs.others.CallsOfOthers.{carried_run, told_run}
+use Rattle.mqtt_world_receiver_laws.proofs.others.CallsOfOthers.{told_run}
+use Rattle.mqtt_world_receiver_laws.proofs.others.Carried.{carried_run}
 use Rattle.mqtt_world_receiver_laws.proofs.others.LateConnect.{closing_runs, late_deeds, shut}
 use Rattle.mqtt_world_receiver_laws.proofs.connects.OwnRefusals.{free_gone, moment_given}
 use Rattle.mqtt_world_receiver_laws.proofs.others.Serving.{AreOfQueue}

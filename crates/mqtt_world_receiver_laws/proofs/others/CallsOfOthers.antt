@@ -1,8 +1,8 @@
 -- A whole call of others: what the receiver and its session see of it is a run of their hop; it tells nothing of copies on
 -- the receiver's lines.
-use Rattle.std.proofs.Common.{◌≡◌, ℕ, suc, ◌≤◌, Bool, true, false, List, [], ◌∷◌, ◌++◌, map, Option, Some, None, bytes_eq, nat_eq, refl, sym, ap, subst, ◌∙◌, append-nil, arith, inl, inr}
+use Rattle.std.proofs.Common.{◌≡◌, ℕ, suc, ◌≤◌, Bool, true, false, List, [], ◌∷◌, ◌++◌, map, Option, Some, None, nat_eq, refl, sym, ap, subst, ◌∙◌, append-nil, arith, inl, inr}
 use Rattle.std.specs.List.{AllByRecursion, starts_with}
-use Rattle.std.specs.Prelude.{filter_map, find, is_some}
+use Rattle.std.specs.Prelude.{filter_map}
 use Rattle.std.proofs.lemmas.Bool.{cases_Bool}
 use Rattle.std.proofs.lemmas.List.Elements.{filter_map-append}
 use Rattle.mqtt_base.specs.declared.limits.TheConstants.{QUEUE_LIMIT}
@@ -14,10 +14,8 @@ use Rattle.mqtt_flow.specs.Receiver.{Output}
 use Rattle.mqtt_world_model.specs.Ends.{Receiver}
 use Rattle.mqtt_world_model.specs.Hops.{IsOurs}
 use Rattle.mqtt_world_model.specs.Lines.{copy_in, is_one_of, sent_to, unless_closed}
-use Rattle.mqtt_world_model.specs.Seen.{is_linked}
 use Rattle.mqtt_world_model.specs.World.{receiver_told}
 use Rattle.mqtt_world_model.proofs.others.Lists.{all_find}
-use Rattle.mqtt_world_model.proofs.others.Quiet.{session_on}
 use Rattle.mqtt_world_model.proofs.seats.Seeing.{done_lines, done_sessions}
 use Rattle.mqtt_records.specs.Session.{auto}
 use Rattle.mqtt_records.specs.declared.change.Change.{Change}
@@ -35,7 +33,7 @@ use Rattle.mqtt_rules.specs.Deeds.{At, Deed, Forget, FromClient, Gone, Hear, Lin
 use Rattle.mqtt_rules.specs.Inbound.{pump_deeds, pump_turns}
 use Rattle.mqtt_rules.specs.Outbound.{turn_deeds}
 use Rattle.mqtt_rules.specs.Routing.{publish}
-use Rattle.mqtt_rules.specs.State.{Line as BrokerLine, Broker, Env, MemberChoice, session_named}
+use Rattle.mqtt_rules.specs.State.{Line as BrokerLine, Broker, Env, MemberChoice}
 use Rattle.mqtt_rules.specs.Step.{Call, NewLine, Input, BadInput, Lost, Pump, Tick, at_moment, deeds, env_of, outcome_of, stepped, with_moment}
 use Rattle.mqtt_rules.specs.Subscribe as sub
 use Rattle.mqtt_rules.specs.Tick.{is_silent}
@@ -44,11 +42,10 @@ use Rattle.mqtt_topic.specs.Names.{is_empty}
 use Rattle.mqtt_world_receiver_laws.specs.Calls.{receiver_called}
 use Rattle.mqtt_world_receiver_laws.specs.Entering.{IsReceiving}
 use Rattle.mqtt_world_receiver_laws.specs.Handing.{IsRun}
-use Rattle.mqtt_world_receiver_laws.specs.Seen.{AreQueued, Numbering, StandOn, answered, heard, heard_in, publish_heard, seen}
+use Rattle.mqtt_world_receiver_laws.specs.Seen.{Numbering, answered, heard, heard_in, publish_heard, seen}
 use Rattle.mqtt_world_receiver_laws.specs.Served.{GoesOn, HasLines, IsCallOfOthers, IsNewCopy, IsServed, IsTidy, RunsFor, RunsWithAll}
 use Rattle.mqtt_world_receiver_laws.specs.Tags.{AreNumbered, IsTagged, IsTaggedBy, IsTaggedWith, id_of}
-use Rattle.mqtt_world_receiver_laws.proofs.own.Answering.{its_went}
-use Rattle.mqtt_world_receiver_laws.proofs.queue.Entering.{linked_same}
+use Rattle.mqtt_world_receiver_laws.proofs.others.Carried.{carried_run}
 use Rattle.mqtt_world_receiver_laws.proofs.others.Others.{differ}
 use Rattle.mqtt_world_receiver_laws.proofs.others.Theirs.{line_at_another, line_of_another, named_another, no_end, no_will, others, silent_another, theirs_begin_named, theirs_closing, theirs_end, theirs_flat, theirs_greet, theirs_turn}
 use Rattle.mqtt_world_receiver_laws.proofs.others.Walk.{IsMute, IsMuteHere, IsUnheard, Kept, grants_theirs, lapses_led, publishes_led, theirs_led}
@@ -184,30 +181,6 @@ spared_on number ids ns (Some m) new ds b inside q =
     record { heard_is = x.heard_is; tagged = x.tagged; stays = x.stays }
 
 -- ---- the moment of a step
-
--- if lines are the same, so is which are linked
-pub linked_on : (o : Option ℕ) (b c : Broker) → c.lines ≡ b.lines → is_linked o c ≡ is_linked o b
-linked_on o b c lines = linked_same o b c (λ m. ap (session_on m) lines)
-
-queued_on : (copies : List Lot) (o : Option Session) (b c : Broker) → c.lines ≡ b.lines → AreQueued copies o b → AreQueued copies o c
-queued_on copies None b c lines h = h
-queued_on copies (Some s) b c lines h = subst (λ (ls : List BrokerLine). StandOn copies s.queue (its_went s.birth ls)) (sym lines) h
-
--- what is seen is seen of the sessions and of the lines
-pub carried_run : (number : Numbering) (largest : ℕ) (copies : List Lot) (r : Receiver) (b c : Broker) → c.records.sessions ≡ b.records.sessions → c.lines ≡ b.lines → IsRun number largest copies r b
-    → IsRun number largest copies r c
-carried_run number largest copies r b c sessions lines h =
-    let named : session_named r.client c.records ≡ session_named r.client b.records = ap (λ (ss : List Session). find (λ (y : Session). bytes_eq y.client r.client) ss) sessions in
-    let stands : is_some (session_named r.client c.records) ≡ is_some (session_named r.client b.records) = ap is_some named in
-    let linked = linked_on r.line.number b c lines in
-    let same : seen number copies r c ≡ seen number copies r b = λ i. record (seen number copies r b) { stands = stands i; linked = linked i } in
-    record {
-      events = h.events;
-      seen_is = same ∙ h.seen_is;
-      queue_is = subst (λ (o : Option Session). AreQueued copies o c) (sym named) (queued_on copies (session_named r.client b.records) b c lines h.queue_is);
-      numbered = h.numbered;
-      tagged = h.tagged;
-    }
 
 -- the stored moment goes on with the hop
 pub moment_runs : (number : Numbering) (largest : ℕ) (copies : List Lot) (r : Receiver) (rows : List Change) (b : Broker) → IsRun number largest copies r b → IsRun number largest copies r (with_moment rows b)

@@ -20,7 +20,8 @@ use Rattle.mqtt_world_receiver_laws.specs.Handing.{IsRun, receiver_lost}
 use Rattle.mqtt_world_receiver_laws.specs.Own.{IsAwaiting, IsInStep}
 use Rattle.mqtt_world_receiver_laws.specs.Seen.{Numbering}
 use Rattle.mqtt_world_receiver_laws.specs.Served.{IsServed, RunsFor}
-use Rattle.mqtt_world_receiver_laws.proofs.others.CallsOfOthers.{carried_run, first_runs, told_all, told_run}
+use Rattle.mqtt_world_receiver_laws.proofs.others.CallsOfOthers.{first_runs, told_all, told_run}
+use Rattle.mqtt_world_receiver_laws.proofs.others.Carried.{carried_run}
 use Rattle.mqtt_world_receiver_laws.proofs.others.LateConnect.{closing_goes_on, closing_runs, closing_served, shut}
 use Rattle.mqtt_world_receiver_laws.proofs.connects.OwnRefusals.{free_gone}
 use Rattle.mqtt_world_receiver_laws.proofs.connects.Refusals.{run_append}

@@ -179,7 +179,7 @@ off_line birth n ns l off on =
 
 part_off : (birth now : ℕ) (part : LinePart) (l : BrokerLine) → IsPartOfOthers birth part → is_of l.session birth ≡ false → is_of (line_after now part l).session birth ≡ false
 part_off birth now Hear l q off = off
-part_off birth now (Greet other keep_alive window largest) l q off = q
+part_off birth now (Greet other keep_alive window largest most) l q off = q
 part_off birth now (SetAlias alias topic) l q off = off
 part_off birth now (Went place) l q off = off
 

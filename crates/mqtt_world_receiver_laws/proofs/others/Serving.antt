@@ -76,7 +76,7 @@ module _ (client : List ℕ) (birth : ℕ) (ns : List ℕ) where
 
   part_own : (now : ℕ) (part : LinePart) (l : BrokerLine) → is_one_of (Some l.number) ns ≡ false → IsPartOfOthers birth part → IsOwnLine ns birth l → IsOwnLine ns birth (line_after now part l)
   part_own now Hear l outside q h = h
-  part_own now (Greet other keep_alive window largest) l outside q h = record {
+  part_own now (Greet other keep_alive window largest most) l outside q h = record {
     alone = λ e. absurd (not_its other q e);
     theirs = λ inside. let clash : true ≡ false = sym inside ∙ outside in absurd cc;
   }

@@ -57,6 +57,7 @@ use Rattle.mqtt_world_receiver_laws.specs.Seen.{Numbering}
 use Rattle.mqtt_world_receiver_laws.specs.Served.{HasLines, IsNewCopy, IsOwnLine, IsServed, RunsFor}
 use Rattle.mqtt_world_receiver_laws.specs.Tags.{AreNumbered, id_of}
 use Rattle.mqtt_world_receiver_laws.proofs.queue.Entering.{entering_runs, lapsing_runs, slice_more}
+use Rattle.mqtt_world_receiver_laws.proofs.others.Carried.{told_runs, told_served}
 use Rattle.mqtt_world_receiver_laws.proofs.others.Others.{others_leave, others_run}
 use Rattle.mqtt_world_receiver_laws.proofs.others.Serving.{AreOfQueue, AreTheirs, IsOfQueue, IsTheirs, parts_stay, publications_stay, served_deeds, served_parts}
 use Rattle.mqtt_world_receiver_laws.proofs.others.Theirs.{IsForeign, theirs_append, theirs_leave, theirs_flat}
@@ -378,6 +379,24 @@ module _ (largest : ℕ) (env : Env) (small : env.limits.queue ≤ QUEUE_LIMIT) 
   unmoved : (d : CopyTo) (rest : List CopyTo) (b : Broker) → Ready (d ∷ rest) b → Ready rest b
   unmoved d rest b h = record { kept = h.kept; fits = fewer d rest b h.fits; differ = fewer_ids h.kept.more d rest h.differ; passed = h.passed; numbers = h.numbers.1 }
 
+  -- a packet that goes out moves nothing
+  told_ready : (n : ℕ) (packet : Packet) (rest : List CopyTo) (b : Broker) → Ready rest b → Ready rest (after (Send n packet) b)
+  told_ready n packet rest b h = record {
+    kept = record {
+      served = told_served r.client birth ns n packet b h.kept.served;
+      queues = h.kept.queues;
+      grown = h.kept.grown;
+      more = h.kept.more;
+      new = h.kept.new;
+      differ = h.kept.differ;
+      runs = λ number m. told_runs number largest (ids ++ h.kept.more) birth r n packet b (h.kept.runs number m);
+    };
+    fits = h.fits;
+    differ = h.differ;
+    passed = h.passed;
+    numbers = h.numbers;
+  }
+
   queued_to : (d : CopyTo) (rest : List CopyTo) (b : Broker) (o : Option Session) → is_queued d ≡ true → session_at d.birth b.records ≡ o → Ready (d ∷ rest) b
       → Delivers rest (with_session o (λ s. always (enter_deeds env d.copy s)) b) b
   unfolding own_enters other_enters others_kept
@@ -414,7 +433,7 @@ module _ (largest : ℕ) (env : Env) (small : env.limits.queue ≤ QUEUE_LIMIT) 
   offered_to d rest b (Some l) plain h = by (nat_le (size_of (publish_of b.now false 0 d.copy)) l.largest)
     where
       by : (t : Bool) → Delivers rest (cond t (Send l.number (publish_of b.now false 0 d.copy) ∷ []) []) b
-      by true = record { ready = unmoved d rest b h; mute = (inr (unheard_of d.copy.qos plain), tt) }
+      by true = record { ready = told_ready l.number (publish_of b.now false 0 d.copy) rest b (unmoved d rest b h); mute = (inr (unheard_of d.copy.qos plain), tt) }
       by false = record { ready = unmoved d rest b h; mute = tt }
 
   one_delivered : (t : Bool) (d : CopyTo) (rest : List CopyTo) (b : Broker) → is_queued d ≡ t → Ready (d ∷ rest) b → Delivers rest (deliver_by t env d b) b

@@ -47,7 +47,7 @@ IsSafePart part = ⊤
 module _ (client : List ℕ) (birth : ℕ) (ns : List ℕ) where
   -- only the receiver's session is connected, on a line of its own
   abbrev pub IsSafeOn : ℕ → LinePart → Type 0
-  IsSafeOn m (Greet k keep_alive window largest) = (k ≡ birth) × (is_one_of (Some m) ns ≡ true)
+  IsSafeOn m (Greet k keep_alive window largest most) = (k ≡ birth) × (is_one_of (Some m) ns ≡ true)
   IsSafeOn m part = ⊤
 
   abbrev pub IsSafe : Deed → Type 0
@@ -113,7 +113,7 @@ module _ (client : List ℕ) (birth : ℕ) (ns : List ℕ) where
 
   safe_on : (now m : ℕ) (part : LinePart) (l : BrokerLine) → l.number ≡ m → IsSafeOn m part → IsOwnLine ns birth l → IsOwnLine ns birth (line_after now part l)
   safe_on now m Hear l is q h = h
-  safe_on now m (Greet k keep_alive window largest) l is q h = record {
+  safe_on now m (Greet k keep_alive window largest most) l is q h = record {
     alone = λ e. ap (λ (j : ℕ). is_one_of (Some j) ns) is ∙ q.1;
     theirs = λ inside other e. let same : k ≡ other = cc in sym same ∙ q.0;
   }

@@ -30,6 +30,7 @@ use Rattle.mqtt_props.specs.declared.table.PropName.TheVariants.{SubscriptionIde
 use Rattle.mqtt_records.specs.Records.{changed_all, subscribe_in}
 use Rattle.mqtt_records.specs.Session.{birth_of, with_subscription}
 use Rattle.mqtt_records.specs.declared.change.Change.{Change}
+use Rattle.mqtt_records.specs.declared.records.Records.{Records}
 use Rattle.mqtt_records.specs.declared.session.Session.{Session}
 use Rattle.mqtt_records.specs.declared.subscription.Subscription.{Subscription}
 use Rattle.mqtt_routes.specs.Retained.{kept_for}
@@ -68,7 +69,8 @@ use Rattle.mqtt_world_receiver_laws.specs.Seen.{AreQueued, Numbering, StandOn, a
 use Rattle.mqtt_world_receiver_laws.specs.Served.{HasLines, IsServed, IsTidy, RunsFor, RunsWithAll}
 use Rattle.mqtt_world_receiver_laws.specs.Tags.{AreNumbered, IsTagged, IsTaggedBy, IsTaggedWith, id_of}
 use Rattle.mqtt_world_receiver_laws.proofs.own.Answering.{all_join, heard_append, its_went, went_heard}
-use Rattle.mqtt_world_receiver_laws.proofs.others.CallsOfOthers.{carried_run, done_all, first_runs, moment_runs, moment_served}
+use Rattle.mqtt_world_receiver_laws.proofs.others.CallsOfOthers.{done_all, first_runs, moment_runs, moment_served}
+use Rattle.mqtt_world_receiver_laws.proofs.others.Carried.{carried_run, told_runs, told_served}
 use Rattle.mqtt_world_receiver_laws.proofs.queue.Entering.{linked_same, way_same, way_trans}
 use Rattle.mqtt_world_receiver_laws.proofs.own.Own.{safe_served, session_is, some_is}
 use Rattle.mqtt_world_receiver_laws.proofs.queue.QueueLengths.{IsUpTo, entered_upto}
@@ -538,10 +540,29 @@ module _ (largest : ℕ) (env : Env) (small : env.limits.queue ≤ QUEUE_LIMIT) 
   IsTelling (Send m packet) = IsHush packet
   IsTelling d = ⊥
 
-  telling_after : (ds : List Deed) (b : Broker) → AllByRecursion IsTelling ds → after_all ds b ≡ b
-  telling_after [] b q = refl
-  telling_after (Send m packet ∷ ds) b q = telling_after ds b q.1
-  telling_after (d ∷ ds) b q = absurd q.0
+  telling_records : (ds : List Deed) (b : Broker) → AllByRecursion IsTelling ds → (after_all ds b).records ≡ b.records
+  telling_records [] b q = refl
+  telling_records (Send m packet ∷ ds) b q = telling_records ds (after (Send m packet) b) q.1
+  telling_records (d ∷ ds) b q = absurd q.0
+
+  told_going : (more : List CopyId) (m : ℕ) (packet : Packet) (b : Broker) → Going more b → Going more (after (Send m packet) b)
+  told_going more m packet b k =
+      let c = after (Send m packet) b in
+      record {
+        served = told_served r.client birth ns m packet b k.served;
+        queues = k.queues;
+        session = k.session;
+        found = k.found;
+        runs = λ number numbered. told_runs number largest (ids ++ more) birth r m packet b (k.runs number numbered);
+        lots = λ number copies numbered before same.
+            let y = k.lots number copies numbered before same in
+            record { after = y.after; same = y.same; run_is = carried_run number largest y.after r b c refl refl y.run_is; way = y.way };
+      }
+
+  telling_going : (more : List CopyId) (ds : List Deed) (b : Broker) → AllByRecursion IsTelling ds → Going more b → Going more (after_all ds b)
+  telling_going more [] b q k = k
+  telling_going more (Send m packet ∷ ds) b q k = telling_going more ds (after (Send m packet) b) q.1 (told_going more m packet b k)
+  telling_going more (d ∷ ds) b q k = absurd q.0
 
   telling_hush : (ds : List Deed) → AllByRecursion IsTelling ds → AllByRecursion IsHushed ds
   telling_hush [] q = tt
@@ -578,7 +599,15 @@ module _ (largest : ℕ) (env : Env) (small : env.limits.queue ≤ QUEUE_LIMIT) 
       let packet = suback p.identifier (map (λ (x : Asked). identifier_in_use) p.subscriptions) in
       let tells = offer (line_at line b) packet in
       let q = telling_offer (line_at line b) packet tt in
-      record { more = []; new = tt; going = subst (Going []) (sym (telling_after tells b q)) k; longer = λ most h. subst (λ (j : ℕ). IsUpTo birth j (after_all tells b)) (plus_none most) (subst (IsUpTo birth most) (sym (telling_after tells b q)) h); hush = telling_hush tells q; differ = λ apart. tt; apart = λ a. record { come = tt; differ = tt } }
+      record {
+        more = [];
+        new = tt;
+        going = telling_going [] tells b q k;
+        longer = λ most h. subst (λ (j : ℕ). IsUpTo birth j (after_all tells b)) (plus_none most) (λ x e. h x (ap (λ (z : Records). session_at birth z) (sym (telling_records tells b q)) ∙ e));
+        hush = telling_hush tells q;
+        differ = λ apart. tt;
+        apart = λ a. record { come = tt; differ = tt };
+      }
   subscribes_by false line s w p a b is k its at =
       let identifier = number_at SubscriptionIdentifier p.properties in
       let n = sub.next_number b.records in
@@ -593,16 +622,17 @@ module _ (largest : ℕ) (env : Env) (small : env.limits.queue ≤ QUEUE_LIMIT) 
       let q = each_append IsTelling (offer (line_at line b) (suback p.identifier (g.code ∷ []))) (flat_map (λ (d : CopyTo). sub.late_sends line b.now d b) (g.late ++ []))
       (telling_offer (line_at line b) (suback p.identifier (g.code ∷ [])) tt) (telling_late line b.now b (g.late ++ []) late) in
       let front : List Deed = g.deeds ++ [] in
-      let end : after_all (front ++ tells) b ≡ after_all g.deeds b =
-      after_append front tells b ∙ (telling_after tells (after_all front b) q ∙ ap (λ (xs : List Deed). after_all xs b) (append-nil g.deeds)) in
+      let fronts : after_all front b ≡ after_all g.deeds b = ap (λ (xs : List Deed). after_all xs b) (append-nil g.deeds) in
+      let end : (after_all (front ++ tells) b).records ≡ (after_all g.deeds b).records =
+      ap (λ (z : Broker). z.records) (after_append front tells b) ∙ (telling_records tells (after_all front b) q ∙ ap (λ (z : Broker). z.records) fronts) in
       let made : Does (front ++ tells) n b = record {
         more = one.more;
         new = one.new;
-        going = subst (Going one.more) (sym end) one.going;
-        longer = λ most h. subst (IsUpTo birth (most + length one.more)) (sym end) (one.longer most h);
+        going = subst (Going one.more) (sym (after_append front tells b)) (telling_going one.more tells (after_all front b) q (subst (Going one.more) (sym fronts) one.going));
+        longer = λ most h x e. one.longer most h x (ap (λ (z : Records). session_at birth z) (sym end) ∙ e);
         hush = each_append IsHushed front tells (each_append IsHushed g.deeds [] one.hush tt) (telling_hush tells q);
         differ = one.differ;
-        apart = λ a. subst (λ (z : Broker). AreToldApart one.more z.records) (sym end) (one.apart a);
+        apart = λ a. subst (AreToldApart one.more) (sym end) (one.apart a);
       } in
       subst (λ (x : sub.FilterAnswers). Does (x.deeds ++ offer (line_at line b) (suback p.identifier x.codes) ++ flat_map (λ (d : CopyTo). sub.late_sends line b.now d b) x.late) n b) (sym of)
       (subst (λ (zs : List Deed). Does zs n b) (sym (append_assoc front (offer (line_at line b) (suback p.identifier (g.code ∷ []))) (flat_map (λ (d : CopyTo). sub.late_sends line b.now d b) (g.late ++ [])))) made)

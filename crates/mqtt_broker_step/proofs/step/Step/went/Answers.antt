@@ -1,4 +1,4 @@
-use Rattle.std.proofs.Common.{◌≡◌, ℕ, List, ap, sym, ◌∙◌}
+use Rattle.std.proofs.Common.{◌≡◌, ℕ, List, refl, ap, sym, ◌∙◌}
 use Rattle.std.specs.Prelude.{Some}
 use Rattle.mqtt_rules.specs.State.{Line}
 use Rattle.mqtt_rules.specs.Deeds.{Went}
@@ -10,13 +10,13 @@ use Rattle.mqtt_broker_step.proofs.PlaceLists.{popped}
 use Rattle.mqtt_broker_step.proofs.step.Step.went.Goals as goal
 
 pub returns-in_default-clause-ok : goal.returns-in_default-clause-ok
-returns-in_default-clause-ok c = on_no_line c.args.line (Went c.args.place) c.args.self.now (sym c.in_default.ensures)
+returns-in_default-clause-ok c = on_no_line c.args.line (Went c.args.place) c.args.self.now refl (sym c.in_default.ensures)
 
 pub returns-clause-ok : goal.returns-clause-ok
 returns-clause-ok c =
     let l : Line = c.in-Some.state.now in
     on_ok c.edit_line.result
-    (on_ok_line c.args.line (Went c.args.place) c.in_ok-change.change l c.args.self.now c.edit_line.new.self (sym c.in-Some.ensures)
+    (on_ok_line c.args.line (Went c.args.place) c.in_ok-change.change l c.args.self.now c.edit_line.new.self refl (sym c.in-Some.ensures)
     (c.in_ok-change.ensures l (sym c.went.ensures)))
     c.edit_line.ensures.ok
 

@@ -1,0 +1,4 @@
+pub mod Blocks
+pub mod Forms
+pub mod Lines
+pub mod Deeds

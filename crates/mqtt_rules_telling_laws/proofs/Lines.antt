@@ -1,0 +1,97 @@
+-- What was told on a line, by what happens on it and on others.
+use Rattle.std.proofs.Common.{◌≡◌, ℕ, Bool, true, false, cond, List, [], ◌∷◌, ◌++◌, nat_eq, Option, Some, None, refl, sym, ap, subst, ◌∙◌, inl, inr}
+use Rattle.std.proofs.lemmas.Bool.{cases_Bool, eqb-true}
+use Rattle.std.proofs.lemmas.Cmp.{nat_eq_equiv}
+use Rattle.mqtt_codec.specs.declared.packet.Packet.{Packet}
+use Rattle.mqtt_codec.specs.declared.packet.Packet.TheVariants as packets
+use Rattle.mqtt_codec.specs.declared.publish.Publish.{Publish}
+use Rattle.mqtt_topic_aliases.specs.declared.form.Form.TheVariants.{Plain}
+use Rattle.mqtt_topic_aliases.specs.Told.{ToldTopics, none_told, after_send}
+use Rattle.mqtt_rules.specs.Forms.{is_within}
+use Rattle.mqtt_rules.specs.State.{Line, Telling, told_on}
+use Rattle.mqtt_rules.specs.Deeds.{greeted, tells, tells_on, without_telling}
+
+-- a client that takes no alias is told nothing
+nothing_told : (o : Option Line) (packet : Packet) → tells o packet (none_told 0) ≡ none_told 0
+nothing_told None packet = refl
+nothing_told (Some l) (packets.Publish p) = by (is_within l.largest p Plain)
+  where
+    by : (t : Bool) → after_send (cond t (Some Plain) None) p.topic (none_told 0) ≡ none_told 0
+    by true = refl
+    by false = refl
+nothing_told (Some l) packet = refl
+
+-- a packet tells on its own line
+pub told_own : (n : ℕ) (o : Option Line) (packet : Packet) (ts : List Telling) → told_on n (tells_on n o packet ts) ≡ tells o packet (told_on n ts)
+told_own n o packet [] = sym (nothing_told o packet)
+told_own n o packet (t ∷ ts) = elim (cases_Bool (nat_eq t.line n)) [
+  | inl here ↦ rw (here, here) refl
+  | inr other ↦ rw (other, other) (told_own n o packet ts)
+]
+
+another : (i k n : ℕ) → nat_eq i k ≡ true → nat_eq k n ≡ false → nat_eq i n ≡ false
+another i k n same apart = ap (λ (j : ℕ). nat_eq j n) (eqb-true i k same) ∙ apart
+
+-- and on no other
+pub told_other : (n k : ℕ) (o : Option Line) (packet : Packet) (ts : List Telling) → nat_eq k n ≡ false → told_on n (tells_on k o packet ts) ≡ told_on n ts
+told_other n k o packet [] apart = refl
+told_other n k o packet (t ∷ ts) apart = elim (cases_Bool (nat_eq t.line k)) [
+  | inl here ↦ let off = another t.line k n here apart in rw (here, off) refl
+  | inr further ↦ elim (cases_Bool (nat_eq t.line n)) [
+    | inl mine ↦ rw (further, mine) refl
+    | inr off ↦ rw (further, off) (told_other n k o packet ts apart)
+  ]
+]
+
+-- what was told goes with its line
+pub gone_own : (n : ℕ) (ts : List Telling) → told_on n (without_telling n ts) ≡ none_told 0
+gone_own n [] = refl
+gone_own n (t ∷ ts) = elim (cases_Bool (nat_eq t.line n)) [
+  | inl here ↦ rw here (gone_own n ts)
+  | inr other ↦ rw (other, other) (gone_own n ts)
+]
+
+-- and no other goes
+pub gone_other : (n k : ℕ) (ts : List Telling) → nat_eq k n ≡ false → told_on n (without_telling k ts) ≡ told_on n ts
+gone_other n k [] apart = refl
+gone_other n k (t ∷ ts) apart = elim (cases_Bool (nat_eq t.line k)) [
+  | inl here ↦ let off = another t.line k n here apart in rw (here, off) (gone_other n k ts apart)
+  | inr further ↦ elim (cases_Bool (nat_eq t.line n)) [
+    | inl mine ↦ rw (further, mine) refl
+    | inr off ↦ rw (further, off) (gone_other n k ts apart)
+  ]
+]
+
+-- a table that begins is the line's own
+begun_own : (n : ℕ) (told : ToldTopics) (ts : List Telling) → told_on n (without_telling n ts ++ record { line = n; topics = told } ∷ []) ≡ told
+begun_own n told [] = let same = nat_eq_equiv.refl n in rw same refl
+begun_own n told (t ∷ ts) = elim (cases_Bool (nat_eq t.line n)) [
+  | inl here ↦ rw here (begun_own n told ts)
+  | inr other ↦ rw (other, other) (begun_own n told ts)
+]
+
+begun_other : (n k : ℕ) (told : ToldTopics) (ts : List Telling) → nat_eq k n ≡ false → told_on n (without_telling k ts ++ record { line = k; topics = told } ∷ []) ≡ told_on n ts
+begun_other n k told [] apart = rw apart refl
+begun_other n k told (t ∷ ts) apart = elim (cases_Bool (nat_eq t.line k)) [
+  | inl here ↦ let off = another t.line k n here apart in rw (here, off) (begun_other n k told ts apart)
+  | inr further ↦ elim (cases_Bool (nat_eq t.line n)) [
+    | inl mine ↦ rw (further, mine) refl
+    | inr off ↦ rw (further, off) (begun_other n k told ts apart)
+  ]
+]
+
+-- a client that is greeted has an empty table; one that takes no alias has the one that it had, which is none
+pub greeted_own : (n most : ℕ) (P : ToldTopics → Type 0) (ts : List Telling) → P (told_on n ts) → P (none_told most) → P (told_on n (greeted n most ts))
+greeted_own n most P ts was new = by (nat_eq most 0)
+  where
+    by : (t : Bool) → P (told_on n (cond t ts (without_telling n ts ++ record { line = n; topics = none_told most } ∷ [])))
+    by true = was
+    by false = subst P (sym (begun_own n (none_told most) ts)) new
+
+-- and so has any other client
+pub greeted_other : (n k most : ℕ) (ts : List Telling) → nat_eq k n ≡ false → told_on n (greeted k most ts) ≡ told_on n ts
+greeted_other n k most ts apart = by (nat_eq most 0)
+  where
+    by : (t : Bool) → told_on n (cond t ts (without_telling k ts ++ record { line = k; topics = none_told most } ∷ [])) ≡ told_on n ts
+    by true = refl
+    by false = begun_other n k (none_told most) ts apart
