@@ -1,7 +1,7 @@
 -- Those who get copies, with what the copies have in common, are the copies as a publication was routed.
-use Rattle.std.proofs.Common.{◌≡◌, ℕ, List, [], ◌∷◌, ◌++◌, map, refl, ap, ◌∙◌}
+use Rattle.std.proofs.Common.{◌≡◌, ℕ, List, [], ◌∷◌, ◌++◌, map, refl, ap, sym, ◌∙◌}
 use Rattle.std.specs.Prelude.{flat_map}
-use Rattle.std.proofs.lemmas.List.{map-append}
+use Rattle.std.proofs.lemmas.List.{append-nil, map-append}
 use Rattle.mqtt_base.specs.declared.session.Cause.{Cause}
 use Rattle.mqtt_base.specs.declared.session.Cause.TheVariants.{Direct, Share}
 use Rattle.mqtt_records_message.specs.declared.message.Content.{Content}
@@ -10,8 +10,8 @@ use Rattle.mqtt_routes.specs.Intended.{Copy}
 use Rattle.mqtt_routes.specs.Acceptance.{Routed, Served, copies_in}
 use Rattle.mqtt_rules.specs.Deeds.{Message}
 use Rattle.mqtt_broker_publish.specs.declared.copies.Addressee.{Addressee}
-use Rattle.mqtt_broker_publish.specs.Copies.{InCommon, copy_for, copies_for}
-use Rattle.mqtt_broker_index.specs.Indexing.{addressee, served_addressees, addressees, all_copied, copied, served_copied}
+use Rattle.mqtt_broker_publish.specs.Copies.{InCommon, addressee, copy_for, copies_for}
+use Rattle.mqtt_broker_index.specs.Indexing.{served_addressees, addressees, all_copied, copied, served_copied}
 
 abbrev in_common : ℕ → ℕ → Message → InCommon
 in_common number moment m = record { number = number; content = record { topic = m.topic; properties = m.properties; payload = m.payload; arrived = moment } }
@@ -40,3 +40,11 @@ pub copied_are : (number moment : ℕ) (m : Message) (r : Routed) (content : Con
 copied_are number moment m r content all content_is all_are_is =
     ap (λ (k : Content). copies_for (record { number = number; content = k }) all) content_is
     ∙ (ap (copies_for (in_common number moment m)) all_are_is ∙ all_are number moment m r)
+
+-- where no group gets one, those for the sessions to which it was routed directly are all
+pub direct_are : (number moment : ℕ) (m : Message) (r : Routed) (content : Content) → content ≡ (in_common number moment m).content → r.served ≡ []
+    → copies_for (record { number = number; content = content }) (map (addressee Direct) r.direct) ≡ all_copied number moment m r
+direct_are number moment m r content content_is none =
+    let all : map (addressee Direct) r.direct ≡ addressees r =
+    sym (ap (λ ss. map (addressee Direct) r.direct ++ flat_map served_addressees ss) none ∙ append-nil (map (addressee Direct) r.direct)) in
+    copied_are number moment m r content (map (addressee Direct) r.direct) content_is all

@@ -10,9 +10,9 @@ use Rattle.mqtt_routes.specs.Subscriptions.{Subscriber, AreInOrder, with_some}
 use Rattle.mqtt_routes.specs.Intended.{Answers, Copy}
 use Rattle.mqtt_routes.specs.Acceptance.{Routed, Served, copies_in, has_takers, routed}
 use Rattle.mqtt_rules.specs.Deeds.{Message}
-use Rattle.mqtt_rules.specs.Packets.{quality}
 use Rattle.mqtt_rules.specs.Routing.{answers, copy_to, next_publication, publication_of}
 use Rattle.mqtt_broker_step.specs.Stepping.{Stepping, env_in}
+use Rattle.mqtt_broker_publish.specs.Copies.{addressee}
 use Rattle.mqtt_broker_publish.specs.declared.copies.Addressee.{Addressee}
 use Rattle.mqtt_broker_publish.specs.declared.router.Routing.{Routing}
 use Rattle.mqtt_broker_publish.specs.declared.router.Routing.TheVariants.{Refused, Accepted}
@@ -42,9 +42,6 @@ abbrev pub IsFound : Message → Stepping → List Subscriber → Option Routed 
 IsFound m s table o = (members : List ℕ) × (routed (answers_in s) (publication_of m) members table ≡ o)
 
 -- who gets a copy as it was routed: the direct ones, then those of the groups
-abbrev pub addressee : Cause → Copy → Addressee
-addressee cause c = record { birth = c.birth; cause = cause; qos = quality c.qos; retain = c.retain; identifiers = c.identifiers }
-
 abbrev pub served_addressees : Served → List Addressee
 served_addressees s = map (addressee (Share s.group)) (copies_in s.copy)
 

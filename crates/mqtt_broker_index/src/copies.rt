@@ -1,7 +1,8 @@
 //! The copies of a publication that was routed (MQTT 5.0, 3.3.4, 4.8).
 ghost use Rattle.std.specs.Prelude.{◌≡◌, ◌++◌, ◌∷◌, [], map, flat_map, OnOk, IfOk, IfErr};
 ghost use Rattle.mqtt_base.specs.declared.session.Cause.TheVariants.{Direct};
-ghost use Rattle.mqtt_broker_index.specs.Indexing.{addressee, served_addressees, addressees, all_copied};
+ghost use Rattle.mqtt_broker_publish.specs.Copies.{addressee};
+ghost use Rattle.mqtt_broker_index.specs.Indexing.{served_addressees, addressees, all_copied};
 
 use mqtt_base::Cause;
 use mqtt_broker_decisions::Message;
@@ -137,6 +138,29 @@ pub(crate) fn copies_of(
         Ok(content) => Ok(Copies::new(number, content, all)),
         Err(_) => {
             drop(all);
+            Err(StepFault::Memory)
+        }
+    }
+}
+
+/// The copies of a publication, which was accepted at a moment under a number, as it was routed, to no group.
+#[tactic(auto, using(crate::proofs::Addressed::direct_are))]
+pub(crate) fn direct_copies(
+    alloc: Global,
+    number: u64,
+    moment: u64,
+    message: &Message,
+    routed: Routed,
+) -> Result<Copies, StepFault>
+    requires { routed.served ≡ [] }
+    ensures ok { IfOk result (λ copies. copies
+        ≡ all_copied number moment message.now routed) }
+    ensures fault { IfErr result (λ fault. fault ≡ StepFault.Memory) }
+{
+    match message.content(moment) {
+        Ok(content) => Ok(Copies::routed(alloc, number, content, routed)),
+        Err(_) => {
+            drop(routed);
             Err(StepFault::Memory)
         }
     }

@@ -11,7 +11,7 @@ ghost use Rattle.mqtt_broker_step.specs.Stepping.{env_in};
 ghost use Rattle.mqtt_broker_step.specs.Undoing.{moment_of};
 ghost use Rattle.mqtt_broker_index.specs.Indexing.{IsFound, IsTakenAs, Serves, all_copied};
 
-use crate::copies::copies_of;
+use crate::copies::{copies_of, direct_copies};
 use crate::look::Look;
 use mqtt_base::Qos;
 use mqtt_broker_decisions::Message;
@@ -220,6 +220,32 @@ fn accepted(
     copies_of(alloc, number, step.moment(), message, routed)
 }
 
+/// A publication is accepted as it was routed, to no group.
+fn take_direct(
+    alloc: Global,
+    step: &Step,
+    message: &Message,
+    routed: Routed,
+) -> Result<Routing, StepFault>
+    requires { routed.served ≡ [] }
+    ensures taken { IfOk result (IsTakenAs message.now step.now routed) }
+    ensures fault { IfErr result (λ fault. fault ≡ StepFault.Memory) }
+    ensures order { IsAscending birth_of step.now.broker.records.sessions }
+{
+    step.show_order();
+
+    // No publication has a number that fits no `u64`: the step would give none above `LAST_NUMBER`.
+    let Some(number) = step.publications().checked_add(1) else {
+        drop(routed);
+        return Err(StepFault::Memory);
+    };
+    let wanted = routed.has_takers();
+    match direct_copies(alloc, number, step.moment(), message, routed) {
+        Ok(copies) => Ok(Routing::Accepted { copies, wanted }),
+        Err(fault) => Err(fault),
+    }
+}
+
 impl Index {
     /// A publication is accepted as it was routed, and the members that were chosen are noted.
     fn take(
@@ -234,6 +260,9 @@ impl Index {
         ensures order { IsAscending birth_of step.now.broker.records.sessions }
         ensures same { self.new ≡ self.old }
     {
+        if routed.served().is_empty() {
+            return take_direct(alloc, step, message, routed);
+        }
         match accepted(alloc, step, message, &routed) {
             Ok(copies) => {
                 let wanted = routed.has_takers();

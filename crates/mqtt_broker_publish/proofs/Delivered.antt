@@ -80,6 +80,14 @@ count_less birth d ds = elim (cases_Bool (is_entering birth d)) [ inl so ↦ rw 
 offer_stays : (o : Option Line) (packet : Packet) (s : Stepping) → (did (offer o packet) s).broker.records ≡ s.broker.records
 offer_stays o packet s = of_offer (λ (ds : List Deed). (did ds s).broker.records ≡ s.broker.records) o packet refl (λ l there. refl)
 
+-- nor any line
+offer_lines : (o : Option Line) (packet : Packet) (s : Stepping) → (did (offer o packet) s).broker.lines ≡ s.broker.lines
+offer_lines o packet s = of_offer (λ (ds : List Deed). (did ds s).broker.lines ≡ s.broker.lines) o packet refl (λ l there. refl)
+
+-- a copy that goes out at once leaves the lines as they are
+pub offered_lines : (birth : ℕ) (copy : MessageCopy) (s s2 : Stepping) → Did (offers birth copy) s s2 → s2.broker.lines ≡ s.broker.lines
+offered_lines birth copy s s2 done = ap (λ (t : Stepping). t.broker.lines) done.is ∙ offer_lines (line_of birth s.broker) (publish_of s.broker.now false 0 copy) s
+
 -- a copy that is to enter finds a session
 room_needs : (env : Env) (d : CopyTo) (ds : List CopyTo) (r : Records) → is_queued d ≡ true → HasRoom env (d ∷ ds) r → 0 < room_at env (session_at d.birth r)
 room_needs env d ds r queued fit =

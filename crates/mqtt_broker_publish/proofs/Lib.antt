@@ -9,3 +9,5 @@ pub mod Aliased
 pub mod ByIdentifier
 pub mod Dropped
 pub mod Routed
+pub mod Seated
+pub mod Shared

@@ -1,13 +1,20 @@
 -- The copies of one publication: what they have in common, and whom each is for (MQTT 5.0, 3.3, 3.3.4, 4.8).
 use Rattle.std.specs.Prelude.{ℕ, List, map}
+use Rattle.mqtt_base.specs.declared.session.Cause.{Cause}
 use Rattle.mqtt_records_message.specs.declared.message.Content.{Content}
 use Rattle.mqtt_records_message.specs.declared.message.MessageCopy.{MessageCopy}
+use Rattle.mqtt_routes.specs.Intended.{Copy}
+use Rattle.mqtt_rules.specs.Packets.{quality}
 use Rattle.mqtt_broker_publish.specs.declared.copies.Addressee.{Addressee}
 
 -- what all copies of a publication have in common: its number, and what they say
 pub record InCommon : Type 0 where
   pub number : ℕ
   pub content : Content
+
+-- who gets a copy as it was routed
+abbrev pub addressee : Cause → Copy → Addressee
+addressee cause c = record { birth = c.birth; cause = cause; qos = quality c.qos; retain = c.retain; identifiers = c.identifiers }
 
 -- the copy of a publication for a session
 abbrev pub copy_for : InCommon → Addressee → MessageCopy

@@ -3,13 +3,17 @@ use Rattle.std.specs.Prelude.{◌≡◌, ℕ, false, List}
 use Rattle.mqtt_codec.specs.Packets.{shortest_of}
 use Rattle.mqtt_records_message.specs.declared.message.MessageCopy.{MessageCopy}
 use Rattle.mqtt_rules.specs.Packets.{publish_of}
-
--- the moment at which a copy of QoS 0 was encoded, the copy, and the bytes
-pub record LastEncoded : Type 0 where
-  pub moment : ℕ
-  pub copy : MessageCopy
-  pub bytes : List ℕ
+use Rattle.mqtt_broker_publish.specs.declared.copies.Addressee.{Addressee}
+use Rattle.mqtt_broker_publish.specs.Copies.{InCommon}
 
 -- the bytes are those of the copy's PUBLISH at that moment
 abbrev pub IsEncoded : ℕ → MessageCopy → List ℕ → Type 0
 IsEncoded moment copy bytes = bytes ≡ shortest_of (publish_of moment false 0 copy)
+
+-- what a copy has in common with the others of its publication
+abbrev pub in_common : MessageCopy → InCommon
+in_common copy = record { number = copy.id.publication; content = copy.content }
+
+-- a copy that is sent as that for a session is
+abbrev pub said_to : Addressee → MessageCopy → MessageCopy
+said_to to copy = record copy { qos = to.qos; retain = to.retain; identifiers = to.identifiers }

@@ -1,5 +1,5 @@
 //! The copies of a publication are handed over, one after the other (MQTT 5.0, 3.3.4, 4.3, 4.8).
-ghost use Rattle.std.specs.Prelude.{◌≡◌, true, OnOk, IfErr};
+ghost use Rattle.std.specs.Prelude.{◌≡◌, true, map, OnOk, IfErr};
 ghost use Rattle.std.specs.List.{AllByRecursion};
 ghost use Rattle.mqtt_records_message.specs.Queue.{IsSpelled};
 ghost use Rattle.mqtt_rules.specs.Deeds.{always, of_session};
@@ -9,10 +9,13 @@ ghost use Rattle.mqtt_broker_step.specs.Stepping.{Does, Leaves};
 ghost use Rattle.mqtt_broker_queue.specs.Entering.{HasEnteredAt, HasRoomAt};
 ghost use Rattle.mqtt_broker_publish.specs.Copies.{copy_for, copies_for};
 ghost use Rattle.mqtt_broker_publish.specs.Delivering.{addressed, addressed_all, delivers_all, HasRoomIn, SameSessions};
+ghost use Rattle.mqtt_broker_publish.specs.Seats.{AreSeats};
+ghost use Rattle.mqtt_broker_publish.specs.Whom.{all_of};
 
 use crate::common::{Common, apart};
-use crate::copies::{Addressee, Copies};
+use crate::copies::{Addressed, Copies, Whom};
 use crate::offering::offer_copy;
+use crate::seats::Seats;
 use mqtt_base::Qos;
 use mqtt_broker_queue::enter;
 use mqtt_broker_step::{Step, StepFault};
@@ -30,23 +33,24 @@ fn is_queued(qos: Qos) -> bool
 }
 
 /// The copy for a session, whose PUBLISH has a spelling, enters the session's queue, which has room for it.
-fn enter_copy(
+fn enter_copy<T: Addressed>(
     alloc: Global,
     step: &mut Step,
     common: &Common,
-    to: Addressee,
+    to: &T,
 ) -> Result<(), StepFault>
-    requires spelled { IsSpelled (copy_for common.now to) }
-    requires room { HasRoomAt to.birth step.old }
-    ensures ok { OnOk result (Does (λ env. of_session to.birth
-        (λ s. always (enter_deeds env (copy_for common.now to) s))) step.old step.new) }
-    ensures entered { OnOk result (HasEnteredAt to.birth step.old step.new) }
-    ensures left { IfErr result (λ fault. Leaves (λ env. of_session to.birth
-        (λ s. always (enter_deeds env (copy_for common.now to) s))) fault step.old step.new) }
+    requires spelled { IsSpelled (copy_for common.now (T.addressee to.now)) }
+    requires room { HasRoomAt (T.addressee to.now).birth step.old }
+    ensures ok { OnOk result (Does (λ env. of_session (T.addressee to.now).birth
+        (λ s. always (enter_deeds env (copy_for common.now (T.addressee to.now)) s)))
+        step.old step.new) }
+    ensures entered { OnOk result (HasEnteredAt (T.addressee to.now).birth step.old step.new) }
+    ensures left { IfErr result (λ fault. Leaves (λ env. of_session (T.addressee to.now).birth
+        (λ s. always (enter_deeds env (copy_for common.now (T.addressee to.now)) s))) fault
+        step.old step.new) }
 {
-    let birth = to.birth;
-    match common.copy(to) {
-        Ok(copy) => enter(alloc, step, birth, copy),
+    match common.copy(alloc, to) {
+        Ok(copy) => enter(alloc, step, to.birth(), copy),
         Err(error) => Err(StepFault::from(error)),
     }
 }
@@ -54,51 +58,85 @@ fn enter_copy(
 /// The copy for a session, whose PUBLISH has a spelling, enters the session's queue, which has room for it, and if that
 /// is full the oldest that wait make way for it; one of QoS 0 goes out at once (4.3), and shares the bytes that were
 /// encoded last if they are the same.
-fn deliver(
+fn deliver<T: Addressed>(
     alloc: Global,
     step: &mut Step,
+    seats: &mut Seats,
     common: &mut Common,
-    to: Addressee,
+    to: &T,
 ) -> Result<(), StepFault>
-    requires spelled { IsSpelled (copy_for common.old to) }
-    requires room { is_queued (addressed (copy_for common.old to)) ≡ true
-        → HasRoomAt to.birth step.old }
-    ensures ok { OnOk result (Does (λ env. deliver env (addressed (copy_for common.old to)))
-        step.old step.new) }
-    ensures entered { OnOk result (is_queued (addressed (copy_for common.old to)) ≡ true
-        → HasEnteredAt to.birth step.old step.new) }
+    requires spelled { IsSpelled (copy_for common.old (T.addressee to.now)) }
+    requires room { is_queued (addressed (copy_for common.old (T.addressee to.now))) ≡ true
+        → HasRoomAt (T.addressee to.now).birth step.old }
+    requires seats { AreSeats seats.old step.old.broker.lines }
+    ensures ok { OnOk result (Does (λ env. deliver env
+        (addressed (copy_for common.old (T.addressee to.now)))) step.old step.new) }
+    ensures entered { OnOk result
+        (is_queued (addressed (copy_for common.old (T.addressee to.now))) ≡ true
+        → HasEnteredAt (T.addressee to.now).birth step.old step.new) }
+    ensures seats { OnOk result (AreSeats seats.new step.new.broker.lines) }
     ensures same { common.new ≡ common.old }
-    ensures left { IfErr result (λ fault. Leaves
-        (λ env. deliver env (addressed (copy_for common.old to))) fault step.old step.new) }
+    ensures left { IfErr result (λ fault. Leaves (λ env. deliver env
+        (addressed (copy_for common.old (T.addressee to.now)))) fault step.old step.new) }
 {
-    if is_queued(to.qos) {
+    if is_queued(to.qos()) {
+        seats.forget();
         enter_copy(alloc, step, common, to)
     } else {
-        offer_copy(alloc, step, common, to)
+        offer_copy(alloc, step, seats, common, to)
     }
 }
 
 /// The copies for these sessions are handed over in order.
-fn deliver_to(
+fn deliver_to<T: Addressed>(
     alloc: Global,
     step: &mut Step,
     common: &mut Common,
-    all: Vec<Addressee>,
+    all: &[T],
 ) -> Result<(), StepFault>
-    requires spelled { AllByRecursion IsSpelled (copies_for common.old all.items) }
-    requires room { HasRoomIn step.old (addressed_all (copies_for common.old all.items)) }
+    requires spelled { AllByRecursion IsSpelled
+        (copies_for common.old (map T.addressee all.now)) }
+    requires room { HasRoomIn step.old
+        (addressed_all (copies_for common.old (map T.addressee all.now))) }
     ensures ok { OnOk result (Does
-        (delivers_all (addressed_all (copies_for common.old all.items))) step.old step.new) }
+        (delivers_all (addressed_all (copies_for common.old (map T.addressee all.now))))
+        step.old step.new) }
     ensures sessions { OnOk result (SameSessions step.old.broker.records
         step.new.broker.records) }
     ensures left { IfErr result (λ fault. Leaves
-        (delivers_all (addressed_all (copies_for common.old all.items)))
+        (delivers_all (addressed_all (copies_for common.old (map T.addressee all.now))))
         fault step.old step.new) }
 {
-    for to in all {
-        deliver(alloc, step, common, to)?;
+    let mut seats = Seats::for_copies(all.len(), step);
+    let mut rest = all;
+    while let Some((to, after)) = rest.split_first() {
+        deliver(alloc, step, &mut seats, common, to)?;
+        rest = after;
     }
     Ok(())
+}
+
+/// The copies for all these are handed over in order.
+fn deliver_by(
+    alloc: Global,
+    step: &mut Step,
+    common: &mut Common,
+    whom: &Whom,
+) -> Result<(), StepFault>
+    requires spelled { AllByRecursion IsSpelled (copies_for common.old (all_of whom.now)) }
+    requires room { HasRoomIn step.old (addressed_all (copies_for common.old (all_of whom.now))) }
+    ensures ok { OnOk result (Does
+        (delivers_all (addressed_all (copies_for common.old (all_of whom.now)))) step.old step.new) }
+    ensures sessions { OnOk result (SameSessions step.old.broker.records
+        step.new.broker.records) }
+    ensures left { IfErr result (λ fault. Leaves
+        (delivers_all (addressed_all (copies_for common.old (all_of whom.now))))
+        fault step.old step.new) }
+{
+    match whom {
+        Whom::Routed { routed } => deliver_to(alloc, step, common, routed.direct()),
+        Whom::Listed { all } => deliver_to(alloc, step, common, all.as_slice()),
+    }
 }
 
 /// The copies of a publication, whose PUBLISH have spellings, are handed over in order. Each queue has room for those
@@ -117,9 +155,10 @@ pub(crate) fn deliver_copies(
     ensures left { IfErr result (λ fault. Leaves
         (delivers_all (addressed_all copies)) fault step.old step.new) }
 {
-    let Copies { mut common, all } = copies;
-    let done = deliver_to(alloc, step, &mut common, all);
+    let Copies { mut common, whom } = copies;
+    let done = deliver_by(alloc, step, &mut common, &whom);
     drop(common);
+    drop(whom);
     done
 }
 
@@ -133,9 +172,11 @@ fn deliver_one(alloc: Global, step: &mut Step, copy: MessageCopy) -> Result<(), 
     ensures left { IfErr result (λ fault. Leaves
         (λ env. deliver env (addressed copy)) fault step.old step.new) }
 {
-    let (mut common, to) = apart(copy);
-    let done = deliver(alloc, step, &mut common, to);
+    let (mut common, to) = apart(alloc, copy);
+    let mut seats = Seats::unknown();
+    let done = deliver(alloc, step, &mut seats, &mut common, &to);
     drop(common);
+    drop(to);
     done
 }
 

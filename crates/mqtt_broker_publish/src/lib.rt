@@ -16,6 +16,7 @@ mod publishing;
 mod releasing;
 mod retaining;
 mod router;
+mod seats;
 mod standing;
 mod taking;
 

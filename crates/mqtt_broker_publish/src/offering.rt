@@ -1,26 +1,21 @@
 //! A copy of QoS 0 goes out at once (MQTT 5.0, 3.1.2.11.4, 4.3.1).
-ghost use Rattle.std.specs.Prelude.{◌≡◌, Some, option_copied, OnOk, IfErr};
+ghost use Rattle.std.specs.Prelude.{◌≡◌, Some, OnOk, IfErr};
 ghost use Rattle.mqtt_codec.specs.declared.packet.Packet.{Packet};
 ghost use Rattle.mqtt_codec.specs.Packets.{shortest_of};
 ghost use Rattle.mqtt_records_message.specs.Queue.{IsSpelled};
 ghost use Rattle.mqtt_rules.specs.Deeds.{always, offer};
-ghost use Rattle.mqtt_rules.specs.State.{Line, line_of};
+ghost use Rattle.mqtt_rules.specs.State.{Line};
 ghost use Rattle.mqtt_broker_step.specs.Stepping.{Did, IsLeft};
 ghost use Rattle.mqtt_broker_publish.specs.Copies.{copy_for};
 ghost use Rattle.mqtt_broker_publish.specs.Delivering.{offers};
+ghost use Rattle.mqtt_broker_publish.specs.Seats.{AreSeats};
 
 use crate::common::Common;
-use crate::copies::Addressee;
+use crate::copies::Addressed;
+use crate::seats::Seats;
 use bytes::Bytes;
-use mqtt_broker_step::{LineState, Step, StepFault};
+use mqtt_broker_step::{Step, StepFault};
 use std::alloc::Global;
-
-/// The line that a session is connected on.
-fn line_of(step: &Step, birth: u64) -> Option<&LineState>
-    ensures { option_copied result ≡ line_of birth step.now.broker }
-{
-    step.lines().iter().find(|line| line.is_of(birth))
-}
 
 /// A packet's bytes go out on a line, unless they are more than its client takes (3.1.2.11.4).
 fn send_within(step: &mut Step, line: u64, largest: u32, bytes: Bytes) -> Result<(), StepFault>
@@ -41,20 +36,22 @@ fn send_within(step: &mut Step, line: u64, largest: u32, bytes: Bytes) -> Result
 /// The copy of QoS 0 for a session, whose PUBLISH has a spelling, goes out at once, if the session is connected; it is
 /// left out if it is larger than the client takes (3.1.2.11.4, 4.3.1). It shares the bytes that were encoded last if they
 /// are the same.
-pub(crate) fn offer_copy(
+pub(crate) fn offer_copy<T: Addressed>(
     alloc: Global,
     step: &mut Step,
+    seats: &Seats,
     common: &mut Common,
-    to: Addressee,
+    to: &T,
 ) -> Result<(), StepFault>
-    requires { IsSpelled (copy_for common.old to) }
-    ensures ok { OnOk result (Did (offers to.birth (copy_for common.old to)) step.old step.new) }
+    requires spelled { IsSpelled (copy_for common.old (T.addressee to.now)) }
+    requires seats { AreSeats seats.now step.old.broker.lines }
+    ensures ok { OnOk result (Did (offers (T.addressee to.now).birth
+        (copy_for common.old (T.addressee to.now))) step.old step.new) }
     ensures same { common.new ≡ common.old }
-    ensures left { IfErr result (λ fault.
-        IsLeft (offers to.birth (copy_for common.old to)) fault step.old step.new) }
+    ensures left { IfErr result (λ fault. IsLeft (offers (T.addressee to.now).birth
+        (copy_for common.old (T.addressee to.now))) fault step.old step.new) }
 {
-    let Some(line) = line_of(step, to.birth) else {
-        drop(to);
+    let Some(line) = seats.line_of(step, to.birth()) else {
         return Ok(());
     };
     let number = line.number();

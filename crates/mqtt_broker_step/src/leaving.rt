@@ -1,5 +1,5 @@
 //! A copy leaves a session's queue, and the places that went out on the session's line (MQTT 5.0, 4.3, 4.4).
-ghost use Rattle.std.specs.Prelude.{◌≡◌, Some, map, IfOk, IfErr, OnOk};
+ghost use Rattle.std.specs.Prelude.{◌≡◌, ◌≤◌, ℕ, Some, map, IfOk, IfErr, OnOk};
 ghost use Rattle.mqtt_records_rows.specs.Order.{change_row};
 ghost use Rattle.mqtt_records.specs.declared.session.Session.{Session as TheSession};
 ghost use Rattle.mqtt_records.specs.declared.change.Change.TheVariants.{RemoveCopy};
@@ -7,7 +7,7 @@ ghost use Rattle.mqtt_rules.specs.declared.Report.TheVariants as reports;
 ghost use Rattle.mqtt_rules.specs.State.{session_at};
 ghost use Rattle.mqtt_rules.specs.Deeds.{without_place};
 ghost use Rattle.mqtt_rules.specs.Laws.{HasTables};
-ghost use Rattle.mqtt_broker_step.specs.Lines.{line_number, without_went, nth_changed};
+ghost use Rattle.mqtt_broker_step.specs.Lines.{changed_from, line_number, without_went, nth_changed};
 ghost use Rattle.mqtt_broker_step.specs.Backs.{Makes, Unmakes};
 ghost use Rattle.mqtt_broker_step.specs.Undoing.{with_lines};
 ghost use Rattle.mqtt_broker_step.specs.Doing.{leaves};
@@ -15,7 +15,7 @@ ghost use Rattle.mqtt_broker_step.specs.Stepping.{Did, IsLeft, IsKept, written, 
 
 use crate::fault::StepFault;
 use crate::handshakes::has_tables;
-use crate::line::LineChange;
+use crate::line::{LineChange, LineState};
 use crate::places::Places;
 use crate::step::Step;
 use mqtt_base::Ending;
@@ -69,6 +69,19 @@ fn ended(session: &Session, row: &CopyRow, ending: Ending) -> Result<Report, All
     }
 }
 
+/// The index of the first line, from one on, that a session is connected on; if there is none, one behind the last.
+fn next_of(lines: &[LineState], from: usize, birth: u64) -> usize
+    ensures next { (place : ℕ) → changed_from from (without_place birth place) lines.now
+        ≡ changed_from result (without_place birth place) lines.now }
+    ensures behind { from ≤ result }
+{
+    let mut at = from;
+    while at < lines.len() && !lines[at].is_of(birth) {
+        at += 1;
+    }
+    at
+}
+
 impl Step {
     /// A place leaves those that went out on a line.
     fn drop_went(&mut self, line: u64, place: u64) -> Result<(), StepFault>
@@ -115,8 +128,10 @@ impl Step {
         ensures left { IfErr result (λ fault. IsKept fault self.old self.new) }
     {
         let count = self.lines().len();
-        for at in 0..count {
+        let mut at = next_of(self.lines(), 0, birth);
+        while at < count {
             self.drop_at(at, birth, place)?;
+            at = next_of(self.lines(), at + 1, birth);
         }
         Ok(())
     }

@@ -1,6 +1,6 @@
 use Rattle.std.proofs.Common.{◌≡◌, ◌++◌, take, map}
 use Rattle.mqtt_base.specs.declared.session.Cause.TheVariants.{Direct}
-use Rattle.mqtt_broker_index.specs.Indexing.{addressee}
+use Rattle.mqtt_broker_publish.specs.Copies.{addressee}
 use Rattle.mqtt_broker_index.proofs.copies.add_direct.Given as goal
 
 abbrev pub invariant-loop-copy : goal.invariant-loop-copy

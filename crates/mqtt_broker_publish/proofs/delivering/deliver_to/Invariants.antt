@@ -1,6 +1,14 @@
+-- Those who are left get what is left to hand over, and the seats are those of the lines.
+use Rattle.std.proofs.Common.{length, map}
 use Rattle.mqtt_broker_publish.specs.Copies.{copies_for}
+use Rattle.mqtt_broker_publish.specs.Seats.{AreSeats}
 use Rattle.mqtt_broker_publish.proofs.Delivered.{Handing}
 use Rattle.mqtt_broker_publish.proofs.delivering.deliver_to.Given as goal
 
 abbrev pub invariant-loop-to : goal.invariant-loop-to
-invariant-loop-to l = Handing (copies_for l.common l.to-iterator.rest.items) (copies_for l.fn.common l.fn.all.items) l.fn.step l.step
+invariant-loop-to g l =
+    let to_of = g.T.Addressed.addressee in
+    Handing (copies_for l.common (map to_of l.rest)) (copies_for l.fn.common (map to_of l.fn.all)) l.fn.step l.step × AreSeats l.seats l.step.broker.lines
+
+abbrev pub decreases-loop-to : goal.decreases-loop-to
+decreases-loop-to g l = length l.rest

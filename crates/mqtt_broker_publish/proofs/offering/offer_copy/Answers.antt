@@ -1,6 +1,8 @@
 use Rattle.std.proofs.Common.{◌≡◌, false, ap, sym, ◌∙◌}
+use Rattle.std.specs.Prelude.{Some}
 use Rattle.mqtt_codec.specs.Packets.{shortest_of}
 use Rattle.mqtt_rules.specs.Packets.{publish_of}
+use Rattle.mqtt_rules.specs.State.{line_of}
 use Rattle.mqtt_broker_step.specs.Undoing.{moment_of}
 use Rattle.mqtt_broker_step.proofs.Doing.{on_ok, if_err}
 use Rattle.mqtt_broker_publish.specs.Copies.{copy_for}
@@ -8,21 +10,25 @@ use Rattle.mqtt_broker_publish.proofs.Offered.{offered, offer_left}
 use Rattle.mqtt_broker_publish.proofs.offering.offer_copy.Goals as goal
 
 pub returns-in-Ok-clause-ok : goal.returns-in-Ok-clause-ok
-returns-in-Ok-clause-ok c =
+returns-in-Ok-clause-ok g c =
     let s = c.args.step.now in
-    let copy = copy_for c.args.common.now c.args.to in
+    let to = g.T.Addressed.addressee c.args.to.now in
+    let copy = copy_for c.args.common.now to in
     let packet = publish_of (moment_of s.broker) false 0 copy in
+    let found : line_of to.birth s.broker ≡ Some c.in-Some.line.now = sym (c.in-Some.ensures ∙ ap (λ n. line_of n s.broker) c.birth.ensures) in
     let bytes : c.in-Ok.bytes ≡ shortest_of packet = c.in-Ok.ensures.bytes ∙ ap (λ t. shortest_of (publish_of t false 0 copy)) c.moment.ensures in
     on_ok c.send_within.result
-    (offered c.args.to.birth copy c.in-Some.line.now s c.send_within.new.step (sym c.in-Some.ensures))
+    (offered to.birth copy c.in-Some.line.now s c.send_within.new.step found)
     (c.send_within.ensures.ok c.in-Some.line.now packet (sym c.number-number.ensures) (sym c.largest-largest.ensures) bytes)
 
 pub returns-in-Ok-clause-left : goal.returns-in-Ok-clause-left
-returns-in-Ok-clause-left c =
+returns-in-Ok-clause-left g c =
     let s = c.args.step.now in
-    let copy = copy_for c.args.common.now c.args.to in
+    let to = g.T.Addressed.addressee c.args.to.now in
+    let copy = copy_for c.args.common.now to in
     let packet = publish_of (moment_of s.broker) false 0 copy in
+    let found : line_of to.birth s.broker ≡ Some c.in-Some.line.now = sym (c.in-Some.ensures ∙ ap (λ n. line_of n s.broker) c.birth.ensures) in
     let bytes : c.in-Ok.bytes ≡ shortest_of packet = c.in-Ok.ensures.bytes ∙ ap (λ t. shortest_of (publish_of t false 0 copy)) c.moment.ensures in
     if_err c.send_within.result
-    (λ fault. offer_left c.args.to.birth copy c.in-Some.line.now fault s c.send_within.new.step (sym c.in-Some.ensures))
+    (λ fault. offer_left to.birth copy c.in-Some.line.now fault s c.send_within.new.step found)
     (c.send_within.ensures.left c.in-Some.line.now packet (sym c.number-number.ensures) (sym c.largest-largest.ensures) bytes)
