@@ -1,8 +1,9 @@
 /* What C's sqlite3 takes for the statements of the store in SQL; for bench/sql/run.
-   usage: sql [--schema 1|2] fill FILE SESSIONS COPIES | commits FILE|:memory: COUNT | load FILE | schema FILE
-          sql [--schema 1|2] steps FILE|:memory: COUNT [BYTES [RECEIVERS]]
+   usage: sql [--schema 1|2] fill FILE SESSIONS COPIES [BYTES] | steps FILE|:memory: COUNT [BYTES [RECEIVERS]]
+          sql [--schema 1|2] commits FILE|:memory: COUNT | load FILE | schema FILE | take FILE
    A new database gets the tables of the schema that is asked for, 1 if none is; one that stands keeps its own, which `schema`
-   tells. `steps` makes those of so many messages at QoS 2, of 5 bytes to one receiver unless said.
+   tells. `steps` makes those of so many messages at QoS 2, to one receiver unless said; messages have 5 bytes. `take` takes a
+   database of schema 1 over by schema 2.
    It writes ahead in a log and syncs at each commit, as the store does. It prints a line of what was done, the seconds of the
    clock and of the processor, how long the longest message or commit took, and what was written by calls. */
 #include <sqlite3.h>
@@ -53,7 +54,6 @@ static const char *const both[] = {
 static const char *const first[] = {
     "CREATE TABLE copy (birth INTEGER NOT NULL REFERENCES session (birth) ON DELETE CASCADE, place INTEGER NOT NULL, pub INTEGER NOT NULL, cause INTEGER NOT NULL, cause_text TEXT NOT NULL, cause_n INTEGER NOT NULL, pid INTEGER, phase INTEGER NOT NULL, rel INTEGER, topic TEXT NOT NULL, qos INTEGER NOT NULL, retain INTEGER NOT NULL, props BLOB NOT NULL, payload BLOB NOT NULL, arrived INTEGER NOT NULL, PRIMARY KEY (birth, place)) STRICT",
     "CREATE TABLE retained (place INTEGER PRIMARY KEY, topic TEXT NOT NULL UNIQUE, sender TEXT NOT NULL, pub INTEGER NOT NULL, qos INTEGER NOT NULL, props BLOB NOT NULL, payload BLOB NOT NULL, arrived INTEGER NOT NULL) STRICT",
-    "INSERT INTO meta VALUES ('schema', 1), ('births', 0), ('publications', 0), ('subscribes', 0), ('autos', 0), ('moment', 0)",
     0,
 };
 
@@ -63,7 +63,6 @@ static const char *const second[] = {
     "CREATE TABLE kept (place INTEGER PRIMARY KEY, topic TEXT NOT NULL UNIQUE, sender TEXT NOT NULL, pub INTEGER NOT NULL REFERENCES message (pub), qos INTEGER NOT NULL, arrived INTEGER NOT NULL) STRICT",
     "CREATE INDEX queued_pub ON queued (pub)",
     "CREATE INDEX kept_pub ON kept (pub)",
-    "INSERT INTO meta VALUES ('schema', 2), ('births', 0), ('publications', 0), ('subscribes', 0), ('autos', 0), ('moment', 0)",
     0,
 };
 
@@ -266,6 +265,35 @@ static void commits(long count) {
     }
 }
 
+/* Makes a step of a statement for each row of a table, in their order. */
+static void make_each(const char *text, const char *table) {
+    char count[64];
+    snprintf(count, sizeof count, "SELECT count(*) FROM %s", table);
+    sqlite3_stmt *it = made(text), *asked = made(count);
+    if (sqlite3_step(asked) != SQLITE_ROW) stop(count);
+    const sqlite3_int64 rows = sqlite3_column_int64(asked, 0);
+    sqlite3_finalize(asked);
+    for (sqlite3_int64 row = 1; row <= rows; row++) make_with(it, 1, &row);
+    sqlite3_finalize(it);
+}
+
+/* Takes a database of schema 1 over by schema 2 in one transaction, as the store does. No copy may have properties: its
+   Subscription Identifiers would have to be parted from the others. */
+static void take(void) {
+    if (schema != 1) stop("not of schema 1");
+    run("CREATE TEMP TABLE old AS SELECT * FROM copy ORDER BY birth, place");
+    run("CREATE TEMP TABLE old_kept AS SELECT * FROM retained ORDER BY place");
+    run("BEGIN");
+    run_all(second);
+    run("DELETE FROM copy; DELETE FROM retained");
+    set_number("schema", 2);
+    make_each("INSERT INTO message SELECT pub, topic, props, payload FROM old WHERE rowid = ?1 AND NOT EXISTS (SELECT 1 FROM message WHERE message.pub = old.pub)", "old");
+    make_each("INSERT OR REPLACE INTO queued SELECT birth, place, pub, cause, cause_text, cause_n, pid, phase, rel, qos, retain, x'', arrived FROM old WHERE rowid = ?1 AND props = x'00'", "old");
+    make_each("INSERT INTO message SELECT pub, topic, props, payload FROM old_kept WHERE rowid = ?1 AND NOT EXISTS (SELECT 1 FROM message WHERE message.pub = old_kept.pub)", "old_kept");
+    make_each("INSERT OR REPLACE INTO kept SELECT place, topic, sender, pub, qos, arrived FROM old_kept WHERE rowid = ?1", "old_kept");
+    run("COMMIT");
+}
+
 /* Reads all rows of tables and every column of them; returns how many rows. */
 static long rows_of(const char *const *texts) {
     long rows = 0, bytes = 0;
@@ -292,6 +320,10 @@ static void open_at(const char *place) {
     if (is_new) {
         run_all(both);
         run_all(schema == 1 ? first : second);
+        sqlite3_stmt *numbers = made("INSERT INTO meta VALUES ('schema', ?1), ('births', 0), ('publications', 0), ('subscribes', 0), ('autos', 0), ('moment', 0)");
+        const sqlite3_int64 its = schema;
+        make_with(numbers, 1, &its);
+        sqlite3_finalize(numbers);
     }
     sqlite3_stmt *asked = made("SELECT n FROM meta WHERE name = 'schema'");
     if (sqlite3_step(asked) != SQLITE_ROW) stop("no schema");
@@ -324,6 +356,7 @@ int main(int count, char **words) {
     open_at(words[2]);
     make_statements();
     if (!strcmp(deed, "steps") && count > 4) set_payload(atoi(words[4]));
+    if (!strcmp(deed, "fill") && count > 5) set_payload(atoi(words[5]));
     const double wrote = written();
     double clock = seconds(CLOCK_MONOTONIC), processor = seconds(CLOCK_PROCESS_CPUTIME_ID);
     if (!strcmp(deed, "fill") && count > 4) fill(atol(words[3]), atol(words[4]));
@@ -331,6 +364,7 @@ int main(int count, char **words) {
     else if (!strcmp(deed, "commits") && count > 3) commits(atol(words[3]));
     else if (!strcmp(deed, "load")) printf("rows=%ld ", rows_of(both_reads) + rows_of(schema == 1 ? first_reads : second_reads));
     else if (!strcmp(deed, "schema")) printf("%d ", schema);
+    else if (!strcmp(deed, "take")) take();
     else return 2;
     clock = seconds(CLOCK_MONOTONIC) - clock;
     processor = seconds(CLOCK_PROCESS_CPUTIME_ID) - processor;
