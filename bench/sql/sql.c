@@ -288,7 +288,7 @@ static void take(void) {
     run("DELETE FROM copy; DELETE FROM retained");
     set_number("schema", 2);
     make_each("INSERT INTO message SELECT pub, topic, props, payload FROM old WHERE rowid = ?1 AND NOT EXISTS (SELECT 1 FROM message WHERE message.pub = old.pub)", "old");
-    make_each("INSERT OR REPLACE INTO queued SELECT birth, place, pub, cause, cause_text, cause_n, pid, phase, rel, qos, retain, x'', arrived FROM old WHERE rowid = ?1 AND props = x'00'", "old");
+    make_each("INSERT OR REPLACE INTO queued SELECT birth, place, pub, cause, cause_text, cause_n, pid, phase, rel, qos, retain, CASE props WHEN x'00' THEN x'' END, arrived FROM old WHERE rowid = ?1", "old");
     make_each("INSERT INTO message SELECT pub, topic, props, payload FROM old_kept WHERE rowid = ?1 AND NOT EXISTS (SELECT 1 FROM message WHERE message.pub = old_kept.pub)", "old_kept");
     make_each("INSERT OR REPLACE INTO kept SELECT place, topic, sender, pub, qos, arrived FROM old_kept WHERE rowid = ?1", "old_kept");
     run("COMMIT");
