@@ -1,0 +1,4 @@
+pub mod One
+pub mod Order
+pub mod Left
+pub mod Taken
