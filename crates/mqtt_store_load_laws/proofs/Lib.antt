@@ -3,6 +3,8 @@ pub mod Exact
 pub mod Traverse
 pub mod Lines
 pub mod Same
+pub mod Table
+pub mod First
 pub mod Alike
 pub mod Found
 pub mod Kept

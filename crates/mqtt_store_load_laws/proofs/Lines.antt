@@ -61,8 +61,12 @@ retained_line m =
     ∷ Int (pos m.content.arrived) ∷ []
 
 -- each item has a row that shows its line, and each row shows that of an item
+abbrev pub AreLines : {X : Type 0} → (Row → Row) → (X → Row) → (X → Type 0) → List Row → Type 0
+AreLines shows line Item rows = AreWritten (λ x row. shows row ≡ line x) Item rows
+
+-- the same of a table
 abbrev pub AreLined : {X : Type 0} → StoreTable → (X → Row) → (X → Type 0) → Trees → Type 0
-AreLined table line Item db = AreWritten (λ x row. shown table row ≡ line x) Item (db (tree_of table))
+AreLined table line Item db = AreLines (shown table) line Item (db (tree_of table))
 
 -- ---- a row that is written from an item shows its line
 
@@ -96,17 +100,20 @@ retained_shown m row h = ap (shown Retained) h
 
 -- ---- a row that says an item shows its line
 
-two : (a b c d : Value) → a ≡ b → c ≡ d → ◌≡◌ {A = Row} (a ∷ c ∷ []) (b ∷ d ∷ [])
+-- two columns
+pub two : (a b c d : Value) → a ≡ b → c ≡ d → ◌≡◌ {A = Row} (a ∷ c ∷ []) (b ∷ d ∷ [])
 two a b c d p q = rw (p, q) refl
 
-more : (a b : Value) (r s : Row) → a ≡ b → r ≡ s → ◌≡◌ {A = Row} (a ∷ r) (b ∷ s)
+-- a column, and those behind it
+pub more : (a b : Value) (r s : Row) → a ≡ b → r ≡ s → ◌≡◌ {A = Row} (a ∷ r) (b ∷ s)
 more a b r s p q = rw (p, q) refl
 
 null_same : (v : Value) (o : Option ℕ) → v ≡ or_null o → v ≡ number_or_null o
 null_same v None h = h
 null_same v (Some n) h = h
 
-block_is : (place : Place) (ps : List Prop) (v : Value) → IsBlockOf place ps v → v ≡ Blob (block ps)
+-- a column that has a block of properties is that block
+pub block_is : (place : Place) (ps : List Prop) (v : Value) → IsBlockOf place ps v → v ≡ Blob (block ps)
 block_is place ps v h = h.holds ∙ ap Blob (h.is.parts ∙ append-nil (block ps))
 
 -- a row that says a number shows the line that is written of it
@@ -134,12 +141,14 @@ subscription_said x row h =
 pub open_said : (x : ℕ × ℕ) (row : Row) → SaysOf SaysOpen x (shown Inbound row) → shown Inbound row ≡ open_line x
 open_said x row h = two _ _ _ _ h.0 h.1.identifier
 
-cause_said : (cause : Cause) (a b c : Value) → SaysCause cause a b c → (a ≡ Int (pos (cause_number cause))) × (b ≡ Text (cause_text cause)) × (c ≡ Int (pos (cause_n cause)))
+-- the three columns of a cause are what is written of it
+pub cause_said : (cause : Cause) (a b c : Value) → SaysCause cause a b c → (a ≡ Int (pos (cause_number cause))) × (b ≡ Text (cause_text cause)) × (c ≡ Int (pos (cause_n cause)))
 cause_said Direct a b c h = (h.0, h.1, h.2)
 cause_said (Share group) a b c h = (h.0, h.1, h.2)
 cause_said (RetainedCause subscribe) a b c h = (h.0, h.1, h.2)
 
-phase_said : (qos : Qos) (phase : Phase) (a b c : Value) → SaysPhase qos phase a b c → (a ≡ number_or_null (packet_identifier phase)) × (b ≡ Int (pos (phase_number phase))) × (c ≡ number_or_null (release_order phase))
+-- the three columns of a phase are what is written of it
+pub phase_said : (qos : Qos) (phase : Phase) (a b c : Value) → SaysPhase qos phase a b c → (a ≡ number_or_null (packet_identifier phase)) × (b ≡ Int (pos (phase_number phase))) × (c ≡ number_or_null (release_order phase))
 phase_said qos Waiting a b c h = (h.0, h.1, h.2)
 phase_said qos (Sent id) a b c h = (h.0, h.1, h.2)
 phase_said qos (Released id order) a b c h = (h.0, h.1, h.2)

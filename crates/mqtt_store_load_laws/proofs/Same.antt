@@ -34,28 +34,34 @@ use Rattle.mqtt_store_load_laws.proofs.Lines.{number_line, session_line, will_li
 
 -- ---- one column
 
-same_number : (m n : ℕ) → Int (pos m) ≡ Int (pos n) → m ≡ n
+-- a column has one number
+pub same_number : (m n : ℕ) → Int (pos m) ≡ Int (pos n) → m ≡ n
 same_number m n e = one_number (Int (pos m)) m n refl e
 
-same_text : (s t : List ℕ) → Text s ≡ Text t → s ≡ t
+-- a column has one text
+pub same_text : (s t : List ℕ) → Text s ≡ Text t → s ≡ t
 same_text s t e = one_text (Text s) s t refl e
 
-same_blob : (s t : List ℕ) → Blob s ≡ Blob t → s ≡ t
+-- a column has one blob
+pub same_blob : (s t : List ℕ) → Blob s ≡ Blob t → s ≡ t
 same_blob s t e = one_blob (Blob s) s t refl e
 
-same_flag : (a b : Bool) → flag a ≡ flag b → a ≡ b
+-- a column has one flag
+pub same_flag : (a b : Bool) → flag a ≡ flag b → a ≡ b
 same_flag true true e = refl
 same_flag true false e = let n : 1 ≡ 0 = same_number 1 0 e in absurd (omega (arith, n))
 same_flag false true e = let n : 0 ≡ 1 = same_number 0 1 e in absurd (omega (arith, n))
 same_flag false false e = refl
 
-same_optional : (o p : Option ℕ) → number_or_null o ≡ number_or_null p → o ≡ p
+-- a column has one number, or none
+pub same_optional : (o p : Option ℕ) → number_or_null o ≡ number_or_null p → o ≡ p
 same_optional None None e = refl
 same_optional None (Some n) e = absurd cc
 same_optional (Some n) None e = absurd cc
 same_optional (Some n) (Some m) e = ap Some (same_number n m e)
 
-same_service : (a b : Qos) → Int (pos (qos_number a)) ≡ Int (pos (qos_number b)) → a ≡ b
+-- a column has one QoS
+pub same_service : (a b : Qos) → Int (pos (qos_number a)) ≡ Int (pos (qos_number b)) → a ≡ b
 same_service a b e = same_qos a b (same_number (qos_number a) (qos_number b) e)
 
 same_identifier : (o p : Option ℕ) → (o ≡ Some 0 → ⊥) → (p ≡ Some 0 → ⊥) → or_zero o ≡ or_zero p → o ≡ p
@@ -64,11 +70,12 @@ same_identifier None (Some n) a b h = absurd (b (ap Some (sym h)))
 same_identifier (Some n) None a b h = absurd (a (ap Some h))
 same_identifier (Some n) (Some m) a b h = ap Some h
 
-pair_is : {X : Type 0} (m n : ℕ) (x y : X) → m ≡ n → x ≡ y → ◌≡◌ {A = ℕ × X} (m, x) (n, y)
+-- what is of a session is the same if both are
+pub pair_is : {X : Type 0} (m n : ℕ) (x y : X) → m ≡ n → x ≡ y → ◌≡◌ {A = ℕ × X} (m, x) (n, y)
 pair_is m n x y p q = ap (λ (k : ℕ). (k, x)) p ∙ ap (λ z. (n, z)) q
 
 -- the values of one place
-at : (n : ℕ) (r s : Row) → r ≡ s → column r n ≡ column s n
+pub at : (n : ℕ) (r s : Row) → r ≡ s → column r n ≡ column s n
 at n r s e = ap (λ (l : Row). column l n) e
 
 -- ---- numbers
@@ -146,7 +153,8 @@ open_same x y e = pair_is x.0 y.0 x.1 y.1 (same_number x.0 y.0 (at 0 _ _ e)) (sa
 
 -- ---- copies
 
-same_cause : (x y : Cause) → cause_number x ≡ cause_number y → cause_text x ≡ cause_text y → cause_n x ≡ cause_n y → x ≡ y
+-- a cause is told by its three columns
+pub same_cause : (x y : Cause) → cause_number x ≡ cause_number y → cause_text x ≡ cause_text y → cause_n x ≡ cause_n y → x ≡ y
 same_cause Direct Direct h t n = refl
 same_cause Direct (Share g) h t n = absurd (omega (arith, h))
 same_cause Direct (Retained m) h t n = absurd (omega (arith, h))
@@ -160,7 +168,8 @@ same_cause (Retained m) (Retained l) h t n = ap Retained n
 in_some : (m n : ℕ) → Some m ≡ Some n → m ≡ n
 in_some m n e = cc
 
-same_phase : (x y : Phase) → phase_number x ≡ phase_number y → packet_identifier x ≡ packet_identifier y → release_order x ≡ release_order y → x ≡ y
+-- a phase is told by its three columns
+pub same_phase : (x y : Phase) → phase_number x ≡ phase_number y → packet_identifier x ≡ packet_identifier y → release_order x ≡ release_order y → x ≡ y
 same_phase Waiting Waiting h p r = refl
 same_phase Waiting (Sent id) h p r = absurd (omega (arith, h))
 same_phase Waiting (Released id order) h p r = absurd (omega (arith, h))
@@ -181,25 +190,29 @@ same_phase (Oversize id order) (Oversize other last) h p r = ap (λ (n : ℕ). O
 abbrev content : List ℕ → List Prop → List ℕ → ℕ → Content
 content topic properties payload arrived = record { topic = topic; properties = properties; payload = payload; arrived = arrived }
 
-same_content : (a b : List ℕ) (c d : List Prop) (e f : List ℕ) (g h : ℕ) → a ≡ b → c ≡ d → e ≡ f → g ≡ h → content a c e g ≡ content b d f h
+-- a content is its parts
+pub same_content : (a b : List ℕ) (c d : List Prop) (e f : List ℕ) (g h : ℕ) → a ≡ b → c ≡ d → e ≡ f → g ≡ h → content a c e g ≡ content b d f h
 same_content a b c d e f g h p q r s = rw (p, q, r, s) refl
 
 abbrev id_of : ℕ → ℕ → Cause → CopyId
 id_of publication birth cause = record { publication = publication; birth = birth; cause = cause }
 
-same_id : (a b c d : ℕ) (e f : Cause) → a ≡ b → c ≡ d → e ≡ f → id_of a c e ≡ id_of b d f
+-- what a copy is told by is its parts
+pub same_id : (a b c d : ℕ) (e f : Cause) → a ≡ b → c ≡ d → e ≡ f → id_of a c e ≡ id_of b d f
 same_id a b c d e f p q r = rw (p, q, r) refl
 
 abbrev message : CopyId → Qos → Bool → List ℕ → Content → MessageCopy
 message id qos retain identifiers content = record { id = id; qos = qos; retain = retain; identifiers = identifiers; content = content }
 
-same_message : (a b : CopyId) (c d : Qos) (e f : Bool) (g h : List ℕ) (i j : Content) → a ≡ b → c ≡ d → e ≡ f → g ≡ h → i ≡ j → message a c e g i ≡ message b d f h j
+-- a copy is its parts
+pub same_message : (a b : CopyId) (c d : Qos) (e f : Bool) (g h : List ℕ) (i j : Content) → a ≡ b → c ≡ d → e ≡ f → g ≡ h → i ≡ j → message a c e g i ≡ message b d f h j
 same_message a b c d e f g h i j p q r s t = rw (p, q, r, s, t) refl
 
 abbrev queued : ℕ → Phase → MessageCopy → CopyRow
 queued place phase copy = record { place = place; phase = phase; copy = copy }
 
-same_queued : (a b : ℕ) (c d : Phase) (e f : MessageCopy) → a ≡ b → c ≡ d → e ≡ f → queued a c e ≡ queued b d f
+-- a copy in a queue is its parts
+pub same_queued : (a b : ℕ) (c d : Phase) (e f : MessageCopy) → a ≡ b → c ≡ d → e ≡ f → queued a c e ≡ queued b d f
 same_queued a b c d e f p q r = rw (p, q, r) refl
 
 -- what was passed on, and the Subscription Identifiers
@@ -242,7 +255,8 @@ copy_same x y fits suits e =
 abbrev retained : ℕ → List ℕ → ℕ → Qos → Content → RetainedMessage
 retained place sender publication qos content = record { place = place; sender = sender; publication = publication; qos = qos; content = content }
 
-same_retained : (a b : ℕ) (c d : List ℕ) (e f : ℕ) (g h : Qos) (i j : Content) → a ≡ b → c ≡ d → e ≡ f → g ≡ h → i ≡ j → retained a c e g i ≡ retained b d f h j
+-- a retained message is its parts
+pub same_retained : (a b : ℕ) (c d : List ℕ) (e f : ℕ) (g h : Qos) (i j : Content) → a ≡ b → c ≡ d → e ≡ f → g ≡ h → i ≡ j → retained a c e g i ≡ retained b d f h j
 same_retained a b c d e f g h i j p q r s t = rw (p, q, r, s, t) refl
 
 -- retained messages with the same line are the same, if their properties have a spelling

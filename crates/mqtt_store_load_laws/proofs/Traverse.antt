@@ -1,5 +1,5 @@
 -- Which rows of the tables say an item of records, and which item a row says.
-use Rattle.std.proofs.Common.{◌≡◌, ℕ, List, [], ◌∷◌, refl, sym, ap, subst, ◌∙◌, inl, inr}
+use Rattle.std.proofs.Common.{◌≡◌, ℕ, List, [], ◌∷◌, ◌++◌, take, refl, sym, ap, subst, ◌∙◌, inl, inr}
 use Rattle.std.specs.Prelude.{Option, Some, None, codes}
 use Rattle.sqlite_value.specs.Order.{Row}
 use Rattle.sqlite_rules.specs.Lists.{Has}
@@ -9,6 +9,7 @@ use Rattle.mqtt_records.specs.declared.records.Records.{Records}
 use Rattle.mqtt_records.specs.declared.session.Session.{Session}
 use Rattle.mqtt_records.specs.Session.{columns_of}
 use Rattle.mqtt_records.specs.Members.{Has as HasItem, InPart, queue_of}
+use Rattle.mqtt_store_rows.specs.declared.meta.Counters.{Counters}
 use Rattle.mqtt_store_rows.specs.Rows.{SaysNumber, SaysNumbers, SaysSession, SaysWill, SaysSubscription, SaysOpen, SaysCopy}
 use Rattle.mqtt_store_rows.specs.Lists.{AreRows, IsOf, Takes}
 use Rattle.mqtt_store_rows.specs.Gives.{Parts, no_parts, list_of, TakesParts, AreSessions, counters_of}
@@ -39,59 +40,79 @@ module _ {X : Type 0} (Says : X → Row → Type 0) where
 
 -- ---- the six numbers
 
+-- the six numbers by their names, of a store of that schema
+abbrev pub numbers_at : ℕ → Records → List (List ℕ × ℕ)
+numbers_at schema r = take 5 (numbers_in r) ++ (codes "schema", schema) ∷ []
+
+-- six rows by name, and nothing else, of a store of that schema
+abbrev pub SaysSix : ℕ → Counters → List Row → Type 0
+SaysSix schema all (autos ∷ births ∷ moment ∷ publications ∷ named ∷ subscribes ∷ []) =
+    SaysNumber (codes "autos") all.autos autos × SaysNumber (codes "births") all.births births
+    × SaysNumber (codes "moment") all.moment moment × SaysNumber (codes "publications") all.publications publications
+    × SaysNumber (codes "schema") schema named × SaysNumber (codes "subscribes") all.subscribes subscribes
+SaysSix schema all _ = ⊥
+
+-- what schema 1 says of its numbers
+pub six_of_first : (all : Counters) (rows : List Row) → SaysNumbers all rows → SaysSix 1 all rows
+six_of_first all [] h = absurd h
+six_of_first all (a ∷ []) h = absurd h
+six_of_first all (a ∷ b ∷ []) h = absurd h
+six_of_first all (a ∷ b ∷ c ∷ []) h = absurd h
+six_of_first all (a ∷ b ∷ c ∷ d ∷ []) h = absurd h
+six_of_first all (a ∷ b ∷ c ∷ d ∷ e ∷ []) h = absurd h
+six_of_first all (a ∷ b ∷ c ∷ d ∷ e ∷ f ∷ []) h = h
+six_of_first all (a ∷ b ∷ c ∷ d ∷ e ∷ f ∷ g ∷ rows) h = absurd h
+
 abbrev pub SaysNamed : List ℕ × ℕ → Row → Type 0
 SaysNamed x row = SaysNumber x.0 x.1 row
 
--- each number is said by one of the rows
-pub numbers_each : (q : Records) (rows : List Row) → SaysNumbers (counters_of q) rows → (x : List ℕ × ℕ) → HasItem (numbers_in q) x → IsSaid SaysNamed rows x
-numbers_each q [] h x it = absurd h
-numbers_each q (a ∷ []) h x it = absurd h
-numbers_each q (a ∷ b ∷ []) h x it = absurd h
-numbers_each q (a ∷ b ∷ c ∷ []) h x it = absurd h
-numbers_each q (a ∷ b ∷ c ∷ d ∷ []) h x it = absurd h
-numbers_each q (a ∷ b ∷ c ∷ d ∷ e ∷ []) h x it = absurd h
-numbers_each q (a ∷ b ∷ c ∷ d ∷ e ∷ f ∷ []) h x (inl is) = (b, inr (inl refl), subst (λ (y : List ℕ × ℕ). SaysNamed y b) (sym is) h.1)
-numbers_each q (a ∷ b ∷ c ∷ d ∷ e ∷ f ∷ []) h x (inr (inl is)) = (d, inr (inr (inr (inl refl))), subst (λ (y : List ℕ × ℕ). SaysNamed y d) (sym is) h.3)
-numbers_each q (a ∷ b ∷ c ∷ d ∷ e ∷ f ∷ []) h x (inr (inr (inl is))) = (f, inr (inr (inr (inr (inr (inl refl))))), subst (λ (y : List ℕ × ℕ). SaysNamed y f) (sym is) h.5)
-numbers_each q (a ∷ b ∷ c ∷ d ∷ e ∷ f ∷ []) h x (inr (inr (inr (inl is)))) = (a, inl refl, subst (λ (y : List ℕ × ℕ). SaysNamed y a) (sym is) h.0)
-numbers_each q (a ∷ b ∷ c ∷ d ∷ e ∷ f ∷ []) h x (inr (inr (inr (inr (inl is))))) = (c, inr (inr (inl refl)), subst (λ (y : List ℕ × ℕ). SaysNamed y c) (sym is) h.2)
-numbers_each q (a ∷ b ∷ c ∷ d ∷ e ∷ f ∷ []) h x (inr (inr (inr (inr (inr (inl is)))))) = (e, inr (inr (inr (inr (inl refl)))), subst (λ (y : List ℕ × ℕ). SaysNamed y e) (sym is) h.4)
-numbers_each q (a ∷ b ∷ c ∷ d ∷ e ∷ f ∷ []) h x (inr (inr (inr (inr (inr (inr none)))))) = absurd none
-numbers_each q (a ∷ b ∷ c ∷ d ∷ e ∷ f ∷ g ∷ rows) h x it = absurd h
+module _ (schema : ℕ) (q : Records) where
+  -- each number is said by one of the rows
+  pub numbers_each : (rows : List Row) → SaysSix schema (counters_of q) rows → (x : List ℕ × ℕ) → HasItem (numbers_at schema q) x → IsSaid SaysNamed rows x
+  numbers_each [] h x it = absurd h
+  numbers_each (a ∷ []) h x it = absurd h
+  numbers_each (a ∷ b ∷ []) h x it = absurd h
+  numbers_each (a ∷ b ∷ c ∷ []) h x it = absurd h
+  numbers_each (a ∷ b ∷ c ∷ d ∷ []) h x it = absurd h
+  numbers_each (a ∷ b ∷ c ∷ d ∷ e ∷ []) h x it = absurd h
+  numbers_each (a ∷ b ∷ c ∷ d ∷ e ∷ f ∷ []) h x (inl is) = (b, inr (inl refl), subst (λ (y : List ℕ × ℕ). SaysNamed y b) (sym is) h.1)
+  numbers_each (a ∷ b ∷ c ∷ d ∷ e ∷ f ∷ []) h x (inr (inl is)) = (d, inr (inr (inr (inl refl))), subst (λ (y : List ℕ × ℕ). SaysNamed y d) (sym is) h.3)
+  numbers_each (a ∷ b ∷ c ∷ d ∷ e ∷ f ∷ []) h x (inr (inr (inl is))) = (f, inr (inr (inr (inr (inr (inl refl))))), subst (λ (y : List ℕ × ℕ). SaysNamed y f) (sym is) h.5)
+  numbers_each (a ∷ b ∷ c ∷ d ∷ e ∷ f ∷ []) h x (inr (inr (inr (inl is)))) = (a, inl refl, subst (λ (y : List ℕ × ℕ). SaysNamed y a) (sym is) h.0)
+  numbers_each (a ∷ b ∷ c ∷ d ∷ e ∷ f ∷ []) h x (inr (inr (inr (inr (inl is))))) = (c, inr (inr (inl refl)), subst (λ (y : List ℕ × ℕ). SaysNamed y c) (sym is) h.2)
+  numbers_each (a ∷ b ∷ c ∷ d ∷ e ∷ f ∷ []) h x (inr (inr (inr (inr (inr (inl is)))))) = (e, inr (inr (inr (inr (inl refl)))), subst (λ (y : List ℕ × ℕ). SaysNamed y e) (sym is) h.4)
+  numbers_each (a ∷ b ∷ c ∷ d ∷ e ∷ f ∷ []) h x (inr (inr (inr (inr (inr (inr none)))))) = absurd none
+  numbers_each (a ∷ b ∷ c ∷ d ∷ e ∷ f ∷ g ∷ rows) h x it = absurd h
 
--- each row of the table of numbers says one
-pub numbers_only : (q : Records) (rows : List Row) → SaysNumbers (counters_of q) rows → (row : Row) → Has rows row → (x : List ℕ × ℕ) × HasItem (numbers_in q) x × SaysNamed x row
-numbers_only q [] h row it = absurd h
-numbers_only q (a ∷ []) h row it = absurd h
-numbers_only q (a ∷ b ∷ []) h row it = absurd h
-numbers_only q (a ∷ b ∷ c ∷ []) h row it = absurd h
-numbers_only q (a ∷ b ∷ c ∷ d ∷ []) h row it = absurd h
-numbers_only q (a ∷ b ∷ c ∷ d ∷ e ∷ []) h row it = absurd h
-numbers_only q (a ∷ b ∷ c ∷ d ∷ e ∷ f ∷ []) h row (inl is) = ((codes "autos", q.autos), inr (inr (inr (inl refl))), subst (SaysNamed (codes "autos", q.autos)) (sym is) h.0)
-numbers_only q (a ∷ b ∷ c ∷ d ∷ e ∷ f ∷ []) h row (inr (inl is)) = ((codes "births", q.births), inl refl, subst (SaysNamed (codes "births", q.births)) (sym is) h.1)
-numbers_only q (a ∷ b ∷ c ∷ d ∷ e ∷ f ∷ []) h row (inr (inr (inl is))) = ((codes "moment", q.moment), inr (inr (inr (inr (inl refl)))), subst (SaysNamed (codes "moment", q.moment)) (sym is) h.2)
-numbers_only q (a ∷ b ∷ c ∷ d ∷ e ∷ f ∷ []) h row (inr (inr (inr (inl is)))) = ((codes "publications", q.publications), inr (inl refl), subst (SaysNamed (codes "publications", q.publications)) (sym is) h.3)
-numbers_only q (a ∷ b ∷ c ∷ d ∷ e ∷ f ∷ []) h row (inr (inr (inr (inr (inl is))))) = ((codes "schema", 1), inr (inr (inr (inr (inr (inl refl))))), subst (SaysNamed (codes "schema", 1)) (sym is) h.4)
-numbers_only q (a ∷ b ∷ c ∷ d ∷ e ∷ f ∷ []) h row (inr (inr (inr (inr (inr (inl is)))))) = ((codes "subscribes", q.subscribes), inr (inr (inl refl)), subst (SaysNamed (codes "subscribes", q.subscribes)) (sym is) h.5)
-numbers_only q (a ∷ b ∷ c ∷ d ∷ e ∷ f ∷ []) h row (inr (inr (inr (inr (inr (inr none)))))) = absurd none
-numbers_only q (a ∷ b ∷ c ∷ d ∷ e ∷ f ∷ g ∷ rows) h row it = absurd h
+  -- each row of the table of numbers says one
+  pub numbers_only : (rows : List Row) → SaysSix schema (counters_of q) rows → (row : Row) → Has rows row → (x : List ℕ × ℕ) × HasItem (numbers_at schema q) x × SaysNamed x row
+  numbers_only [] h row it = absurd h
+  numbers_only (a ∷ []) h row it = absurd h
+  numbers_only (a ∷ b ∷ []) h row it = absurd h
+  numbers_only (a ∷ b ∷ c ∷ []) h row it = absurd h
+  numbers_only (a ∷ b ∷ c ∷ d ∷ []) h row it = absurd h
+  numbers_only (a ∷ b ∷ c ∷ d ∷ e ∷ []) h row it = absurd h
+  numbers_only (a ∷ b ∷ c ∷ d ∷ e ∷ f ∷ []) h row (inl is) = ((codes "autos", q.autos), inr (inr (inr (inl refl))), subst (SaysNamed (codes "autos", q.autos)) (sym is) h.0)
+  numbers_only (a ∷ b ∷ c ∷ d ∷ e ∷ f ∷ []) h row (inr (inl is)) = ((codes "births", q.births), inl refl, subst (SaysNamed (codes "births", q.births)) (sym is) h.1)
+  numbers_only (a ∷ b ∷ c ∷ d ∷ e ∷ f ∷ []) h row (inr (inr (inl is))) = ((codes "moment", q.moment), inr (inr (inr (inr (inl refl)))), subst (SaysNamed (codes "moment", q.moment)) (sym is) h.2)
+  numbers_only (a ∷ b ∷ c ∷ d ∷ e ∷ f ∷ []) h row (inr (inr (inr (inl is)))) = ((codes "publications", q.publications), inr (inl refl), subst (SaysNamed (codes "publications", q.publications)) (sym is) h.3)
+  numbers_only (a ∷ b ∷ c ∷ d ∷ e ∷ f ∷ []) h row (inr (inr (inr (inr (inl is))))) = ((codes "schema", schema), inr (inr (inr (inr (inr (inl refl))))), subst (SaysNamed (codes "schema", schema)) (sym is) h.4)
+  numbers_only (a ∷ b ∷ c ∷ d ∷ e ∷ f ∷ []) h row (inr (inr (inr (inr (inr (inl is)))))) = ((codes "subscribes", q.subscribes), inr (inr (inl refl)), subst (SaysNamed (codes "subscribes", q.subscribes)) (sym is) h.5)
+  numbers_only (a ∷ b ∷ c ∷ d ∷ e ∷ f ∷ []) h row (inr (inr (inr (inr (inr (inr none)))))) = absurd none
+  numbers_only (a ∷ b ∷ c ∷ d ∷ e ∷ f ∷ g ∷ rows) h row it = absurd h
 
 -- ---- the sessions' own rows
 
--- each session's own columns are said by one of the rows
-pub own_each : (rows : List Row) (parts : Parts) (ss : List Session) → AreSessions rows parts ss → (s : Session) → HasItem ss s → (row : Row) × Has rows row × SaysSession (columns_of s) row
-own_each [] parts [] are s h = absurd h
-own_each [] parts (t ∷ ts) are s h = absurd are
-own_each (row ∷ rows) parts [] are s h = absurd are
-own_each (row ∷ rows) parts (t ∷ ts) are s (inl same) = (row, inl refl, subst (λ (u : Session). SaysSession (columns_of u) row) (sym same) are.0)
-own_each (row ∷ rows) parts (t ∷ ts) are s (inr h) = let it = own_each rows are.1.0 ts are.1.2 s h in (it.0, inr it.1, it.2)
+-- the row says the session's own columns
+abbrev pub SaysItself : Session → Row → Type 0
+SaysItself s row = SaysSession (columns_of s) row
 
--- each row of the table of sessions says one's own columns
-pub own_only : (rows : List Row) (parts : Parts) (ss : List Session) → AreSessions rows parts ss → (row : Row) → Has rows row → (s : Session) × HasItem ss s × SaysSession (columns_of s) row
-own_only [] parts ss are row h = absurd h
-own_only (r ∷ rows) parts [] are row h = absurd are
-own_only (r ∷ rows) parts (t ∷ ts) are row (inl same) = (t, inl refl, subst (SaysSession (columns_of t)) (sym same) are.0)
-own_only (r ∷ rows) parts (t ∷ ts) are row (inr h) = let it = own_only rows are.1.0 ts are.1.2 row h in (it.0, inr it.1, it.2)
+-- the rows of the table of sessions say their own columns, one after the other
+pub own_rows : (rows : List Row) (parts : Parts) (ss : List Session) → AreSessions rows parts ss → AreRows SaysItself rows ss
+own_rows [] parts [] are = tt
+own_rows [] parts (s ∷ ss) are = absurd are
+own_rows (row ∷ rows) parts [] are = absurd are
+own_rows (row ∷ rows) parts (s ∷ ss) are = (are.0, own_rows rows are.1.0 ss are.1.2)
 
 -- ---- what sessions have
 

@@ -1,3 +1,4 @@
+pub mod Catalog
 pub mod Contents
 pub mod Kept
 pub mod Settled

@@ -1,5 +1,6 @@
 //! What a step makes of a database of schema 2 that keeps records.
-ghost use Rattle.std.specs.Prelude.{List};
+ghost use Rattle.std.specs.Prelude.{◌≡◌, List};
+ghost use Rattle.sqlite_trees.specs.Objects.{catalog_tree};
 ghost use Rattle.sqlite_trees.specs.Tree.{Trees};
 ghost use Rattle.sqlite.specs.Held.{Held, state};
 ghost use Rattle.mqtt_records.specs.declared.change.Change.{Change};
@@ -44,4 +45,10 @@ pub fn committed_step_keeps_rows<S: Alter>()
         → FitAll changes r → FitContents changes r → AllSayable changes
         → MayCommit making (state S.Store conn) (shortened changes) db
         → KeepsRowsTwo making db (changed_all changes r) }
+{}
+
+/// What a step writes leaves the list of the database's tables and indexes as it was.
+pub fn step_keeps_the_list()
+    ensures { (making : Making) (changes : List Change) (db next : Trees)
+        → MakeAll making (shortened changes) db next → next catalog_tree ≡ db catalog_tree }
 {}

@@ -9,5 +9,7 @@ mod parts;
 
 pub use change::table_change_of;
 pub use commit::{commit_changes, write_change};
-pub use laws::{committed_step_keeps_rows, settled_rows_are_in_order, step_keeps_rows};
+pub use laws::{
+    committed_step_keeps_rows, settled_rows_are_in_order, step_keeps_rows, step_keeps_the_list,
+};
 pub use parts::{Parts, parts_of};

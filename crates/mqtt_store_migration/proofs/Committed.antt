@@ -4,6 +4,8 @@ use Rattle.std.specs.List.{AllByRecursion}
 use Rattle.std.proofs.lemmas.Result.{on_err_weaker}
 use Rattle.sqlite_schema.specs.Rules.{Obeys}
 use Rattle.sqlite.specs.Effect.{Database}
+use Rattle.sqlite_catalog.specs.Listing.{Lists}
+use Rattle.sqlite_trees.specs.Objects.{catalog_tree}
 use Rattle.sqlite_trees.specs.Tree.{Trees}
 use Rattle.sqlite.specs.State.{State, KeepsCommit, Shows, Survives}
 use Rattle.sqlite.specs.Steps.{FailsToCommit}
@@ -11,6 +13,7 @@ use Rattle.sqlite.specs.declared.error.Error.{Error}
 use Rattle.mqtt_records.specs.declared.records.Records.{Records}
 use Rattle.mqtt_store_schema.specs.Tables.{keep_schema}
 use Rattle.mqtt_store_schema.proofs.Kept.{commit_err}
+use Rattle.mqtt_store_schema_two.specs.Tables.{second_schema}
 use Rattle.mqtt_store_schema_two.specs.declared.tables.Making.TheVariants.{TakenOver}
 use Rattle.mqtt_store_write.specs.Content.{AreShaped, IsShapedAt, IsWhole}
 use Rattle.mqtt_store_write.specs.Layout.{first_layout, schema_of}
@@ -43,12 +46,13 @@ begun_survives old begun tx Commits same h =
     record { clean = it.clean; shield = it.shield; counts = it.counts; limit = it.limit; closes = it.closes; crash = it.crash }
 
 -- what it leaves at its end is what the database becomes
-pub migrates : (r : Records) (old tx : State) → MayMigrate r old → KeepsRowsTwo TakenOver tx.now.trees r → IsWhole second tx → Migrates r old.now tx.now
-migrates r old tx may keeps whole = record { first = may.settled.schema; kept = may.keeps; second = whole.schema; keeps = keeps }
+pub migrates : (r : Records) (old tx : State) → MayMigrate r old → KeepsRowsTwo TakenOver tx.now.trees r → Lists (tx.now.trees catalog_tree) (second_schema TakenOver) → IsWhole second tx → Migrates r old.now tx.now
+migrates r old tx may keeps lists whole =
+    record { first = may.settled.schema; kept = may.keeps; second = whole.schema; lists = subst (Lists (tx.now.trees catalog_tree)) (sym whole.schema) lists; keeps = keeps }
 
 -- so is what it commits
-pub commits : (r : Records) (old tx : State) (db : Trees) → KeepsRowsTwo TakenOver tx.now.trees r → db ≡ tx.now.trees → MayCommit r old db
-commits r old tx db keeps is may = rw is (record { first = may.settled.schema; kept = may.keeps; second = refl; keeps = keeps })
+pub commits : (r : Records) (old tx : State) (db : Trees) → KeepsRowsTwo TakenOver tx.now.trees r → Lists (tx.now.trees catalog_tree) (second_schema TakenOver) → db ≡ tx.now.trees → MayCommit r old db
+commits r old tx db keeps lists is may = rw is (record { first = may.settled.schema; kept = may.keeps; second = refl; lists = lists; keeps = keeps })
 
 -- what it commits is settled
 pub settles : (tx new : State) → IsWhole second tx → Shows tx new tx.now tx.now false → IsSettled TakenOver new

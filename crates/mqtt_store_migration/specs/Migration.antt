@@ -1,6 +1,8 @@
 -- What a database of schema 1 becomes in schema 2 (4.1).
 use Rattle.std.specs.Prelude.{◌≡◌}
+use Rattle.sqlite_trees.specs.Objects.{catalog_tree}
 use Rattle.sqlite_trees.specs.Tree.{Trees}
+use Rattle.sqlite_catalog.specs.Listing.{Lists}
 use Rattle.sqlite.specs.Effect.{Database}
 use Rattle.sqlite.specs.State.{State}
 use Rattle.mqtt_records.specs.declared.records.Records.{Records}
@@ -12,11 +14,12 @@ use Rattle.mqtt_store_write.specs.Step.{IsSettled}
 use Rattle.mqtt_store_laws.specs.Written.{KeepsRows}
 use Rattle.mqtt_store_message_laws.specs.Written.{KeepsRowsTwo}
 
--- the one keeps these records by schema 1, and the other the same by schema 2
+-- the one keeps these records by schema 1, and the other the same by schema 2, as its trees list it
 pub record Migrates (r : Records) (old new : Database) : Type 0 where
   pub first : old.schema ≡ keep_schema
   pub kept : KeepsRows old.trees r
   pub second : new.schema ≡ second_schema TakenOver
+  pub lists : Lists (new.trees catalog_tree) new.schema
   pub keeps : KeepsRowsTwo TakenOver new.trees r
 
 -- between two steps it keeps these records by schema 1, and a store may be opened with them

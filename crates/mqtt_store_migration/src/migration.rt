@@ -1,9 +1,12 @@
 //! All that is kept by schema 1 is kept by schema 2, or nothing is changed.
 ghost use Rattle.std.specs.Prelude.{◌≡◌, OnOk, OnErr, IsTrue, false};
+ghost use Rattle.sqlite_catalog.specs.Listing.{Lists};
+ghost use Rattle.sqlite_trees.specs.Objects.{catalog_tree};
 ghost use Rattle.sqlite.specs.Held.{state};
 ghost use Rattle.sqlite.specs.State.{HasCleanDisk, Survives};
 ghost use Rattle.mqtt_records_lawful.specs.Lawful.{IsLawful};
 ghost use Rattle.mqtt_store_schema.specs.Settled.{StaysInside};
+ghost use Rattle.mqtt_store_schema_two.specs.Tables.{second_schema};
 ghost use Rattle.mqtt_store_schema_two.specs.declared.tables.Making.TheVariants.{TakenOver};
 ghost use Rattle.mqtt_store_write.specs.Content.{IsWhole};
 ghost use Rattle.mqtt_store_write.specs.Layout.{first_layout, second_layout};
@@ -29,6 +32,9 @@ fn write_second<S: Alter>(
     ensures kept { HasCleanDisk (state S.Store tx.new.conn.now) → IsWhole first_layout (state S.Store tx.old.conn.now)
         → KeepsRows (state S.Store tx.old.conn.now).now.trees records.now → IsLawful records.now
         → OnOk result (KeepsRowsTwo TakenOver (state S.Store tx.new.conn.now).now.trees records.now) }
+    ensures lists { HasCleanDisk (state S.Store tx.new.conn.now) → IsWhole first_layout (state S.Store tx.old.conn.now)
+        → KeepsRows (state S.Store tx.old.conn.now).now.trees records.now
+        → OnOk result (Lists ((state S.Store tx.new.conn.now).now.trees catalog_tree) (second_schema TakenOver)) }
     ensures whole { HasCleanDisk (state S.Store tx.new.conn.now) → IsWhole first_layout (state S.Store tx.old.conn.now)
         → OnOk result (IsWhole (second_layout TakenOver) (state S.Store tx.new.conn.now)) }
     ensures inside { StaysInside (state S.Store tx.old.conn.now) (state S.Store tx.new.conn.now) }

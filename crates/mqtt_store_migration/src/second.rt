@@ -1,10 +1,13 @@
 //! The tables of schema 2 beside those of schema 1, before a row is put into them.
 ghost use Rattle.std.specs.Prelude.{◌≡◌, true, OnOk};
+ghost use Rattle.sqlite_catalog.specs.Listing.{Lists};
+ghost use Rattle.sqlite_trees.specs.Objects.{catalog_tree};
 ghost use Rattle.sqlite.specs.Held.{Held, state};
 ghost use Rattle.sqlite.specs.State.{HasCleanDisk};
 ghost use Rattle.mqtt_records.specs.declared.records.Records.{Records};
 ghost use Rattle.mqtt_store_schema.specs.Settled.{StaysInside};
 ghost use Rattle.mqtt_store_schema_two.specs.Creation.{Adds};
+ghost use Rattle.mqtt_store_schema_two.specs.Tables.{second_schema};
 ghost use Rattle.mqtt_store_schema_two.specs.declared.tables.Making.TheVariants.{TakenOver};
 ghost use Rattle.mqtt_store_write.specs.Content.{IsWhole};
 ghost use Rattle.mqtt_store_write.specs.Layout.{first_layout, second_layout};
@@ -34,6 +37,8 @@ fn empty_retained<S: Alter>(tx: &mut Transaction<'_, S>) -> Result<usize, Error>
     ensures same_reference { tx.new.conn.ghost_name ≡ tx.old.conn.ghost_name }
     ensures emptied { Writes S.Store tx.old.conn.now tx.new.conn.now result (IsWhole (second_layout TakenOver))
         (RemovesFrom (second_layout TakenOver) 11 (λ _. true)) }
+    ensures lists { HasCleanDisk (state S.Store tx.new.conn.now) → IsWhole (second_layout TakenOver) (state S.Store tx.old.conn.now)
+        → OnOk result (Lists ((state S.Store tx.new.conn.now).now.trees catalog_tree) (second_schema TakenOver)) }
     ensures inside { StaysInside (state S.Store tx.old.conn.now) (state S.Store tx.new.conn.now) }
 {
     tx.execute("DELETE FROM retained", &[])
@@ -45,6 +50,9 @@ fn empty_first<S: Alter>(tx: &mut Transaction<'_, S>) -> Result<(), Error>
     ensures kept { HasCleanDisk (state S.Store tx.new.conn.now) → (was : Held S) (r : Records) → IsWhole first_layout (state S.Store was) → KeepsRows (state S.Store was).now.trees r
         → Adds TakenOver (state S.Store was) (state S.Store tx.old.conn.now)
         → OnOk result (KeepsRowsTwo TakenOver (state S.Store tx.new.conn.now).now.trees (emptied r)) }
+    ensures lists { HasCleanDisk (state S.Store tx.new.conn.now) → (was : Held S) (r : Records) → IsWhole first_layout (state S.Store was) → KeepsRows (state S.Store was).now.trees r
+        → Adds TakenOver (state S.Store was) (state S.Store tx.old.conn.now)
+        → OnOk result (Lists ((state S.Store tx.new.conn.now).now.trees catalog_tree) (second_schema TakenOver)) }
     ensures whole { HasCleanDisk (state S.Store tx.new.conn.now) → (was : Held S) → IsWhole first_layout (state S.Store was) → Adds TakenOver (state S.Store was) (state S.Store tx.old.conn.now)
         → OnOk result (IsWhole (second_layout TakenOver) (state S.Store tx.new.conn.now)) }
     ensures inside { StaysInside (state S.Store tx.old.conn.now) (state S.Store tx.new.conn.now) }
@@ -61,6 +69,8 @@ pub(crate) fn make_second<S: Alter>(tx: &mut Transaction<'_, S>) -> Result<(), E
     ensures same_reference { tx.new.conn.ghost_name ≡ tx.old.conn.ghost_name }
     ensures kept { HasCleanDisk (state S.Store tx.new.conn.now) → (r : Records) → IsWhole first_layout (state S.Store tx.old.conn.now) → KeepsRows (state S.Store tx.old.conn.now).now.trees r
         → OnOk result (KeepsRowsTwo TakenOver (state S.Store tx.new.conn.now).now.trees (emptied r)) }
+    ensures lists { HasCleanDisk (state S.Store tx.new.conn.now) → (r : Records) → IsWhole first_layout (state S.Store tx.old.conn.now) → KeepsRows (state S.Store tx.old.conn.now).now.trees r
+        → OnOk result (Lists ((state S.Store tx.new.conn.now).now.trees catalog_tree) (second_schema TakenOver)) }
     ensures whole { HasCleanDisk (state S.Store tx.new.conn.now) → IsWhole first_layout (state S.Store tx.old.conn.now)
         → OnOk result (IsWhole (second_layout TakenOver) (state S.Store tx.new.conn.now)) }
     ensures inside { StaysInside (state S.Store tx.old.conn.now) (state S.Store tx.new.conn.now) }

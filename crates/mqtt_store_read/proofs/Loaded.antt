@@ -18,13 +18,12 @@ use Rattle.mqtt_store_rows.specs.Rows.{SaysNumbers}
 use Rattle.mqtt_store_rows.specs.Gives.{Rows, Gives, no_parts, counters_of}
 use Rattle.mqtt_store_rows.proofs.LawfulLemmas.{lawful_within}
 use Rattle.mqtt_store_schema.specs.Asking.{SaysOne, SaysOther}
-use Rattle.mqtt_store_schema.specs.Creation.{IsNewStore, first_numbers}
-use Rattle.mqtt_store_schema.specs.declared.schema.StoreTable.{StoreTable}
-use Rattle.mqtt_store_schema.specs.declared.schema.StoreTable.TheVariants.{Meta, Session, Will, Subscription, Inbound, Copy, Retained}
-use Rattle.mqtt_store_read.specs.Listing.{by_columns, tree_of, IsListing}
+use Rattle.mqtt_store_schema.specs.Creation.{IsNewStore, numbers_of}
+use Rattle.mqtt_store_schema.specs.declared.schema.StoreTable.TheVariants.{Meta}
+use Rattle.mqtt_store_read.specs.Listing.{by_columns, IsListingOf, IsListing}
 use Rattle.mqtt_store_read.specs.Kept.{AreListed, HasRecords, HasNone, Refuses}
 use Rattle.mqtt_store_read.proofs.Rising.{Rise}
-use Rattle.mqtt_store_read.proofs.Unique.{by_total, numbers_rise, listed_one}
+use Rattle.mqtt_store_read.proofs.Unique.{by_total, names_rise, listed_one}
 
 -- ---- all tables
 
@@ -47,18 +46,17 @@ rise_sorted ats (r ∷ []) up k d low high = absurd (omega (arith, high))
 rise_sorted ats (r ∷ s ∷ rows) up zero d low high = rw ((by_total ats).antisymm s r, up.0.0) refl
 rise_sorted ats (r ∷ s ∷ rows) up (suc k) d low high = rw Rattle.std.proofs.Common.add-one (rw Rattle.std.proofs.Common.add-one at (rise_sorted ats (s ∷ rows) up.1 k d (omega arith) (omega (arith, high))))
 
-abbrev number_row : List ℕ → ℕ → Row
-number_row name n = Text name ∷ number n ∷ []
+abbrev named : List ℕ → ℕ → Row
+named name n = Text name ∷ number n ∷ []
 
-abbrev new_meta : List Row
-new_meta =
-    number_row (codes "autos") 0 ∷ number_row (codes "births") 0 ∷ number_row (codes "moment") 0 ∷ number_row (codes "publications") 0 ∷ number_row (codes "schema") 1
-    ∷ number_row (codes "subscribes") 0 ∷ []
+-- the numbers of a new store of this schema, by name
+abbrev pub new_meta : ℕ → List Row
+new_meta schema = named (codes "autos") 0 ∷ named (codes "births") 0 ∷ named (codes "moment") 0 ∷ named (codes "publications") 0 ∷ named (codes "schema") schema ∷ named (codes "subscribes") 0 ∷ []
 
 abbrev new_rows : Rows
-new_rows = record { meta = new_meta; sessions = []; parts = no_parts; retained = [] }
+new_rows = record { meta = new_meta 1; sessions = []; parts = no_parts; retained = [] }
 
-new_numbers : SaysNumbers (counters_of nothing) new_meta
+new_numbers : SaysNumbers (counters_of nothing) (new_meta 1)
 new_numbers = (
   record { name = refl; value = refl; range = omega arith },
   record { name = refl; value = refl; range = omega arith },
@@ -68,16 +66,20 @@ new_numbers = (
   record { name = refl; value = refl; range = omega arith },
 )
 
-meta_listed : (db : Trees) → db 0 ≡ first_numbers → IsListing Meta db new_meta
-meta_listed db is = record {
+-- they are the listing of the rows that a new store writes
+pub meta_listed : (schema : ℕ) (db : Trees) → db 0 ≡ numbers_of schema → IsListing Meta db (new_meta schema)
+meta_listed schema db is = record {
   each = rw is (record { moves = (3, 5) ∷ (2, 5) ∷ (0, 4) ∷ []; below = (omega arith, omega arith, (omega arith, omega arith, (omega arith, omega arith, tt))); is = refl });
-  sorted = rise_sorted (0 ∷ []) new_meta (numbers_rise (counters_of nothing) new_meta new_numbers);
+  sorted = rise_sorted (0 ∷ []) (new_meta schema) (names_rise (named (codes "autos") 0) (named (codes "births") 0) (named (codes "moment") 0) (named (codes "publications") 0) (named (codes "schema") schema) (named (codes "subscribes") 0)
+      refl refl refl refl refl refl);
 }
 
-empty_listed : (table : StoreTable) (db : Trees) → db (tree_of table) ≡ [] → IsListing table db []
-empty_listed table db is = record { each = rw is (IsPermutation-refl []); sorted = λ k d low high. absurd (omega (arith, high)) }
+-- a table without rows is listed so
+pub empty_listed : (columns key : List ℕ) (stored : List Row) → stored ≡ [] → IsListingOf columns key stored []
+empty_listed columns key stored is = record { each = rw is (IsPermutation-refl []); sorted = λ k d low high. absurd (omega (arith, high)) }
 
-nothing_lawful : IsLawful nothing
+-- what is there before the first session is lawful
+pub nothing_lawful : IsLawful nothing
 nothing_lawful = record {
   numbers = record { births = omega arith; publications = omega arith; subscribes = omega arith; autos = omega arith; moment = omega arith };
   sessions = record { table = record { ascending = tt; within = omega arith }; clients = tt; places = tt; each = tt };
@@ -90,15 +92,15 @@ pub new_store_has : (db : Database) → IsNewStore db → HasRecords db.trees no
 new_store_has db h = record {
   rows = new_rows;
   listed = record {
-    meta = meta_listed db.trees h.meta_rows;
-    sessions = empty_listed Session db.trees h.empty.0;
+    meta = meta_listed 1 db.trees h.meta_rows;
+    sessions = empty_listed _ _ _ h.empty.0;
     parts = record {
-      wills = empty_listed Will db.trees h.empty.1.0;
-      subscriptions = empty_listed Subscription db.trees h.empty.1.1.0;
-      inbound = empty_listed Inbound db.trees h.empty.1.1.1.0;
-      copies = empty_listed Copy db.trees h.empty.1.1.1.1.0;
+      wills = empty_listed _ _ _ h.empty.1.0;
+      subscriptions = empty_listed _ _ _ h.empty.1.1.0;
+      inbound = empty_listed _ _ _ h.empty.1.1.1.0;
+      copies = empty_listed _ _ _ h.empty.1.1.1.1.0;
     };
-    retained = empty_listed Retained db.trees h.empty.1.1.1.1.1.0;
+    retained = empty_listed _ _ _ h.empty.1.1.1.1.1.0;
   };
   gives = record { numbers = new_numbers; sessions = refl; retained = tt };
   lawful = nothing_lawful;

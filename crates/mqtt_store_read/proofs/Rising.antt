@@ -57,11 +57,11 @@ module _ {X : Type 0} (Says : X → Row → Type 0) (key : X → ℕ) (says : (x
 -- ---- the rows of sessions
 
 -- the row is of a session of a later birth
-abbrev Later : ℕ → Row → Type 0
+abbrev pub Later : ℕ → Row → Type 0
 Later n row = (b : ℕ) × (n < b) × (column row 0 ≡ number b)
 
 -- all are, and they rise
-abbrev AllLater : ℕ → List ℕ → List Row → Type 0
+abbrev pub AllLater : ℕ → List ℕ → List Row → Type 0
 AllLater n ats rows = AllByRecursion (Later n) rows × Rise (0 ∷ ats) rows
 
 -- those of one session's list
@@ -73,7 +73,8 @@ module _ {X : Type 0} (Says : X → Row → Type 0) (key : X → ℕ) (at : ℕ)
   part_above birth r n (row ∷ rows) (x ∷ xs) of_r here mine are up =
       (second_less at r row birth n (key x) of_r mine.0 here (says x row are.0) up.0, part_above birth r n rows xs of_r here mine.1 are.1 up.1)
 
-  part_rises : (birth : ℕ) (rows : List Row) (xs : List X) → AllOf birth rows → AreRows Says rows xs → IsAscending key xs → Rise (0 ∷ at ∷ []) rows
+  -- they rise
+  pub part_rises : (birth : ℕ) (rows : List Row) (xs : List X) → AllOf birth rows → AreRows Says rows xs → IsAscending key xs → Rise (0 ∷ at ∷ []) rows
   part_rises birth [] xs mine are up = tt
   part_rises birth (row ∷ rows) [] mine are up = absurd are
   part_rises birth (row ∷ rows) (x ∷ xs) mine are up =
@@ -99,7 +100,8 @@ goes_on ats n birth (r ∷ front) rest less mine up later =
     let more = goes_on ats n birth front rest less mine.1 up.1 later in
     (((birth, less, mine.0), more.0), (both_all (λ s. by_columns (0 ∷ ats) r s ≡ Less) front rest up.0 (later_above ats birth r rest mine.0 later.0), more.1))
 
-takes_on : {X : Type 0} (Says : X → Row → Type 0) (ats : List ℕ) (n birth : ℕ) (part : List X) (rows rest : List Row) → n < birth → (it : Takes Says birth part rows rest) → Rise (0 ∷ ats) it.front
+-- if a session's rows at the front rise, and those behind them do, which are of later sessions
+pub takes_on : {X : Type 0} (Says : X → Row → Type 0) (ats : List ℕ) (n birth : ℕ) (part : List X) (rows rest : List Row) → n < birth → (it : Takes Says birth part rows rest) → Rise (0 ∷ ats) it.front
     → AllLater birth ats rest → AllLater n ats rows
 takes_on Says ats n birth part rows rest less it up later = subst (AllLater n ats) (sym it.parts) (goes_on ats n birth it.front rest less it.mine up later)
 

@@ -17,20 +17,21 @@ use Rattle.mqtt_store_schema.proofs.Plain.{IsSelect, ShowsOnly, text_shows}
 use Rattle.mqtt_store_schema.specs.Tables.{keep_schema}
 use Rattle.mqtt_store_schema.specs.declared.schema.StoreTable.{StoreTable}
 use Rattle.mqtt_store_schema.specs.declared.schema.StoreTable.TheVariants.{Meta, Session, Will, Subscription, Inbound, Copy, Retained}
-use Rattle.mqtt_store_read.specs.Listing.{select_text, tree_of, columns_of, key_of}
+use Rattle.mqtt_store_schema_two.specs.Tables.{second_schema}
+use Rattle.mqtt_store_schema_two.specs.declared.tables.Making.{Making}
+use Rattle.mqtt_store_schema_two.specs.declared.tables.Making.TheVariants.{New, TakenOver}
+use Rattle.mqtt_store_read.specs.Listing.{select_text, tree_of, columns_of, key_of, IsInSecond}
 
 abbrev pub sorted_over : ℕ → List Term → List (Term × Key) → Query
 sorted_over tree project order = record { from = inner tree end; filter = []; group = None; project = project; distinct = false; collations = []; order = order; limit = lit (Int (negsuc 0)); offset = lit (Int (pos 0)) }
 
+-- the query of these columns of a tree, in the order of some of them
+abbrev pub query_at : ℕ → List ℕ → List ℕ → Query
+query_at tree columns key = sorted_over tree (map (col 1) columns) (map (λ at. (col 1 (slice_index_or columns at 0), ascending Binary)) key)
+
 -- the query of a table
-abbrev pub terms_of : StoreTable → List Term
-terms_of table = map (col 1) (columns_of table)
-
-abbrev pub order_of : StoreTable → List (Term × Key)
-order_of table = map (λ at. (col 1 (slice_index_or (columns_of table) at 0), ascending Binary)) (key_of table)
-
 abbrev pub query_of : StoreTable → Query
-query_of table = sorted_over (tree_of table) (terms_of table) (order_of table)
+query_of table = query_at (tree_of table) (columns_of table) (key_of table)
 
 abbrev pub program : Query → Program
 program q = record { lets = []; body = q }
@@ -46,38 +47,52 @@ names_of Copy =
     ∷ codes "payload" ∷ codes "arrived" ∷ []
 names_of Retained = codes "place" ∷ codes "topic" ∷ codes "sender" ∷ codes "pub" ∷ codes "qos" ∷ codes "props" ∷ codes "payload" ∷ codes "arrived" ∷ []
 
--- a table's statement is its query
-pub select_is : (table : StoreTable) → command_of (understood keep_schema (select_text table)) ≡ Select (program (query_of table)) (names_of table)
-unfolding understood everything
-select_is Meta = refl
-select_is Session = refl
-select_is Will = refl
-select_is Subscription = refl
-select_is Inbound = refl
-select_is Copy = refl
-select_is Retained = refl
+-- in this schema the text is that query, is plain, and reads no listing
+pub record Means (schema : Schema) (text : List ℕ) (q : Query) (names : List (List ℕ)) : Type 0 where
+  pub command : command_of (understood schema text) ≡ Select (program q) names
+  pub plain : IsPlain (understood schema text)
+  pub unlisted : reads_listing schema text ≡ false
 
--- it is plain
-pub select_plain : (table : StoreTable) → IsPlain (understood keep_schema (select_text table))
-unfolding understood everything
-select_plain Meta = (refl, refl)
-select_plain Session = (refl, refl)
-select_plain Will = (refl, refl)
-select_plain Subscription = (refl, refl)
-select_plain Inbound = (refl, refl)
-select_plain Copy = (refl, refl)
-select_plain Retained = (refl, refl)
+abbrev pub MeansTable : Schema → StoreTable → Type 0
+MeansTable schema table = Means schema (select_text table) (query_of table) (names_of table)
 
--- and reads no listing
-pub select_unlisted : (table : StoreTable) → reads_listing keep_schema (select_text table) ≡ false
+-- a table's statement is its query in schema 1
+pub first_means : (table : StoreTable) → MeansTable keep_schema table
 unfolding understood everything
-select_unlisted Meta = refl
-select_unlisted Session = refl
-select_unlisted Will = refl
-select_unlisted Subscription = refl
-select_unlisted Inbound = refl
-select_unlisted Copy = refl
-select_unlisted Retained = refl
+first_means Meta = record { command = refl; plain = (refl, refl); unlisted = refl }
+first_means Session = record { command = refl; plain = (refl, refl); unlisted = refl }
+first_means Will = record { command = refl; plain = (refl, refl); unlisted = refl }
+first_means Subscription = record { command = refl; plain = (refl, refl); unlisted = refl }
+first_means Inbound = record { command = refl; plain = (refl, refl); unlisted = refl }
+first_means Copy = record { command = refl; plain = (refl, refl); unlisted = refl }
+first_means Retained = record { command = refl; plain = (refl, refl); unlisted = refl }
+
+-- and in a new database of schema 2
+new_means : (table : StoreTable) → IsInSecond table New → MeansTable (second_schema New) table
+unfolding understood everything
+new_means Meta stands = record { command = refl; plain = (refl, refl); unlisted = refl }
+new_means Session stands = record { command = refl; plain = (refl, refl); unlisted = refl }
+new_means Will stands = record { command = refl; plain = (refl, refl); unlisted = refl }
+new_means Subscription stands = record { command = refl; plain = (refl, refl); unlisted = refl }
+new_means Inbound stands = record { command = refl; plain = (refl, refl); unlisted = refl }
+new_means Copy stands = absurd cc
+new_means Retained stands = absurd cc
+
+-- and in one that had schema 1
+taken_over_means : (table : StoreTable) → MeansTable (second_schema TakenOver) table
+unfolding understood everything
+taken_over_means Meta = record { command = refl; plain = (refl, refl); unlisted = refl }
+taken_over_means Session = record { command = refl; plain = (refl, refl); unlisted = refl }
+taken_over_means Will = record { command = refl; plain = (refl, refl); unlisted = refl }
+taken_over_means Subscription = record { command = refl; plain = (refl, refl); unlisted = refl }
+taken_over_means Inbound = record { command = refl; plain = (refl, refl); unlisted = refl }
+taken_over_means Copy = record { command = refl; plain = (refl, refl); unlisted = refl }
+taken_over_means Retained = record { command = refl; plain = (refl, refl); unlisted = refl }
+
+-- and in schema 2 if the table stands there
+pub second_means : (making : Making) (table : StoreTable) → IsInSecond table making → MeansTable (second_schema making) table
+second_means New table stands = new_means table stands
+second_means TakenOver table stands = taken_over_means table
 
 select_is_select : (table : StoreTable) → IsSelect (first (select_text table))
 unfolding everything

@@ -1,9 +1,10 @@
 -- A database has the records that its rows give, and no other.
-use Rattle.std.proofs.Common.{◌≡◌, ℕ, List, [], ◌∷◌, refl, subst}
+use Rattle.std.proofs.Common.{◌≡◌, ℕ, List, [], ◌∷◌, codes, refl, subst}
 use Rattle.std.specs.Cmp.{IsTotalOrder}
 use Rattle.std.proofs.lemmas.Cmp.{on_total, then_total}
 use Rattle.std.proofs.lemmas.List.Sorted.{IsPermutation-sym, IsPermutation-trans}
 use Rattle.sqlite_keyed.proofs.SortLemmas.{sorted_unique}
+use Rattle.sqlite_value.specs.declared.value.Value.TheVariants.{Text}
 use Rattle.sqlite_value.specs.Order.{Row, column}
 use Rattle.sqlite_value.proofs.OrderLemmas.{value_cmp_total}
 use Rattle.sqlite_trees.specs.Tree.{Trees}
@@ -13,8 +14,7 @@ use Rattle.mqtt_store_rows.specs.Rows.{SaysNumbers}
 use Rattle.mqtt_store_rows.specs.Gives.{Parts, Rows, Gives, AreWithin, counters_of}
 use Rattle.mqtt_store_rows.proofs.LawfulLemmas.{lawful_within}
 use Rattle.mqtt_store_rows.proofs.OneLemmas as load
-use Rattle.mqtt_store_schema.specs.declared.schema.StoreTable.{StoreTable}
-use Rattle.mqtt_store_read.specs.Listing.{by_columns, key_of, IsListing}
+use Rattle.mqtt_store_read.specs.Listing.{by_columns, IsListingOf}
 use Rattle.mqtt_store_read.specs.Kept.{AreListed, HasRecords}
 use Rattle.mqtt_store_read.proofs.Rising.{Rise, text_less, all_counted, parts_rise, columns_rise, retained_rise}
 
@@ -26,11 +26,26 @@ by_total [] = record { antisymm = λ x y. refl; trans = λ x y z h k. absurd cc;
 by_total (at ∷ ats) = then_total (on_total (λ (row : Row). column row at) value_cmp_total) (by_total ats)
 
 -- a listing that rises is the only one
-one_listing : (table : StoreTable) (db : Trees) (xs ys : List Row) → IsListing table db xs → IsListing table db ys → Rise (key_of table) ys → xs ≡ ys
-one_listing table db xs ys h k up =
-    sorted_unique (by_columns (key_of table)) (by_total (key_of table)) ys xs up (IsPermutation-trans _ _ _ (IsPermutation-sym _ _ k.each) h.each) h.sorted
+pub one_listing : (columns key : List ℕ) (stored xs ys : List Row) → IsListingOf columns key stored xs → IsListingOf columns key stored ys → Rise key ys → xs ≡ ys
+one_listing columns key stored xs ys h k up =
+    sorted_unique (by_columns key) (by_total key) ys xs up (IsPermutation-trans _ _ _ (IsPermutation-sym _ _ k.each) h.each) h.sorted
 
 -- ---- the rows of meta rise
+
+-- the row has this name
+abbrev pub IsNamed : Row → List ℕ → Type 0
+IsNamed row name = column row 0 ≡ Text name
+
+-- rows that have the six names of the store's numbers rise
+pub names_rise : (a b c d e f : Row) → IsNamed a (codes "autos") → IsNamed b (codes "births") → IsNamed c (codes "moment") → IsNamed d (codes "publications") → IsNamed e (codes "schema")
+    → IsNamed f (codes "subscribes") → Rise (0 ∷ []) (a ∷ b ∷ c ∷ d ∷ e ∷ f ∷ [])
+names_rise a b c d e f p q r s t u = (
+  (text_less a b _ _ p q refl, (text_less a c _ _ p r refl, (text_less a d _ _ p s refl, (text_less a e _ _ p t refl, (text_less a f _ _ p u refl, tt))))),
+  (
+    (text_less b c _ _ q r refl, (text_less b d _ _ q s refl, (text_less b e _ _ q t refl, (text_less b f _ _ q u refl, tt)))),
+    ((text_less c d _ _ r s refl, (text_less c e _ _ r t refl, (text_less c f _ _ r u refl, tt))), ((text_less d e _ _ s t refl, (text_less d f _ _ s u refl, tt)), ((text_less e f _ _ t u refl, tt), (tt, tt)))),
+  ),
+)
 
 -- the rows of counters rise
 pub numbers_rise : (all : Counters) (rows : List Row) → SaysNumbers all rows → Rise (0 ∷ []) rows
@@ -40,19 +55,7 @@ numbers_rise all (a ∷ b ∷ []) h = absurd h
 numbers_rise all (a ∷ b ∷ c ∷ []) h = absurd h
 numbers_rise all (a ∷ b ∷ c ∷ d ∷ []) h = absurd h
 numbers_rise all (a ∷ b ∷ c ∷ d ∷ e ∷ []) h = absurd h
-numbers_rise all (a ∷ b ∷ c ∷ d ∷ e ∷ f ∷ []) h =
-    let p = h.0.name in
-    let q = h.1.name in
-    let r = h.2.name in
-    let s = h.3.name in
-    let t = h.4.name in
-    let u = h.5.name in (
-      (text_less a b _ _ p q refl, (text_less a c _ _ p r refl, (text_less a d _ _ p s refl, (text_less a e _ _ p t refl, (text_less a f _ _ p u refl, tt))))),
-      (
-        (text_less b c _ _ q r refl, (text_less b d _ _ q s refl, (text_less b e _ _ q t refl, (text_less b f _ _ q u refl, tt)))),
-        ((text_less c d _ _ r s refl, (text_less c e _ _ r t refl, (text_less c f _ _ r u refl, tt))), ((text_less d e _ _ s t refl, (text_less d f _ _ s u refl, tt)), ((text_less e f _ _ t u refl, tt), (tt, tt)))),
-      ),
-    )
+numbers_rise all (a ∷ b ∷ c ∷ d ∷ e ∷ f ∷ []) h = names_rise a b c d e f h.0.name h.1.name h.2.name h.3.name h.4.name h.5.name
 numbers_rise all (a ∷ b ∷ c ∷ d ∷ e ∷ f ∷ g ∷ rows) h = absurd h
 
 -- ---- all tables
@@ -70,14 +73,14 @@ pub listed_one : (db : Trees) (rows others : Rows) (r : Records) → AreListed d
 listed_one db rows others r h k gives within =
     let parts = parts_rise 0 others.sessions others.parts r.sessions gives.sessions (all_counted others.sessions others.parts r.sessions gives.sessions) within.sessions.ascending within.each in
     same_rows _ _ _ _ _ _ _ _
-    (one_listing _ db _ _ h.meta k.meta (numbers_rise (counters_of r) others.meta gives.numbers))
-    (one_listing _ db _ _ h.sessions k.sessions (columns_rise others.sessions others.parts r.sessions gives.sessions within.sessions.ascending))
+    (one_listing _ _ _ _ _ h.meta k.meta (numbers_rise (counters_of r) others.meta gives.numbers))
+    (one_listing _ _ _ _ _ h.sessions k.sessions (columns_rise others.sessions others.parts r.sessions gives.sessions within.sessions.ascending))
     (same_parts _ _ _ _ _ _ _ _
-    (one_listing _ db _ _ h.parts.wills k.parts.wills parts.wills.1)
-    (one_listing _ db _ _ h.parts.subscriptions k.parts.subscriptions parts.subscriptions.1)
-    (one_listing _ db _ _ h.parts.inbound k.parts.inbound parts.inbound.1)
-    (one_listing _ db _ _ h.parts.copies k.parts.copies parts.copies.1))
-    (one_listing _ db _ _ h.retained k.retained (retained_rise others.retained r.retained gives.retained within.retained.ascending))
+    (one_listing _ _ _ _ _ h.parts.wills k.parts.wills parts.wills.1)
+    (one_listing _ _ _ _ _ h.parts.subscriptions k.parts.subscriptions parts.subscriptions.1)
+    (one_listing _ _ _ _ _ h.parts.inbound k.parts.inbound parts.inbound.1)
+    (one_listing _ _ _ _ _ h.parts.copies k.parts.copies parts.copies.1))
+    (one_listing _ _ _ _ _ h.retained k.retained (retained_rise others.retained r.retained gives.retained within.retained.ascending))
 
 -- a database has one records alone
 pub records_one : (db : Trees) (q r : Records) → HasRecords db q → HasRecords db r → q ≡ r

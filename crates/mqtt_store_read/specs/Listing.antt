@@ -1,5 +1,5 @@
 -- The rows of a table, as a load reads them: some columns of each, in the order of a key.
-use Rattle.std.specs.Prelude.{ℕ, List, [], ◌∷◌, map, codes, IsPermutation, IsSorted}
+use Rattle.std.specs.Prelude.{◌≡◌, ℕ, List, [], ◌∷◌, map, codes, IsPermutation, IsSorted}
 use Rattle.std.specs.declared.cmp.Ordering.{Ordering}
 use Rattle.std.specs.declared.cmp.Ordering.TheVariants.{Equal}
 use Rattle.std.specs.Ordering.{on, then_cmp}
@@ -7,6 +7,8 @@ use Rattle.sqlite_value.specs.Order.{Row, column, value_cmp}
 use Rattle.sqlite_trees.specs.Tree.{Trees}
 use Rattle.mqtt_store_schema.specs.declared.schema.StoreTable.{StoreTable}
 use Rattle.mqtt_store_schema.specs.declared.schema.StoreTable.TheVariants.{Meta, Session, Will, Subscription, Inbound, Copy, Retained}
+use Rattle.mqtt_store_schema_two.specs.declared.tables.Making.{Making}
+use Rattle.mqtt_store_schema_two.specs.declared.tables.Making.TheVariants.{TakenOver}
 
 abbrev pub select_text : StoreTable → List ℕ
 select_text Meta = codes "SELECT name, n FROM meta ORDER BY name"
@@ -26,6 +28,16 @@ tree_of Subscription = 5
 tree_of Inbound = 7
 tree_of Copy = 9
 tree_of Retained = 11
+
+-- the table stands in schema 2 as well, at the same tree; that of copies, or of retained messages, if the store had schema 1
+abbrev pub IsInSecond : StoreTable → Making → Type 0
+IsInSecond Meta making = Unit {0}
+IsInSecond Session making = Unit {0}
+IsInSecond Will making = Unit {0}
+IsInSecond Subscription making = Unit {0}
+IsInSecond Inbound making = Unit {0}
+IsInSecond Copy making = making ≡ TakenOver
+IsInSecond Retained making = making ≡ TakenOver
 
 -- where its columns stand in the tree's rows, which begin with their own number; a column that is that number stands there
 abbrev pub columns_of : StoreTable → List ℕ
@@ -48,16 +60,23 @@ key_of Inbound = 0 ∷ 1 ∷ []
 key_of Copy = 0 ∷ 1 ∷ []
 key_of Retained = 0 ∷ []
 
--- the columns of a row in the tree
+-- these columns of a row in a tree
+abbrev pub shown_at : List ℕ → Row → Row
+shown_at columns row = map (column row) columns
+
 abbrev pub shown : StoreTable → Row → Row
-shown table row = map (column row) (columns_of table)
+shown table = shown_at (columns_of table)
 
 -- by the first of the columns, and then by the next
 abbrev pub by_columns : List ℕ → Row → Row → Ordering
 by_columns [] a b = Equal
 by_columns (at ∷ more) a b = then_cmp (on (λ row. column row at) value_cmp) (by_columns more) a b
 
--- all rows of the table, each once, in the order of the key
-pub record IsListing (table : StoreTable) (db : Trees) (rows : List Row) : Type 0 where
-  pub each : IsPermutation (map (shown table) (db (tree_of table))) rows
-  pub sorted : IsSorted (by_columns (key_of table)) rows
+-- these columns of all rows of a tree, each row once, in the order of those that are the key
+pub record IsListingOf (columns key : List ℕ) (stored rows : List Row) : Type 0 where
+  pub each : IsPermutation (map (shown_at columns) stored) rows
+  pub sorted : IsSorted (by_columns key) rows
+
+-- all rows of the table, in the order of its key
+abbrev pub IsListing : StoreTable → Trees → List Row → Type 0
+IsListing table db = IsListingOf (columns_of table) (key_of table) (db (tree_of table))

@@ -3,8 +3,10 @@ ghost use Rattle.std.specs.Prelude.{◌≡◌, IfOk, OnOk, IsTrue};
 ghost use Rattle.sqlite.specs.Held.{state};
 ghost use Rattle.sqlite.specs.State.{HasCleanDisk};
 ghost use Rattle.mqtt_store_schema.specs.Tables.{keep_schema};
-ghost use Rattle.mqtt_store_read.specs.Listing.{select_text, IsListing};
 ghost use Rattle.mqtt_store_schema.specs.Settled.{OnlyReads};
+ghost use Rattle.mqtt_store_schema_two.specs.Tables.{second_schema};
+ghost use Rattle.mqtt_store_schema_two.specs.declared.tables.Making.{Making};
+ghost use Rattle.mqtt_store_read.specs.Listing.{select_text, IsInSecond, IsListing};
 
 use mqtt_store_schema::StoreTable;
 use sqlite::{Alter, Connection, Error, Row};
@@ -31,6 +33,9 @@ fn select_of(table: StoreTable) -> &'static str
 /// All rows of a table of the store, in the order of its key. Writes nothing.
 pub fn rows_of<S: Alter>(conn: &mut Connection<S>, table: StoreTable) -> Result<Vec<Row>, Error>
     ensures rows { HasCleanDisk (state S.Store conn.new) → (state S.Store conn.old).now.schema ≡ keep_schema
+        → IfOk result (λ rows. IsListing table (state S.Store conn.old).now.trees rows.items) }
+    ensures second { (making : Making) → HasCleanDisk (state S.Store conn.new)
+        → (state S.Store conn.old).now.schema ≡ second_schema making → IsInSecond table making
         → IfOk result (λ rows. IsListing table (state S.Store conn.old).now.trees rows.items) }
     ensures is_open { HasCleanDisk (state S.Store conn.new) → OnOk result (IsTrue (state S.Store conn.new).is_open) }
     ensures reads { OnlyReads (state S.Store conn.old) (state S.Store conn.new) }

@@ -20,7 +20,7 @@ use Rattle.sqlite.specs.Command.{Command}
 use Rattle.sqlite.specs.Command.TheVariants.{Insert}
 use Rattle.sqlite.specs.Term.{Term, lit}
 use Rattle.sqlite.specs.Does.{Tally, Does}
-use Rattle.sqlite.specs.Effect.{Database}
+use Rattle.sqlite.specs.Effect.{Database, IsDatabase}
 use Rattle.sqlite.specs.Rows.{Written}
 use Rattle.sqlite.specs.declared.error.Error.{Error}
 use Rattle.sqlite.specs.Listing.{understood}
@@ -73,9 +73,10 @@ pub record FillsMeta (schema : Schema) (n : ℕ) (text : List ℕ) : Type 0 wher
   -- no table refers to meta
   pub unworked : (olds : List Row) → works schema Enforced 0 0 olds (numbers_of n) ≡ []
 
--- the rows of meta are these, and all others as they were
+-- the rows of meta are these, and all others as they were; the trees list that schema
 pub record HasNumbers (schema : Schema) (n : ℕ) (old new : State) : Type 0 where
   pub schema_is : new.now.schema ≡ schema
+  pub sound : IsDatabase new.now
   pub inside : IsTrue new.in_transaction
   pub numbers : new.now.trees 0 ≡ numbers_of n
   pub others : AllByRecursion (λ t. t.tree ≢ 0 → new.now.trees t.tree ≡ old.now.trees t.tree) schema.tables
@@ -100,6 +101,7 @@ writes_numbers others indexes n text it old new (Ok count) has none h =
     let is : new.now.trees ≡ written.0 = ap (λ (d : Database). d.trees) now ∙ trees in
     record {
       schema_is = ap (λ (d : Database). d.schema) now;
+      sound = w.sound;
       inside = h.1.mode;
       numbers = ap (λ (x : Trees). x 0) is ∙ (step.rows ∙ (ap (λ rows. put_all rows (numbers_of n)) none ∙ put_into_none n));
       others = subst (λ (x : Trees). AllByRecursion (λ t. t.tree ≢ 0 → x t.tree ≡ db t.tree) schema.tables) (sym is) step.tables;

@@ -1,8 +1,10 @@
 -- How the tables of schema 2 are made, one after the other.
 use Rattle.std.specs.Prelude.{◌≡◌, ℕ, ◌-◌, List, [], ◌++◌, take, drop, codes, IsTrue}
 use Rattle.sqlite_catalog.specs.Change.{KeepsRows}
+use Rattle.sqlite_catalog.specs.Listing.{Lists}
 use Rattle.sqlite_schema.specs.declared.schema.Schema.{Schema}
 use Rattle.sqlite_trees.specs.Tree.{Trees}
+use Rattle.sqlite_trees.specs.Objects.{catalog_tree}
 use Rattle.sqlite.specs.State.{State}
 use Rattle.sqlite.specs.Effect.{Database}
 use Rattle.mqtt_store_schema.specs.Creation.{first, AreEmpty, numbers_of}
@@ -55,9 +57,10 @@ pub record IsBare (s : State) : Type 0 where
 abbrev pub fill_text : List ℕ
 fill_text = codes "INSERT INTO meta VALUES ('schema', 2), ('births', 0), ('publications', 0), ('subscribes', 0), ('autos', 0), ('moment', 0)"
 
--- a store of schema 2 that keeps nothing
+-- a store of schema 2 that keeps nothing, as its trees list it
 pub record IsNewSecond (db : Database) : Type 0 where
   pub schema : db.schema ≡ second_schema New
+  pub lists : Lists (db.trees catalog_tree) db.schema
   pub meta_rows : db.trees 0 ≡ numbers_of 2
   pub empty : AreEmpty (drop 1 (second_schema New).tables) db.trees
 

@@ -5,6 +5,7 @@ use Rattle.mqtt_records.specs.declared.records.Records.{Records}
 use Rattle.mqtt_records.specs.Records.{changed, changed_all, Fits, FitAll}
 use Rattle.mqtt_records.specs.Contents.{FitsContents, FitContents}
 
+-- the changes fit and say what is said, one after the other, and make the one records the others
 pub record AreMade (changes : List Change) (from to : Records) : Type 0 where
   pub fits : FitAll changes from
   pub agrees : FitContents changes from

@@ -5,6 +5,8 @@ use Rattle.std.proofs.lemmas.List.Sorted.{IsPermutation-sym}
 use Rattle.sqlite_value.specs.declared.value.Value.TheVariants.{Null, Int}
 use Rattle.sqlite_value.specs.Keys.{joined}
 use Rattle.sqlite_value.specs.Order.{Row}
+use Rattle.sqlite_catalog.specs.Listing.{Lists}
+use Rattle.sqlite_trees.specs.Objects.{catalog_tree}
 use Rattle.sqlite_trees.specs.Tree.{Trees, IsTable, rowid}
 use Rattle.sqlite_trees.specs.View.{is_int}
 use Rattle.sqlite_schema.specs.Names.{same_name}
@@ -174,6 +176,13 @@ pub empties_retained : (old new : State) (r : Result ℕ Error) → IsWhole seco
     → OnOk r (RemovesFrom second 11 all old.now.trees new.now.trees) × OnOk r (IsWhole second new)
 empties_retained old new r whole h =
     deletes second (asked TakenOver) retained_text 6 retained [] [] retained_means.0 retained_means.1 refl retained_childless all (λ row. refl) old new r whole whole.behind.1.0 h
+
+-- and the trees list schema 2
+pub lists_second : (old new : State) (r : Result ℕ Error) → IsWhole second old → ExecutesInside 0 retained_text [] old new r → OnOk r (Lists (new.now.trees catalog_tree) (schema_of second))
+lists_second old new (Err e) whole h = tt
+lists_second old new (Ok count) whole h =
+    let w = runs_as retained_text [] old new (schema_of second) whole.schema (Delete 6 (program (over 11 [] numbers))) retained_means.0 retained_means.1 count h.0 in
+    subst (Lists (new.now.trees catalog_tree)) (empties_retained old new (Ok count) whole h).1.schema w.sound.lists
 
 -- nothing is left
 pub none_left : (rows : List Row) → filter (λ row. not (all row)) rows ≡ []

@@ -1,11 +1,29 @@
-use Rattle.std.proofs.Common.{◌≡◌, OnErr, IsTrue, ap, subst, arith, rules}
+use Rattle.std.proofs.Common.{◌≡◌, OnOk, OnErr, IsTrue, ap, sym, subst, arith, rules}
+use Rattle.std.proofs.lemmas.Result.{on_ok_weaker}
 use Rattle.sqlite.specs.Held.{state}
 use Rattle.sqlite.specs.State.{HasCleanDisk, Survives}
 use Rattle.sqlite.proofs.StateLemmas.{survives_then}
 use Rattle.mqtt_store_write.specs.Step.{IsSettled as IsSettledFirst}
-use Rattle.mqtt_store_migration.specs.Migration.{MayCommit}
-use Rattle.mqtt_store_migration.proofs.Committed.{begun_whole, begun_survives, commits, undone}
+use Rattle.mqtt_store_migration.specs.Migration.{Migrates, MayMigrate, MayCommit}
+use Rattle.mqtt_store_migration.proofs.Committed.{begun_whole, begun_survives, migrates, commits, undone}
 use Rattle.mqtt_store_migration.proofs.migration.migrate.Goals as goal
+
+pub returns-in-Ok-clause-ok : goal.returns-in-Ok-clause-ok
+returns-in-Ok-clause-ok g c =
+    let old = state g.S.Store c.args.conn.now in
+    let begun = state g.S.Store c.transaction-tx.result.conn.now in
+    let begins = ap (state g.S.Store) c.transaction-tx.ensures.begun in
+    let tx = state g.S.Store c.write_second.new.tx.conn.now in
+    let end = c.commit.new.self.0 in
+    let same : end ≡ c.conn-1.given.0 = search rules in
+    subst (λ h. HasCleanDisk (state g.S.Store h) → MayMigrate c.args.records.now old → OnOk c.commit.result (Migrates c.args.records.now old.now (state g.S.Store h).now)) same
+    (λ clean may.
+    let mid : HasCleanDisk tx = omega (arith, c.commit.ensures.survives.clean, clean) in
+    let first = begun_whole old begun may.settled begins in
+    let keeps = c.in-Ok.ensures.kept mid first (rw c.transaction-tx.ensures.begun may.keeps) may.lawful in
+    let lists = c.in-Ok.ensures.lists mid first (rw c.transaction-tx.ensures.begun may.keeps) in
+    let made = migrates c.args.records.now old tx may keeps lists (c.in-Ok.ensures.whole mid first) in
+    on_ok_weaker c.commit.result (λ it. subst (Migrates c.args.records.now old.now) (sym it.1.now_is) made) (c.commit.ensures.ok clean))
 
 pub returns-in-Ok-clause-err : goal.returns-in-Ok-clause-err
 returns-in-Ok-clause-err g c =
@@ -34,5 +52,6 @@ returns-in-Ok-clause-crash g c =
     (λ clean db is may.
     let mid : HasCleanDisk tx = omega (arith, c.commit.ensures.survives.clean, clean) in
     let keeps = c.in-Ok.ensures.kept mid (begun_whole old begun may.settled begins) (rw c.transaction-tx.ensures.begun may.keeps) may.lawful in
-    commits c.args.records.now old tx db keeps is may)
+    let lists = c.in-Ok.ensures.lists mid (begun_whole old begun may.settled begins) (rw c.transaction-tx.ensures.begun may.keeps) in
+    commits c.args.records.now old tx db keeps lists is may)
     (begun_survives old begun tx (λ _. ⊥) begins c.in-Ok.ensures.inside.survives) c.commit.ensures.survives)

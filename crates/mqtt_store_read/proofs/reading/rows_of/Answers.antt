@@ -2,13 +2,22 @@ use Rattle.std.proofs.lemmas.Result.{IfOk-weaker}
 use Rattle.sqlite.specs.Held.{state}
 use Rattle.mqtt_store_schema.proofs.Staying.{query_reads, query_is_open}
 use Rattle.mqtt_store_read.specs.Listing.{select_text}
-use Rattle.mqtt_store_read.proofs.Listings.{lists}
-use Rattle.mqtt_store_read.proofs.Selects.{select_shows}
+use Rattle.mqtt_store_schema.specs.Tables.{keep_schema}
+use Rattle.mqtt_store_schema_two.specs.Tables.{second_schema}
+use Rattle.mqtt_store_read.proofs.Listings.{table_lists}
+use Rattle.mqtt_store_read.proofs.Selects.{first_means, second_means, select_shows}
 use Rattle.mqtt_store_read.proofs.reading.rows_of.Goals as goal
 
 pub returns-clause-rows : goal.returns-clause-rows
 returns-clause-rows g c clean schema =
-    IfOk-weaker c.query_all.result _ _ (λ rows. lists c.args.table (state g.S.Store c.args.conn.now) (state g.S.Store c.query_all.new.self) rows.items schema) (rw c.select_of.ensures at (c.query_all.ensures.ok clean))
+    IfOk-weaker c.query_all.result _ _ (λ rows. table_lists c.args.table keep_schema (first_means c.args.table) (state g.S.Store c.args.conn.now) (state g.S.Store c.query_all.new.self) rows.items schema)
+    (rw c.select_of.ensures at (c.query_all.ensures.ok clean))
+
+pub returns-clause-second : goal.returns-clause-second
+returns-clause-second g c making clean schema stands =
+    IfOk-weaker c.query_all.result _ _
+    (λ rows. table_lists c.args.table (second_schema making) (second_means making c.args.table stands) (state g.S.Store c.args.conn.now) (state g.S.Store c.query_all.new.self) rows.items schema)
+    (rw c.select_of.ensures at (c.query_all.ensures.ok clean))
 
 pub returns-clause-is_open : goal.returns-clause-is_open
 returns-clause-is_open g c clean =

@@ -1,0 +1,8 @@
+pub mod Selects
+pub mod Rising
+pub mod Unique
+pub mod Loaded
+pub mod Refused
+pub mod Vacant
+pub mod Begun
+pub mod Either

@@ -1,0 +1,4 @@
+pub mod Listing
+pub mod Kept
+pub mod Refusals
+pub mod Opening

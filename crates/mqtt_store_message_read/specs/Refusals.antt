@@ -1,0 +1,43 @@
+-- Which records a database of either schema has, and why a load of it is refused (4.1).
+use Rattle.std.specs.Prelude.{◌≡◌, ◌⊎◌, ⊤}
+use Rattle.sqlite_trees.specs.declared.store.Store.{Ghosts}
+use Rattle.sqlite.specs.Effect.{Database}
+use Rattle.sqlite.specs.Held.{Held, state}
+use Rattle.sqlite.specs.State.{State}
+use Rattle.mqtt_records.specs.declared.records.Records.{Records}
+use Rattle.mqtt_records.specs.declared.keep.KeepError.{KeepError}
+use Rattle.mqtt_records.specs.declared.keep.KeepError.TheVariants.{Memory, Disk, Size, Corrupt, Schema}
+use Rattle.mqtt_store_schema.specs.Tables.{keep_schema}
+use Rattle.mqtt_store_schema_two.specs.Tables.{second_schema}
+use Rattle.mqtt_store_schema_two.specs.Finding.{Differs, SaysKnown, SaysUnknown}
+use Rattle.mqtt_store_schema_two.specs.declared.tables.Making.{Making}
+use Rattle.mqtt_store_read.specs.Kept.{HasRecords, Keeps, IsAsked}
+use Rattle.mqtt_store_message_read.specs.Kept.{HasRecordsTwo}
+
+-- its tables are those of schema 2, and have these records
+abbrev pub KeepsSecond : Database → Records → Type 0
+KeepsSecond db r = (making : Making) × (db.schema ≡ second_schema making) × HasRecordsTwo making db.trees r
+
+-- the store's tables of either schema have these records; and an empty database has none yet
+abbrev pub KeepsEither : Database → Records → Type 0
+KeepsEither db r = Keeps db r ⊎ KeepsSecond db r
+
+-- its tables are those of schema 1, or of schema 2, and their rows give no records
+abbrev pub GivesNoFirst : State → Type 0
+GivesNoFirst s = (s.now.schema ≡ keep_schema) × ((r : Records) → HasRecords s.now.trees r → ⊥)
+
+abbrev pub GivesNoSecond : State → Type 0
+GivesNoSecond s = (making : Making) × (s.now.schema ≡ second_schema making) × ((r : Records) → HasRecordsTwo making s.now.trees r → ⊥)
+
+-- it isn't empty, and has no records: its schema is neither, or the rows of its tables give none
+abbrev pub HasNoneOfEither : State → Type 0
+HasNoneOfEither s = GivesNoFirst s ⊎ (GivesNoSecond s ⊎ Differs s)
+
+-- Why a database is refused: it has no records, and says that its schema is 1 or 2; or it has none, and says neither.
+-- Want of memory and the device say nothing of it.
+abbrev pub RefusesEither : {S : Type 0} → Ghosts S → Held S → KeepError → Type 0
+RefusesEither g old Memory = ⊤
+RefusesEither g old Disk = ⊤
+RefusesEither g old Size = ⊥
+RefusesEither g old Corrupt = HasNoneOfEither (state g old) × IsAsked g old SaysKnown
+RefusesEither g old Schema = HasNoneOfEither (state g old) × IsAsked g old SaysUnknown

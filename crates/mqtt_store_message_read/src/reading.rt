@@ -1,0 +1,48 @@
+//! The rows of the tables that schema 2 adds, through a connection.
+ghost use Rattle.std.specs.Prelude.{◌≡◌, IfOk, OnOk, IsTrue};
+ghost use Rattle.sqlite.specs.Held.{state};
+ghost use Rattle.sqlite.specs.State.{HasCleanDisk};
+ghost use Rattle.mqtt_store_schema.specs.Settled.{OnlyReads};
+ghost use Rattle.mqtt_store_schema_two.specs.Tables.{second_schema};
+ghost use Rattle.mqtt_store_schema_two.specs.declared.tables.Making.{Making};
+ghost use Rattle.mqtt_store_message_read.specs.Listing.{added_text, IsAddedListing};
+
+use sqlite::{Alter, Connection, Error, Row};
+
+/// A table that schema 2 adds.
+#[derive(Clone, Copy, Debug, PartialEq, Eq)]
+pub enum AddedTable {
+    /// What all copies of a publication and its retained message have alike.
+    Message,
+    /// Copies, without that.
+    Queued,
+    /// Retained messages, without that.
+    Kept,
+}
+
+/// The text that asks for a table's rows.
+fn select_of(table: AddedTable) -> &'static str
+    ensures { result.now ≡ added_text table }
+{
+    match table {
+        AddedTable::Message => "SELECT pub, topic, props, payload FROM message ORDER BY pub",
+        AddedTable::Queued =>
+            "SELECT birth, place, pub, cause, cause_text, cause_n, pid, phase, rel, qos, retain, idents, arrived FROM queued ORDER BY birth, place",
+        AddedTable::Kept =>
+            "SELECT place, topic, sender, pub, qos, arrived FROM kept ORDER BY place",
+    }
+}
+
+/// All rows of a table that schema 2 adds, in the order of its key. Writes nothing.
+pub fn rows_of_added<S: Alter>(
+    conn: &mut Connection<S>,
+    table: AddedTable,
+) -> Result<Vec<Row>, Error>
+    ensures rows { (making : Making) → HasCleanDisk (state S.Store conn.new)
+        → (state S.Store conn.old).now.schema ≡ second_schema making
+        → IfOk result (λ rows. IsAddedListing making table (state S.Store conn.old).now.trees rows.items) }
+    ensures is_open { HasCleanDisk (state S.Store conn.new) → OnOk result (IsTrue (state S.Store conn.new).is_open) }
+    ensures reads { OnlyReads (state S.Store conn.old) (state S.Store conn.new) }
+{
+    conn.query_all(select_of(table), &[])
+}

@@ -1,0 +1,111 @@
+//! What is read of sound stores.
+
+use super::database::{fill, first, second};
+use mqtt_base::{Cause, Phase, Qos};
+use mqtt_records::Records;
+use mqtt_store_message_read::{first_records_or_refusal, records_in};
+use mqtt_store_schema_two::Making;
+use std::alloc::Global;
+use std::test::Fail;
+
+/// The records of a store with rows.
+fn filled(alloc: Global, making: Making) -> Result<Records, Fail> {
+    let mut conn = second(alloc, making)?;
+    fill(&mut conn)?;
+    let records = records_in(alloc, &mut conn, making);
+    drop(conn);
+    Ok(records?)
+}
+
+#[test]
+fn numbers_and_sessions_are_read(rt: HostRuntime) -> Result<(), Fail> {
+    for making in [Making::New, Making::TakenOver] {
+        let records = filled(rt.alloc(), making)?;
+        assert_eq!(rt;
+            (records.births, records.publications, records.subscribes),
+            (2, 2, 2)
+        );
+        assert_eq!(rt; (records.autos, records.moment), (0, 9));
+        assert_eq!(rt; (records.sessions.len(), records.retained.len()), (2, 1));
+        let Some(subscriber) = records.sessions.get(1) else {
+            panic!(rt; "no subscriber");
+        };
+        let subscriber = subscriber.get();
+        assert!(rt; subscriber.client.as_str() == "r1" && subscriber.will.is_some());
+        assert_eq!(rt;
+            (subscriber.subscriptions.len(), subscriber.inbound.len()),
+            (1, 2)
+        );
+        assert_eq!(rt; subscriber.queue.len(), 2);
+        drop(records);
+    }
+    Ok(())
+}
+
+#[test]
+fn copies_are_read_with_their_messages(rt: HostRuntime) -> Result<(), Fail> {
+    for making in [Making::New, Making::TakenOver] {
+        let records = filled(rt.alloc(), making)?;
+        let Some(subscriber) = records.sessions.get(1) else {
+            panic!(rt; "no subscriber");
+        };
+        let Some(row) = subscriber.get().queue.get(2) else {
+            panic!(rt; "no copy");
+        };
+        let row = row.get();
+        assert_eq!(rt; row.phase(), Phase::Sent { identifier: 1 });
+        let copy = row.copy();
+        assert!(rt; copy.id.cause == Cause::Direct && copy.qos == Qos::ExactlyOnce);
+        assert_eq!(rt; copy.identifiers.as_slice(), [1, 200].as_slice());
+        assert_eq!(rt; copy.content.topic.as_str(), "a/b");
+        assert_eq!(rt; copy.content.payload.as_slice(), b"hi".as_slice());
+        assert_eq!(rt; copy.content.arrived, 8);
+        drop(records);
+    }
+    Ok(())
+}
+
+#[test]
+fn a_payload_is_read_once(rt: HostRuntime) -> Result<(), Fail> {
+    for making in [Making::New, Making::TakenOver] {
+        let records = filled(rt.alloc(), making)?;
+        let Some(kept) = records.retained.get(3) else {
+            panic!(rt; "no retained message");
+        };
+        let kept = kept.get();
+        assert_eq!(rt; (kept.publication, kept.qos), (2, Qos::ExactlyOnce));
+        assert_eq!(rt;
+            (kept.sender.as_str(), kept.content.topic.as_str()),
+            ("p1", "a/b")
+        );
+        assert!(rt; !kept.content.payload.is_unique());
+        drop(records);
+    }
+    Ok(())
+}
+
+#[test]
+fn a_new_store_has_nothing(rt: HostRuntime) -> Result<(), Fail> {
+    for making in [Making::New, Making::TakenOver] {
+        let mut conn = second(rt.alloc(), making)?;
+        let records = records_in(rt.alloc(), &mut conn, making)?;
+        assert_eq!(rt; (records.births, records.sessions.len()), (0, 0));
+        assert_eq!(rt; (records.moment, records.retained.len()), (0, 0));
+        drop(records);
+        drop(conn);
+    }
+    Ok(())
+}
+
+#[test]
+fn a_store_of_schema_1_is_read(rt: HostRuntime) -> Result<(), Fail> {
+    let mut conn = first(rt.alloc())?;
+    conn.execute_batch(
+        "INSERT INTO session VALUES (1, 'r1', 60, NULL); UPDATE meta SET n = 1 WHERE name = 'births'",
+    )?;
+    let records = first_records_or_refusal(rt.alloc(), &mut conn)?;
+    assert_eq!(rt; (records.births, records.sessions.len()), (1, 1));
+    drop(records);
+    drop(conn);
+    Ok(())
+}
