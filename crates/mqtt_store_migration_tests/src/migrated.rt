@@ -28,40 +28,71 @@ fn migrated<S: Alter>(
     Ok(answer)
 }
 
-/// What the database is found to be then, and the first query that finds something else than it says.
-fn seen(alloc: Global, limit: Option<u64>) -> Result<(bool, FoundStore, &'static str), Fail> {
+/// What becomes of a database.
+#[derive(Clone, Copy)]
+struct Outcome {
+    /// Whether it is said to be migrated.
+    is_made: bool,
+    /// What it is found to be.
+    found: FoundStore,
+    /// The first query that finds something else than it says; empty if none does.
+    wrong: &'static str,
+}
+
+/// Migrates a database, and looks at it.
+fn seen(alloc: Global, limit: Option<u64>) -> Result<Outcome, Fail> {
     let mut conn = database(alloc)?;
-    let answer = migrated(alloc, &mut conn, limit)?;
+    let is_made = migrated(alloc, &mut conn, limit)?.is_ok();
     let found = found_store(&mut conn)?;
-    let queries = if answer.is_ok() { SECOND } else { FIRST };
-    let wrong = first_wrong(&mut conn, queries);
+    let wrong = first_wrong(&mut conn, if is_made { SECOND } else { FIRST });
     drop(conn);
-    Ok((answer.is_ok(), found, wrong))
+    Ok(Outcome {
+        is_made,
+        found,
+        wrong,
+    })
+}
+
+/// Whether all is kept by schema 2, or all is as it was.
+fn is_whole(seen: Outcome) -> bool {
+    let wanted = if seen.is_made {
+        FoundStore::Second(Making::TakenOver)
+    } else {
+        FoundStore::First
+    };
+    seen.found == wanted && seen.wrong.is_empty()
 }
 
 #[test]
 fn all_is_kept_by_the_other_schema(rt: HostRuntime) -> Result<(), Fail> {
     let seen = seen(rt.alloc(), None)?;
-    assert_eq!(rt; seen, (true, FoundStore::Second(Making::TakenOver), ""));
+    assert_eq!(rt; seen.wrong, "");
+    assert!(rt; seen.is_made && is_whole(seen));
     Ok(())
+}
+
+/// How often a migration was interrupted, if it may take 1 step, 2, 4 and so on, until it is made or
+/// something is left that is neither as it was nor migrated.
+fn interrupted(alloc: Global) -> Result<(u32, Outcome), Fail> {
+    let mut times = 0_u32;
+    let mut limit = 1_u64;
+    let mut last = seen(alloc, Some(limit))?;
+    for _ in 0..20 {
+        if last.is_made || !is_whole(last) {
+            break;
+        }
+        times = times.wrapping_add(1);
+        limit = limit.wrapping_mul(2);
+        last = seen(alloc, Some(limit))?;
+    }
+    Ok((times, last))
 }
 
 #[test]
 fn what_is_interrupted_changes_nothing(rt: HostRuntime) -> Result<(), Fail> {
-    let mut interrupted = 0_u32;
-    let mut limit = 1_u64;
-    for _ in 0..20 {
-        let (is_made, found, wrong) = seen(rt.alloc(), Some(limit))?;
-        assert_eq!(rt; wrong, "", "within {limit}");
-        if is_made {
-            assert_eq!(rt; found, FoundStore::Second(Making::TakenOver));
-            break;
-        }
-        assert_eq!(rt; found, FoundStore::First);
-        interrupted = interrupted.wrapping_add(1);
-        limit = limit.wrapping_mul(2);
-    }
-    assert!(rt; interrupted > 0 && interrupted < 20);
+    let (times, last) = interrupted(rt.alloc())?;
+    assert_eq!(rt; last.wrong, "");
+    assert!(rt; last.is_made && is_whole(last) && times > 0);
     Ok(())
 }
 
