@@ -49,6 +49,11 @@ fn take_over<S: Alter>(conn: &mut Connection<S>) -> Result<(), Error> {
     conn.execute_batch("UPDATE meta SET n = 2 WHERE name = 'schema'")
 }
 
+/// A database in which nothing stands.
+pub(crate) fn empty(alloc: Global) -> Result<Connection<MemStore>, Error> {
+    Ok(Connection::open_in_memory(alloc)?)
+}
+
 /// A store of schema 1 that keeps nothing.
 pub(crate) fn first(alloc: Global) -> Result<Connection<MemStore>, Error> {
     let mut conn = Connection::open_in_memory(alloc)?;

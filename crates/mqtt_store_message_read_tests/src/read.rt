@@ -1,9 +1,9 @@
 //! What is read of sound stores.
 
-use super::database::{fill, first, second};
+use super::database::{empty, fill, first, second};
 use mqtt_base::{Cause, Phase, Qos};
 use mqtt_records::Records;
-use mqtt_store_message_read::{first_records_or_refusal, records_in};
+use mqtt_store_message_read::{begin_second, first_records_or_refusal, records_in};
 use mqtt_store_schema_two::Making;
 use std::alloc::Global;
 use std::test::Fail;
@@ -94,6 +94,23 @@ fn a_new_store_has_nothing(rt: HostRuntime) -> Result<(), Fail> {
         drop(records);
         drop(conn);
     }
+    Ok(())
+}
+
+#[test]
+fn a_new_store_is_begun(rt: HostRuntime) -> Result<(), Fail> {
+    let mut conn = empty(rt.alloc())?;
+    let is_settled = conn.is_autocommit();
+    if is_settled {
+        let records = begin_second(rt.alloc(), &mut conn)?;
+        assert_eq!(rt; (records.births, records.sessions.len()), (0, 0));
+        drop(records);
+    }
+    assert!(rt; is_settled);
+    let records = records_in(rt.alloc(), &mut conn, Making::New)?;
+    assert_eq!(rt; (records.births, records.sessions.len()), (0, 0));
+    drop(records);
+    drop(conn);
     Ok(())
 }
 
