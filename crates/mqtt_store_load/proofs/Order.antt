@@ -24,9 +24,11 @@ AllShaped schema db = AllByRecursion (λ t. IsShapedAt db t.tree) schema.tables
 pub shaped_in : (schema : Schema) (db : Database) → db.schema ≡ schema → AreOrdered db → AllShaped schema db.trees
 shaped_in schema db is order = subst (λ s. AllShaped s db.trees) is order
 
+-- and such rows are in order in a database of that schema
 pub ordered_in : (schema : Schema) (db : Database) → schema ≡ db.schema → AllShaped schema db.trees → AreOrdered db
 ordered_in schema db is order = subst (λ s. AllShaped s db.trees) is order
 
+-- so are those of schema 1, as its laws say it
 pub first_order : (db : Trees) → AllShaped keep_schema db → AreInOrder db
 first_order db h = record {
   shaped = record { session = h.1.0; will = h.1.1.0; sub = h.1.1.1.0; inbound = h.1.1.1.1.0; copy = h.1.1.1.1.1.0 };
@@ -34,6 +36,7 @@ first_order db h = record {
   retained = h.1.1.1.1.1.1.0;
 }
 
+-- and those of schema 2
 pub second_order : (making : Making) (db : Trees) → AllShaped (second_schema making) db → AreInOrderTwo making db
 second_order New db h = record {
   meta = h.0;
@@ -61,7 +64,7 @@ pub behind : (making : Making) (db : Trees) → AllShaped (second_schema making)
 behind New db h = h.1.1.1.1.1
 behind TakenOver db h = h.1.1.1.1.1
 
--- and back
+-- rows in the order that the laws of schema 2 ask for rise in each table, if the old ones have none
 pub all_shaped : (making : Making) (db : Trees) → AreInOrderTwo making db → HasNoOldRows making db → AllShaped (second_schema making) db
 all_shaped New db h old = (h.meta, (h.session, (h.will, (h.sub, (h.inbound, (h.message, (h.queued, (h.kept, tt))))))))
 all_shaped TakenOver db h old =
