@@ -42,9 +42,11 @@ module _ (old new : State) (tidy : IsTidy old) (reads : OnlyReads old new) where
   pub same_now : HasCleanDisk new → IsTrue new.is_open → new.now ≡ old.now
   same_now clean up = let stays = reads.stays clean in (stays.same up (tidy (stays.was_open up))).0
 
+  -- so rows that were in order are
   pub reads_order : IsOrdered old → IsOrdered new
   reads_order order clean up = subst AreOrdered (sym (same_now clean up)) (order (clean_old clean) ((reads.stays clean).was_open up))
 
+  -- and nothing is loaded or committed by it
   pub reads_load : OnlyLoads old new
   reads_load = record {
     survives = survives_weaker old new _ _ (λ clean db none. absurd none) reads.survives;
