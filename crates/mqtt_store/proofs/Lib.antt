@@ -1,5 +1,6 @@
 pub mod Held
-pub mod Loads
-pub mod Applies
-pub mod Opened
 pub mod Order
+pub mod Loads
+pub mod Opened
+pub mod Applies
+pub mod Inside

@@ -11,8 +11,6 @@ mod databases;
 #[cfg(test)]
 mod files;
 #[cfg(test)]
-mod first_databases;
-#[cfg(test)]
 mod limits;
 #[cfg(test)]
 mod rows;

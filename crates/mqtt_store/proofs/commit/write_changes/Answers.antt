@@ -1,0 +1,35 @@
+use Rattle.std.proofs.Common.{◌≡◌, ◌∷◌, ◌∙◌, length, rules}
+use Rattle.sqlite.specs.State.{HasCleanDisk}
+use Rattle.sqlite.specs.Held.{state}
+use Rattle.mqtt_store_columns.proofs.Leads.{leads_on, leads_end}
+use Rattle.mqtt_store.specs.Making.{Makes, Needs}
+use Rattle.mqtt_store.proofs.Inside.{clean_before, stays_then}
+use Rattle.mqtt_store.proofs.commit.write_changes.Goals as goal
+
+pub loop-change-preserved : goal.loop-change-preserved
+loop-change-preserved g c =
+    let old = state g.S.Store c.args.tx.now.conn.now in
+    let mid = state g.S.Store c.loop-change.tx.conn.now in
+    let new = state g.S.Store c.write_unless.new.tx.conn.now in
+    let did = c.in_ok-write_unless.ensures in
+    let inv = c.loop-change.invariant in
+    let tidy = λ (clean : HasCleanDisk new). clean_before mid new did.inside clean in
+    let change = c.in-Some.change.now in
+    let after = c.in-Some.after.now in
+    let splits : c.loop-change.rest.now ≡ change ∷ after = search rules in
+    record {
+      same = did.same_reference ∙ inv.same;
+      inside = stays_then old mid new inv.inside did.inside;
+      whole = λ clean whole. did.whole clean (inv.whole (tidy clean) whole);
+      left = λ clean whole need.
+          leads_on Needs Makes c.goes_by.result c.args.changes.now change after c.loop-change.rest.now old.now.trees mid.now.trees new.now.trees splits (c.goes_by.ensures ∙ c.known_behind-known.ensures.goes)
+          (inv.left (tidy clean) whole need) (did.made clean (inv.whole (tidy clean) whole));
+      knows = c.known_behind-known.ensures.known;
+    }
+
+pub returns-clause-made : goal.returns-clause-made
+returns-clause-made g c =
+    let old = state g.S.Store c.args.tx.now.conn.now in
+    let now = state g.S.Store c.loop-change.tx.conn.now in
+    let ends : length c.loop-change.rest.now ≡ 0 = search rules in
+    λ clean whole need. leads_end Needs Makes c.args.changes.now c.loop-change.rest.now old.now.trees now.now.trees ends (c.loop-change.invariant.left clean whole need)

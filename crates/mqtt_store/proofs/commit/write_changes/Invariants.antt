@@ -1,0 +1,25 @@
+use Rattle.std.proofs.Common.{◌≡◌, length}
+use Rattle.sqlite.specs.State.{HasCleanDisk}
+use Rattle.sqlite.specs.Held.{state}
+use Rattle.mqtt_store_schema.specs.Settled.{StaysInside}
+use Rattle.mqtt_store_write.specs.Layout.{first_layout}
+use Rattle.mqtt_store_write.specs.Content.{IsWhole}
+use Rattle.mqtt_store_columns.specs.Shortened.{KnowsEnd, shortened}
+use Rattle.mqtt_store_columns.proofs.Leads.{Leads}
+use Rattle.mqtt_store.specs.Making.{Makes, Needs, NeedAll}
+use Rattle.mqtt_store.proofs.commit.write_changes.Given as goal
+
+abbrev pub invariant-loop-change : goal.invariant-loop-change
+invariant-loop-change g l =
+    let old = state g.S.Store l.fn.tx.conn.now in
+    let now = state g.S.Store l.tx.conn.now in
+    record {
+      same : l.tx.conn.ghost_name ≡ l.fn.tx.conn.ghost_name;
+      inside : StaysInside old now;
+      whole : HasCleanDisk now → IsWhole first_layout old → IsWhole first_layout now;
+      left : HasCleanDisk now → IsWhole first_layout old → NeedAll (shortened l.changes) old.now.trees → Leads Needs Makes l.changes l.rest old.now.trees now.now.trees;
+      knows : KnowsEnd l.known l.rest;
+    }
+
+abbrev pub decreases-loop-change : goal.decreases-loop-change
+decreases-loop-change g l = length l.rest

@@ -1,0 +1,141 @@
+//! All changes of a step, or none.
+ghost use Rattle.std.specs.Prelude.{◌≡◌, OnOk, OnErr, IsTrue, false};
+ghost use Rattle.sqlite.specs.Held.{state};
+ghost use Rattle.sqlite.specs.State.{HasCleanDisk, Survives};
+ghost use Rattle.mqtt_store_schema.specs.Settled.{StaysInside};
+ghost use Rattle.mqtt_store_write.specs.Layout.{first_layout};
+ghost use Rattle.mqtt_store_write.specs.Step.{IsSettled};
+ghost use Rattle.mqtt_store_write.specs.Writing.{WritesIf, StaysWhole};
+ghost use Rattle.mqtt_store_columns.specs.Making.{MakesUnless, NeedsUnless};
+ghost use Rattle.mqtt_store_columns.specs.Shortened.{shortened};
+ghost use Rattle.mqtt_store.specs.Parts.{ArePartsOf};
+ghost use Rattle.mqtt_store.specs.Making.{Makes, Needs, MakeAll, NeedAll, MayCommit};
+
+use crate::parts::{Parts, parts_of};
+use crate::sizes::is_sized;
+use crate::statement::statement_of;
+use mqtt_records::Change;
+use mqtt_store_columns::{goes_by, known_behind};
+use mqtt_store_write::write;
+use sqlite::{Alter, Connection, Error, ErrorCode, Transaction};
+use std::alloc::Global;
+
+/// Writes what a change says, whose parts these are. `TooBig` if SQL has no such number.
+fn write_parts<S: Alter>(
+    tx: &mut Transaction<'_, S>,
+    change: &Change,
+    parts: &Parts,
+) -> Result<(), Error>
+    requires { ArePartsOf change.now parts.now }
+    ensures same_reference { tx.new.conn.ghost_name ≡ tx.old.conn.ghost_name }
+    ensures made { WritesIf first_layout S.Store tx.old.conn.now tx.new.conn.now result
+        (Needs change.now) (Makes change.now) }
+    ensures whole { StaysWhole first_layout S.Store tx.old.conn.now tx.new.conn.now result }
+    ensures inside { StaysInside (state S.Store tx.old.conn.now) (state S.Store tx.new.conn.now) }
+{
+    let statement = statement_of(change, parts);
+    if !is_sized(&statement) {
+        return Err(Error::SqliteFailure(ErrorCode::TooBig));
+    }
+    match write(tx, &statement) {
+        Ok(_) => Ok(()),
+        Err(error) => Err(error),
+    }
+}
+
+/// Writes what a change says.
+fn write_change<S: Alter>(
+    alloc: Global,
+    tx: &mut Transaction<'_, S>,
+    change: &Change,
+) -> Result<(), Error>
+    ensures same_reference { tx.new.conn.ghost_name ≡ tx.old.conn.ghost_name }
+    ensures made { WritesIf first_layout S.Store tx.old.conn.now tx.new.conn.now result
+        (Needs change.now) (Makes change.now) }
+    ensures whole { StaysWhole first_layout S.Store tx.old.conn.now tx.new.conn.now result }
+    ensures inside { StaysInside (state S.Store tx.old.conn.now) (state S.Store tx.new.conn.now) }
+{
+    match parts_of(alloc, change) {
+        Ok(parts) => {
+            let written = write_parts(tx, change, &parts);
+            drop(parts);
+            written
+        }
+        Err(_) => Err(Error::SqliteFailure(ErrorCode::OutOfMemory)),
+    }
+}
+
+/// Writes what a change says, unless its row goes with its session.
+fn write_unless<S: Alter>(
+    alloc: Global,
+    tx: &mut Transaction<'_, S>,
+    goes: bool,
+    change: &Change,
+) -> Result<(), Error>
+    ensures same_reference { tx.new.conn.ghost_name ≡ tx.old.conn.ghost_name }
+    ensures made { WritesIf first_layout S.Store tx.old.conn.now tx.new.conn.now result
+        (NeedsUnless goes (Needs change.now)) (MakesUnless goes (Makes change.now)) }
+    ensures whole { StaysWhole first_layout S.Store tx.old.conn.now tx.new.conn.now result }
+    ensures inside { StaysInside (state S.Store tx.old.conn.now) (state S.Store tx.new.conn.now) }
+{
+    if goes {
+        Ok(())
+    } else {
+        write_change(alloc, tx, change)
+    }
+}
+
+/// Writes what changes say, one after the other, but for copies that go with their session.
+fn write_changes<S: Alter>(
+    alloc: Global,
+    tx: &mut Transaction<'_, S>,
+    changes: &[Change],
+) -> Result<(), Error>
+    ensures same_reference { tx.new.conn.ghost_name ≡ tx.old.conn.ghost_name }
+    ensures made { WritesIf first_layout S.Store tx.old.conn.now tx.new.conn.now result
+        (NeedAll (shortened changes.now)) (MakeAll (shortened changes.now)) }
+    ensures whole { StaysWhole first_layout S.Store tx.old.conn.now tx.new.conn.now result }
+    ensures inside { StaysInside (state S.Store tx.old.conn.now) (state S.Store tx.new.conn.now) }
+{
+    let mut rest = changes;
+    let mut known = None;
+    while let Some((change, after)) = rest.split_first() {
+        known = known_behind(known, change, after);
+        write_unless(alloc, tx, goes_by(known), change)?;
+        rest = after;
+    }
+    Ok(())
+}
+
+/// Makes all changes one transaction: all are committed, or none; copies that are removed just before
+/// their session go with it, and are not written. A crash leaves the tables before or after.
+/// `OutOfMemory` if a block of properties takes more memory than there is, `TooBig` if SQL has no
+/// such number.
+pub fn commit_changes<S: Alter>(
+    alloc: Global,
+    conn: &mut Connection<S>,
+    changes: &[Change],
+) -> Result<(), Error>
+    requires { conn.old.in_transaction ≡ false }
+    ensures autocommit { conn.new.in_transaction ≡ false }
+    ensures ok { HasCleanDisk (state S.Store conn.new) → IsSettled (state S.Store conn.old)
+        → NeedAll (shortened changes.now) (state S.Store conn.old).now.trees
+        → OnOk result (MakeAll (shortened changes.now) (state S.Store conn.old).now.trees (state S.Store conn.new).now.trees) }
+    ensures settled { HasCleanDisk (state S.Store conn.new) → IsSettled (state S.Store conn.old)
+        → OnOk result (IsSettled (state S.Store conn.new)) }
+
+    // What failed changed nothing, unless it shut the connection.
+    ensures err { HasCleanDisk (state S.Store conn.new) → IsSettled (state S.Store conn.old) → IsTrue (state S.Store conn.new).is_open
+        → OnErr result (((state S.Store conn.new).now ≡ (state S.Store conn.old).now)
+        × IsSettled (state S.Store conn.new)) }
+    ensures crash { Survives (state S.Store conn.old) (state S.Store conn.new) (MayCommit (state S.Store conn.old) (shortened changes.now)) }
+{
+    let mut tx = conn.transaction();
+    match write_changes(alloc, &mut tx, changes) {
+        Ok(()) => tx.commit(),
+        Err(error) => {
+            tx.rollback();
+            Err(error)
+        }
+    }
+}
