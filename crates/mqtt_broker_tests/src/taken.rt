@@ -164,8 +164,10 @@ fn tell_counts<S: Alter>(told: &mut Telling, conn: &mut Connection<S>) {
         (" copy ", "SELECT count(*) FROM copy"),
         (" retained ", "SELECT count(*) FROM retained"),
     ] {
-        let count = number(conn, sql).unwrap_or(-1);
-        told.pair(name, u64::try_from(count).unwrap_or(u64::MAX));
+        match number(conn, sql) {
+            Ok(count) => told.pair(name, u64::try_from(count).unwrap_or(u64::MAX)),
+            Err(_) => told.word(" no table"),
+        }
     }
 }
 
@@ -265,7 +267,7 @@ fn judge_one(wrong: &mut Telling, alloc: Global, hasher: RandomState, taken: &Ta
 
 /// Says if a broker that is opened over a store of schema 1 goes on otherwise than over any other.
 pub(crate) fn judge_taken(wrong: &mut Telling, alloc: Global, hasher: RandomState) {
-    for taken in &[IDENTIFIERS, SENT, RETAINED] {
-        judge_one(wrong, alloc, hasher, taken);
+    for taken in [IDENTIFIERS, SENT, RETAINED] {
+        judge_one(wrong, alloc, hasher, &taken);
     }
 }
