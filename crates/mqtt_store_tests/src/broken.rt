@@ -121,7 +121,7 @@ fn first_wrong_of(
     want: Option<KeepError>,
 ) -> &'static str {
     for changes in lists {
-        let wrong = first_wrong(alloc, of, changes, want);
+        let wrong = first_wrong(alloc, of, *changes, want);
         if !wrong.is_empty() {
             return wrong;
         }
