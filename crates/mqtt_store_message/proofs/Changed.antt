@@ -1,9 +1,11 @@
 -- What a question, a change and the sweep of what was found come to.
-use Rattle.std.proofs.Common.{◌≡◌, ℕ, pos, not, List, [], ◌∷◌, ◌++◌, Option, Result, OnOk, option_to_list, sym, ap, ◌∙◌, subst, inr, arith}
+use Rattle.std.proofs.Common.{◌≡◌, ℕ, ℤ, pos, true, not, ◌&&◌, ◌||◌, List, [], ◌∷◌, ◌++◌, map, Option, None, Result, OnOk, option_to_list, refl, sym, ap, ap₂, ◌∙◌, subst, inr, arith}
+use Rattle.std.specs.List.{list_any}
 use Rattle.std.proofs.lemmas.Result.{on_ok_weaker}
 use Rattle.sqlite_value.specs.declared.value.Value.TheVariants.{Null, Int, Text}
-use Rattle.sqlite_value.specs.Order.{Row}
-use Rattle.sqlite_trees.specs.Tree.{Trees}
+use Rattle.sqlite_value.specs.Order.{Row, column}
+use Rattle.sqlite_trees.specs.Tree.{Trees, rowid}
+use Rattle.sqlite_rules.specs.Edit.{id_in}
 use Rattle.sqlite_rules.specs.Lists.{Has}
 use Rattle.sqlite_rules.proofs.ListLemmas.{has_kept}
 use Rattle.sqlite.specs.Effect.{Database}
@@ -19,14 +21,16 @@ use Rattle.mqtt_store_write.specs.Removal.{is_keyed}
 use Rattle.mqtt_store_write.proofs.steps.Stands.{put_old, removed_old, given_free, key_free}
 use Rattle.mqtt_store_write.proofs.tables.Whole.{at_tree}
 use Rattle.mqtt_store_message.specs.Places.{queued_tree, kept_tree}
-use Rattle.mqtt_store_message.specs.Rows.{MessageColumns, QueuedColumns, KeptColumns, queued_row, kept_row}
+use Rattle.mqtt_store_message.specs.Rows.{MessageColumns, QueuedColumns, KeptColumns, message_row, queued_row, kept_row}
+use Rattle.mqtt_store_message.specs.Messages.{PutsMessage, is_referred}
 use Rattle.mqtt_store_message.specs.Endings.{EndsSession}
 use Rattle.mqtt_store_message.specs.References.{Finds, FindsAll}
-use Rattle.mqtt_store_message.specs.Comings.{PutsQueued, RemovesQueued, PutsKept, RemovesKept}
-use Rattle.mqtt_store_message.specs.Letting.{LetsGo, PutsFirst, SweepsAll}
+use Rattle.mqtt_store_message.specs.Comings.{PutsQueued, InsertsQueued, RemovesQueued, PutsKept, RemovesKept}
+use Rattle.mqtt_store_message.specs.Letting.{is_let_go, LetsGo, PutsFirst, SweepsAll}
 use Rattle.mqtt_store_message.proofs.Behind.{message_shaped, queued_shaped, kept_shaped}
 use Rattle.mqtt_store_message.proofs.Inside.{clean_before}
-use Rattle.mqtt_store_message.proofs.Sweeping.{apart}
+use Rattle.mqtt_store_message.proofs.InsertQueued.{none_passes}
+use Rattle.mqtt_store_message.proofs.Sweeping.{apart, gone_alike, sweeps_none}
 use Rattle.mqtt_store_message.proofs.Named.{named_all, named_found, named_both, or_none, copies_let_go, kept_let_go}
 
 -- a question leaves the tables as they were
@@ -35,25 +39,22 @@ same_trees a b same = ap (λ (d : Database). d.trees) same
 
 module _ (making : Making) (a b c : State) (new : Trees) (before : IsWhole (second_layout making) a) (same : b.now ≡ a.now) (whole : IsWhole (second_layout making) c) where
   -- a copy is put, and what was found is swept
-  pub copy_is_put : (birth place : ℕ) (message : MessageColumns) (copy : QueuedColumns) (found : Option ℕ) → Finds (queued_tree making) 3 (is_keyed (pos birth) (pos place)) found a.now.trees
-      → PutsFirst making copy.publication message (PutsQueued making birth place copy) b.now.trees c.now.trees
+  pub copy_is_put : (birth place : ℕ) (copy : QueuedColumns) (found : Option ℕ) → Finds (queued_tree making) 3 (is_keyed (pos birth) (pos place)) found a.now.trees
+      → PutsQueued making birth place copy b.now.trees c.now.trees
       → SweepsAll making (option_to_list found) c.now.trees new
-      → LetsGo making (PutsFirst making copy.publication message (PutsQueued making birth place copy)) a.now.trees new
-  copy_is_put birth place message copy found finds done swept =
-      let put = subst (λ (db : Trees). PutsFirst making copy.publication message (PutsQueued making birth place copy) db c.now.trees) (same_trees a b same) done in
-      let l = second_layout making in
+      → LetsGo making (PutsQueued making birth place copy) a.now.trees new
+  copy_is_put birth place copy found finds done swept =
+      let put = subst (λ (db : Trees). PutsQueued making birth place copy db c.now.trees) (same_trees a b same) done in
       let tree = queued_tree making in
       let gone = is_keyed (pos birth) (pos place) in
       let row = queued_row birth place copy in
       let at = apart making in
-      let mid = put.0 in
-      let still : mid tree ≡ a.now.trees tree = put.1.others tree at.queued at.queued_spared in
-      let shaped = at_tree a.now.trees mid tree still (queued_shaped making a before) in (
+      let shaped = queued_shaped making a before in (
         c.now.trees,
         put,
         copies_let_go making gone (option_to_list found) a.now.trees c.now.trees new (message_shaped making c whole) (named_found tree 3 gone a.now.trees found finds)
-            (λ x has isnt. put_old l tree gone mid c.now.trees x (numbered tree row mid) put.2 (given_free tree row gone mid shaped) (inr (subst (λ (rows : List Row). Has rows x) (sym still) has, isnt)))
-            (put.2.others (kept_tree making) at.back at.kept_spared ∙ put.1.others (kept_tree making) at.kept at.kept_spared)
+            (λ x has isnt. put_old (second_layout making) tree gone a.now.trees c.now.trees x (numbered tree row a.now.trees) put (given_free tree row gone a.now.trees shaped) (inr (has, isnt)))
+            (put.others (kept_tree making) at.back at.kept_spared)
             swept,
       )
 
@@ -138,6 +139,25 @@ module _ (making : Making) (a b c : State) (new : Trees) (before : IsWhole (seco
             (removed.others (queued_tree making) at.both at.queued_spared)
             swept,
       )
+
+-- a copy that is put where none stood lets no message go
+pub copy_is_inserted : (making : Making) (old new : State) (birth place : ℕ) (copy : QueuedColumns) → IsWhole (second_layout making) old → IsWhole (second_layout making) new
+    → InsertsQueued making birth place copy true old.now.trees new.now.trees → LetsGo making (PutsQueued making birth place copy) old.now.trees new.now.trees
+copy_is_inserted making old new birth place copy before whole h =
+    let column_of = λ (rows : List Row). map (λ (r : Row). column r 3) rows in
+    copy_is_put making old old new new.now.trees before refl whole birth place copy None (ap column_of (none_passes (is_keyed (pos birth) (pos place)) (old.now.trees (queued_tree making)) h.0)) h.1 (sweeps_none making new.now.trees)
+
+-- a message that was put before let none go
+pub put_first : (making : Making) (publication : ℕ) (message : MessageColumns) (Change : Trees → Trees → Type 0) (old mid new : Trees) → PutsMessage making (pos publication) (message_row publication message) old mid → LetsGo making Change mid new
+    → LetsGo making (PutsFirst making publication message Change) old new
+put_first making publication message Change old mid new put gone =
+    let at = apart making in
+    let refers : (n : ℤ) → is_referred making n mid ≡ is_referred making n old =
+    λ n. ap₂ (λ q k. list_any (is_of 3 n) q || list_any (is_of 4 n) k) (put.others (queued_tree making) at.queued at.queued_spared) (put.others (kept_tree making) at.kept at.kept_spared) in (
+      gone.0,
+      (mid, put, gone.1),
+      gone_alike making (is_let_go making mid gone.0) gone.0 new (is_let_go making old gone.0) (λ r has. ap (λ b. b && not (is_referred making (id_in (rowid r)) gone.0)) (refers (id_in (rowid r)))) gone.2,
+    )
 
 -- a question, a change and the sweep of what was found, one call inside a transaction after the other
 pub in_turn : (making : Making) (old seen mid new : State) (r : Result (Unit {0}) Error) (Told : Type 0) (Change : Trees → Trees → Type 0) (Sweep : Type 0)

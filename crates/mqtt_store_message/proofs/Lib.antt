@@ -4,6 +4,7 @@ pub mod Changed
 pub mod Cuts
 pub mod Deletes
 pub mod Done
+pub mod InsertQueued
 pub mod Inside
 pub mod LeftOver
 pub mod Named
@@ -13,6 +14,7 @@ pub mod PutQueued
 pub mod Pubs
 pub mod PubsOfQueue
 pub mod Reading
+pub mod Refused
 pub mod RemoveSession
 pub mod SetQueued
 pub mod SweepMessage

@@ -38,7 +38,8 @@ use Rattle.mqtt_store_message.proofs.Behind.{asked, queued_at, queued_is, queued
 abbrev pub put_text : List ℕ
 put_text = codes "INSERT OR REPLACE INTO queued VALUES (?1, ?2, ?3, ?4, ?5, ?6, ?7, ?8, ?9, ?10, ?11, ?12, ?13)"
 
-abbrev terms : List Term
+-- the row's number, which the table gives it, and the parameters
+abbrev pub terms : List Term
 terms = lit Null ∷ col 0 0 ∷ col 0 1 ∷ col 0 2 ∷ col 0 3 ∷ col 0 4 ∷ col 0 5 ∷ col 0 6 ∷ col 0 7 ∷ col 0 8 ∷ col 0 9 ∷ col 0 10 ∷ col 0 11 ∷ col 0 12 ∷ []
 
 abbrev Means : Making → Type 0
@@ -49,7 +50,8 @@ unfolding understood everything
 means New = (refl, (refl, refl))
 means TakenOver = (refl, (refl, refl))
 
-cast_put : (tree birth place : ℕ) (c : QueuedColumns) (v : Value) → cast Integer v ≡ v → cast_row (queued tree) (v ∷ queued_row birth place c) ≡ v ∷ queued_row birth place c
+-- a copy's row has the types of its columns
+pub cast_put : (tree birth place : ℕ) (c : QueuedColumns) (v : Value) → cast Integer v ≡ v → cast_row (queued tree) (v ∷ queued_row birth place c) ≡ v ∷ queued_row birth place c
 cast_put tree birth place c v is = rw (
   is,
   cast_int (pos birth),

@@ -1,5 +1,6 @@
 -- How the rows come and go that refer to messages.
-use Rattle.std.specs.Prelude.{ℕ, pos}
+use Rattle.std.specs.Prelude.{◌≡◌, ℕ, pos, Bool, true, false}
+use Rattle.std.specs.List.{list_any}
 use Rattle.sqlite_trees.specs.Tree.{Trees}
 use Rattle.mqtt_store_schema_two.specs.declared.tables.Making.{Making}
 use Rattle.mqtt_store_write.specs.Layout.{second_layout}
@@ -12,6 +13,11 @@ use Rattle.mqtt_store_message.specs.Rows.{QueuedColumns, KeptColumns, queued_row
 -- the copy is put, in place of the one at its place in that queue
 abbrev pub PutsQueued : Making → ℕ → ℕ → QueuedColumns → Trees → Trees → Type 0
 PutsQueued making birth place copy = PutsNumbered (second_layout making) (queued_tree making) (queued_row birth place copy) (is_keyed (pos birth) (pos place))
+
+-- the copy is put, and none stood at its place in that queue; or else all is as it was
+abbrev pub InsertsQueued : Making → ℕ → ℕ → QueuedColumns → Bool → Trees → Trees → Type 0
+InsertsQueued making birth place copy true old new = (list_any (is_keyed (pos birth) (pos place)) (old (queued_tree making)) ≡ false) × PutsQueued making birth place copy old new
+InsertsQueued making birth place copy false old new = new ≡ old
 
 -- the copy at that place in that queue is out
 abbrev pub RemovesQueued : Making → ℕ → ℕ → Trees → Trees → Type 0

@@ -1,7 +1,8 @@
 //! The statements on copies, without what they have alike.
-ghost use Rattle.std.specs.Prelude.{◌≡◌, ◌<◌, ◌^◌, ℤ, ◌∷◌, IfSome, pos};
+ghost use Rattle.std.specs.Prelude.{◌≡◌, ◌<◌, ◌^◌, ℤ, ◌∷◌, IfSome, IsTrue, pos};
 ghost use Rattle.sqlite_value.specs.declared.value.Value.TheVariants.{Int};
 ghost use Rattle.sqlite_rules.specs.Lists.{Has};
+ghost use Rattle.sqlite.specs.State.{HasCleanDisk, ExecutesInside};
 ghost use Rattle.sqlite.specs.Held.{state};
 ghost use Rattle.mqtt_store_schema.specs.Settled.{StaysInside};
 ghost use Rattle.mqtt_store_schema_two.specs.declared.tables.Making.{Making};
@@ -13,10 +14,12 @@ ghost use Rattle.mqtt_store_write.specs.Writing.{Writes, StaysWhole};
 ghost use Rattle.mqtt_store_message.specs.Places.{queued_tree};
 ghost use Rattle.mqtt_store_message.specs.Rows.{QueuedColumns as Columns, queued_row, IsSized};
 ghost use Rattle.mqtt_store_message.specs.Copies.{SetsQueued};
+ghost use Rattle.mqtt_store_message.specs.Comings.{InsertsQueued};
+ghost use Rattle.mqtt_store_message.specs.Changing.{ChangesAs};
 ghost use Rattle.mqtt_store_message.specs.References.{Finds, Tells};
 
 use crate::numbers::{number_of, whole, whole_or_none};
-use sqlite::{Alter, Error, Transaction, params};
+use sqlite::{Alter, Constraint, Error, ErrorCode, Transaction, params};
 use std::marker::Model;
 
 /// What a copy's row has behind its birth and place.
@@ -66,9 +69,10 @@ impl<'a> Model for QueuedColumns<'a> {
     } };
 }
 
-/// Puts a copy, in place of the one at its place. The session and the message must stand.
-pub fn put_queued<S: Alter>(
+/// Runs a statement that has a copy's columns as its parameters, in the order of its row.
+fn run_on_columns<S: Alter>(
     tx: &mut Transaction<'_, S>,
+    sql: &str,
     birth: u64,
     place: u64,
     copy: &QueuedColumns<'_>,
@@ -77,8 +81,8 @@ pub fn put_queued<S: Alter>(
     requires place { place < 2 ^ 63 }
     requires sized { IsSized copy.now }
     ensures same_reference { tx.new.conn.ghost_name ≡ tx.old.conn.ghost_name }
-    ensures put { (making : Making) → Writes S.Store tx.old.conn.now tx.new.conn.now result (IsWhole (second_layout making))
-        (PutsNumbered (second_layout making) (queued_tree making) (queued_row birth place copy.now) (is_keyed (pos birth) (pos place))) }
+    ensures runs { HasCleanDisk (state S.Store tx.new.conn.now) → IsTrue (state S.Store tx.old.conn.now).in_transaction
+        → ExecutesInside 0 sql.now (queued_row birth place copy.now) (state S.Store tx.old.conn.now) (state S.Store tx.new.conn.now) result }
     ensures inside { StaysInside (state S.Store tx.old.conn.now) (state S.Store tx.new.conn.now) }
 {
     let birth = whole(birth);
@@ -92,7 +96,7 @@ pub fn put_queued<S: Alter>(
     let qos = u32::from(copy.qos);
     let arrived = whole(copy.arrived);
     tx.execute(
-        "INSERT OR REPLACE INTO queued VALUES (?1, ?2, ?3, ?4, ?5, ?6, ?7, ?8, ?9, ?10, ?11, ?12, ?13)",
+        sql,
         params![
             birth,
             place,
@@ -109,6 +113,60 @@ pub fn put_queued<S: Alter>(
             arrived
         ],
     )
+}
+
+/// Puts a copy, in place of the one at its place. The session and the message must stand.
+pub fn put_queued<S: Alter>(
+    tx: &mut Transaction<'_, S>,
+    birth: u64,
+    place: u64,
+    copy: &QueuedColumns<'_>,
+) -> Result<usize, Error>
+    requires birth { birth < 2 ^ 63 }
+    requires place { place < 2 ^ 63 }
+    requires sized { IsSized copy.now }
+    ensures same_reference { tx.new.conn.ghost_name ≡ tx.old.conn.ghost_name }
+    ensures put { (making : Making) → Writes S.Store tx.old.conn.now tx.new.conn.now result (IsWhole (second_layout making))
+        (PutsNumbered (second_layout making) (queued_tree making) (queued_row birth place copy.now) (is_keyed (pos birth) (pos place))) }
+    ensures inside { StaysInside (state S.Store tx.old.conn.now) (state S.Store tx.new.conn.now) }
+{
+    run_on_columns(
+        tx,
+        "INSERT OR REPLACE INTO queued VALUES (?1, ?2, ?3, ?4, ?5, ?6, ?7, ?8, ?9, ?10, ?11, ?12, ?13)",
+        birth,
+        place,
+        copy,
+    )
+}
+
+/// Puts a copy if none stands at its place, and answers whether it did. The session and the
+/// message must stand.
+pub(crate) fn insert_queued<S: Alter>(
+    tx: &mut Transaction<'_, S>,
+    birth: u64,
+    place: u64,
+    copy: &QueuedColumns<'_>,
+) -> Result<bool, Error>
+    requires birth { birth < 2 ^ 63 }
+    requires place { place < 2 ^ 63 }
+    requires sized { IsSized copy.now }
+    ensures same_reference { tx.new.conn.ghost_name ≡ tx.old.conn.ghost_name }
+    ensures put { ChangesAs S.Store tx.old.conn.now tx.new.conn.now result
+        (λ making. InsertsQueued making birth place copy.now) }
+    ensures inside { StaysInside (state S.Store tx.old.conn.now) (state S.Store tx.new.conn.now) }
+{
+    let inserted = run_on_columns(
+        tx,
+        "INSERT INTO queued VALUES (?1, ?2, ?3, ?4, ?5, ?6, ?7, ?8, ?9, ?10, ?11, ?12, ?13)",
+        birth,
+        place,
+        copy,
+    );
+    match inserted {
+        Ok(_) => Ok(true),
+        Err(Error::SqliteFailure(ErrorCode::ConstraintViolation(Constraint::Unique))) => Ok(false),
+        Err(error) => Err(error),
+    }
 }
 
 /// Sets what a copy's handshake has reached.

@@ -13,18 +13,18 @@ ghost use Rattle.mqtt_store_message.specs.Changing.{ChangesBy};
 
 use crate::kept::{KeptColumns, pub_of_kept, pub_of_topic, put_kept, remove_kept};
 use crate::messages::{MessageColumns, put_message};
-use crate::queued::{QueuedColumns, pub_of_queued, put_queued, remove_queued};
+use crate::queued::{QueuedColumns, insert_queued, pub_of_queued, put_queued, remove_queued};
 use crate::sessions::{pubs_of_queue, remove_session};
 use crate::sweeps::{sweep_all, sweep_both, sweep_found};
 use sqlite::{Alter, Error, Transaction};
 use std::alloc::Global;
 
-/// Puts a copy, behind its message.
-fn put_queued_last<S: Alter>(
+/// Puts a copy in place of the one that stands there. The message of that one goes if nothing
+/// refers to it any more.
+fn replace_copy<S: Alter>(
     tx: &mut Transaction<'_, S>,
     birth: u64,
     place: u64,
-    message: &MessageColumns<'_>,
     copy: &QueuedColumns<'_>,
 ) -> Result<(), Error>
     requires birth { birth < 2 ^ 63 }
@@ -32,12 +32,12 @@ fn put_queued_last<S: Alter>(
     requires sized { IsSized copy.now }
     ensures same_reference { tx.new.conn.ghost_name ≡ tx.old.conn.ghost_name }
     ensures put { ChangesBy S.Store tx.old.conn.now tx.new.conn.now result
-        (λ making. PutsFirst making copy.now.publication message.now (PutsQueued making birth place copy.now)) }
+        (λ making. LetsGo making (PutsQueued making birth place copy.now)) }
     ensures inside { StaysInside (state S.Store tx.old.conn.now) (state S.Store tx.new.conn.now) }
 {
-    put_message(tx, copy.publication, message)?;
+    let found = pub_of_queued(tx, birth, place)?;
     put_queued(tx, birth, place, copy)?;
-    Ok(())
+    sweep_found(tx, found)
 }
 
 /// Puts a copy, and its message if that is missing. The message of the copy that stood there goes
@@ -57,9 +57,13 @@ pub(crate) fn put_copy<S: Alter>(
         (λ making. LetsGo making (PutsFirst making copy.now.publication message.now (PutsQueued making birth place copy.now))) }
     ensures inside { StaysInside (state S.Store tx.old.conn.now) (state S.Store tx.new.conn.now) }
 {
-    let found = pub_of_queued(tx, birth, place)?;
-    put_queued_last(tx, birth, place, message, copy)?;
-    sweep_found(tx, found)
+    put_message(tx, copy.publication, message)?;
+
+    // Nearly always none stands there: then nothing is asked, and nothing swept.
+    if insert_queued(tx, birth, place, copy)? {
+        return Ok(());
+    }
+    replace_copy(tx, birth, place, copy)
 }
 
 /// Removes a copy. Its message goes if nothing refers to it any more.

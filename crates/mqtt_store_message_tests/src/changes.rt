@@ -185,6 +185,18 @@ fn messages<S: Alter>(alloc: Global, tx: &mut Transaction<'_, S>) -> Result<[i64
     Ok([first, kept, other, set, anew, elsewhere, told, ended, none])
 }
 
+/// The messages that stand while copies are put at one place, and how many copies stand then.
+fn replaced<S: Alter>(alloc: Global, tx: &mut Transaction<'_, S>) -> Result<[i64; 4], Error> {
+    put_session(alloc, tx)?;
+    let first = put_copy(alloc, tx, 1, 7)?;
+    let over = put_copy(alloc, tx, 1, 8)?;
+    let again = put_copy(alloc, tx, 1, 8)?;
+    let copies = tx
+        .query_row("SELECT count(*) FROM queued WHERE pub = 8", &[])?
+        .get(0)?;
+    Ok([first, over, again, copies])
+}
+
 /// Sets the copy in place 1, and removes the one in place 2.
 fn set_and_remove<S: Alter>(alloc: Global, tx: &mut Transaction<'_, S>) -> Result<i64, Error> {
     change_tables(
@@ -228,6 +240,19 @@ fn messages_in(alloc: Global, is_new: bool) -> Result<[i64; 9], Error> {
     seen
 }
 
+/// What is seen in a database in memory.
+fn replaced_in(alloc: Global, is_new: bool) -> Result<[i64; 4], Error> {
+    let mut conn = database(alloc, is_new)?;
+    let seen = if conn.is_autocommit() {
+        let mut tx = conn.transaction();
+        replaced(alloc, &mut tx)
+    } else {
+        Err(Error::InvalidQuery)
+    };
+    drop(conn);
+    seen
+}
+
 #[test]
 fn rows_of_both_schemas_come_and_go(rt: HostRuntime) -> Result<(), Fail> {
     let want = [130, 109, 9];
@@ -244,6 +269,16 @@ fn a_message_stands_while_something_refers_to_it(rt: HostRuntime) -> Result<(), 
     let new = messages_in(rt.alloc(), true)?;
     assert_eq!(rt; new, want);
     let taken_over = messages_in(rt.alloc(), false)?;
+    assert_eq!(rt; taken_over, want);
+    Ok(())
+}
+
+#[test]
+fn the_message_of_a_copy_that_is_replaced_goes(rt: HostRuntime) -> Result<(), Fail> {
+    let want = [1, 2, 2, 1];
+    let new = replaced_in(rt.alloc(), true)?;
+    assert_eq!(rt; new, want);
+    let taken_over = replaced_in(rt.alloc(), false)?;
     assert_eq!(rt; taken_over, want);
     Ok(())
 }
