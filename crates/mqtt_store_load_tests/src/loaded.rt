@@ -48,7 +48,7 @@ fn load<S: Alter>(alloc: Global, conn: &mut Connection<S>) -> Result<Counts, Kee
 }
 
 /// Loads a database after a change, twice.
-fn outcome(alloc: Global, base: Base, change: &str) -> Result<Outcome, Error> {
+fn load_twice(alloc: Global, base: Base, change: &str) -> Result<Outcome, Error> {
     let conn = database(alloc, base, change)?;
     match reopen(alloc, conn) {
         Ok(conn) => {
@@ -67,7 +67,7 @@ fn outcome(alloc: Global, base: Base, change: &str) -> Result<Outcome, Error> {
 
 #[test]
 fn an_empty_database_gets_the_tables_of_schema_2(rt: HostRuntime) -> Result<(), Fail> {
-    let outcome = outcome(rt.alloc(), Base::Empty, "")?;
+    let outcome = load_twice(rt.alloc(), Base::Empty, "")?;
     assert_eq!(rt; outcome.answers, [Ok([0, 0, 0]); 2]);
     assert_eq!(rt; outcome.found, Some(FoundStore::Second(Making::New)));
     Ok(())
@@ -75,7 +75,7 @@ fn an_empty_database_gets_the_tables_of_schema_2(rt: HostRuntime) -> Result<(), 
 
 #[test]
 fn a_database_of_schema_2_is_read(rt: HostRuntime) -> Result<(), Fail> {
-    let outcome = outcome(rt.alloc(), Base::Second, "")?;
+    let outcome = load_twice(rt.alloc(), Base::Second, "")?;
     assert_eq!(rt; outcome.answers, [Ok([2, 1, 1]); 2]);
     assert_eq!(rt; outcome.found, Some(FoundStore::Second(Making::New)));
     Ok(())
@@ -83,7 +83,7 @@ fn a_database_of_schema_2_is_read(rt: HostRuntime) -> Result<(), Fail> {
 
 #[test]
 fn a_database_of_schema_1_is_taken_over(rt: HostRuntime) -> Result<(), Fail> {
-    let outcome = outcome(rt.alloc(), Base::First, "")?;
+    let outcome = load_twice(rt.alloc(), Base::First, "")?;
     assert_eq!(rt; outcome.answers, [Ok([2, 1, 1]); 2]);
     assert_eq!(rt; outcome.found, Some(FoundStore::Second(Making::TakenOver)));
     Ok(())
@@ -104,7 +104,7 @@ fn a_broken_database_is_left_as_it_was(rt: HostRuntime) -> Result<(), Fail> {
         ),
         (Base::Second, "DROP INDEX kept_pub", FoundStore::Broken),
     ] {
-        let outcome = outcome(rt.alloc(), base, change)?;
+        let outcome = load_twice(rt.alloc(), base, change)?;
         assert_eq!(rt; outcome.answers, [Err(KeepError::Corrupt); 2], "{change}");
         assert_eq!(rt; outcome.found, Some(found), "{change}");
     }
@@ -121,7 +121,7 @@ fn a_database_of_another_program_is_left_as_it_was(rt: HostRuntime) -> Result<()
             FoundStore::First,
         ),
     ] {
-        let outcome = outcome(rt.alloc(), base, change)?;
+        let outcome = load_twice(rt.alloc(), base, change)?;
         assert_eq!(rt; outcome.answers, [Err(KeepError::Schema); 2], "{change}");
         assert_eq!(rt; outcome.found, Some(found), "{change}");
     }
