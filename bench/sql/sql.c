@@ -1,7 +1,7 @@
 /* What C's sqlite3 takes for the statements of the store in SQL; for bench/sql/run.
    usage: sql [--schema 1|2] fill FILE SESSIONS COPIES [BYTES] | steps FILE|:memory: COUNT [BYTES [RECEIVERS]]
           sql [--schema 1|2] commits FILE|:memory: COUNT | load FILE | schema FILE | take FILE
-   A new database gets the tables of the schema that is asked for, 1 if none is; one that stands keeps its own, which `schema`
+   A new database gets the tables of the schema that is asked for, 2 if none is; one that stands keeps its own, which `schema`
    tells. `steps` makes those of so many messages at QoS 2, to one receiver unless said; messages have 5 bytes. `take` takes a
    database of schema 1 over by schema 2.
    It writes ahead in a log and syncs at each commit, as the store does. It prints a line of what was done, the seconds of the
@@ -13,7 +13,7 @@
 #include <time.h>
 
 static sqlite3 *db;
-static int schema = 1;
+static int schema = 2;
 
 static void stop(const char *what) {
     fprintf(stderr, "sql: %s: %s\n", what, db ? sqlite3_errmsg(db) : "no database");

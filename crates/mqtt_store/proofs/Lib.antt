@@ -1,6 +1,5 @@
 pub mod Held
-pub mod Order
 pub mod Loads
-pub mod Opened
 pub mod Applies
-pub mod Inside
+pub mod Opened
+pub mod Order

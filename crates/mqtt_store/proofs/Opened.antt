@@ -18,10 +18,10 @@ use Rattle.sqlite.specs.Held.{Held, state}
 use Rattle.sqlite.specs.State.{State, HasCleanDisk, Opens, IsLive, store_error}
 use Rattle.sqlite.specs.Steps.{FailsToOpen}
 use Rattle.mqtt_records.specs.declared.records.Records.{Records}
-use Rattle.mqtt_store_read.specs.Kept.{Keeps}
-use Rattle.mqtt_store.specs.Holding.{ShowsKept, Finds, Has, Holds, Leaves}
+use Rattle.mqtt_store_load.specs.Keeping.{FindsIn, Keeps, Finds}
+use Rattle.mqtt_store_load.specs.Loading.{IsOrdered}
+use Rattle.mqtt_store.specs.Holding.{Has, Holds, Leaves}
 use Rattle.mqtt_store.specs.Opening.{OpensAnew, IsUnharmed, RefusesToOpen, rolled_back}
-use Rattle.mqtt_store.specs.Ordered.{IsOrdered}
 use Rattle.mqtt_store.proofs.Order.{ordered_over}
 
 -- trees are listed as one schema alone
@@ -112,7 +112,7 @@ module _ (old new : State) (sound : HasCleanDisk new → HasCleanDisk old) (open
       let had : Has (rolled_back old) r = holds (sound clean) in
       record {
         left = λ db q may found. had.left old.committed.trees q (stays o.was_open) (subst (λ t. Finds t q) (left_is clean db may) found);
-        shows = λ _. subst (λ (d : Database). ShowsKept d r) (sym o.now) (had.shows o.was_open);
+        keeps = λ _. subst (λ (d : Database). Keeps d r) (sym o.now) (had.keeps o.was_open);
       }
 
   -- what a crash of it may leave, one of the connection rolled back may leave too
@@ -123,6 +123,6 @@ module _ (old new : State) (sound : HasCleanDisk new → HasCleanDisk old) (open
         clean = sound found.clean;
         may = elim found.may [
           | inl crash ↦ inl (old.committed.trees, stays o.was_open, subst (λ t. Finds t r) (left_is found.clean crash.0 crash.1) crash.2)
-          | inr shown ↦ inr (o.was_open, subst (λ (d : Database). Keeps d r) o.now shown.1)
+          | inr shown ↦ inr (o.was_open, subst (λ (d : Database). FindsIn d r) o.now shown.1)
         ];
       }

@@ -3,14 +3,14 @@ ghost use Rattle.std.specs.Prelude.{◌≡◌, ◌⊎◌, ◌↔◌, false, OnOk
 ghost use Rattle.sqlite.specs.Held.{state};
 ghost use Rattle.sqlite.specs.State.{HasCleanDisk, Survives};
 ghost use Rattle.mqtt_records.specs.declared.records.Records.{Records as Kept};
+ghost use Rattle.mqtt_records.specs.Contents.{FitContents};
 ghost use Rattle.mqtt_records.specs.Records.{changed_all, FitAll};
 ghost use Rattle.mqtt_store_laws.specs.Written.{AllSayable};
-ghost use Rattle.mqtt_store.specs.Making.{MayCommit};
-ghost use Rattle.mqtt_store.specs.Holding.{Holds, Leaves, IsReady, IsLoaded};
-ghost use Rattle.mqtt_store.specs.Ordered.{IsOrdered};
+ghost use Rattle.mqtt_store_load.specs.Loading.{IsOrdered};
+ghost use Rattle.mqtt_store.specs.Holding.{Holds, Leaves, IsLoaded};
 
-use crate::commit::commit_changes;
 use mqtt_records::{Change, KeepError};
+use mqtt_store_message_commit::commit_changes;
 use mqtt_store_read::probe;
 use sqlite::{Alter, Connection, Error, ErrorCode};
 use std::alloc::Global;
@@ -40,7 +40,8 @@ pub(crate) fn apply_all<S: Alter>(
     requires loaded { IsLoaded (state S.Store conn.old) }
     ensures autocommit { conn.new.in_transaction ≡ false }
     ensures ordered { IsOrdered (state S.Store conn.new) }
-    ensures ok { (r : Kept) → Holds (state S.Store conn.old) r → FitAll changes.now r → AllSayable changes.now
+    ensures ok { (r : Kept) → Holds (state S.Store conn.old) r → FitAll changes.now r
+        → FitContents changes.now r → AllSayable changes.now
         → OnOk result (Holds (state S.Store conn.new) (changed_all changes.now r)) }
     ensures loaded { OnOk result (IsLoaded (state S.Store conn.new)) }
 
@@ -50,7 +51,8 @@ pub(crate) fn apply_all<S: Alter>(
         × ((r : Kept) → Holds (state S.Store conn.old) r → Holds (state S.Store conn.new) r) }
 
     // A crash leaves the records before or after, never some of the changes.
-    ensures crash { (r left : Kept) → Holds (state S.Store conn.old) r → FitAll changes.now r → AllSayable changes.now
+    ensures crash { (r left : Kept) → Holds (state S.Store conn.old) r → FitAll changes.now r
+        → FitContents changes.now r → AllSayable changes.now
         → Leaves (state S.Store conn.new) left → (left ≡ r) ⊎ (left ≡ changed_all changes.now r) }
     ensures sound { HasCleanDisk (state S.Store conn.new) → HasCleanDisk (state S.Store conn.old) }
     ensures refused { IfErr result (λ fault. (fault ≡ KeepError.Memory)

@@ -4,9 +4,9 @@ ghost use Rattle.sqlite_trees.specs.View.{IsClean};
 ghost use Rattle.sqlite.specs.Held.{state};
 ghost use Rattle.sqlite.specs.State.{HasCleanDisk};
 ghost use Rattle.mqtt_records.specs.declared.records.Records.{Records as Kept};
+ghost use Rattle.mqtt_store_load.specs.Loading.{IsOrdered};
 ghost use Rattle.mqtt_store.specs.Holding.{Holds, Leaves};
 ghost use Rattle.mqtt_store.specs.Opening.{OpensAnew, IsUnharmed, RefusesToOpen, rolled_back};
-ghost use Rattle.mqtt_store.specs.Ordered.{IsOrdered};
 ghost use Rattle.mqtt_store.specs.Props.{ordered_prop};
 
 use crate::apply::apply_all;
@@ -92,7 +92,7 @@ impl<S: Alter + Drop> SqlKeep<S> {
 impl<S: Alter + Drop> Keep for SqlKeep<S> {
     ghost use Rattle.sqlite.specs.Held.{state};
     ghost use Rattle.sqlite.specs.State.{HasCleanDisk};
-    ghost use Rattle.mqtt_store_read.specs.Kept.{Refuses};
+    ghost use Rattle.mqtt_store_message_read.specs.Refusals.{RefusesEither};
     ghost use Rattle.mqtt_store.specs.Holding.{Holds, Leaves, IsLoaded};
     ghost use Rattle.mqtt_store.specs.Ones.{leaves_held as held};
 
@@ -106,7 +106,7 @@ impl<S: Alter + Drop> Keep for SqlKeep<S> {
 
     ghost counted = { λ keep. keep.failures };
 
-    ghost refuses = { λ keep fault. Refuses S.Store keep.conn fault };
+    ghost refuses = { λ keep fault. RefusesEither S.Store keep.conn fault };
 
     fn load(&mut self, alloc: Global) -> Result<Records, KeepError> {
         let answer = load_records(alloc, &mut self.conn);

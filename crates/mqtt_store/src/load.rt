@@ -3,16 +3,17 @@ ghost use Rattle.std.specs.Prelude.{◌≡◌, false, IfOk, IfErr};
 ghost use Rattle.sqlite.specs.Held.{state};
 ghost use Rattle.sqlite.specs.State.{HasCleanDisk};
 ghost use Rattle.mqtt_records.specs.declared.records.Records.{Records as Kept};
-ghost use Rattle.mqtt_store_read.specs.Kept.{Refuses};
-ghost use Rattle.mqtt_store.specs.Holding.{Holds, Leaves, HasKept};
-ghost use Rattle.mqtt_store.specs.Ordered.{IsOrdered};
+ghost use Rattle.mqtt_store_message_read.specs.Refusals.{RefusesEither};
+ghost use Rattle.mqtt_store_load.specs.Loading.{HasKept, IsOrdered};
+ghost use Rattle.mqtt_store.specs.Holding.{Holds, Leaves};
 
 use mqtt_records::{KeepError, Records};
-use mqtt_store_read::load_from;
+use mqtt_store_load::load_from;
 use sqlite::{Alter, Connection};
 use std::alloc::Global;
 
-/// Reads all records of a database; if it is empty, makes the tables of a new store.
+/// Reads all records of a database. If it is empty, makes the tables of a new store; if it has schema 1,
+/// takes it over.
 pub(crate) fn load_records<S: Alter>(
     alloc: Global,
     conn: &mut Connection<S>,
@@ -35,11 +36,7 @@ pub(crate) fn load_records<S: Alter>(
     ensures crash { (r : Kept) → Leaves (state S.Store conn.new) r → Leaves (state S.Store conn.old) r }
     ensures sound { HasCleanDisk (state S.Store conn.new) → HasCleanDisk (state S.Store conn.old) }
     ensures refused { IfErr result (λ fault. HasCleanDisk (state S.Store conn.new)
-        → Refuses S.Store conn.old fault) }
+        → RefusesEither S.Store conn.old fault) }
 {
-    // These show that all is committed, and that the rows obey their schema.
-    let _autocommit = conn.is_autocommit();
-    let answer = load_from(alloc, conn);
-    let _schema = conn.schema();
-    answer
+    load_from(alloc, conn)
 }

@@ -3,8 +3,8 @@ ghost use Rattle.std.specs.Prelude.{◌≡◌, false, IfOk, IfErr};
 ghost use Rattle.sqlite_trees.specs.View.{IsClean};
 ghost use Rattle.sqlite.specs.Held.{state};
 ghost use Rattle.sqlite.specs.State.{HasCleanDisk};
+ghost use Rattle.mqtt_store_load.specs.Loading.{IsOrdered};
 ghost use Rattle.mqtt_store.specs.Opening.{OpensAnew, IsUnharmed, RefusesToOpen};
-ghost use Rattle.mqtt_store.specs.Ordered.{IsOrdered};
 
 use sqlite::{Alter, Connection, Error, ErrorCode};
 use std::alloc::Global;

@@ -23,9 +23,9 @@ DROP TABLE meta; CREATE TABLE meta (a INTEGER)
 pub(crate) fn broken_of_the_course() -> &'static str {
     "\
 -- a copy that was sent has no identifier
-UPDATE copy SET pid = NULL
+UPDATE queued SET pid = NULL
 -- a copy of QoS 3
-UPDATE copy SET qos = 3
+UPDATE queued SET qos = 3
 -- a copy of a publication that there was not
 UPDATE meta SET n = 0 WHERE name = 'publications'
 "
@@ -35,17 +35,21 @@ UPDATE meta SET n = 0 WHERE name = 'publications'
 pub(crate) fn broken_sessions() -> &'static str {
     "\
 -- a missing table
-DROP TABLE retained
+DROP TABLE kept
 -- a missing column
-DROP TABLE retained; CREATE TABLE retained (place INTEGER PRIMARY KEY, topic TEXT NOT NULL UNIQUE) STRICT
+DROP TABLE kept; CREATE TABLE kept (place INTEGER PRIMARY KEY, topic TEXT NOT NULL UNIQUE) STRICT
+-- a missing index
+DROP INDEX kept_pub
 -- a further table
 CREATE TABLE more (a INTEGER) STRICT
 -- a further index
-CREATE INDEX more ON retained (sender)
+CREATE INDEX more ON kept (sender)
 -- a missing counter
 DELETE FROM meta WHERE name = 'moment'
 -- a further counter
 INSERT INTO meta VALUES ('more', 1)
+-- a schema of 1 in the tables of schema 2
+UPDATE meta SET n = 1 WHERE name = 'schema'
 -- a counter above 2^62
 UPDATE meta SET n = 4611686018427387905 WHERE name = 'subscribes'
 -- a moment above 2^62
@@ -123,25 +127,25 @@ UPDATE inbound SET ident = 0
 -- an open identifier above its range
 UPDATE inbound SET ident = 65536
 -- a retained message to a wildcard
-UPDATE retained SET topic = 'a/#'
+UPDATE message SET topic = 'a/#'; UPDATE kept SET topic = 'a/#'
 -- a retained message of QoS 3
-UPDATE retained SET qos = 3
+UPDATE kept SET qos = 3
 -- a retained message of no publication yet
-UPDATE retained SET pub = 2
+INSERT INTO message SELECT 2, topic, props, payload FROM message; UPDATE kept SET pub = 2
 -- a retained message from the future
-UPDATE retained SET arrived = 1
+UPDATE kept SET arrived = 1
 -- a retained message to no text
-UPDATE retained SET topic = CAST(x'ff' AS TEXT)
+UPDATE message SET topic = CAST(x'ff' AS TEXT); UPDATE kept SET topic = CAST(x'ff' AS TEXT)
 -- a retained message with a foreign property
-UPDATE retained SET props = x'03230001'
+UPDATE message SET props = x'03230001'
 -- a retained message with an identifier
-UPDATE retained SET props = x'020b01'
+UPDATE message SET props = x'020b01'
 -- a sender that is no text
-UPDATE retained SET sender = CAST(x'ff' AS TEXT)
+UPDATE kept SET sender = CAST(x'ff' AS TEXT)
 -- a retained place of 0
-UPDATE retained SET place = 0
+UPDATE kept SET place = 0
 -- a retained place above 2^62
-UPDATE retained SET place = 4611686018427387905
+UPDATE kept SET place = 4611686018427387905
 "
 }
 
@@ -149,95 +153,95 @@ UPDATE retained SET place = 4611686018427387905
 pub(crate) fn broken_copies() -> &'static str {
     "\
 -- sent without an identifier
-UPDATE copy SET pid = NULL
+UPDATE queued SET pid = NULL
 -- waiting with an identifier
-UPDATE copy SET phase = 0
+UPDATE queued SET phase = 0
 -- waiting with an order of release
-UPDATE copy SET pid = NULL, phase = 0, rel = 1
+UPDATE queued SET pid = NULL, phase = 0, rel = 1
 -- sent with an order of release
-UPDATE copy SET rel = 1
+UPDATE queued SET rel = 1
 -- released without an identifier
-UPDATE copy SET phase = 2, pid = NULL, rel = 1
+UPDATE queued SET phase = 2, pid = NULL, rel = 1
 -- too large without an identifier
-UPDATE copy SET phase = 3, pid = NULL, rel = 1
+UPDATE queued SET phase = 3, pid = NULL, rel = 1
 -- released without an order
-UPDATE copy SET phase = 2
+UPDATE queued SET phase = 2
 -- too large without an order
-UPDATE copy SET phase = 3
+UPDATE queued SET phase = 3
 -- released at QoS 1
-UPDATE copy SET phase = 2, rel = 1, qos = 1
+UPDATE queued SET phase = 2, rel = 1, qos = 1
 -- too large at QoS 1
-UPDATE copy SET phase = 3, rel = 1, qos = 1
+UPDATE queued SET phase = 3, rel = 1, qos = 1
 -- a phase of 4
-UPDATE copy SET phase = 4
+UPDATE queued SET phase = 4
 -- an identifier 0
-UPDATE copy SET pid = 0
+UPDATE queued SET pid = 0
 -- an identifier above its range
-UPDATE copy SET pid = 65536
+UPDATE queued SET pid = 65536
 -- a QoS of 3
-UPDATE copy SET qos = 3
+UPDATE queued SET qos = 3
 -- a QoS of 0
-UPDATE copy SET qos = 0
+UPDATE queued SET qos = 0
 -- RETAIN twice
-UPDATE copy SET retain = 2
+UPDATE queued SET retain = 2
 -- a publication above the last
-UPDATE copy SET pub = 2
+INSERT INTO message SELECT 2, topic, props, payload FROM message; UPDATE queued SET pub = 2
 -- an unknown cause
-UPDATE copy SET cause = 3
+UPDATE queued SET cause = 3
 -- a shared copy of a subscribe
-UPDATE copy SET cause = 1, cause_text = 'g/a/b', cause_n = 1
+UPDATE queued SET cause = 1, cause_text = 'g/a/b', cause_n = 1
 -- a shared copy of no group
-UPDATE copy SET cause = 1
+UPDATE queued SET cause = 1
 -- a shared copy of a group without a filter
-UPDATE copy SET cause = 1, cause_text = 'g'
+UPDATE queued SET cause = 1, cause_text = 'g'
 -- a shared copy of a group without a name
-UPDATE copy SET cause = 1, cause_text = '/a/b'
+UPDATE queued SET cause = 1, cause_text = '/a/b'
 -- a shared copy of a group that has a wildcard for its name
-UPDATE copy SET cause = 1, cause_text = 'g+/a/b'
+UPDATE queued SET cause = 1, cause_text = 'g+/a/b'
 -- a shared copy of a group with a filter that is none
-UPDATE copy SET cause = 1, cause_text = 'g/a/#/b'
+UPDATE queued SET cause = 1, cause_text = 'g/a/#/b'
 -- a shared copy of a group that is no text
-UPDATE copy SET cause = 1, cause_text = CAST(x'ff' AS TEXT)
+UPDATE queued SET cause = 1, cause_text = CAST(x'ff' AS TEXT)
 -- a direct cause with a group
-UPDATE copy SET cause_text = 'g/a'
+UPDATE queued SET cause_text = 'g/a'
 -- a subscribe above the last
-UPDATE copy SET cause = 2, cause_n = 2
+UPDATE queued SET cause = 2, cause_n = 2
 -- a topic that is none
-UPDATE copy SET topic = '+'
+DELETE FROM kept; UPDATE message SET topic = '+'
 -- a topic that is no text
-UPDATE copy SET topic = CAST(x'ff' AS TEXT)
+DELETE FROM kept; UPDATE message SET topic = CAST(x'ff' AS TEXT)
 -- no block of properties
-UPDATE copy SET props = x''
--- properties in another order
-UPDATE copy SET props = x'0b260001780001790b010b02'
+UPDATE message SET props = x''
+-- a User Property among the Subscription Identifiers
+UPDATE queued SET idents = x'26000178000179'
 -- a Subscription Identifier 0
-UPDATE copy SET props = x'020b00'
--- a Topic Alias
-UPDATE copy SET props = x'03230001'
+UPDATE queued SET idents = x'0b00'
+-- a Topic Alias among the Subscription Identifiers
+UPDATE queued SET idents = x'230001'
 -- from the future
-UPDATE copy SET arrived = 1
+UPDATE queued SET arrived = 1
 -- a place of 0
-UPDATE copy SET place = 0
+UPDATE queued SET place = 0
 -- a place above 2^62
-UPDATE copy SET place = 4611686018427387905
+UPDATE queued SET place = 4611686018427387905
 -- an order above 2^62
-UPDATE copy SET phase = 2, rel = 4611686018427387905
+UPDATE queued SET phase = 2, rel = 4611686018427387905
 -- two equal identifiers
-INSERT INTO copy SELECT birth, 2, pub, 2, '', 1, pid, phase, rel, topic, qos, retain, props, payload, arrived FROM copy
+INSERT INTO queued SELECT birth, 2, pub, 2, '', 1, pid, phase, rel, qos, retain, idents, arrived FROM queued
 -- two equal copies
-INSERT INTO copy SELECT birth, 2, pub, cause, cause_text, cause_n, 2, phase, rel, topic, qos, retain, props, payload, arrived FROM copy
+INSERT INTO queued SELECT birth, 2, pub, cause, cause_text, cause_n, 2, phase, rel, qos, retain, idents, arrived FROM queued
 -- an order of 0
-UPDATE copy SET phase = 2, rel = 0
--- another topic than its retained message
-UPDATE copy SET topic = 'a/c'
--- another payload than its retained message
-UPDATE copy SET payload = x'6869ff'
--- another property than its retained message
-UPDATE copy SET props = x'0726000178000179'
--- another payload than a second copy of its publication
-DELETE FROM retained; INSERT INTO copy SELECT birth, 2, pub, 2, '', 1, 2, phase, rel, topic, qos, retain, props, x'ff', arrived FROM copy
+UPDATE queued SET phase = 2, rel = 0
+-- a retained message to another topic than its message
+UPDATE kept SET topic = 'a/c'
+-- a message to which nothing refers any more
+DELETE FROM kept; DELETE FROM queued
+-- a message to which nothing refers
+UPDATE meta SET n = 2 WHERE name = 'publications'; INSERT INTO message SELECT 2, topic, props, payload FROM message
+-- a Subscription Identifier that is cut off
+UPDATE queued SET idents = x'0b'
 -- two equal orders
-UPDATE copy SET phase = 2, rel = 1; INSERT INTO copy SELECT birth, 2, pub, 2, '', 1, 2, phase, rel, topic, qos, retain, props, payload, arrived FROM copy
+UPDATE queued SET phase = 2, rel = 1; INSERT INTO queued SELECT birth, 2, pub, 2, '', 1, 2, phase, rel, qos, retain, idents, arrived FROM queued
 "
 }
 
@@ -251,9 +255,9 @@ UPDATE meta SET n = 101 WHERE name = 'subscribes'; INSERT INTO sub WITH RECURSIV
 -- 20 open identifiers and one
 INSERT INTO inbound WITH RECURSIVE n (i) AS (SELECT 11 UNION ALL SELECT i + 1 FROM n WHERE i < 29) SELECT 2, i FROM n; INSERT INTO inbound VALUES (2, 30)
 -- 1,000 copies and one
-UPDATE meta SET n = 1001 WHERE name = 'publications'; INSERT INTO copy WITH RECURSIVE n (i) AS (SELECT 2 UNION ALL SELECT i + 1 FROM n WHERE i < 1000) SELECT 1, i, i, 0, '', 0, NULL, 0, NULL, 'a/b', 2, 0, x'00', x'', 0 FROM n; INSERT INTO copy VALUES (1, 1001, 1001, 0, '', 0, NULL, 0, NULL, 'a/b', 2, 0, x'00', x'', 0)
+UPDATE meta SET n = 1001 WHERE name = 'publications'; INSERT INTO message WITH RECURSIVE n (i) AS (SELECT 2 UNION ALL SELECT i + 1 FROM n WHERE i < 1000) SELECT i, 'a/b', x'00', x'' FROM n; INSERT INTO queued WITH RECURSIVE n (i) AS (SELECT 2 UNION ALL SELECT i + 1 FROM n WHERE i < 1000) SELECT 1, i, i, 0, '', 0, NULL, 0, NULL, 2, 0, x'', 0 FROM n; INSERT INTO message VALUES (1001, 'a/b', x'00', x''); INSERT INTO queued VALUES (1, 1001, 1001, 0, '', 0, NULL, 0, NULL, 2, 0, x'', 0)
 -- 1,000 retained messages and one
-UPDATE meta SET n = 1001 WHERE name = 'publications'; INSERT INTO retained WITH RECURSIVE n (i) AS (SELECT 2 UNION ALL SELECT i + 1 FROM n WHERE i < 1000) SELECT i, 't/' || i, 'p1', i, 0, x'00', x'', 0 FROM n; INSERT INTO retained VALUES (1001, 'more', 'p1', 1001, 0, x'00', x'', 0)
+UPDATE meta SET n = 1001 WHERE name = 'publications'; INSERT INTO message WITH RECURSIVE n (i) AS (SELECT 2 UNION ALL SELECT i + 1 FROM n WHERE i < 1000) SELECT i, 't/' || i, x'00', x'' FROM n; INSERT INTO kept WITH RECURSIVE n (i) AS (SELECT 2 UNION ALL SELECT i + 1 FROM n WHERE i < 1000) SELECT i, 't/' || i, 'p1', i, 0, 0 FROM n; INSERT INTO message VALUES (1001, 'more', x'00', x''); INSERT INTO kept VALUES (1001, 'more', 'p1', 1001, 0, 0)
 "
 }
 
@@ -267,9 +271,9 @@ UPDATE meta SET n = 101 WHERE name = 'subscribes'; INSERT INTO sub WITH RECURSIV
 -- 20 open identifiers
 INSERT INTO inbound WITH RECURSIVE n (i) AS (SELECT 11 UNION ALL SELECT i + 1 FROM n WHERE i < 29) SELECT 2, i FROM n
 -- 1,000 copies
-UPDATE meta SET n = 1001 WHERE name = 'publications'; INSERT INTO copy WITH RECURSIVE n (i) AS (SELECT 2 UNION ALL SELECT i + 1 FROM n WHERE i < 1000) SELECT 1, i, i, 0, '', 0, NULL, 0, NULL, 'a/b', 2, 0, x'00', x'', 0 FROM n
+UPDATE meta SET n = 1001 WHERE name = 'publications'; INSERT INTO message WITH RECURSIVE n (i) AS (SELECT 2 UNION ALL SELECT i + 1 FROM n WHERE i < 1000) SELECT i, 'a/b', x'00', x'' FROM n; INSERT INTO queued WITH RECURSIVE n (i) AS (SELECT 2 UNION ALL SELECT i + 1 FROM n WHERE i < 1000) SELECT 1, i, i, 0, '', 0, NULL, 0, NULL, 2, 0, x'', 0 FROM n
 -- 1,000 retained messages
-UPDATE meta SET n = 1001 WHERE name = 'publications'; INSERT INTO retained WITH RECURSIVE n (i) AS (SELECT 2 UNION ALL SELECT i + 1 FROM n WHERE i < 1000) SELECT i, 't/' || i, 'p1', i, 0, x'00', x'', 0 FROM n
+UPDATE meta SET n = 1001 WHERE name = 'publications'; INSERT INTO message WITH RECURSIVE n (i) AS (SELECT 2 UNION ALL SELECT i + 1 FROM n WHERE i < 1000) SELECT i, 't/' || i, x'00', x'' FROM n; INSERT INTO kept WITH RECURSIVE n (i) AS (SELECT 2 UNION ALL SELECT i + 1 FROM n WHERE i < 1000) SELECT i, 't/' || i, 'p1', i, 0, 0 FROM n
 "
 }
 
@@ -293,37 +297,37 @@ UPDATE sub SET handling = 2, nolocal = 1, rap = 1
 -- the greatest open identifier
 UPDATE inbound SET ident = 65535
 -- the greatest place of a retained message
-UPDATE retained SET place = 4611686018427387904
+UPDATE kept SET place = 4611686018427387904
 -- a close at the last moment
 UPDATE session SET closed = 0 WHERE birth = 1
 -- an assigned client
 UPDATE meta SET n = 1 WHERE name = 'autos'; UPDATE session SET client = 'auto-1' WHERE birth = 1
 -- a waiting copy
-UPDATE copy SET pid = NULL, phase = 0
+UPDATE queued SET pid = NULL, phase = 0
 -- a released copy
-UPDATE copy SET phase = 2, rel = 4611686018427387904
+UPDATE queued SET phase = 2, rel = 4611686018427387904
 -- a released copy that was too large
-UPDATE copy SET phase = 3, rel = 1
+UPDATE queued SET phase = 3, rel = 1
 -- a copy of QoS 1
-UPDATE copy SET qos = 1
+UPDATE queued SET qos = 1
 -- the greatest identifier
-UPDATE copy SET pid = 65535
+UPDATE queued SET pid = 65535
 -- a shared copy
-UPDATE copy SET cause = 1, cause_text = 'g/a/b'
+UPDATE queued SET cause = 1, cause_text = 'g/a/b'
 -- a shared copy of another filter
-UPDATE copy SET cause = 1, cause_text = 'g/+/#'
+UPDATE queued SET cause = 1, cause_text = 'g/+/#'
 -- Subscription Identifiers before a User Property
-DELETE FROM retained; UPDATE copy SET props = x'0b0b010b0226000178000179'
+UPDATE message SET props = x'0726000178000179'; UPDATE queued SET idents = x'0b010b02'
 -- Subscription Identifiers of a copy alone
-UPDATE copy SET props = x'040b010b02'
+UPDATE queued SET idents = x'0b010b02'
 -- another topic, of a publication of its own
-UPDATE meta SET n = 2 WHERE name = 'publications'; UPDATE copy SET pub = 2, topic = 'a/c'
+UPDATE meta SET n = 2 WHERE name = 'publications'; INSERT INTO message VALUES (2, 'a/c', x'00', x'6869'); UPDATE queued SET pub = 2
 -- a retained message that came at another moment
-UPDATE meta SET n = 1 WHERE name = 'moment'; UPDATE retained SET arrived = 1
+UPDATE meta SET n = 1 WHERE name = 'moment'; UPDATE kept SET arrived = 1
 -- a second copy
-INSERT INTO copy SELECT birth, 2, pub, 2, '', 1, 2, phase, rel, topic, qos, retain, props, payload, arrived FROM copy
+INSERT INTO queued SELECT birth, 2, pub, 2, '', 1, 2, phase, rel, qos, retain, idents, arrived FROM queued
 -- the greatest place
-UPDATE copy SET place = 4611686018427387904
+UPDATE queued SET place = 4611686018427387904
 -- no session
 DELETE FROM session
 -- an empty payload

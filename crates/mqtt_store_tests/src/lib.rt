@@ -11,6 +11,8 @@ mod databases;
 #[cfg(test)]
 mod files;
 #[cfg(test)]
+mod first_databases;
+#[cfg(test)]
 mod limits;
 #[cfg(test)]
 mod rows;

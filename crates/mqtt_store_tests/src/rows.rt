@@ -1,8 +1,9 @@
 //! The rows of the course in the tables, and what is found again.
 
-use crate::changes::{SENT, STEPS};
+use crate::broken::{Base, database_of};
+use crate::changes::{LONG, SENT, STEPS};
 use crate::seen::Seen;
-use crate::store::{database, found, load, make};
+use crate::store::{LOAD, act_over, database, found, load, make};
 use mqtt_records::{Keep, KeepError, MemKeep};
 use sqlite::{Alter, Connection, Error};
 use std::alloc::Global;
@@ -17,12 +18,13 @@ SELECT count(*) FROM sub -> 1
 SELECT count(*) FROM inbound -> 1
 SELECT birth FROM inbound -> 2
 SELECT ident FROM inbound -> 10
-SELECT count(*) FROM copy -> 1
-SELECT pid FROM copy -> 1
-SELECT phase FROM copy -> 1
-SELECT count(*) FROM retained -> 0
+SELECT count(*) FROM message -> 1
+SELECT count(*) FROM queued -> 1
+SELECT pid FROM queued -> 1
+SELECT phase FROM queued -> 1
+SELECT count(*) FROM kept -> 0
 SELECT count(*) FROM meta -> 6
-SELECT n FROM meta WHERE name = 'schema' -> 1
+SELECT n FROM meta WHERE name = 'schema' -> 2
 SELECT n FROM meta WHERE name = 'births' -> 2
 SELECT n FROM meta WHERE name = 'publications' -> 1
 SELECT n FROM meta WHERE name = 'subscribes' -> 1
@@ -40,12 +42,13 @@ SELECT count(*) FROM session WHERE closed IS NULL -> 1
 SELECT count(*) FROM will -> 1
 SELECT delay FROM will -> 5
 SELECT count(*) FROM inbound -> 0
-SELECT count(*) FROM copy -> 2
-SELECT phase FROM copy WHERE place = 1 -> 2
-SELECT rel FROM copy WHERE place = 1 -> 1
-SELECT phase FROM copy WHERE place = 2 -> 0
-SELECT count(*) FROM copy WHERE pid IS NULL -> 1
-SELECT count(*) FROM retained -> 1
+SELECT count(*) FROM message -> 2
+SELECT count(*) FROM queued -> 2
+SELECT phase FROM queued WHERE place = 1 -> 2
+SELECT rel FROM queued WHERE place = 1 -> 1
+SELECT phase FROM queued WHERE place = 2 -> 0
+SELECT count(*) FROM queued WHERE pid IS NULL -> 1
+SELECT count(*) FROM kept -> 1
 "
 }
 
@@ -57,8 +60,9 @@ SELECT birth FROM session -> 2
 SELECT count(*) FROM will -> 0
 SELECT count(*) FROM sub -> 0
 SELECT count(*) FROM inbound -> 0
-SELECT count(*) FROM copy -> 0
-SELECT count(*) FROM retained -> 1
+SELECT count(*) FROM queued -> 0
+SELECT count(*) FROM message -> 1
+SELECT count(*) FROM kept -> 1
 SELECT n FROM meta WHERE name = 'births' -> 2
 SELECT n FROM meta WHERE name = 'publications' -> 2
 "
@@ -69,8 +73,29 @@ fn last_rows() -> &'static str {
     "\
 SELECT count(*) FROM session -> 1
 SELECT count(*) FROM sub -> 0
-SELECT count(*) FROM retained -> 0
+SELECT count(*) FROM kept -> 0
+SELECT count(*) FROM message -> 0
 SELECT n FROM meta WHERE name = 'subscribes' -> 2
+"
+}
+
+/// The same in a database that was taken over after the long course.
+fn taken_rows() -> &'static str {
+    "\
+SELECT count(*) FROM copy -> 0
+SELECT count(*) FROM retained -> 0
+SELECT count(*) FROM message -> 1
+SELECT pub FROM message -> 1
+SELECT length(payload) FROM message -> 2
+SELECT count(*) FROM queued -> 1
+SELECT pid FROM queued -> 1
+SELECT phase FROM queued -> 1
+SELECT pub FROM queued -> 1
+SELECT count(*) FROM kept -> 1
+SELECT pub FROM kept -> 1
+SELECT count(*) FROM will -> 1
+SELECT n FROM meta WHERE name = 'schema' -> 2
+SELECT n FROM meta WHERE name = 'publications' -> 1
 "
 }
 
@@ -110,6 +135,27 @@ fn each_step_has_its_rows(rt: HostRuntime) -> Result<(), Fail> {
         assert_eq!(rt; wrong, "", "after {steps} steps");
     }
     Ok(())
+}
+
+#[test]
+fn a_database_of_schema_1_is_taken_over(rt: HostRuntime) -> Result<(), Fail> {
+    let (told, left) = act_over(rt.alloc(), database_of(rt.alloc(), Base::First)?, LOAD);
+    let ours = found(rt.alloc(), database(rt.alloc(), LONG)?);
+    assert_eq!(rt; (told.limited, told.failures), ours);
+    assert_eq!(rt; (told.after, told.failures), ours);
+    match left {
+        Ok(conn) => {
+            let mut conn = conn;
+            let wrong = first_wrong(&mut conn, taken_rows());
+            drop(conn);
+            assert_eq!(rt; wrong, "");
+            Ok(())
+        }
+        Err(store) => {
+            drop(store);
+            Err(KeepError::Disk)?
+        }
+    }
 }
 
 /// Loads, makes so many steps, and loads again.
