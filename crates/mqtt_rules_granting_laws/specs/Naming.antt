@@ -1,4 +1,6 @@
 -- What a broker holds whose PUBLISH packets name their topics and have no Topic Alias (MQTT 5.0, 3.3.2.1, 3.3.2.3.4).
+use Rattle.std.specs.Prelude.{◌≡◌, ℕ, false, List, Option, Some, None}
+use Rattle.std.specs.List.{AllByRecursion}
 use Rattle.mqtt_props.specs.Laws.{is_named}
 use Rattle.mqtt_props.specs.Properties.{Prop}
 use Rattle.mqtt_props.specs.declared.table.PropName.TheVariants.{TopicAlias}
@@ -11,8 +13,6 @@ use Rattle.mqtt_records_message.specs.declared.message.RetainedMessage.{Retained
 use Rattle.mqtt_records_message.specs.declared.message.Will.{Will}
 use Rattle.mqtt_rules.specs.State.{Broker, Line}
 use Rattle.mqtt_topic.specs.Names.{IsTopicName}
-use Rattle.std.proofs.Common.{List, None, Option, Some, false, ℕ, ◌≡◌}
-use Rattle.std.specs.List.{AllByRecursion}
 
 -- ---- a message
 
