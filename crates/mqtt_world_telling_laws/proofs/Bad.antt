@@ -1,5 +1,5 @@
 -- Whether an event is bad, and what it asks of the broker, doesn't depend on what is under way to ends.
-use Rattle.std.proofs.Common.{◌≡◌, ℕ, zero, suc, Bool, true, false, cond, not, List, [], ◌∷◌, ◌++◌, length, bytes_eq, Option, Some, None, Ok, Err, refl, sym, ap, ap₂, subst, ◌∙◌}
+use Rattle.std.proofs.Common.{◌≡◌, ℕ, zero, suc, Bool, true, false, cond, not, List, [], ◌∷◌, ◌++◌, length, bytes_eq, Option, Some, None, Ok, Err, refl, sym, ap, ap₂, ◌∙◌}
 use Rattle.std.specs.Prelude.{◌||◌, find, is_none, is_some, option_map}
 use Rattle.mqtt_codec.specs.declared.packet.Packet.{Packet}
 use Rattle.mqtt_codec.specs.declared.packet.Packet.TheVariants.{Connect}
@@ -8,13 +8,13 @@ use Rattle.mqtt_packet.specs.Front.{first_of}
 use Rattle.mqtt_topic.specs.Aliases.{AliasTable}
 use Rattle.mqtt_rules.specs.Piece.{Front}
 use Rattle.mqtt_rules.specs.State.{Telling}
-use Rattle.mqtt_rules.specs.Step.{Call}
 use Rattle.mqtt_world_model.specs.Ends.{Publisher, Receiver}
+use Rattle.mqtt_world_model.specs.Laws.{fate_by, fate_of}
 use Rattle.mqtt_world_model.specs.World.{World, Setting, Asking, to_broker, old_to_broker, break, pump, tick, stranger}
 use Rattle.mqtt_world_model.specs.World.{Event, publisher, receiver, connect_end, give_up, publish, subscribe, to_end, clock, ask, restart, stop_before, stop_after}
 use Rattle.mqtt_world_model.specs.World.{publisher_named, receiver_named, stranger_named, is_end, link_by, link_of, may_ask, view_by, view_of, View}
 use Rattle.mqtt_world_model.specs.World.{is_bad, is_bad_asking, is_bad_name, is_away, has_line, is_input, is_window, is_wish, message_packet, names_end, front_names, bytes_name, bytes_held, held_after}
-use Rattle.mqtt_world_model.specs.World.{call_of, call_of_stranger, comes, input_on, linked_at, lost_on, pump_on}
+use Rattle.mqtt_world_model.specs.World.{call_of, call_of_stranger, input_on, linked_at, lost_on, pump_on}
 use Rattle.mqtt_world_telling_laws.specs.AsSent.{Most}
 use Rattle.mqtt_world_telling_laws.specs.Likewise.{AllPublishersAlike, AllReceiversAlike}
 use Rattle.mqtt_world_telling_laws.proofs.Ends.{publisher_with, receiver_with}
@@ -80,6 +80,10 @@ ask_blind : IsBlind (λ o q. may_ask q)
 ask_blind o (Some r) = refl
 ask_blind o None = refl
 
+fate_blind : (n : ℕ) → IsBlind (λ o q. fate_by n o)
+fate_blind n (Some p) q = refl
+fate_blind n None q = refl
+
 view_blind : IsBlind view_by
 view_blind (Some p) q = refl
 view_blind None (Some r) = refl
@@ -105,6 +109,10 @@ module _ (most : Most) (ts : List Telling) (ks : List AliasTable) (x : World) (m
 
   same_view : (client : List ℕ) → view_of client Other ≡ view_of client x
   same_view client = blind view_by view_blind client
+
+  -- what became of a message is the same
+  pub same_fate : (client : List ℕ) (n : ℕ) → fate_of client n Other ≡ fate_of client n x
+  same_fate client n = blind (λ o q. fate_by n o) (fate_blind n) client
 
   names_same : (packet : Packet) → names_end packet Other ≡ names_end packet x
   names_same (Connect c) = same_end c.client_identifier

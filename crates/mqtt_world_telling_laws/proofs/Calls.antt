@@ -1,27 +1,26 @@
 -- A call in both worlds: what goes out on each line means what was meant.
-use Rattle.std.proofs.Common.{◌≡◌, ℕ, ◌≤◌, ◌<◌, Bool, true, false, cond, List, [], ◌∷◌, ◌++◌, map, Option, Some, None, refl, sym, ap, ap₂, subst, ◌∙◌, arith}
-use Rattle.std.specs.Prelude.{filter_map}
+use Rattle.std.proofs.Common.{◌≡◌, ℕ, List, [], ◌∷◌, ◌++◌, map, Option, Some, None, refl, sym, ap, ap₂, subst, ◌∙◌, arith}
 use Rattle.std.specs.List.{AllByRecursion}
 use Rattle.mqtt_codec.specs.declared.packet.Packet.{Packet}
 use Rattle.mqtt_records.specs.declared.change.Change.{Change}
 use Rattle.mqtt_topic.specs.Aliases.{AliasTable}
-use Rattle.mqtt_topic_aliases.specs.Told.{none_told}
-use Rattle.mqtt_rules.specs.State.{Broker, Telling, told_on}
-use Rattle.mqtt_rules.specs.Deeds.{Deed, after_all, output, rows_of_all, wires}
-use Rattle.mqtt_rules.specs.Step.{Call, Outcome, at_moment, deeds, stepped, told, with_moment}
-use Rattle.mqtt_rules_telling_laws.specs.Meaning.{AllMean, GrantsWithin, Knows, on_line}
+use Rattle.mqtt_rules.specs.State.{Broker, Telling}
+use Rattle.mqtt_rules.specs.Deeds.{Deed, after_all, rows_of_all, wires}
+use Rattle.mqtt_rules.specs.Step.{Call, Outcome, at_moment, deeds, env_of, stepped, told, with_moment}
+use Rattle.mqtt_rules_telling_laws.specs.Meaning.{AllMean, GrantsWithin, on_line}
 use Rattle.mqtt_rules_telling_laws.proofs.Deeds.{knows, means}
 use Rattle.mqtt_world_model.specs.Lines.{Down, sent_to}
 use Rattle.mqtt_world_model.specs.Ends.{Publisher, Receiver}
 use Rattle.mqtt_world_model.specs.Seen.{heard_in}
 use Rattle.mqtt_world_model.specs.World.{World, Setting, publisher_told, receiver_told}
 use Rattle.mqtt_world_model.specs.World as meant
-use Rattle.mqtt_world_model.specs.Run.{read_if}
-use Rattle.mqtt_world_telling_laws.specs.AsSent.{AsSent, Most, calls, calls_if, deeds_granted, granted, telling, told_as_sent}
-use Rattle.mqtt_world_telling_laws.specs.Likewise.{AllPublishersAlike, AllReceiversAlike, AreInOrder, IsInOrder, KnowsOn, Likewise, PublishersAlike, ReceiversAlike, WorldsAlike, after_down, the_calls}
+use Rattle.mqtt_world_model.specs.Run.{read_if, the_deeds}
+use Rattle.mqtt_world_telling_laws.specs.AsSent.{AsSent, Most, calls, calls_if, deeds_granted, telling, told_as_sent}
+use Rattle.mqtt_world_telling_laws.specs.Likewise.{AllPublishersAlike, AllReceiversAlike, KnowsOn, Likewise, PublishersAlike, ReceiversAlike, SendsItsTopic, WorldsAlike, after_down}
 use Rattle.mqtt_world_telling_laws.proofs.Downs.{DownsAlike, SentOn, max_down, sent_alike}
 use Rattle.mqtt_world_telling_laws.proofs.Ends.{Alters, Changes, publisher_with, publishers_changed, receiver_with, receivers_changed, stays_known}
-use Rattle.mqtt_world_telling_laws.proofs.Granted.{IsUnused, granted_given, granted_outputs, grants_within, heard_wires, unused_after}
+use Rattle.mqtt_world_telling_laws.proofs.Given.{IsNumbered, call_given, call_numbered}
+use Rattle.mqtt_world_telling_laws.proofs.Granted.{AreInOrder, IsUnused, granted_given, granted_outputs, grants_within, heard_wires, in_order, unused_after}
 
 -- ---- ends that are told: of the same lines that close, and of packets that mean others
 
@@ -30,6 +29,7 @@ module _ (most : Most) (ts us : List Telling) (b : Broker) (out : Outcome) (xs :
   abbrev as_sent : Outcome
   as_sent = record out { outputs = xs }
 
+  -- receivers, each on a line on which what goes out means what was meant
   pub receivers_told : ((n : ℕ) (k : AliasTable) (ds : List Down) → KnowsOn most ts (Some n) k ds → SentOn n (after_down k ds) xs out.outputs us)
       → Changes most ts us (receiver_told b as_sent) stays_known (receiver_told b out)
   receivers_told sent = record { each = each }
@@ -46,6 +46,7 @@ module _ (most : Most) (ts us : List Telling) (b : Broker) (out : Outcome) (xs :
   map_append [] es = refl
   map_append (d ∷ ds) es = ap (λ hs. heard_in d ∷ hs) (map_append ds es)
 
+  -- publishers, who hear the same of it
   pub publishers_told : ((o : Option ℕ) → map heard_in (sent_to o b xs) ≡ map heard_in (sent_to o b out.outputs))
       → Alters (publisher_told b as_sent) (publisher_told b out)
   publishers_told same = record { each = each }
@@ -58,6 +59,18 @@ module _ (most : Most) (ts us : List Telling) (b : Broker) (out : Outcome) (xs :
             map_append p.line.down (sent_to p.line.number b xs)
             ∙ (ap₂ (λ xs ys. xs ++ ys) e (same p.line.number) ∙ sym (map_append ms (sent_to p.line.number b out.outputs)));
       }
+
+-- ---- two worlds on their way
+
+-- no line stands, and nothing was told on one, that was not given
+pub record OnGiven (b : Broker) (tellings : List Telling) : Type 0 where
+  pub unused : IsUnused b.given tellings
+  pub numbered : IsNumbered b
+
+-- so it is in both, and they are alike
+pub record Goes (most : Most) (s : AsSent) (w : World) : Type 0 where
+  pub worlds : Likewise most s w
+  pub lines : OnGiven s.world.broker s.tellings
 
 -- ---- a call
 
@@ -96,7 +109,7 @@ module _ (most : Most) (set : Setting) (call : Call) (s : AsSent) where
       let within : GrantsWithin n table.max The_granted = subst (λ (m : ℕ). GrantsWithin n m The_granted) max (grants_within most n s.world.broker.given The_deeds order) in
       record {
         means = subst (λ (ys : List (ℕ × Packet)). AllMean table (on_line n (wires The_granted Telling_before)) (on_line n ys)) (granted_outputs most The_deeds)
-        (means n table The_granted Telling_before h.1 within);
+            (means n table The_granted Telling_before h.1 within);
         knows = knows n table The_granted Telling_before h.1 within;
       }
 
@@ -111,33 +124,35 @@ module _ (most : Most) (set : Setting) (call : Call) (s : AsSent) where
 
   -- in both worlds
   pub calls_alike : (ms : List Publisher) (vs : List Receiver) → AllPublishersAlike s.world.publishers ms → AllReceiversAlike most s.tellings s.world.receivers s.known vs
-      → IsUnused s.world.broker.given s.tellings → AreInOrder s.world.broker.given The_deeds
-      → Likewise most (calls most set call s) (meant.calls set call (record s.world { publishers = ms; receivers = vs }))
-  calls_alike ms vs hp hr u order =
+      → OnGiven s.world.broker s.tellings → AllByRecursion SendsItsTopic The_deeds
+      → Goes most (calls most set call s) (meant.calls set call (record s.world { publishers = ms; receivers = vs }))
+  calls_alike ms vs hp hr on topics =
       let xs = wires The_granted Telling_before in
+      let env = env_of set.limits set.choice s.world.broker in
+      let order : AreInOrder s.world.broker.given The_deeds = in_order s.world.broker.given The_deeds Before (omega arith) (call_given env call Before on.numbered) topics in
       record {
         worlds = record {
           same = refl;
           publishers = publishers_changed (publisher_told New (told_as_sent most set call s)) (publisher_told New Out)
-          (publishers_told most s.tellings Told_after New Out xs heard_out) s.world.publishers ms hp;
+              (publishers_told most s.tellings Told_after New Out xs heard_out) s.world.publishers ms hp;
           receivers = receivers_changed most s.tellings Told_after (receiver_told New (told_as_sent most set call s)) (receiver_told New Out)
-          (receivers_told most s.tellings Told_after New Out xs (sent_on order)) s.world.receivers s.known vs hr;
+              (receivers_told most s.tellings Told_after New Out xs (sent_on order)) s.world.receivers s.known vs hr;
         };
-        unused = unused order u;
+        lines = record { unused = unused order on.unused; numbered = call_numbered env call Before on.numbered };
       }
 
 -- what holds of each world that is alike holds of that one
 pub by_world : (most : Most) (P : World → Type 0) (s : AsSent) (w : World) → WorldsAlike most s.tellings s.known s.world w
     → ((ms : List Publisher) (vs : List Receiver) → AllPublishersAlike s.world.publishers ms → AllReceiversAlike most s.tellings s.world.receivers s.known vs
-        → P (record s.world { publishers = ms; receivers = vs }))
+    → P (record s.world { publishers = ms; receivers = vs }))
     → P w
 by_world most P s w a each = subst P (sym a.same) (each w.publishers w.receivers a.publishers a.receivers)
 
 -- a call, if there is one
-pub calls_if_alike : (most : Most) (set : Setting) (o : Option Call) (s : AsSent) (w : World) → Likewise most s w → AllByRecursion IsInOrder (read_if the_calls set o w)
-    → Likewise most (calls_if most set o s) (meant.calls_if set o w)
+pub calls_if_alike : (most : Most) (set : Setting) (o : Option Call) (s : AsSent) (w : World) → Goes most s w → AllByRecursion SendsItsTopic (read_if the_deeds set o w)
+    → Goes most (calls_if most set o s) (meant.calls_if set o w)
 calls_if_alike most set None s w h order = h
 calls_if_alike most set (Some call) s w h order =
-    by_world most (λ (x : World). AllByRecursion IsInOrder (read_if the_calls set (Some call) x) → Likewise most (calls most set call s) (meant.calls set call x)) s w h.worlds
-    (λ ms vs hp hr asked. calls_alike most set call s ms vs hp hr h.unused asked.0)
+    by_world most (λ (x : World). AllByRecursion SendsItsTopic (read_if the_deeds set (Some call) x) → Goes most (calls most set call s) (meant.calls set call x)) s w h.worlds
+    (λ ms vs hp hr asked. calls_alike most set call s ms vs hp hr h.lines asked)
     order

@@ -1,13 +1,12 @@
 -- What is under way on a line: packet by packet it means what was meant.
-use Rattle.std.proofs.Common.{◌≡◌, ℕ, Bool, true, false, cond, List, [], ◌∷◌, ◌++◌, map, nat_eq, Option, Some, None, refl, sym, ap, subst, ◌∙◌, inl, inr}
-use Rattle.std.specs.Prelude.{filter_map}
+use Rattle.std.proofs.Common.{◌≡◌, ℕ, List, [], ◌∷◌, ◌++◌, map, nat_eq, Option, Some, None, refl, sym, ap, subst, ◌∙◌, inl, inr}
 use Rattle.std.proofs.lemmas.Bool.{cases_Bool}
 use Rattle.mqtt_codec.specs.declared.packet.Packet.{Packet}
 use Rattle.mqtt_codec.specs.declared.packet.Packet.TheVariants as packets
 use Rattle.mqtt_topic.specs.Aliases.{AliasTable, after_resolve}
 use Rattle.mqtt_rules.specs.State.{Broker, Telling, told_on}
 use Rattle.mqtt_rules_telling_laws.specs.Meaning.{AllMean, Knows, Means, after_reading, after_reading_all, alias_on, on_line}
-use Rattle.mqtt_world_model.specs.Lines.{Down, copy_in, down_on, sent_to}
+use Rattle.mqtt_world_model.specs.Lines.{Down, copy_in, sent_to}
 use Rattle.mqtt_world_telling_laws.specs.AsSent.{Most}
 use Rattle.mqtt_world_telling_laws.specs.Likewise.{DownMeans, KnowsOn, after_down}
 

@@ -1,13 +1,11 @@
 -- Ends that are alike, one by one and in lists.
-use Rattle.std.proofs.Common.{◌≡◌, ℕ, Bool, true, false, cond, List, [], ◌∷◌, ◌++◌, map, bytes_eq, Option, Some, None, refl, sym, ap, subst, ◌∙◌, inl, inr}
-use Rattle.std.specs.Prelude.{find}
-use Rattle.std.proofs.lemmas.Bool.{cases_Bool}
+use Rattle.std.proofs.Common.{◌≡◌, ℕ, Bool, true, false, cond, List, [], ◌∷◌, ◌++◌, map, bytes_eq, refl, sym, ap, subst, ◌∙◌}
 use Rattle.mqtt_topic.specs.Aliases.{AliasTable}
 use Rattle.mqtt_rules.specs.State.{Telling}
-use Rattle.mqtt_world_model.specs.Lines.{Down, Line}
+use Rattle.mqtt_world_model.specs.Lines.{Down}
 use Rattle.mqtt_world_model.specs.Ends.{Publisher, Receiver}
 use Rattle.mqtt_world_model.specs.Seen.{heard_in}
-use Rattle.mqtt_world_telling_laws.specs.AsSent.{Most, changed_for}
+use Rattle.mqtt_world_telling_laws.specs.AsSent.{Most}
 use Rattle.mqtt_world_telling_laws.specs.Likewise.{AllPublishersAlike, AllReceiversAlike, PublishersAlike, ReceiversAlike, with_down}
 use Rattle.mqtt_world_telling_laws.proofs.Downs.{DownsAlike}
 
@@ -80,9 +78,11 @@ Carries f = (ms : List Down) (p : Publisher) → f (publisher_with ms p) ≡ pub
 left_there : (f : Publisher → Publisher) → Carries f → (p : Publisher) → (f p).line.down ≡ p.line.down
 left_there f c p = ap (λ (x : Publisher). x.line.down) (c p.line.down p)
 
+-- one is alike to itself with packets under way of which it hears the same
 pub kept_publisher : (p : Publisher) (ms : List Down) → map heard_in p.line.down ≡ map heard_in ms → PublishersAlike p (publisher_with ms p)
 kept_publisher p ms heard = record { same = refl; heard = heard }
 
+-- what holds of it with such packets holds of each that is alike to it
 pub by_publisher : (P : Publisher → Type 0) (p m : Publisher) → PublishersAlike p m
     → ((ms : List Down) → map heard_in p.line.down ≡ map heard_in ms → P (publisher_with ms p)) → P m
 by_publisher P p m a each = subst P (sym a.same) (each m.line.down a.heard)
@@ -95,15 +95,17 @@ pub record Alters (f g : Publisher → Publisher) : Type 0 where
 pub carried : (f : Publisher → Publisher) → Carries f → Alters f f
 carried f c = record {
   each = λ p ms heard.
-  subst (PublishersAlike (f p)) (sym (c ms p)) (kept_publisher (f p) ms (ap (map heard_in) (left_there f c p) ∙ heard));
+      subst (PublishersAlike (f p)) (sym (c ms p)) (kept_publisher (f p) ms (ap (map heard_in) (left_there f c p) ∙ heard));
 }
 
+-- all are changed
 pub publishers_changed : (f g : Publisher → Publisher) → Alters f g → (ps ms : List Publisher) → AllPublishersAlike ps ms → AllPublishersAlike (map f ps) (map g ms)
 publishers_changed f g c [] [] h = tt
 publishers_changed f g c (p ∷ ps) (m ∷ ms) h = (by_publisher (λ (x : Publisher). PublishersAlike (f p) (g x)) p m h.0 (c.each p), publishers_changed f g c ps ms h.1)
 publishers_changed f g c [] (m ∷ ms) h = absurd h
 publishers_changed f g c (p ∷ ps) [] h = absurd h
 
+-- one of this name is changed
 pub for_publisher : (client : List ℕ) (f g : Publisher → Publisher) → Alters f g
     → Alters (λ p. cond (bytes_eq p.client client) (f p) p) (λ p. cond (bytes_eq p.client client) (g p) p)
 for_publisher client f g c = record { each = λ p ms h. by p ms h (bytes_eq p.client client) }
@@ -112,6 +114,7 @@ for_publisher client f g c = record { each = λ p ms h. by p ms h (bytes_eq p.cl
     by p ms h true = c.each p ms h
     by p ms h false = kept_publisher p ms h
 
+-- one more
 pub publishers_more : (x y : Publisher) → PublishersAlike x y → (ps ms : List Publisher) → AllPublishersAlike ps ms → AllPublishersAlike (ps ++ x ∷ []) (ms ++ y ∷ [])
 publishers_more x y a [] [] h = (a, tt)
 publishers_more x y a (p ∷ ps) (m ∷ ms) h = (h.0, publishers_more x y a ps ms h.1)

@@ -1,21 +1,20 @@
 -- A worked run in which a receiver reads a PUBLISH that names an alias, and then one by the alias alone (MQTT 5.0, 3.3.2.3.4).
 use Rattle.std.proofs.Common.{◌≡◌, ℕ, true, false, List, [], ◌∷◌, ◌++◌, map, Option, Some, refl}
-use Rattle.std.specs.Prelude.{codes, option_map}
+use Rattle.std.specs.Prelude.{option_map}
 use Rattle.mqtt_base.specs.Values.{varint}
 use Rattle.mqtt_base.specs.declared.session.Qos.TheVariants.{AtLeastOnce}
 use Rattle.mqtt_codec.specs.declared.packet.Packet.{Packet}
 use Rattle.mqtt_codec.specs.declared.packet.Packet.TheVariants as packets
 use Rattle.mqtt_codec.specs.declared.publish.Delivery.TheVariants as delivery
 use Rattle.mqtt_codec.specs.declared.publish.Publish.{Publish}
-use Rattle.mqtt_topic.specs.Aliases.{AliasTable, no_aliases}
 use Rattle.mqtt_topic_aliases.specs.declared.form.Form.TheVariants.{Named, Short}
 use Rattle.mqtt_rules.specs.Forms.{in_form}
 use Rattle.mqtt_rules.proofs.examples.Play.{usual, topic, hi}
 use Rattle.mqtt_world_model.specs.Lines.{Down}
 use Rattle.mqtt_world_model.specs.Ends.{Draft, Entry, Receiver}
-use Rattle.mqtt_world_model.specs.World.{Event, publisher, receiver, connect_end, give_up, publish, subscribe, to_end, ask, to_broker, pump, receiver_named}
+use Rattle.mqtt_world_model.specs.World.{Event, publisher, receiver, give_up, publish, to_end, ask, to_broker, pump, receiver_named}
 use Rattle.mqtt_world_model.proofs.examples.Scripts.{turns, p1, r1, joins, subscribes}
-use Rattle.mqtt_world_telling_laws.specs.AsSent.{AsSent, Most, after}
+use Rattle.mqtt_world_telling_laws.specs.AsSent.{Most, after}
 
 -- each client takes one alias, or none
 abbrev one : Most
@@ -60,6 +59,7 @@ pub both_are_read : read_of one read_twice ≡ Some (topic ∷ topic ∷ [])
 unfolding varint
 both_are_read = refl
 
+-- and the alias is known then
 pub alias_is_known : (after one usual (turns read_twice)).known ≡ record { max = 1; topics = (1, topic) ∷ [] } ∷ []
 unfolding varint
 alias_is_known = refl

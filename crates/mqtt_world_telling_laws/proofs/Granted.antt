@@ -1,6 +1,7 @@
 -- The deeds of a step, if clients are granted the aliases that they take.
-use Rattle.std.proofs.Common.{◌≡◌, ℕ, ◌≤◌, ◌<◌, Bool, true, false, List, [], ◌∷◌, ◌++◌, map, nat_eq, Option, Some, None, refl, sym, ap, subst, ◌∙◌, arith, inl, inr}
-use Rattle.std.specs.Prelude.{filter_map, min}
+use Rattle.std.proofs.Common.{◌≡◌, ℕ, ◌≤◌, ◌<◌, Bool, true, false, List, [], ◌∷◌, map, nat_eq, Option, Some, None, refl, sym, ap, subst, ◌∙◌, arith, inl, inr}
+use Rattle.std.specs.Prelude.{⊤, filter_map, min}
+use Rattle.std.specs.List.{AllByRecursion}
 use Rattle.std.proofs.lemmas.Bool.{cases_Bool, eqb-true}
 use Rattle.mqtt_base.specs.declared.limits.TheConstants.{ALIAS_LIMIT}
 use Rattle.mqtt_codec.specs.declared.packet.Packet.{Packet}
@@ -8,13 +9,40 @@ use Rattle.mqtt_codec.specs.declared.packet.Packet.TheVariants as packets
 use Rattle.mqtt_topic_aliases.specs.Told.{ToldTopics, most_of, none_told}
 use Rattle.mqtt_rules.specs.State.{Broker, Line, Telling, line_at, told_on}
 use Rattle.mqtt_rules.specs.Deeds.{Deed, Gone, Greet, Hear, Link, On, Send, SetAlias, Went, after, after_all, greeted, output, spoken, tells, tells_on, wires, without_telling}
-use Rattle.mqtt_rules_telling_laws.specs.Meaning.{GrantsWithin}
+use Rattle.mqtt_rules.proofs.acts.Goods.{AreGood}
+use Rattle.mqtt_rules_telling_laws.specs.Meaning.{GrantsWithin, HasItsTopic}
 use Rattle.mqtt_rules_telling_laws.proofs.Lines.{gone_other, gone_own, greeted_other, told_other, told_own}
-use Rattle.mqtt_world_model.specs.Lines.{Down, down_on, sent_to}
+use Rattle.mqtt_world_model.specs.Lines.{sent_to}
 use Rattle.mqtt_world_model.specs.Ends.{heard}
 use Rattle.mqtt_world_model.specs.Seen.{heard_in}
 use Rattle.mqtt_world_telling_laws.specs.AsSent.{Most, granted}
-use Rattle.mqtt_world_telling_laws.specs.Likewise.{AreInOrder}
+use Rattle.mqtt_world_telling_laws.specs.Likewise.{SendsItsTopic}
+use Rattle.mqtt_world_telling_laws.proofs.Given.{IsGiven}
+
+-- ---- what is asked of them
+
+-- a PUBLISH that is sent has its topic, a client is greeted on a line that was given, and numbers of lines go up
+abbrev pub AreInOrder : ℕ → List Deed → Type 0
+AreInOrder given [] = ⊤
+AreInOrder given (Link n ∷ ds) = (given ≤ n) × AreInOrder n ds
+AreInOrder given (On n (Greet birth keep_alive window largest most) ∷ ds) = (n ≤ given) × AreInOrder given ds
+AreInOrder given (Send n packet ∷ ds) = HasItsTopic packet × AreInOrder given ds
+AreInOrder given (d ∷ ds) = AreInOrder given ds
+
+-- so they are if they come of a call, and send topics
+pub in_order : (g : ℕ) (ds : List Deed) (b : Broker) → g ≤ b.given → AreGood (IsGiven g) ds b → AllByRecursion SendsItsTopic ds → AreInOrder b.given ds
+in_order g [] b le q h = tt
+in_order g (Link n ∷ ds) b le q h = let up = q.0 in (up, in_order g ds (after (Link n) b) (omega (arith, le, up)) q.1 h.1)
+in_order g (On n (Greet birth keep_alive window largest most) ∷ ds) b le q h =
+    let low = q.0 in
+    (omega (arith, le, low), in_order g ds (after (On n (Greet birth keep_alive window largest most)) b) le q.1 h.1)
+in_order g (On n Hear ∷ ds) b le q h = in_order g ds (after (On n Hear) b) le q.1 h.1
+in_order g (On n (SetAlias alias topic) ∷ ds) b le q h = in_order g ds (after (On n (SetAlias alias topic)) b) le q.1 h.1
+in_order g (On n (Went place) ∷ ds) b le q h = in_order g ds (after (On n (Went place)) b) le q.1 h.1
+in_order g (Send n packet ∷ ds) b le q h = (h.0, in_order g ds (after (Send n packet) b) le q.1 h.1)
+in_order g (d ∷ ds) b le q h = in_order g ds (after d b) le q.1 h.1
+
+-- ---- what goes out
 
 -- they send the same
 pub granted_outputs : (most : Most) (ds : List Deed) → filter_map output (map (granted most) ds) ≡ filter_map output ds

@@ -3,8 +3,10 @@ pub mod Downs
 pub mod Ends
 pub mod Readings
 pub mod Publishers
+pub mod Given
 pub mod Granted
 pub mod Calls
 pub mod Bad
 pub mod Worlds
 pub mod Runs
+pub mod Handed

@@ -1,5 +1,5 @@
 -- A receiver reads a packet: by what it knows it hears what was meant.
-use Rattle.std.proofs.Common.{◌≡◌, ℕ, Bool, true, false, cond, List, [], ◌∷◌, nat_lt, Option, Some, None, refl, sym, ap, subst, ◌∙◌}
+use Rattle.std.proofs.Common.{◌≡◌, ℕ, Bool, true, false, List, [], ◌∷◌, nat_lt, Option, Some, None, refl, sym, ap, subst, ◌∙◌}
 use Rattle.std.specs.Prelude.{is_some}
 use Rattle.mqtt_base.specs.declared.session.CopyId.{CopyId}
 use Rattle.mqtt_codec.specs.declared.packet.Packet.{Packet}
@@ -11,7 +11,7 @@ use Rattle.mqtt_flow_inbound.specs.Line.{Link, away, asked, live}
 use Rattle.mqtt_topic.specs.Aliases.{AliasTable}
 use Rattle.mqtt_topic_aliases.specs.declared.form.Form.{Form}
 use Rattle.mqtt_rules.specs.Forms.{in_form}
-use Rattle.mqtt_rules.specs.Inbound.{Meaning, Means as meant_to_be}
+use Rattle.mqtt_rules.specs.Inbound.{Means as meant_to_be}
 use Rattle.mqtt_rules.specs.State.{Telling}
 use Rattle.mqtt_rules.proofs.acts.Meanings.{resolved_means}
 use Rattle.mqtt_rules_telling_laws.specs.Meaning.{Means, after_reading, alias_on}
@@ -20,7 +20,7 @@ use Rattle.mqtt_world_model.specs.Ends.{Receiver, hears, reads_publish, receiver
 use Rattle.mqtt_world_model.specs.Ends as meant
 use Rattle.mqtt_world_telling_laws.specs.Reading.{hears_if, known_after, receiver_reads, understood, with_topic_of}
 use Rattle.mqtt_world_telling_laws.specs.AsSent.{Most}
-use Rattle.mqtt_world_telling_laws.specs.Likewise.{AreUnderstood, DownMeans, KnowsOn, ReceiversAlike, after_down}
+use Rattle.mqtt_world_telling_laws.specs.Likewise.{AreUnderstood, DownMeans, KnowsOn, ReceiversAlike}
 use Rattle.mqtt_world_telling_laws.proofs.Downs.{DownsAlike, max_after}
 use Rattle.mqtt_world_telling_laws.proofs.Ends.{receiver_with, kept_receiver}
 

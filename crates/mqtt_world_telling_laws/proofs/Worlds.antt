@@ -1,6 +1,6 @@
 -- What happens in both worlds alike: all but calls of the broker, and reading.
-use Rattle.std.proofs.Common.{◌≡◌, ℕ, suc, ◌≤◌, ◌<◌, Bool, true, false, cond, List, [], ◌∷◌, ◌++◌, map, nat_eq, bytes_eq, Option, Some, None, refl, sym, ap, ap₂, subst, ◌∙◌, arith}
-use Rattle.std.specs.Prelude.{filter_map, is_some}
+use Rattle.std.proofs.Common.{◌≡◌, ℕ, suc, ◌≤◌, Bool, true, false, cond, List, [], ◌∷◌, map, bytes_eq, Some, refl, sym, ap, subst, arith}
+use Rattle.std.specs.Prelude.{filter_map}
 use Rattle.mqtt_codec.specs.declared.packet.Packet.{Packet}
 use Rattle.mqtt_flow_inbound.specs.Line.{Link, away, asked, live}
 use Rattle.mqtt_flow_inbound.specs.Publisher.{CONNECT}
@@ -8,19 +8,19 @@ use Rattle.mqtt_flow.specs.Receiver.{connect}
 use Rattle.mqtt_topic.specs.Aliases.{AliasTable, no_aliases}
 use Rattle.mqtt_topic_aliases.specs.Told.{ToldTopics, none_told}
 use Rattle.mqtt_rules.specs.State.{Broker, Telling, told_on}
-use Rattle.mqtt_rules.specs.Deeds.{Deed, Link as link_deed, output}
-use Rattle.mqtt_rules.specs.Step.{Call, NewLine, Outcome, at_moment, can_link, deeds, done, stepped, told}
-use Rattle.mqtt_rules_telling_laws.specs.Meaning.{Knows, on_line}
-use Rattle.mqtt_world_model.specs.Lines.{Down, Line, gives_up, joined, left, stands}
-use Rattle.mqtt_world_model.specs.Ends.{Draft, Publisher, Receiver, Sent, Back, Wish, answers, new_publisher, new_receiver, published, shake}
+use Rattle.mqtt_rules.specs.Deeds.{Link as link_deed, output}
+use Rattle.mqtt_rules.specs.Step.{NewLine, Outcome, at_moment, can_link, done, env_of, stepped, told}
+use Rattle.mqtt_rules_telling_laws.specs.Meaning.{Knows}
+use Rattle.mqtt_world_model.specs.Lines.{Down, Line, gives_up, joined, left}
+use Rattle.mqtt_world_model.specs.Ends.{Publisher, Receiver, Sent, Back, answers, shake}
 use Rattle.mqtt_world_model.specs.Seen.{heard_in}
-use Rattle.mqtt_world_model.specs.World.{World, Setting, Asking, to_broker, old_to_broker, break, pump, tick, stranger, asks_wish, before, calls, comes, linked_at, links, next_line, publisher_restarted, publisher_told, receiver_restarted, receiver_told, restarts, stranger_named, taken_old, taken_up, with_line, with_publisher, with_receiver}
-use Rattle.mqtt_world_telling_laws.specs.AsSent.{AsSent, Most, changed_for, in_world, known_joined}
-use Rattle.mqtt_world_telling_laws.specs.Likewise.{AllPublishersAlike, AllReceiversAlike, KnowsOn, Likewise, PublishersAlike, ReceiversAlike, WorldsAlike, after_down, with_down}
+use Rattle.mqtt_world_model.specs.World.{World, Setting, calls, linked_at, links, publisher_restarted, publisher_told, receiver_restarted, receiver_told, restarts, taken_old, taken_up, with_line, with_publisher, with_receiver}
+use Rattle.mqtt_world_telling_laws.specs.AsSent.{Most, changed_for}
+use Rattle.mqtt_world_telling_laws.specs.Likewise.{AllPublishersAlike, AllReceiversAlike, KnowsOn, PublishersAlike, ReceiversAlike, WorldsAlike, after_down, with_down}
 use Rattle.mqtt_world_telling_laws.proofs.Downs.{DownsAlike, SentOn}
-use Rattle.mqtt_world_telling_laws.proofs.Ends.{Alters, Changes, for_publisher, for_receiver, by_receiver, publisher_with, publishers_changed, publishers_more, receiver_with, receivers_changed, receivers_more, stays_known}
-use Rattle.mqtt_world_telling_laws.proofs.Publishers.{publishes}
-use Rattle.mqtt_world_telling_laws.proofs.Calls.{by_world, publishers_told, receivers_told}
+use Rattle.mqtt_world_telling_laws.proofs.Ends.{Alters, Changes, for_publisher, for_receiver, by_receiver, publishers_changed, receiver_with, receivers_changed, stays_known}
+use Rattle.mqtt_world_telling_laws.proofs.Given.{call_numbered}
+use Rattle.mqtt_world_telling_laws.proofs.Calls.{OnGiven, publishers_told, receivers_told}
 
 -- ---- a line is changed, whichever end's it is
 
@@ -30,12 +30,14 @@ module _ (most : Most) (ts : List Telling) where
     pub publishers : Alters (λ p. record p { line = f p.line }) (λ p. record p { line = f p.line })
     pub receivers : Changes most ts ts (λ r. record r { line = g r.line }) stays_known (λ r. record r { line = g r.line })
 
+  -- its first packet is taken
   pub took_up : LineChanges taken_up taken_up
   took_up = record {
     publishers = record { each = λ p ms e. record { same = refl; heard = e } };
     receivers = record { each = λ r k ms h. record { same = refl; means = h.means; knows = h.knows } };
   }
 
+  -- the first packet is taken of the line that was given up last
   pub took_old : LineChanges taken_old taken_old
   took_old = record {
     publishers = record { each = λ p ms e. record { same = refl; heard = e } };
@@ -49,6 +51,7 @@ module _ (most : Most) (ts : List Telling) where
     receivers = record { each = λ r k ms h. record { same = refl; means = tt; knows = tt } };
   }
 
+  -- a line is given up
   pub gave_up : LineChanges (λ l. gives_up l.link l) (λ l. gives_up l.link l)
   gave_up = record {
     publishers = record { each = λ p ms e. publisher_up p ms e p.line.link };
@@ -73,6 +76,7 @@ module _ (most : Most) (ts : List Telling) (ks : List AliasTable) where
   abbrev Alike : World → World → Type 0
   Alike x w = WorldsAlike most ts ks x w
 
+  -- by a change of the publishers of a name
   pub publishers_of : (client : List ℕ) (f g : Publisher → Publisher) → Alters f g → (x w : World) → Alike x w → Alike (with_publisher client f x) (with_publisher client g w)
   publishers_of client f g c x w a = record {
     same = ap (with_publisher client g) a.same;
@@ -80,6 +84,7 @@ module _ (most : Most) (ts : List Telling) (ks : List AliasTable) where
     receivers = a.receivers;
   }
 
+  -- by a change of the receivers of a name
   pub receivers_of : (client : List ℕ) (f g : Receiver → Receiver) → Changes most ts ts f stays_known g → (x w : World) → Alike x w → Alike (with_receiver client f x) (with_receiver client g w)
   receivers_of client f g c x w a = record {
     same = ap (with_receiver client g) a.same;
@@ -112,12 +117,21 @@ module _ (set : Setting) (x : World) where
       by false = refl
 
   -- and no number is given twice
-  pub given_up_to : x.broker.given ≤ New.given
+  given_up_to : x.broker.given ≤ New.given
   given_up_to = by (can_link (at_moment x.now x.broker))
     where
       by : (t : Bool) → x.broker.given ≤ (done (cond t (link_deed (suc x.broker.given) ∷ []) []) (at_moment x.now x.broker)).given
       by true = omega arith
       by false = omega arith
+
+-- nor was anything told on it
+pub line_more : (set : Setting) (x : World) (ts : List Telling) → OnGiven x.broker ts → OnGiven (New set x) ts
+line_more set x ts on =
+    let up = given_up_to set x in
+    record {
+      unused = λ n less. on.unused n (omega (arith, up, less));
+      numbered = call_numbered (env_of set.limits set.choice x.broker) NewLine (at_moment x.now x.broker) on.numbered;
+    }
 
 quiet_on : (most : Most) (ts : List Telling) (n : ℕ) (k : AliasTable) (ds : List Down) (xs : List (ℕ × Packet)) → xs ≡ [] → KnowsOn most ts (Some n) k ds → SentOn n (after_down k ds) xs xs ts
 quiet_on most ts n k ds xs e h = subst (λ (ys : List (ℕ × Packet)). SentOn n (after_down k ds) ys ys ts) (sym e) (record { means = tt; knows = h.1 })
@@ -151,9 +165,10 @@ module _ (most : Most) (ts : List Telling) (ks : List AliasTable) (set : Setting
       let a = new_line ms vs hp hr in
       record { same = refl; publishers = a.publishers; receivers = a.receivers }
 
-  pub come_given : (name bytes : List ℕ) (t : Bool) → x.broker.given ≤ (linked_at set t name bytes x).broker.given
-  come_given name bytes true = omega arith
-  come_given name bytes false = given_up_to set x
+  -- a stranger is linked on a line that is given by then
+  pub come_lines : (name bytes : List ℕ) (t : Bool) → OnGiven x.broker ts → OnGiven (linked_at set t name bytes x).broker ts
+  come_lines name bytes true on = on
+  come_lines name bytes false on = line_more set x ts on
 
   -- ---- an end joins by it
 
@@ -177,7 +192,7 @@ module _ (most : Most) (ts : List Telling) (ks : List AliasTable) (set : Setting
     joins_all [] [] [] h = tt
     joins_all (r ∷ rs) (k ∷ ls) (v ∷ vs) h = (
       by_receiver most ts (λ (y : Receiver). ReceiversAlike most ts (For (Told r)) (cond (bytes_eq r.client client) (no_aliases (most n)) k) (For (Told y))) r k v h.0
-      (λ ms d. joins_one r k ms d (bytes_eq r.client client)),
+          (λ ms d. joins_one r k ms d (bytes_eq r.client client)),
       joins_all rs ls vs h.1,
     )
     joins_all [] [] (v ∷ vs) h = absurd h
@@ -197,7 +212,7 @@ module _ (most : Most) (ts : List Telling) (ks : List AliasTable) (set : Setting
         record {
           same = refl;
           publishers = publishers_changed f f (for_publisher client (λ p. record p { line = joined (shake (CONNECT clean)) n clean p.line }) (λ p. record p { line = joined (shake (CONNECT clean)) n clean p.line }) publisher_joins)
-          (map (publisher_told (New set x) (Out set x)) x.publishers) (map (publisher_told (New set x) (Out set x)) ms) a.publishers;
+              (map (publisher_told (New set x) (Out set x)) x.publishers) (map (publisher_told (New set x) (Out set x)) ms) a.publishers;
           receivers = joins_all x.receivers ks vs hr;
         }
 

@@ -1,13 +1,13 @@
 -- The world of mqtt_world_model as packets really go: each PUBLISH in the form in which it is sent, and receivers that
 -- read it by what they were told (MQTT 5.0, 3.1.2.11.5, 3.3.2.3.4).
-use Rattle.std.specs.Prelude.{ℕ, zero, suc, Bool, cond, List, [], ◌∷◌, ◌++◌, map, bytes_eq, Option, Some, None}
+use Rattle.std.specs.Prelude.{ℕ, zero, suc, cond, List, [], ◌∷◌, ◌++◌, map, bytes_eq, Option, Some, None}
 use Rattle.mqtt_topic.specs.Aliases.{AliasTable, no_aliases}
 use Rattle.mqtt_topic_aliases.specs.Told.{most_of}
 use Rattle.mqtt_rules.specs.declared.Limits.{Limits}
 use Rattle.mqtt_rules.specs.State.{Broker, Telling}
 use Rattle.mqtt_rules.specs.Deeds.{Deed, LinePart, Greet, On, after_all, wires}
 use Rattle.mqtt_rules.specs.Step.{Call, Outcome, at_moment, deeds, stepped, told}
-use Rattle.mqtt_world_model.specs.Lines.{left, stands}
+use Rattle.mqtt_world_model.specs.Lines.{left}
 use Rattle.mqtt_world_model.specs.Ends.{Receiver, publisher_reads}
 use Rattle.mqtt_world_model.specs.World.{World, start, Setting, with_publisher, publisher_told, receiver_told, restarts}
 use Rattle.mqtt_world_model.specs.World.{Asking, to_broker, old_to_broker, break, pump, tick, stranger, is_open_line}

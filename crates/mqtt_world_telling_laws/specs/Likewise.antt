@@ -1,17 +1,15 @@
 -- The world as packets really go and the world of what they mean, side by side (MQTT 5.0, 3.3.2.3.4).
-use Rattle.std.specs.Prelude.{◌≡◌, ℕ, ◌<◌, ◌≤◌, ⊤, true, List, [], ◌∷◌, ◌++◌, map, Option, Some, None, is_some}
+use Rattle.std.specs.Prelude.{◌≡◌, ℕ, ⊤, true, List, [], ◌∷◌, map, Option, Some, None, is_some}
 use Rattle.std.specs.List.{AllByRecursion}
 use Rattle.mqtt_topic.specs.Aliases.{AliasTable}
-use Rattle.mqtt_topic_aliases.specs.Told.{none_told}
 use Rattle.mqtt_rules.specs.declared.Limits.{Limits}
 use Rattle.mqtt_rules.specs.State.{Telling, told_on}
-use Rattle.mqtt_rules.specs.Deeds.{Deed, Greet, Link, On, Send}
-use Rattle.mqtt_rules.specs.Step.{Call, deeds}
+use Rattle.mqtt_rules.specs.Deeds.{Deed, Send}
 use Rattle.mqtt_rules_telling_laws.specs.Meaning.{HasItsTopic, Knows, Means, after_reading}
 use Rattle.mqtt_world_model.specs.Lines.{Down, Line}
 use Rattle.mqtt_world_model.specs.Ends.{Publisher, Receiver}
-use Rattle.mqtt_world_model.specs.World.{World, start, Setting}
-use Rattle.mqtt_world_model.specs.Run.{Turn, Reading, read_over}
+use Rattle.mqtt_world_model.specs.World.{World, start}
+use Rattle.mqtt_world_model.specs.Run.{Turn, deeds_over}
 use Rattle.mqtt_world_model.specs.Seen.{heard_in}
 use Rattle.mqtt_world_telling_laws.specs.Reading.{understood}
 use Rattle.mqtt_world_telling_laws.specs.AsSent.{AsSent, Most}
@@ -68,54 +66,27 @@ AllPublishersAlike ps ms = ⊥
 
 -- ---- both worlds
 
--- a world as packets go, of which this was told and known, and one of what they mean: the same broker, moment and
+-- a world as packets go, in which this was told and is known, and one of what they mean: the same broker, moment and
 -- strangers, and ends that are alike
 pub record WorldsAlike (most : Most) (tellings : List Telling) (known : List AliasTable) (x w : World) : Type 0 where
   pub same : w ≡ record x { publishers = w.publishers; receivers = w.receivers }
   pub publishers : AllPublishersAlike x.publishers w.publishers
   pub receivers : AllReceiversAlike most tellings x.receivers known w.receivers
 
--- Both worlds are alike, and nothing was told on a line that was not given
-pub record Likewise (most : Most) (s : AsSent) (w : World) : Type 0 where
-  pub worlds : WorldsAlike most s.tellings s.known s.world w
-  pub unused : (n : ℕ) → s.world.broker.given < n → told_on n s.tellings ≡ none_told 0
+-- after the same turns
+abbrev pub Likewise : Most → AsSent → World → Type 0
+Likewise most s w = WorldsAlike most s.tellings s.known s.world w
 
--- ---- what is asked of the rules' steps
+-- ---- what is asked of a run
 
--- a PUBLISH that is meant has a topic name and no Topic Alias; a client is greeted on a line that was given, and
--- numbers of lines go up
-abbrev pub AreInOrder : ℕ → List Deed → Type 0
-AreInOrder given [] = ⊤
-AreInOrder given (Link n ∷ ds) = (given ≤ n) × AreInOrder n ds
-AreInOrder given (On n (Greet birth keep_alive window largest most) ∷ ds) = (n ≤ given) × AreInOrder given ds
-AreInOrder given (Send n packet ∷ ds) = HasItsTopic packet × AreInOrder given ds
-AreInOrder given (d ∷ ds) = AreInOrder given ds
+-- a PUBLISH that is meant has a topic name, and no Topic Alias
+abbrev pub SendsItsTopic : Deed → Type 0
+SendsItsTopic (Send n packet) = HasItsTopic packet
+SendsItsTopic d = ⊤
 
--- the deeds of a call, with the number of the line that was given last before it
-pub record Called : Type 0 where
-  pub given : ℕ
-  pub deeds : List Deed
-
-abbrev pub called_at : Setting → Call → World → List Called
-called_at set call w =
-    record { given = w.broker.given; deeds = deeds set.limits set.choice w.now call w.broker } ∷ []
-
--- nothing goes out at a new line, nor when the broker opens
-abbrev pub the_calls : Reading (List Called)
-the_calls = record {
-  nothing = [];
-  join = λ first more. first ++ more;
-  linked = λ set w. [];
-  called = called_at;
-  opened = λ set w. [];
-}
-
-abbrev pub IsInOrder : Called → Type 0
-IsInOrder c = AreInOrder c.given c.deeds
-
--- of each call of a run
-abbrev pub AreCallsInOrder : Limits → List Turn → Type 0
-AreCallsInOrder limits ts = AllByRecursion IsInOrder (read_over the_calls limits ts start)
+-- so has each that the broker sends
+abbrev pub AllSendTopics : Limits → List Turn → Type 0
+AllSendTopics limits ts = AllByRecursion SendsItsTopic (deeds_over limits ts start)
 
 -- ---- what is said of receivers
 

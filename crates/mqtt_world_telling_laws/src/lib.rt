@@ -3,4 +3,7 @@
 
 mod laws;
 
-pub use laws::{each_publish_is_understood, every_run_means_what_was_meant};
+pub use laws::{
+    copies_in_forms_are_handed_over_once, each_publish_is_understood,
+    every_run_means_what_was_meant,
+};

@@ -1,5 +1,8 @@
-use Rattle.mqtt_world_telling_laws.proofs.Runs.{likewise}
+use Rattle.mqtt_world_telling_laws.proofs.Runs.{fates, likewise}
 use Rattle.mqtt_world_telling_laws.proofs.laws.every_run_means_what_was_meant.Goals as goal
 
-pub returns : goal.returns
-returns c = record { likewise = likewise }
+pub returns-clause-likewise : goal.returns-clause-likewise
+returns-clause-likewise c = likewise
+
+pub returns-clause-fates : goal.returns-clause-fates
+returns-clause-fates c = fates
