@@ -274,6 +274,10 @@ module _ (most : Most) where
   likewise limits ts order =
       (run_alike limits ts start_as_sent start (record { worlds = record { same = refl; publishers = tt; receivers = tt }; lines = record { unused = λ n less. refl; numbered = tt } }) order).worlds
 
+  -- the broker is the same
+  pub brokers : (limits : Limits) (ts : List Turn) → AllSendTopics limits ts → (sent.after most limits ts).world.broker ≡ (meant_run.after limits ts).broker
+  brokers limits ts topics = sym (ap (λ (y : World). y.broker) (likewise limits ts topics).same)
+
   -- what became of each message is the same
   pub fates : (limits : Limits) (ts : List Turn) (client : List ℕ) (n : ℕ) → AllSendTopics limits ts → fate_of client n (sent.after most limits ts).world ≡ fate_of client n (meant_run.after limits ts)
   fates limits ts client n topics =

@@ -15,7 +15,9 @@ pub fn every_run_means_what_was_meant()
     ensures likewise { (most : Most) (limits : Limits) (ts : List Turn) → AllSendTopics limits ts
         → Likewise most (after most limits ts) (after_meant limits ts) }
 
-    // What became of each message of a publisher is the same.
+    // So the broker is the same, and what became of each message of a publisher.
+    ensures broker { (most : Most) (limits : Limits) (ts : List Turn) → AllSendTopics limits ts
+        → (after most limits ts).world.broker ≡ (after_meant limits ts).broker }
     ensures fates { (most : Most) (limits : Limits) (ts : List Turn) (client : List ℕ) (n : ℕ)
         → AllSendTopics limits ts
         → fate_of client n (after most limits ts).world ≡ fate_of client n (after_meant limits ts) }
