@@ -10,3 +10,4 @@ pub mod Bad
 pub mod Worlds
 pub mod Runs
 pub mod Handed
+pub mod Topics
