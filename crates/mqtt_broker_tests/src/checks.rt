@@ -5,6 +5,7 @@ use crate::judging::{How, judge_all};
 use crate::scripts::{clients, closing, filters, publishing, receiving, refusing, turning};
 use crate::sql::judge_spent;
 use crate::sweeps::judge_sweeps;
+use crate::taken::judge_taken;
 use crate::telling::Telling;
 use std::alloc::{AllocError, Global};
 use std::hash::RandomState;
@@ -23,6 +24,8 @@ pub enum What {
     Unread,
     /// Whether scripts tell what they say over a store in SQL, and leave the rows that they leave in memory.
     InSql,
+    /// Whether a broker that is opened over a store of schema 1 goes on as over any other, and the store is taken over.
+    TakenOver,
     /// Whether nothing changes in a store in SQL, if no publication can be numbered any more.
     Spent,
     /// Whether what memory was wanting for is done when it is asked again, and leaves the same rows: to be run with each
@@ -79,6 +82,7 @@ fn judge_what(
             judge_subjects(wrong, alloc, hasher, How::InSql);
             judge_all(wrong, alloc, hasher, refusing(), How::InSql);
         }
+        What::TakenOver => judge_taken(wrong, alloc, hasher),
         What::Spent => judge_spent(wrong, alloc, hasher),
         What::Wanting => judge_subjects(wrong, alloc, hasher, How::Twice(SHORT)),
         What::Frames => judge_sweeps(wrong, script, alloc, hasher),

@@ -33,6 +33,8 @@ mod streams;
 #[cfg(test)]
 mod sweeps;
 #[cfg(test)]
+mod taken;
+#[cfg(test)]
 mod telling;
 #[cfg(test)]
 mod unread;

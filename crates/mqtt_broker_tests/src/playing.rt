@@ -35,6 +35,14 @@ fn scripts_leave_the_same_rows_in_a_store_in_sql(rt: HostRuntime) -> Result<(), 
 }
 
 #[test]
+fn a_broker_goes_on_over_a_store_of_schema_1_that_is_taken_over(
+    rt: HostRuntime,
+) -> Result<(), Fail> {
+    let hasher = RandomState::new(&rt)?;
+    check(rt.alloc(), hasher, What::TakenOver)
+}
+
+#[test]
 fn nothing_changes_once_the_numbers_of_publications_are_spent(rt: HostRuntime) -> Result<(), Fail> {
     let hasher = RandomState::new(&rt)?;
     check(rt.alloc(), hasher, What::Spent)

@@ -72,6 +72,7 @@ module _ (old : State) (changes : List Change) (r : Records) (ready : HasCleanDi
   order_old : (clean : HasCleanDisk old) → AreInOrderTwo (ready clean).making old.now.trees
   order_old clean = let h = ready clean in second_order h.making old.now.trees (shaped_in (second_schema h.making) old.now h.schema (ordered clean))
 
+  -- and the catalog lists these tables
   pub lists_old : (clean : HasCleanDisk old) → Lists (old.now.trees catalog_tree) (second_schema (ready clean).making)
   lists_old clean = let h = ready clean in subst (Lists (old.now.trees catalog_tree)) h.schema (live h.is_open).0.lists
 

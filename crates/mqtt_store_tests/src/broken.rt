@@ -1,14 +1,16 @@
 //! Databases that a load takes or refuses.
 
 use crate::changes::{LONG, SENT};
-use crate::databases::{
-    broken_copies, broken_of_the_course, broken_sessions, broken_subscriptions, crowded, full,
-    others, sound,
-};
+use crate::databases::{broken_sessions, broken_subscriptions, crowded, others, sound};
 use crate::first_databases::{
-    broken_first_copies, broken_retained, crowded_first, rows_of_the_course, sound_first,
+    broken_copies, broken_first_tables, broken_retained, crowded_copies, rows_of_the_course,
+    sound_copies,
 };
-use crate::store::{database, found};
+use crate::second_databases::{
+    broken_kept, broken_of_the_course, broken_old_tables, broken_queued, broken_tables,
+    crowded_queued, sound_queued,
+};
+use crate::store::{LOAD, act_over, database, found, left_of};
 use mqtt_records::KeepError;
 use mqtt_store_schema::create_store;
 use sqlite::{Alter, Connection, Error, MemStore, params};
@@ -40,13 +42,21 @@ pub(crate) enum Base {
     Course(usize),
     /// Of schema 1, with the rows of the long course.
     First,
+    /// Of schema 2, by which that was taken over.
+    TakenOver,
+}
+
+/// Makes the tables of schema 1 in an empty database, with the rows of the long course; answers whether they are made.
+pub(crate) fn fill_first<S: Alter>(conn: &mut Connection<S>) -> bool {
+    conn.is_autocommit()
+        && create_store(conn).is_ok()
+        && conn.execute_batch(rows_of_the_course()).is_ok()
 }
 
 /// A database of schema 1 with the rows of the long course.
 fn first_database(alloc: Global) -> Result<Connection<MemStore>, KeepError> {
     let mut conn = Connection::open_in_memory(alloc)?;
-    let is_made = create_store(&mut conn).is_ok()
-        && conn.execute_batch(rows_of_the_course()).is_ok();
+    let is_made = fill_first(&mut conn);
     if is_made {
         Ok(conn)
     } else {
@@ -55,10 +65,17 @@ fn first_database(alloc: Global) -> Result<Connection<MemStore>, KeepError> {
     }
 }
 
+/// The same once it was loaded, so that it is of schema 2.
+fn taken_over(alloc: Global) -> Result<Connection<MemStore>, KeepError> {
+    let (told, left) = act_over(alloc, first_database(alloc)?, LOAD);
+    left_of(told.after.is_ok(), left)
+}
+
 pub(crate) fn database_of(alloc: Global, base: Base) -> Result<Connection<MemStore>, KeepError> {
     match base {
         Base::Course(steps) => database(alloc, steps),
         Base::First => first_database(alloc),
+        Base::TakenOver => taken_over(alloc),
     }
 }
 
@@ -96,49 +113,80 @@ fn first_wrong(
     ""
 }
 
+/// The first of several lists of such changes.
+fn first_wrong_of(
+    alloc: Global,
+    of: Base,
+    lists: &[&'static str],
+    want: Option<KeepError>,
+) -> &'static str {
+    for changes in lists {
+        let wrong = first_wrong(alloc, of, *changes, want);
+        if !wrong.is_empty() {
+            return wrong;
+        }
+    }
+    ""
+}
+
 #[test]
 fn a_database_of_another_schema_is_refused(rt: HostRuntime) -> Result<(), Fail> {
-    let wrong = first_wrong(
-        rt.alloc(),
-        Base::Course(SENT),
-        others(),
-        Some(KeepError::Schema),
-    );
-    assert_eq!(rt; wrong, "");
+    for of in [Base::Course(SENT), Base::First, Base::TakenOver] {
+        let wrong = first_wrong(rt.alloc(), of, others(), Some(KeepError::Schema));
+        assert_eq!(rt; wrong, "");
+    }
     Ok(())
 }
 
 #[test]
 fn a_broken_database_is_refused(rt: HostRuntime) -> Result<(), Fail> {
-    for (of, changes) in [
-        (Base::Course(SENT), broken_of_the_course()),
-        (Base::Course(LONG), broken_sessions()),
-        (Base::Course(LONG), broken_subscriptions()),
-        (Base::Course(LONG), broken_copies()),
-    ] {
-        let wrong = first_wrong(rt.alloc(), of, changes, Some(KeepError::Corrupt));
-        assert_eq!(rt; wrong, "");
-    }
-    Ok(())
-}
-
-#[test]
-fn a_broken_database_of_schema_1_is_refused(rt: HostRuntime) -> Result<(), Fail> {
-    for changes in [broken_retained(), broken_first_copies(), crowded_first()] {
-        let wrong = first_wrong(rt.alloc(), Base::First, changes, Some(KeepError::Corrupt));
-        assert_eq!(rt; wrong, "");
-    }
-    let wrong = first_wrong(rt.alloc(), Base::First, others(), Some(KeepError::Schema));
+    let corrupt = Some(KeepError::Corrupt);
+    let wrong = first_wrong(
+        rt.alloc(),
+        Base::Course(SENT),
+        broken_of_the_course(),
+        corrupt,
+    );
+    assert_eq!(rt; wrong, "");
+    let lists = [
+        broken_tables(),
+        broken_sessions(),
+        broken_subscriptions(),
+        broken_kept(),
+        broken_queued(),
+    ];
+    let wrong = first_wrong_of(rt.alloc(), Base::Course(LONG), &lists, corrupt);
     assert_eq!(rt; wrong, "");
     Ok(())
 }
 
 #[test]
-fn a_database_with_too_many_rows_is_refused(rt: HostRuntime) -> Result<(), Fail> {
-    let wrong = first_wrong(
+fn a_broken_database_of_schema_1_is_refused(rt: HostRuntime) -> Result<(), Fail> {
+    let lists = [
+        broken_first_tables(),
+        broken_sessions(),
+        broken_subscriptions(),
+        broken_retained(),
+        broken_copies(),
+    ];
+    let wrong = first_wrong_of(rt.alloc(), Base::First, &lists, Some(KeepError::Corrupt));
+    assert_eq!(rt; wrong, "");
+    Ok(())
+}
+
+#[test]
+fn a_broken_database_that_was_taken_over_is_refused(rt: HostRuntime) -> Result<(), Fail> {
+    let lists = [
+        broken_old_tables(),
+        broken_sessions(),
+        broken_subscriptions(),
+        broken_kept(),
+        broken_queued(),
+    ];
+    let wrong = first_wrong_of(
         rt.alloc(),
-        Base::Course(LONG),
-        crowded(),
+        Base::TakenOver,
+        &lists,
         Some(KeepError::Corrupt),
     );
     assert_eq!(rt; wrong, "");
@@ -146,13 +194,26 @@ fn a_database_with_too_many_rows_is_refused(rt: HostRuntime) -> Result<(), Fail>
 }
 
 #[test]
-fn a_database_at_the_edge_is_taken(rt: HostRuntime) -> Result<(), Fail> {
-    for (of, changes) in [
-        (Base::Course(LONG), full()),
-        (Base::Course(LONG), sound()),
-        (Base::First, sound_first()),
+fn a_database_with_too_many_rows_is_refused(rt: HostRuntime) -> Result<(), Fail> {
+    for (of, lists) in [
+        (Base::Course(LONG), [crowded(), crowded_queued()]),
+        (Base::First, [crowded(), crowded_copies()]),
+        (Base::TakenOver, [crowded(), crowded_queued()]),
     ] {
-        let wrong = first_wrong(rt.alloc(), of, changes, None);
+        let wrong = first_wrong_of(rt.alloc(), of, &lists, Some(KeepError::Corrupt));
+        assert_eq!(rt; wrong, "");
+    }
+    Ok(())
+}
+
+#[test]
+fn a_database_at_the_edge_is_taken(rt: HostRuntime) -> Result<(), Fail> {
+    for (of, lists) in [
+        (Base::Course(LONG), [sound(), sound_queued()]),
+        (Base::First, [sound(), sound_copies()]),
+        (Base::TakenOver, [sound(), sound_queued()]),
+    ] {
+        let wrong = first_wrong_of(rt.alloc(), of, &lists, None);
         assert_eq!(rt; wrong, "");
     }
     Ok(())

@@ -1,5 +1,6 @@
 //! A store over a file and its log, in memory: closed or dropped and opened again, cut, changed, and on a device that fails.
 
+use crate::broken::fill_first;
 use crate::changes::LONG;
 use crate::limits::two;
 use crate::seen::Seen;
@@ -160,6 +161,30 @@ fn begin(alloc: Global, image: &mut Image, steps: usize, is_closed: bool) -> Res
                 Some(told) => told.made,
                 None => Err(KeepError::Disk),
             }
+        }
+        Err(_) => Err(KeepError::Memory),
+    }
+}
+
+/// Makes new files of schema 1, with the rows of the long course, and takes their bytes.
+fn begin_first(alloc: Global, image: &mut Image, is_closed: bool) -> Result<(), KeepError> {
+    match open(alloc, &[], &[], u64::MAX) {
+        Ok(Ok(conn)) => {
+            let mut conn = conn;
+            let is_made = fill_first(&mut conn);
+            let files = files_after(conn, is_closed);
+            let taken = image.take(&files);
+            drop(files);
+            taken?;
+            if is_made {
+                Ok(())
+            } else {
+                Err(KeepError::Disk)
+            }
+        }
+        Ok(Err(files)) => {
+            drop(files);
+            Err(KeepError::Disk)
         }
         Err(_) => Err(KeepError::Memory),
     }
@@ -352,11 +377,19 @@ fn wrong_failure(
     (None, 0)
 }
 
-/// The same over the files of the long course, closed or dropped.
-fn wrong_failure_of(alloc: Global, is_closed: bool) -> Result<(Option<u64>, u64), KeepError> {
+/// The same over the files of the long course, closed or dropped; of schema 1, if they are to be taken over.
+fn wrong_failure_of(
+    alloc: Global,
+    is_first: bool,
+    is_closed: bool,
+) -> Result<(Option<u64>, u64), KeepError> {
     let two = two(alloc)?;
     let mut image = Image::new(alloc);
-    let begun = begin(alloc, &mut image, LONG, is_closed);
+    let begun = if is_first {
+        begin_first(alloc, &mut image, is_closed)
+    } else {
+        begin(alloc, &mut image, LONG, is_closed)
+    };
     let wrong = wrong_failure(alloc, &image, &two);
     drop(image);
     begun?;
@@ -366,7 +399,22 @@ fn wrong_failure_of(alloc: Global, is_closed: bool) -> Result<(Option<u64>, u64)
 #[test]
 fn a_device_that_fails_leaves_whole_steps(rt: HostRuntime) -> Result<(), Fail> {
     for is_closed in [true, false] {
-        let (wrong, calls) = wrong_failure_of(rt.alloc(), is_closed)?;
+        let (wrong, calls) = wrong_failure_of(rt.alloc(), false, is_closed)?;
+        assert!(rt;
+            wrong == None && calls > 0,
+            "closed: {is_closed}, {calls} calls"
+        );
+    }
+    Ok(())
+}
+
+/// The load takes the store over, and the step is made behind it.
+#[test]
+fn a_device_that_fails_keeps_all_of_a_store_that_is_taken_over(
+    rt: HostRuntime,
+) -> Result<(), Fail> {
+    for is_closed in [true, false] {
+        let (wrong, calls) = wrong_failure_of(rt.alloc(), true, is_closed)?;
         assert!(rt;
             wrong == None && calls > 0,
             "closed: {is_closed}, {calls} calls"

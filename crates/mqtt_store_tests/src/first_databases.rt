@@ -16,8 +16,8 @@ INSERT INTO retained VALUES (1, 'a/b', 'p1', 1, 2, x'00', x'6869', 0)
 "
 }
 
-/// Tables and retained messages that break a rule.
-pub(crate) fn broken_retained() -> &'static str {
+/// Tables that are not those of schema 1.
+pub(crate) fn broken_first_tables() -> &'static str {
     "\
 -- a missing table
 DROP TABLE retained
@@ -25,6 +25,16 @@ DROP TABLE retained
 DROP TABLE retained; CREATE TABLE retained (place INTEGER PRIMARY KEY, topic TEXT NOT NULL UNIQUE) STRICT
 -- a further index
 CREATE INDEX more ON retained (sender)
+-- a schema of 2 in the tables of schema 1
+UPDATE meta SET n = 2 WHERE name = 'schema'
+-- a table of schema 2
+CREATE TABLE message (pub INTEGER PRIMARY KEY, topic TEXT NOT NULL, props BLOB NOT NULL, payload BLOB NOT NULL) STRICT
+"
+}
+
+/// Retained messages that break a rule.
+pub(crate) fn broken_retained() -> &'static str {
+    "\
 -- a retained message to a wildcard
 UPDATE retained SET topic = 'a/#'
 -- a retained message of QoS 3
@@ -49,7 +59,7 @@ UPDATE retained SET place = 4611686018427387905
 }
 
 /// Copies that break a rule.
-pub(crate) fn broken_first_copies() -> &'static str {
+pub(crate) fn broken_copies() -> &'static str {
     "\
 -- sent without an identifier
 UPDATE copy SET pid = NULL
@@ -145,7 +155,7 @@ UPDATE copy SET phase = 2, rel = 1; INSERT INTO copy SELECT birth, 2, pub, 2, ''
 }
 
 /// Lists with one row more than there may be.
-pub(crate) fn crowded_first() -> &'static str {
+pub(crate) fn crowded_copies() -> &'static str {
     "\
 -- 1,000 copies and one
 UPDATE meta SET n = 1001 WHERE name = 'publications'; INSERT INTO copy WITH RECURSIVE n (i) AS (SELECT 2 UNION ALL SELECT i + 1 FROM n WHERE i < 1000) SELECT 1, i, i, 0, '', 0, NULL, 0, NULL, 'a/b', 2, 0, x'00', x'', 0 FROM n; INSERT INTO copy VALUES (1, 1001, 1001, 0, '', 0, NULL, 0, NULL, 'a/b', 2, 0, x'00', x'', 0)
@@ -154,8 +164,8 @@ UPDATE meta SET n = 1001 WHERE name = 'publications'; INSERT INTO retained WITH 
 "
 }
 
-/// Databases at the edge of a rule, and lists with as many rows as there may be.
-pub(crate) fn sound_first() -> &'static str {
+/// Lists with as many rows as there may be, and rows at the edge of a rule.
+pub(crate) fn sound_copies() -> &'static str {
     "\
 -- the greatest place of a retained message
 UPDATE retained SET place = 4611686018427387904

@@ -17,6 +17,8 @@ mod limits;
 #[cfg(test)]
 mod rows;
 #[cfg(test)]
+mod second_databases;
+#[cfg(test)]
 mod seen;
 #[cfg(test)]
 mod store;

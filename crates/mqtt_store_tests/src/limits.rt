@@ -1,6 +1,7 @@
 //! A store whose statements may take few steps, or that wants memory: a load or a step of changes is made or isn't.
 ghost use Rattle.std.specs.Prelude.{OnOk};
 
+use crate::broken::{Base, database_of};
 use crate::changes::{LONG, STEPS};
 use crate::seen::Seen;
 use crate::store::{Deed, Told, database, found, load, make, told_over};
@@ -11,14 +12,15 @@ use std::alloc::Global;
 use std::process::Abort;
 use std::test::Fail;
 
-/// What a store in memory that has the long course answers, if the next step and a load before it may take so many steps.
-fn limited(alloc: Global, limit: u64) -> Result<Told, KeepError> {
+/// What a store in memory that has the long course answers, if the steps behind it up to another and a load before them may
+/// take so many steps of the database. The load takes a database of schema 1 over.
+fn limited(alloc: Global, of: Base, to: usize, limit: u64) -> Result<Told, KeepError> {
     let deed = Deed {
         from: LONG,
-        to: LONG + 1,
+        to,
         limit: Some(limit),
     };
-    Ok(told_over(alloc, database(alloc, LONG)?, deed))
+    Ok(told_over(alloc, database_of(alloc, of)?, deed))
 }
 
 /// What a store finds before and behind that step.
@@ -39,21 +41,46 @@ fn is_whole(it: &Told, two: &[Result<Seen, KeepError>; 2]) -> bool {
     is_loaded && it.before == two[0] && is_made && it.failures == failed
 }
 
+/// How often such a store is interrupted within 1, 2, 4, .. steps, until it isn't; and the limit within which it is not whole,
+/// if there is one.
+fn interruptions(
+    alloc: Global,
+    of: Base,
+    to: usize,
+    two: &[Result<Seen, KeepError>; 2],
+) -> Result<(u32, Option<u64>), KeepError> {
+    let mut times = 0_u32;
+    let mut limit = 1_u64;
+    for _ in 0..40 {
+        let it = limited(alloc, of, to, limit)?;
+        if !is_whole(&it, two) {
+            break;
+        }
+        if it.failures == 0 {
+            return Ok((times, None));
+        }
+        times = times.wrapping_add(1);
+        limit = limit.wrapping_mul(2);
+    }
+    Ok((times, Some(limit)))
+}
+
 #[test]
 fn what_is_interrupted_is_made_or_not(rt: HostRuntime) -> Result<(), Fail> {
     let two = two(rt.alloc())?;
-    let mut interrupted = 0_u32;
-    let mut limit = 1_u64;
-    for _ in 0..40 {
-        let it = limited(rt.alloc(), limit)?;
-        assert!(rt; is_whole(&it, &two), "within {limit}");
-        if it.failures == 0 {
-            break;
-        }
-        interrupted = interrupted.wrapping_add(1);
-        limit = limit.wrapping_mul(2);
-    }
-    assert!(rt; interrupted > 0 && interrupted < 40);
+    let (times, wrong) = interruptions(rt.alloc(), Base::Course(LONG), LONG + 1, &two)?;
+    assert_eq!(rt; wrong, None);
+    assert!(rt; times > 0);
+    Ok(())
+}
+
+/// A load that takes a database over either does so or leaves it of schema 1: both have the same records.
+#[test]
+fn a_taking_over_that_is_interrupted_keeps_all(rt: HostRuntime) -> Result<(), Fail> {
+    let [before, _] = two(rt.alloc())?;
+    let (times, wrong) = interruptions(rt.alloc(), Base::First, LONG, &[before, before])?;
+    assert_eq!(rt; wrong, None);
+    assert!(rt; times > 0);
     Ok(())
 }
 

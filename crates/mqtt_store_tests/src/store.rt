@@ -147,6 +147,23 @@ pub(crate) fn told_over<S: Alter + Drop>(alloc: Global, conn: Connection<S>, dee
     told
 }
 
+/// The connection that a deed left; Disk if the deed wasn't done.
+pub(crate) fn left_of(
+    is_done: bool,
+    left: Result<Connection<MemStore>, MemStore>,
+) -> Result<Connection<MemStore>, KeepError> {
+    match left {
+        Ok(conn) => {
+            if is_done {
+                return Ok(conn);
+            }
+            drop(conn);
+        }
+        Err(store) => drop(store),
+    }
+    Err(KeepError::Disk)
+}
+
 /// A database in memory after so many steps of the course; Disk if one isn't made.
 pub(crate) fn database(alloc: Global, steps: usize) -> Result<Connection<MemStore>, KeepError> {
     let conn = Connection::open_in_memory(alloc)?;
@@ -156,17 +173,7 @@ pub(crate) fn database(alloc: Global, steps: usize) -> Result<Connection<MemStor
         limit: None,
     };
     let (told, left) = act_over(alloc, conn, deed);
-    if told.made.is_err() {
-        drop(left);
-        return Err(KeepError::Disk);
-    }
-    match left {
-        Ok(conn) => Ok(conn),
-        Err(store) => {
-            drop(store);
-            Err(KeepError::Disk)
-        }
-    }
+    left_of(told.made.is_ok(), left)
 }
 
 /// A load and no step.
