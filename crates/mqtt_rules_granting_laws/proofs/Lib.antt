@@ -1,0 +1,6 @@
+pub mod Blocks
+pub mod Topics
+pub mod Deeds
+pub mod Copies
+pub mod Acts
+pub mod Steps

@@ -1,0 +1,17 @@
+use Rattle.mqtt_rules_granting_laws.proofs.Steps.{opening_named, step_grants, step_named, stored_named}
+use Rattle.mqtt_rules_granting_laws.proofs.laws.each_publish_names_its_topic.Goals as goal
+
+pub returns-clause-grants : goal.returns-clause-grants
+returns-clause-grants c = λ limits choice now n most call b. step_grants limits choice now n most call b
+
+pub returns-clause-step : goal.returns-clause-step
+returns-clause-step c = step_named
+
+pub returns-clause-opening : goal.returns-clause-opening
+returns-clause-opening c = opening_named
+
+pub returns-clause-nothing : goal.returns-clause-nothing
+returns-clause-nothing c = record { sessions = tt; retained = tt }
+
+pub returns-clause-lawful : goal.returns-clause-lawful
+returns-clause-lawful c = stored_named

@@ -1,0 +1,62 @@
+-- What a broker holds whose PUBLISH packets name their topics and have no Topic Alias (MQTT 5.0, 3.3.2.1, 3.3.2.3.4).
+use Rattle.std.specs.Prelude.{◌≡◌, ℕ, false, List, Option, Some, None}
+use Rattle.std.specs.List.{AllByRecursion}
+use Rattle.mqtt_props.specs.Laws.{is_named}
+use Rattle.mqtt_props.specs.Properties.{Prop}
+use Rattle.mqtt_props.specs.declared.table.PropName.TheVariants.{TopicAlias}
+use Rattle.mqtt_records.specs.declared.records.Records.{Records}
+use Rattle.mqtt_records.specs.declared.session.Session.{Session}
+use Rattle.mqtt_records_message.specs.PassedOn.{IsPassedOn}
+use Rattle.mqtt_records_message.specs.Queue.{CopyRow}
+use Rattle.mqtt_records_message.specs.declared.message.Content.{Content}
+use Rattle.mqtt_records_message.specs.declared.message.RetainedMessage.{RetainedMessage}
+use Rattle.mqtt_records_message.specs.declared.message.Will.{Will}
+use Rattle.mqtt_rules.specs.State.{Broker, Line}
+use Rattle.mqtt_topic.specs.Names.{IsTopicName}
+
+-- ---- a message
+
+-- none of these properties is a Topic Alias
+abbrev pub HasNoAlias : List Prop → Type 0
+HasNoAlias ps = AllByRecursion (λ p. is_named TopicAlias p ≡ false) ps
+
+-- a topic name, and no alias
+pub record NamesTopic (topic : List ℕ) (ps : List Prop) : Type 0 where
+  pub name : IsTopicName topic
+  pub unaliased : HasNoAlias ps
+
+abbrev pub IsNamed : Content → Type 0
+IsNamed content = NamesTopic content.topic content.properties
+
+-- a Will has a topic name; an alias among its properties would not be passed on
+abbrev pub IsNamedWill : Option Will → Type 0
+IsNamedWill None = Unit {0}
+IsNamedWill (Some will) = IsTopicName will.topic
+
+-- ---- what is stored
+
+-- a session's Will and its copies
+pub record HasNamed (s : Session) : Type 0 where
+  pub will : IsNamedWill s.will
+  pub queue : AllByRecursion (λ (e : CopyRow). IsNamed e.copy.content) s.queue
+
+-- those of all sessions, and the retained messages
+pub record StoresNamed (r : Records) : Type 0 where
+  pub sessions : AllByRecursion HasNamed r.sessions
+  pub retained : AllByRecursion (λ (k : RetainedMessage). IsNamed k.content) r.retained
+
+-- all properties that are stored are such as publications pass on, as their type in code has it
+pub record StoresPassedOn (r : Records) : Type 0 where
+  pub sessions : AllByRecursion (λ (s : Session). AllByRecursion (λ (e : CopyRow). IsPassedOn e.copy.content.properties) s.queue) r.sessions
+  pub retained : AllByRecursion (λ (k : RetainedMessage). IsPassedOn k.content.properties) r.retained
+
+-- ---- a broker
+
+-- each alias that a client gave stands for a topic name
+abbrev pub HasNames : Line → Type 0
+HasNames l = AllByRecursion (λ e. IsTopicName e.1) l.aliases.topics
+
+-- so of what is stored, and of all lines
+pub record NamesTopics (b : Broker) : Type 0 where
+  pub stored : StoresNamed b.records
+  pub lines : AllByRecursion HasNames b.lines

@@ -1,0 +1,8 @@
+use Rattle.mqtt_world_fitting_laws.proofs.Runs.{run_fits, start_fits}
+use Rattle.mqtt_world_fitting_laws.proofs.laws.whole_copies_fit_in_every_run.Goals as goal
+
+pub returns-clause-runs : goal.returns-clause-runs
+returns-clause-runs c = run_fits
+
+pub returns-clause-from_nothing : goal.returns-clause-from_nothing
+returns-clause-from_nothing c = start_fits
