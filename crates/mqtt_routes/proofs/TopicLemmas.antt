@@ -121,6 +121,10 @@ module _ (spots : List Spot) where
       before ≡ spots_at (take i ks) → after ≡ spots_at (take (i + 1) ks)
   numbers_next ks i d before after z within is made h = made ∙ ap (λ (xs : List Spot). xs ++ z ∷ []) h ∙ pushed ks i d z within is
 
+-- the numbers of what matches, in another order
+pub are_moved : (texts : List (List ℕ)) (name : List ℕ) (found moved : List ℕ) → IsPermutation found moved → AreMatching texts name found → AreMatching texts name moved
+are_moved texts name found moved same are = λ i. sum_by-IsPermutation (λ m. once (nat_eq i m)) found moved same ∙ are i
+
 module _ (p : Publication) (sessions : List Subscriber) (spots : List Spot) (found : List ℕ) (index : IsIndex sessions spots) (are : AreMatching (texts_of sessions spots) p.topic found) where
   -- each number that was found is a spot's
   pub found_within : (i d : ℕ) → i < length found → get_or found i d < length spots

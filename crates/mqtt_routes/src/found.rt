@@ -64,7 +64,7 @@ pub(crate) fn directs<S: Sessions>(
         ≡ directs (S.answers at.now) publication.now sessions) }
     ensures fault { IfErr result (λ fault. fault ≡ RoutesFault.Memory) }
 {
-    let mut copies = Vec::new(alloc);
+    let mut copies = Vec::with_capacity(alloc, found.len())?;
     for one in found {
         if publication.is_direct(at, one) {
             add_direct(alloc, publication, &mut copies, one)?;
@@ -88,7 +88,7 @@ pub(crate) fn members<'a>(
     for one in found {
         let birth = one.birth;
         let row = one.row;
-        if row.subscription.filter.is_shared() {
+        if row.is_shared() {
             insert_member(&mut members, Member { birth, row })?;
         }
     }

@@ -51,6 +51,6 @@ impl<'a> Publication<'a> {
         ensures { result ≡ is_direct (S.answers at.now) self.now found.now }
     {
         let row = found.row;
-        !row.subscription.filter.is_shared() && !self.is_barred(at, found.birth, &row.subscription)
+        !row.is_shared() && !self.is_barred(at, found.birth, &row.subscription)
     }
 }

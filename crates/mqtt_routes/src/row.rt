@@ -1,8 +1,10 @@
 //! A subscription in the table of its session, found by the text of its filter (MQTT 5.0, 3.8.4).
-ghost use Rattle.std.proofs.Common.{ap, sym, bytes_eq};
+ghost use Rattle.std.proofs.Common.{◌≡◌, ap, sym, bytes_eq};
 ghost use Rattle.std.specs.Cmp.{partial_equiv_from_equiv};
 ghost use Rattle.std.specs.Cmp.Lexicographic.{bytes_decides};
 ghost use Rattle.std.specs.Hash as fed;
+ghost use Rattle.mqtt_topic.specs.Filters.{matching_part_of};
+ghost use Rattle.mqtt_routes.specs.Intended.{is_shared};
 ghost use Rattle.mqtt_routes.specs.Subscriptions.{is_to};
 ghost use Rattle.mqtt_routes.specs.Keys.{same_filter, same_filter_equiv};
 
@@ -16,17 +18,57 @@ use std::marker::Model;
 #[derive(Drop)]
 pub(crate) struct Row {
     pub(crate) subscription: Subscription,
+    /// Whether it is shared: each publication to its topic asks, so it is read from the filter once.
+    shared: bool,
     /// For a shared one the place of the member that its group chose last; 0 before the first. It
     /// is noted through a `&`, since what stands in a set is only lent so.
     pub(crate) turn: Cell<u64>,
 }
 
 impl Model for Row {
+    ghost use Rattle.std.specs.Prelude.{◌≡◌};
+    ghost use Rattle.mqtt_routes.specs.Intended.{is_shared};
     ghost use Rattle.mqtt_routes.specs.declared.subscription.Subscription.{Subscription};
 
     ghost Value = { Subscription };
 
     ghost view = { λ row. row.subscription };
+
+    ghost invariant = { λ row. row.shared ≡ is_shared row.subscription };
+}
+
+impl Row {
+    /// A subscription, and the place of the member that its group chose last. Takes no memory.
+    pub(crate) fn new(subscription: Subscription, turn: u64) -> Row
+        ensures { result ≡ subscription }
+    {
+        let shared = subscription.filter.is_shared();
+        let turn = Cell::new(turn);
+        Row {
+            subscription,
+            shared,
+            turn,
+        }
+    }
+
+    /// Whether it is shared. Takes no memory.
+    pub(crate) fn is_shared(&self) -> bool
+        ensures { result ≡ is_shared self.now }
+    {
+        self.shared
+    }
+
+    /// The filter by which it is matched: FILTER of a shared one (4.8.2). Takes no memory.
+    pub(crate) fn matched(&self) -> &str
+        ensures { result.now ≡ matching_part_of self.now.filter }
+    {
+        let filter = &self.subscription.filter;
+        if self.is_shared() {
+            filter.filter()
+        } else {
+            filter.as_str()
+        }
+    }
 }
 
 impl PartialEq for Row {

@@ -10,7 +10,6 @@ use crate::subscription::Subscription;
 use indexmap::IndexSet;
 use mqtt_base::SUBSCRIPTION_LIMIT;
 use std::alloc::Global;
-use std::cell::Cell;
 use std::hash::RandomState;
 use std::marker::Model;
 
@@ -67,8 +66,7 @@ impl Subscriptions {
         if self.rows.len() >= SUBSCRIPTION_LIMIT {
             return Err(RoutesFault::Full);
         }
-        let turn = Cell::new(0);
-        self.rows.insert(Row { subscription, turn })?;
+        self.rows.insert(Row::new(subscription, 0))?;
         Ok(())
     }
 
@@ -85,12 +83,12 @@ impl Subscriptions {
             return self.push(subscription);
         };
         let place = row.subscription.place;
-        let turn = Cell::new(row.turn.get());
+        let turn = row.turn.get();
         let subscription = Subscription {
             place,
             ..subscription
         };
-        self.rows.replace(Row { subscription, turn })?;
+        self.rows.replace(Row::new(subscription, turn))?;
         Ok(())
     }
 
@@ -125,7 +123,7 @@ impl Subscriptions {
         ensures { result.now ≡ matched_at self.now.subs at }
     {
         match self.rows.get_index(at) {
-            Some(row) => row.subscription.filter.filter(),
+            Some(row) => row.matched(),
             None => "",
         }
     }
@@ -147,7 +145,7 @@ impl Subscriptions {
     /// Notes which members the groups of another table chose last. Takes no memory.
     pub(crate) fn keep_turns(&self, other: &Subscriptions) {
         for row in other.rows.as_slice() {
-            if row.subscription.filter.is_shared() {
+            if row.is_shared() {
                 self.note_turn(row.subscription.filter.as_str(), row.turn.get());
             }
         }

@@ -1,5 +1,5 @@
 //! The subscriptions of all sessions, by birth (MQTT 5.0, 3.8, 3.10).
-ghost use Rattle.std.specs.Prelude.{◌≡◌, ◌≤◌, ◌∷◌, [], ℕ, List, false, true, is_some, length, option_copied, slice_get, IfErr, IfOk, OnErr, OnOk};
+ghost use Rattle.std.specs.Prelude.{◌≡◌, ◌≤◌, ◌∷◌, [], ℕ, List, false, true, is_some, length, option_copied, slice_get, IfErr, IfNone, IfOk, IfSome, OnErr, OnOk};
 ghost use Rattle.mqtt_routes.specs.Spots.{matched_at, number_of};
 ghost use Rattle.mqtt_base.specs.declared.limits.TheConstants.{SUBSCRIPTION_LIMIT};
 ghost use Rattle.mqtt_routes.specs.Subscriptions.{has_filter, takes_filter, spot_of, subs_of, subscribed, unsubscribed, without_session, standing, filters_of, have_room, AreInOrder, RefusesPut};
@@ -165,11 +165,46 @@ impl Subscribers {
         }
     }
 
-    /// The subscription that stands at a spot, if there is one. Takes no memory.
-    pub(crate) fn row(&self, spot: Spot) -> Option<&Row>
+    /// The subscriptions of a session, if it is the one that stands at a seat. Takes no memory.
+    fn at_seat(&self, birth: u64, seat: usize) -> Option<&Subscriptions>
+        ensures { IfSome result (λ own. own.now.subs ≡ subs_of birth self.now.sessions) }
+    {
+        match self.sessions.get_index(seat) {
+            Some((other, own)) => { if *other == birth { Some(own) } else { None } }
+            None => None,
+        }
+    }
+
+    /// The subscriptions of a session, if it stands in the table. It is looked for at a seat and at
+    /// the next one, and only then by its hash. The seat becomes that of the session, or stays near.
+    /// Takes no memory.
+    fn near(&self, birth: u64, seat: &mut usize) -> Option<&Subscriptions>
+        ensures some { IfSome result (λ own. own.now.subs ≡ subs_of birth self.now.sessions) }
+        ensures none { IfNone result (subs_of birth self.now.sessions ≡ []) }
+    {
+        if let Some(own) = self.at_seat(birth, *seat) {
+            return Some(own);
+        }
+        *seat = seat.saturating_add(1);
+        if let Some(own) = self.at_seat(birth, *seat) {
+            return Some(own);
+        }
+        match self.sessions.get_full(&birth) {
+            Some((found, _, own)) => {
+                *seat = found;
+                Some(own)
+            }
+            None => None,
+        }
+    }
+
+    /// The subscription that stands at a spot, if there is one. Spots mostly come by births: `seat`
+    /// is where the session of the one before stands, and becomes that of this one's. It is a guess
+    /// alone: any number will do. Takes no memory.
+    pub(crate) fn row(&self, spot: Spot, seat: &mut usize) -> Option<&Row>
         ensures { option_copied result ≡ slice_get (subs_of spot.birth self.now.sessions) spot.at }
     {
-        match self.sessions.get(&spot.birth) {
+        match self.near(spot.birth, seat) {
             Some(subscriptions) => subscriptions.row(spot.at),
             None => None,
         }

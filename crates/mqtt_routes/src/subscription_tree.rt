@@ -159,8 +159,12 @@ impl SubscriptionTree {
         ensures fault { IfErr result (λ fault. fault ≡ RoutesFault.Memory) }
     {
         self.subscribers.show_order();
-        let found = matching(self.alloc, self, publication.topic)?;
-        let mut spots = Vec::new(self.alloc);
+        let mut found = matching(self.alloc, self, publication.topic)?;
+
+        // Of equal filters the one that was put last comes first. So this way round the spots of one
+        // filter mostly rise, and then the sort only looks.
+        found.reverse();
+        let mut spots = Vec::with_capacity(self.alloc, found.len())?;
         for number in found.as_slice() {
             spots.push(self.spots[*number])?;
         }
@@ -180,10 +184,11 @@ impl SubscriptionTree {
     {
         self.subscribers.show_order();
         let spots = self.spots_to(publication)?;
-        let mut found = Vec::new(self.alloc);
+        let mut found = Vec::with_capacity(self.alloc, spots.len())?;
+        let mut seat = 0;
         for spot in spots.as_slice() {
             let birth = spot.birth;
-            if let Some(row) = self.subscribers.row(*spot) {
+            if let Some(row) = self.subscribers.row(*spot, &mut seat) {
                 found.push(Found { birth, row })?;
             }
         }

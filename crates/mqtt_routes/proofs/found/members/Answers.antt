@@ -15,7 +15,7 @@ pub loop-one-preserved : goal.loop-one-preserved
 loop-one-preserved c =
     let before = c.loop-one.members.items in
     let f = c.one-item.result in
-    let is : is_shared f.sub ≡ c.is_shared.result = sym (c.is_shared.ensures ∙ ap is_shared (c.row.view_is ∙ ap (λ (x : Found). x.sub) c.one.view_is)) in
+    let is : is_shared f.sub ≡ c.is_shared.result = sym (c.is_shared.ensures ∙ ap (λ (x : Found). is_shared x.sub) c.one.view_is) in
     let made : c.if-is_shared.members.items ≡ cond (is_shared f.sub) (insert_member (member_of f) before) before = elim c.if-is_shared.branch [
       | then-is_shared+in_ok-insert_member w ↦
           ap (λ v. v.items) w.members-is ∙ w.in_ok-insert_member.ensures.ok ∙ ap (λ (m : Member). insert_member m before) (ap member_of c.one.view_is)

@@ -1,12 +1,11 @@
 use Rattle.std.proofs.Common.{sym, ap, ◌∙◌}
-use Rattle.mqtt_topic.specs.Filters.{matching_part_of}
 use Rattle.mqtt_routes.specs.Spots.{matched_at}
 use Rattle.mqtt_routes.proofs.SubsLemmas.{matched_get, matched_none}
 use Rattle.mqtt_routes.proofs.subscriber.Subscriptions.matched.Goals as goal
 
 pub returns-in-Some : goal.returns-in-Some
 returns-in-Some c =
-    c.filter.ensures.value ∙ ap (λ s. matching_part_of s.filter) c.row.view_is
+    c.matched.ensures
     ∙ sym (matched_get c.self.inside.rows.keys c.args.at c.in-Some.row.now (sym c.in-Some.ensures.key)) ∙ ap (λ h. matched_at h.subs c.args.at) c.self.view_is
 
 pub returns-in-None : goal.returns-in-None

@@ -8,4 +8,4 @@ returns-clause-ok c =
     let keys = c.self.inside.rows.keys in
     let new = c.args.subscription in
     let absent = ap (λ h. has_filter new.filter h.subs) c.self.view_is ∙ c.requires in
-    c.in_ok-insert.ensures.keys ∙ ap (λ b. if b then keys else keys ++ new ∷ []) absent ∙ sym (put-push new keys absent) ∙ ap (λ h. put new h.subs) c.self.view_is
+    c.in_ok-insert.ensures.keys ∙ ap (λ s. if has_filter s.filter keys then keys else keys ++ s ∷ []) c.new.ensures ∙ ap (λ b. if b then keys else keys ++ new ∷ []) absent ∙ sym (put-push new keys absent) ∙ ap (λ h. put new h.subs) c.self.view_is

@@ -6,7 +6,7 @@ use Rattle.mqtt_routes.specs.Spots.{IsIndex, texts_of}
 use Rattle.mqtt_routes.specs.Subscriptions.{AreInOrder}
 use Rattle.mqtt_routes.proofs.IndexLemmas.{nowhere, ordered_from}
 use Rattle.mqtt_routes.proofs.RisingLemmas.{sorted_rises}
-use Rattle.mqtt_routes.proofs.TopicLemmas.{found_spots, found_within, numbers_next, spots_at}
+use Rattle.mqtt_routes.proofs.TopicLemmas.{are_moved, found_spots, found_within, numbers_next, spots_at}
 use Rattle.mqtt_routes.proofs.subscription_tree.SubscriptionTree.spots_to.Goals as goal
 
 pub matching-requires : goal.matching-requires
@@ -18,7 +18,8 @@ index-requires c =
     let now = c.args.self.now in
     let items = c.as_slice-number-items.result.now in
     let index = subst (λ h. IsIndex h.sessions h.spots) c.self.view_is c.self.invariant in
-    let are = subst (λ t. AreMatching (texts_of now.sessions now.spots) t c.in_ok-found.found.items) (ap (λ x. x.topic) c.publication.view_is) c.in_ok-found.ensures in
+    let are = are_moved (texts_of now.sessions now.spots) c.args.publication.now.topic c.in_ok-found.found.items c.reverse.new.self.items c.reverse.ensures.permutation
+    (subst (λ t. AreMatching (texts_of now.sessions now.spots) t c.in_ok-found.found.items) (ap (λ x. x.topic) c.publication.view_is) c.in_ok-found.ensures) in
     let own = subst (AreMatching (texts_of now.sessions now.spots) c.args.publication.now.topic) (sym c.as_slice-number-items.ensures.value) are in
     let less = found_within c.args.publication.now now.sessions now.spots items index own c.loop-number.number-index 0 c.loop-number-test.true in
     let long = ap (λ h. length h.spots) c.self.view_is in
@@ -27,11 +28,12 @@ index-requires c =
 pub returns-clause-spots : goal.returns-clause-spots
 returns-clause-spots c =
     let now = c.args.self.now in
-    let found = c.in_ok-found.found.items in
+    let found = c.reverse.new.self.items in
     let sorted = c.sort_unstable.new.self.items in
     let at = c.loop-number.number-index in
     let index = subst (λ h. IsIndex h.sessions h.spots) c.self.view_is c.self.invariant in
-    let are = subst (λ t. AreMatching (texts_of now.sessions now.spots) t found) (ap (λ x. x.topic) c.publication.view_is) c.in_ok-found.ensures in
+    let are = are_moved (texts_of now.sessions now.spots) c.args.publication.now.topic c.in_ok-found.found.items found c.reverse.ensures.permutation
+    (subst (λ t. AreMatching (texts_of now.sessions now.spots) t c.in_ok-found.found.items) (ap (λ x. x.topic) c.publication.view_is) c.in_ok-found.ensures) in
     let order = subst AreInOrder (ap (λ h. h.sessions) c.self.view_is) c.show_order.ensures in
     let end : length found ≤ at = omega (arith, c.loop-number-test.false, ap length c.as_slice-number-items.ensures.value) in
     let raw = c.loop-number.invariant ∙ ap (λ ns. spots_at now.spots (take at ns)) c.as_slice-number-items.ensures.value ∙ ap (spots_at now.spots) (take_all at found end) in
@@ -47,7 +49,8 @@ loop-number-preserved c =
     let z = c.index.result.now in
     let now = c.args.self.now in
     let index = subst (λ h. IsIndex h.sessions h.spots) c.self.view_is c.self.invariant in
-    let are = subst (λ t. AreMatching (texts_of now.sessions now.spots) t c.in_ok-found.found.items) (ap (λ x. x.topic) c.publication.view_is) c.in_ok-found.ensures in
+    let are = are_moved (texts_of now.sessions now.spots) c.args.publication.now.topic c.in_ok-found.found.items c.reverse.new.self.items c.reverse.ensures.permutation
+    (subst (λ t. AreMatching (texts_of now.sessions now.spots) t c.in_ok-found.found.items) (ap (λ x. x.topic) c.publication.view_is) c.in_ok-found.ensures) in
     let own = subst (AreMatching (texts_of now.sessions now.spots) c.args.publication.now.topic) (sym c.as_slice-number-items.ensures.value) are in
     let less = found_within c.args.publication.now now.sessions now.spots items index own at 0 c.loop-number-test.true in
     let long = ap (λ h. length h.spots) c.self.view_is in
