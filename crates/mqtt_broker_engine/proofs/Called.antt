@@ -1,5 +1,5 @@
 -- A step that did the deeds of a call is the broker's step of that call.
-use Rattle.std.proofs.Common.{◌≡◌, ℕ, Bool, false, ◌⊎◌, List, refl, ap, sym, subst, ◌∙◌, inl, inr}
+use Rattle.std.proofs.Common.{◌≡◌, ℕ, Bool, false, ◌⊎◌, List, map, refl, ap, sym, subst, ◌∙◌, inl, inr}
 use Rattle.mqtt_records.specs.declared.change.Change.{Change}
 use Rattle.mqtt_records.specs.declared.records.Records.{Records}
 use Rattle.mqtt_records.specs.Records.{FitAll}
@@ -9,13 +9,14 @@ use Rattle.mqtt_records.specs.Saying.{AllSayable}
 use Rattle.mqtt_rules.specs.Contents.{TakesLawful, of_rows}
 use Rattle.mqtt_rules.specs.Deeds.{Deed, rows_of_all, after_all}
 use Rattle.mqtt_rules.specs.State.{Broker}
-use Rattle.mqtt_rules.specs.Step.{Call, at_moment, deeds, is_spent, is_step_spent, rows_written, stamped, stepped, told, with_moment}
+use Rattle.mqtt_rules.specs.Step.{Call, at_moment, bytes_out, deeds, is_spent, is_step_spent, rows_written, stamped, stepped, told, with_moment}
 use Rattle.mqtt_rules.proofs.fit.RowsFit.{step_fits}
 use Rattle.mqtt_rules_sharing_laws.proofs.Steps as sharing
 use Rattle.mqtt_rules.proofs.contents.SayableRows.{step_said}
 use Rattle.mqtt_rules.proofs.contents.SpelledContents.{rows_are as row_sizes}
+use Rattle.mqtt_rules.proofs.forms.Untold.{step_wires}
 use Rattle.mqtt_rules.proofs.numbers.Counters.{moment_stays, now_stays}
-use Rattle.mqtt_broker_step.specs.Stepping.{Stepping, with_stamp}
+use Rattle.mqtt_broker_step.specs.Stepping.{Stepping, spelled, with_stamp}
 use Rattle.mqtt_broker_step.specs.Undoing.{moment_of}
 use Rattle.mqtt_broker_index.specs.Following.{CanAllBeFollowed, CanBeIndexed}
 use Rattle.mqtt_broker_index.proofs.Followed.{indexed_of, step_followed}
@@ -95,13 +96,19 @@ module _ (now : ℕ) (call : Call) (again : Bool) (s : Stepping) (h : DidCall no
   call_sound sound taken e =
       subst (λ (b : Broker). IsSound s.limits b) (sym broker_is) (step_sound s.limits h.choice now call s.start (call_unspent e) taken sound)
 
+  -- its bytes are the call's packets in their shortest spellings: nothing was told of topics, so each goes out as it is meant
+  call_out : IsSound s.limits s.start → (with_stamp s).outputs ≡ bytes_out (told s.limits h.choice now call s.start)
+  call_out sound =
+      ap (λ (t : Stepping). t.outputs) h.is
+      ∙ ap (map spelled) (step_wires s.limits h.choice now call s.start sound.untold)
+
   -- what is told of it is the call's answer
-  pub call_answered : (out : Outcome) (new : Broker) → is_spent (with_stamp s).rows ≡ false → new ≡ (with_stamp s).broker → IsTold (with_stamp s) again out
+  pub call_answered : IsSound s.limits s.start → (out : Outcome) (new : Broker) → is_spent (with_stamp s).rows ≡ false → new ≡ (with_stamp s).broker → IsTold (with_stamp s) again out
       → IsAnswered s.limits s.start now call out new
-  call_answered out new e is its_told = record {
+  call_answered sound out new e is its_told = record {
     told = told s.limits h.choice now call s.start;
     tells = record {
-      outputs = its_told.outputs ∙ ap (λ (t : Stepping). t.outputs) h.is;
+      outputs = its_told.outputs ∙ call_out sound;
       closed = its_told.closed ∙ ap (λ (t : Stepping). t.closed) h.is;
       reports = its_told.reports ∙ ap (λ (t : Stepping). t.reports) h.is;
       taken = its_told.taken;

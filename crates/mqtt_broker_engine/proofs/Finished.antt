@@ -76,7 +76,7 @@ module _ {K : Type 0} (g : Ghosts K) (now : ℕ) (call : Call) (again : Bool) (o
   pub finished_call : (result : Result Outcome EngineError) → IsFinished g old.keep (with_stamp s) again result new
       → Called g now call (running_before old) result (running_of new)
   finished_call (Ok out) h = record {
-    step = call_answered now call again s did out new.step.broker h.unspent (ap (λ (t : Stepping). t.broker) h.done) h.told;
+    step = call_answered now call again s did mid.its.sound out new.step.broker h.unspent (ap (λ (t : Stepping). t.broker) h.done) h.told;
     stored = (h.runs (λ e. absurd cc), subst (λ (b : Broker). g.holds new.keep b.records) (sym (ap (λ (t : Stepping). t.broker) h.done)) h.stored.1);
     limits = ap (λ (t : Stepping). t.limits) h.done;
     same = λ not. tt;

@@ -3,6 +3,7 @@ use Rattle.std.proofs.Common.{◌≡◌, ℕ, Bool, ◌||◌, cond, List, [], �
 use Rattle.std.specs.Prelude.{filter_map, map, Option, Some, None, Result, Ok, Err, IfErr, IfOk, OnErr, OnOk}
 use Rattle.std.proofs.lemmas.List.Elements.{filter_map-append}
 use Rattle.std.proofs.lemmas.Bool.{cases_Bool, eqb-true}
+use Rattle.mqtt_codec.specs.declared.packet.Packet.{Packet}
 use Rattle.mqtt_records.specs.declared.change.Change.{Change}
 use Rattle.mqtt_records.specs.declared.records.Records.{Records}
 use Rattle.mqtt_records.specs.declared.session.Session.{Session}
@@ -11,7 +12,7 @@ use Rattle.mqtt_records.specs.Session.{birth_of}
 use Rattle.mqtt_records_rows.specs.Order.{row_at}
 use Rattle.mqtt_rules.specs.declared.Report.{Report}
 use Rattle.mqtt_rules.specs.State.{Line, Telling, Broker, session_at}
-use Rattle.mqtt_rules.specs.Deeds.{Deed, Part, At, Act, whose, after, after_all, rows_of, rows_of_all, stored_after, lines_after, given_after, tellings_after, part_rows, part_rows_of, lines_at, part_report, with_session, always, series, output, closing, report}
+use Rattle.mqtt_rules.specs.Deeds.{Deed, Part, At, Act, whose, after, after_all, rows_of, rows_of_all, stored_after, lines_after, given_after, tellings_after, part_rows, part_rows_of, lines_at, part_report, with_session, always, series, wire, wires, closing, report}
 use Rattle.mqtt_rules.specs.Step.{is_spent}
 use Rattle.mqtt_rules.proofs.acts.Goods.{after_append}
 use Rattle.mqtt_broker_step.specs.declared.fault.StepFault.{StepFault}
@@ -49,18 +50,25 @@ map_append : {X Y : Type 0} (f : X → Y) (xs ys : List X) → map f xs ++ map f
 map_append f [] ys = refl
 map_append f (x ∷ xs) ys = ap (λ zs. f x ∷ zs) (map_append f xs ys)
 
-more_out : (ys : List (ℕ × List ℕ)) (ds es : List Deed)
-    → ys ++ map spelled (filter_map output ds) ++ map spelled (filter_map output es) ≡ ys ++ map spelled (filter_map output (ds ++ es))
-more_out ys ds es =
-    append_assoc ys (map spelled (filter_map output ds)) (map spelled (filter_map output es))
-    ∙ ap (λ zs. ys ++ zs) (map_append spelled (filter_map output ds) (filter_map output es) ∙ ap (map spelled) (sym (filter_map-append output ds es)))
+-- what deeds and further deeds send is what the first send, and then what the others send on what the first left
+pub wires_append : (ds es : List Deed) (b : Broker) → wires (ds ++ es) b ≡ wires ds b ++ wires es (after_all ds b)
+wires_append [] es b = refl
+wires_append (d ∷ ds) es b =
+    ap (λ rest. wire d b ++ rest) (wires_append ds es (after d b))
+    ∙ sym (append_assoc (wire d b) (wires ds (after d b)) (wires es (after_all ds (after d b))))
+
+more_out : (ys : List (ℕ × List ℕ)) (ds es : List Deed) (b : Broker)
+    → ys ++ map spelled (wires ds b) ++ map spelled (wires es (after_all ds b)) ≡ ys ++ map spelled (wires (ds ++ es) b)
+more_out ys ds es b =
+    append_assoc ys (map spelled (wires ds b)) (map spelled (wires es (after_all ds b)))
+    ∙ ap (λ zs. ys ++ zs) (map_append spelled (wires ds b) (wires es (after_all ds b)) ∙ ap (map spelled) (sym (wires_append ds es b)))
 
 -- deeds, then deeds
 pub did_did : (ds es : List Deed) (s : Stepping) → did es (did ds s) ≡ did (ds ++ es) s
 did_did ds es s = same_parts s
     (sym (after_append ds es s.broker))
     (append_assoc s.rows (rows_of_all ds s.broker.records) (rows_of_all es (after_all ds s.broker).records) ∙ ap (λ rows. s.rows ++ rows) (sym (rows_append ds es s.broker)))
-    (more_out s.outputs ds es)
+    (more_out s.outputs ds es s.broker)
     (more closing s.closed ds es)
     (more report s.reports ds es)
 
@@ -88,7 +96,7 @@ pub record IsQuiet (d : Deed) (b : Broker) : Type 0 where
   pub lines : lines_after b.now d b.lines ≡ b.lines
   pub given : given_after d b.given ≡ b.given
   pub tellings : tellings_after d b.lines b.tellings ≡ b.tellings
-  pub output : output d ≡ None
+  pub wire : wire d b ≡ []
   pub closing : closing d ≡ None
 
 four : {A B C D R : Type 0} (mk : A → B → C → D → R) {a1 a2 : A} {b1 b2 : B} {c1 c2 : C} {d1 d2 : D} → a1 ≡ a2 → b1 ≡ b2 → c1 ≡ c2 → d1 ≡ d2 → mk a1 b1 c1 d1 ≡ mk a2 b2 c2 d2
@@ -104,15 +112,15 @@ after_row d c b quiet rows =
 row_listed : (d : Deed) (c : Change) (r : Records) → rows_of d r ≡ c ∷ [] → c ∷ [] ≡ rows_of_all (d ∷ []) r
 row_listed d c r rows = ap (λ cs. cs ++ []) (sym rows)
 
-no_output : (d : Deed) (ys : List (ℕ × List ℕ)) → output d ≡ None → ys ≡ ys ++ map spelled (filter_map output (d ∷ []))
-no_output d ys e = sym (append-nil ys) ∙ ap (λ zs. ys ++ map spelled zs) (sym (map_none output d e))
+no_output : (d : Deed) (b : Broker) (ys : List (ℕ × List ℕ)) → wire d b ≡ [] → ys ≡ ys ++ map spelled (wires (d ∷ []) b)
+no_output d b ys e = sym (append-nil ys) ∙ ap (λ (xs : List (ℕ × Packet)). ys ++ map spelled (xs ++ [])) (sym e)
 
 -- a deed of one row that tells nothing and leaves the lines alone is done by writing the row
 pub did_row : (d : Deed) (c : Change) (s : Stepping) → IsQuiet d s.broker → report d ≡ None → rows_of d s.broker.records ≡ c ∷ [] → written c s ≡ did (d ∷ []) s
 did_row d c s quiet none rows = same_parts s
     (after_row d c s.broker quiet rows)
     (ap (λ cs. s.rows ++ cs) (row_listed d c s.broker.records rows))
-    (no_output d s.outputs quiet.output)
+    (no_output d s.broker s.outputs quiet.wire)
     (nothing_more closing s.closed d quiet.closing)
     (nothing_more report s.reports d none)
 
@@ -122,7 +130,7 @@ pub did_row_told : (d : Deed) (c : Change) (y : Report) (s : Stepping) → IsQui
 did_row_told d c y s quiet tells rows = same_parts s
     (after_row d c s.broker quiet rows)
     (ap (λ cs. s.rows ++ cs) (row_listed d c s.broker.records rows))
-    (no_output d s.outputs quiet.output)
+    (no_output d s.broker s.outputs quiet.wire)
     (nothing_more closing s.closed d quiet.closing)
     (ap (λ zs. s.reports ++ zs) (sym (map_some report d y tells)))
 
@@ -154,7 +162,7 @@ rows_of_part birth part c r x found rows = ap (part_rows_of part) (stands birth 
 pub did_part : (birth : ℕ) (part : Part) (c : Change) (x : Session) (s : Stepping) → session_at birth s.broker.records ≡ Some x → part_rows part x ≡ c ∷ []
     → lines_at x.birth part s.broker.lines ≡ s.broker.lines → part_report (whose x) part ≡ None → Did (to_session birth part) s (written c s)
 did_part birth part c x s found rows lines none = record {
-  is = did_row (At (whose x) part) c s (record { lines = lines; given = refl; tellings = refl; output = refl; closing = refl }) none (rows_of_part birth part c s.broker.records x found rows)
+  is = did_row (At (whose x) part) c s (record { lines = lines; given = refl; tellings = refl; wire = refl; closing = refl }) none (rows_of_part birth part c s.broker.records x found rows)
       ∙ ap (λ ds. did ds s) (sym (part_of birth part s.broker x found));
 }
 
@@ -162,7 +170,7 @@ did_part birth part c x s found rows lines none = record {
 pub did_part_told : (birth : ℕ) (part : Part) (c : Change) (y : Report) (x : Session) (s : Stepping) → session_at birth s.broker.records ≡ Some x → part_rows part x ≡ c ∷ []
     → lines_at x.birth part s.broker.lines ≡ s.broker.lines → part_report (whose x) part ≡ Some y → Did (to_session birth part) s (told y (written c s))
 did_part_told birth part c y x s found rows lines tells = record {
-  is = did_row_told (At (whose x) part) c y s (record { lines = lines; given = refl; tellings = refl; output = refl; closing = refl }) tells (rows_of_part birth part c s.broker.records x found rows)
+  is = did_row_told (At (whose x) part) c y s (record { lines = lines; given = refl; tellings = refl; wire = refl; closing = refl }) tells (rows_of_part birth part c s.broker.records x found rows)
       ∙ ap (λ ds. did ds s) (sym (part_of birth part s.broker x found));
 }
 

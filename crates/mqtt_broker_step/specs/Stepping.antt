@@ -7,7 +7,7 @@ use Rattle.mqtt_records.specs.Records.{changed_all}
 use Rattle.mqtt_rules.specs.declared.Limits.{Limits}
 use Rattle.mqtt_rules.specs.declared.Report.{Report}
 use Rattle.mqtt_rules.specs.State.{Broker, Env, MemberChoice}
-use Rattle.mqtt_rules.specs.Deeds.{Part, Deed, Act, whose, At, after_all, rows_of_all, of_session, always, output, closing, report}
+use Rattle.mqtt_rules.specs.Deeds.{Part, Deed, Act, whose, At, after_all, rows_of_all, of_session, always, wires, closing, report}
 use Rattle.mqtt_rules.specs.Step.{is_spent, stamped, with_moment}
 use Rattle.mqtt_broker_step.specs.declared.fault.StepFault.{StepFault}
 use Rattle.mqtt_broker_step.specs.declared.fault.StepFault.TheVariants.{Memory, Spent}
@@ -31,7 +31,7 @@ abbrev pub did : List Deed → Stepping → Stepping
 did ds s = record s {
   broker = after_all ds s.broker;
   rows = s.rows ++ rows_of_all ds s.broker.records;
-  outputs = s.outputs ++ map spelled (filter_map output ds);
+  outputs = s.outputs ++ map spelled (wires ds s.broker);
   closed = s.closed ++ filter_map closing ds;
   reports = s.reports ++ filter_map report ds;
 }
