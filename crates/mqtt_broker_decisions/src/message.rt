@@ -3,16 +3,13 @@ ghost use Rattle.std.specs.Prelude.{◌≡◌, IfOk};
 ghost use Rattle.mqtt_records_message.specs.PassedOn.{passed_on};
 ghost use Rattle.mqtt_rules.specs.Inbound.{message_of};
 ghost use Rattle.mqtt_rules.specs.Closing.{will_message};
-ghost use Rattle.mqtt_rules.specs.Routing.{copy_to, kept_message};
+ghost use Rattle.mqtt_rules.specs.Routing.{kept_message};
 
 use bytes::Bytes;
-use mqtt_base::{Cause, CopyId, Qos, Text};
+use mqtt_base::{Qos, Text};
 use mqtt_codec::Publish;
 use mqtt_props::PropsRef;
-use mqtt_records_message::{
-    Content, MessageCopy, PassedOn, RetainedMessage, SubscriptionIdentifiers, Will,
-};
-use mqtt_routes::RoutedCopy;
+use mqtt_records_message::{Content, PassedOn, RetainedMessage, Will};
 use mqtt_topic::TopicName;
 use std::alloc::{AllocError, Global};
 use std::marker::Model;
@@ -217,56 +214,5 @@ impl Message {
             qos: self.qos,
             content: self.content(arrived)?,
         })
-    }
-
-    /// Its copy for a session as it was routed, accepted at a moment under a number (3.3.4, 4.8). Its
-    /// texts and its payload are shared.
-    pub fn copy(
-        &self,
-        alloc: Global,
-        number: u64,
-        arrived: u64,
-        cause: Cause,
-        routed: &RoutedCopy,
-    ) -> Result<MessageCopy, AllocError>
-        ensures { IfOk result (λ copy. copy ≡ (copy_to number arrived self.now cause routed.now).copy) }
-    {
-        match self.parts(alloc, arrived, routed.identifiers()) {
-            Ok((identifiers, content)) => Ok(MessageCopy {
-                id: CopyId {
-                    publication: number,
-                    birth: routed.birth(),
-                    cause,
-                },
-                qos: routed.qos(),
-                retain: routed.retain(),
-                identifiers,
-                content,
-            }),
-            Err(fault) => {
-                drop(cause);
-                Err(fault)
-            }
-        }
-    }
-
-    /// The Subscription Identifiers and the content of a copy.
-    fn parts(
-        &self,
-        alloc: Global,
-        arrived: u64,
-        identifiers: &[u32],
-    ) -> Result<(SubscriptionIdentifiers, Content), AllocError>
-        ensures { IfOk result (λ parts. (parts.0 ≡ identifiers.now) × (parts.1
-            ≡ record { topic = self.now.topic; properties = self.now.properties; payload = self.now.payload; arrived = arrived })) }
-    {
-        let identifiers = SubscriptionIdentifiers::from_slice(alloc, identifiers)?;
-        match self.content(arrived) {
-            Ok(content) => Ok((identifiers, content)),
-            Err(fault) => {
-                drop(identifiers);
-                Err(fault)
-            }
-        }
     }
 }

@@ -3,6 +3,7 @@ use Rattle.std.proofs.Common.{◌≡◌, ap, sym, subst, refl, ◌∙◌, List, 
 use Rattle.mqtt_rules.specs.State.{Broker, Env, MemberChoice}
 use Rattle.mqtt_rules.specs.Deeds.{Act, series}
 use Rattle.mqtt_broker_step.specs.declared.fault.StepFault.{StepFault}
+use Rattle.mqtt_broker_step.specs.declared.fault.StepFault.TheVariants.{Memory, Spent}
 use Rattle.mqtt_broker_step.specs.Stepping.{Stepping, Did, Does, IsLeft, Leaves, env_in}
 use Rattle.mqtt_broker_step.proofs.Doing.{did_none}
 use Rattle.mqtt_broker_step.proofs.Then.{did_then, left_first, left_then}
@@ -47,3 +48,16 @@ leads_left f fs all fault first s new w is = λ choice.
 -- no part is left
 pub leads_last : (all : Env → Act) (first s : Stepping) → LeadsOn (λ env. series []) all first s → Does all first s
 leads_last all first s w = λ choice. w.ok choice s (record { is = sym (did_none s) })
+
+-- ---- nothing is done
+
+not_spent : (fault : StepFault) → fault ≡ Memory → fault ≡ Spent → ⊥
+not_spent fault memory spent = cc
+
+-- if memory was wanting before anything was done, the act is refused
+pub nothing_leaves : (act : Env → Act) (fault : StepFault) (s new : Stepping) → fault ≡ Memory → new ≡ s → Leaves act fault s new
+nothing_leaves act fault s new memory same = λ choice. record {
+  start = ap (λ (t : Stepping). t.start) same;
+  limits = ap (λ (t : Stepping). t.limits) same;
+  spent = λ e. absurd (not_spent fault memory e);
+}

@@ -10,11 +10,12 @@ use Rattle.mqtt_rules.specs.Deeds.{Act, Message}
 use Rattle.mqtt_rules.specs.Inbound.{publish_by, publish_new}
 use Rattle.mqtt_rules.specs.Routing.{CopyTo, accepted_copies, is_wanted, next_publication}
 use Rattle.mqtt_broker_step.specs.declared.fault.StepFault.{StepFault}
-use Rattle.mqtt_broker_step.specs.declared.fault.StepFault.TheVariants.{Memory, Spent}
+use Rattle.mqtt_broker_step.specs.declared.fault.StepFault.TheVariants.{Memory}
 use Rattle.mqtt_broker_step.specs.Stepping.{Stepping, Did, Does, IsLeft, Leaves, env_in}
 use Rattle.mqtt_broker_publish.specs.Choosing.{DoesSome, IsAccepted, IsRefused, LeavesSome}
 use Rattle.mqtt_broker_publish.specs.Delivering.{addressed_all}
 use Rattle.mqtt_broker_step.proofs.Then.{same_act, same_left}
+use Rattle.mqtt_broker_publish.proofs.Leading.{nothing_leaves}
 
 module _ (l : Line) (x : Session) (p : Publish) (m : Message) where
   by_copies : (s : Stepping) (choice : MemberChoice) (o : Option (List CopyTo)) → accepted_copies (env_in choice s) m s.broker ≡ o
@@ -82,19 +83,11 @@ module _ (l : Line) (x : Session) (p : Publish) (m : Message) where
   taken_err (Ok a) copies wanted s new taken left = tt
   taken_err (Err e) copies wanted s new taken left = taken_leaves copies wanted e s new taken left
 
--- nothing was done, and no number is spent
-not_spent : (fault : StepFault) → fault ≡ Memory → fault ≡ Spent → ⊥
-not_spent fault memory spent = cc
-
 -- if memory was wanting before anything was done, the act is refused, whatever is chosen
 pub nothing_left : (act : Env → Act) (fault : StepFault) (s new : Stepping) → fault ≡ Memory → new ≡ s → LeavesSome act fault s new
 nothing_left act fault s new memory same = record {
   number = 0;
   sender = [];
   members = [];
-  is = λ choice chosen. record {
-    start = ap (λ (t : Stepping). t.start) same;
-    limits = ap (λ (t : Stepping). t.limits) same;
-    spent = λ e. absurd (not_spent fault memory e);
-  };
+  is = λ choice chosen. nothing_leaves act fault s new memory same choice;
 }

@@ -114,6 +114,16 @@ pub(crate) enum Whom {
     Listed { all: Vec<Addressee> },
 }
 
+impl Whom {
+    /// How many there are. Takes no memory.
+    pub(crate) fn count(&self) -> usize {
+        match self {
+            Whom::Routed { routed } => routed.direct().len(),
+            Whom::Listed { all } => all.len(),
+        }
+    }
+}
+
 /// The copies of a publication, in order. What they have in common is there once.
 #[derive(Drop)]
 pub struct Copies {

@@ -15,7 +15,7 @@ ghost use Rattle.mqtt_broker_publish.specs.Whom.{all_of};
 use crate::common::{Common, apart};
 use crate::copies::{Addressed, Copies, Whom};
 use crate::offering::offer_copy;
-use crate::seats::Seats;
+use crate::seats::{FEW, Seats};
 use mqtt_base::Qos;
 use mqtt_broker_queue::enter;
 use mqtt_broker_step::{Step, StepFault};
@@ -139,6 +139,40 @@ fn deliver_by(
     }
 }
 
+/// Room is made at once for what more than a few copies send and tell.
+fn make_room(step: &mut Step, count: usize) -> Result<(), StepFault>
+    ensures same { step.new ≡ step.old }
+    ensures fault { IfErr result (λ fault. fault ≡ StepFault.Memory) }
+{
+    if count <= FEW {
+        return Ok(());
+    }
+    step.make_room(count)
+}
+
+/// The copies for all these are handed over in order, with room for what they send and tell.
+fn deliver_in_room(
+    alloc: Global,
+    step: &mut Step,
+    common: &mut Common,
+    whom: &Whom,
+) -> Result<(), StepFault>
+    requires spelled { AllByRecursion IsSpelled (copies_for common.old (all_of whom.now)) }
+    requires room { HasRoomIn step.old (addressed_all (copies_for common.old (all_of whom.now))) }
+    ensures ok { OnOk result (Does
+        (delivers_all (addressed_all (copies_for common.old (all_of whom.now)))) step.old step.new) }
+    ensures sessions { OnOk result (SameSessions step.old.broker.records
+        step.new.broker.records) }
+    ensures left { IfErr result (λ fault. Leaves
+        (delivers_all (addressed_all (copies_for common.old (all_of whom.now))))
+        fault step.old step.new) }
+{
+    match make_room(step, whom.count()) {
+        Ok(()) => deliver_by(alloc, step, common, whom),
+        Err(fault) => Err(fault),
+    }
+}
+
 /// The copies of a publication, whose PUBLISH have spellings, are handed over in order. Each queue has room for those
 /// that are to enter it, and if it is full the oldest that wait make way. Those of QoS 0 that say the same share one
 /// encoding.
@@ -156,7 +190,7 @@ pub(crate) fn deliver_copies(
         (delivers_all (addressed_all copies)) fault step.old step.new) }
 {
     let Copies { mut common, whom } = copies;
-    let done = deliver_by(alloc, step, &mut common, &whom);
+    let done = deliver_in_room(alloc, step, &mut common, &whom);
     drop(common);
     drop(whom);
     done

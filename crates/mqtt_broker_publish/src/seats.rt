@@ -9,8 +9,8 @@ use mqtt_broker_step::{LineState, Step};
 /// How many seats there are: four for each line that may stand.
 pub(crate) const SEATS: usize = 256;
 
-/// For so few copies the lines are not looked at first.
-const FEW: usize = 4;
+/// For so few copies the lines are not looked at first, and no room is made at once.
+pub(crate) const FEW: usize = 4;
 
 /// The seats of sessions, by their births: the line of a session stands at its seat or behind it. Sessions with births that
 /// leave the same rest have one seat.

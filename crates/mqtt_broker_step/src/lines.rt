@@ -62,7 +62,7 @@ impl Step {
         Ok(())
     }
 
-    /// A packet came on a line (3.1.2.10).
+    /// A packet came on a line (3.1.2.10). One that was heard at this moment before is as it was.
     pub fn hear(&mut self, line: u64) -> Result<(), StepFault>
         ensures ok { OnOk result (Did (always (On line Hear ∷ [])) self.old self.new) }
         ensures left { IfErr result (λ fault.
@@ -73,6 +73,9 @@ impl Step {
         };
         let before = state.heard();
         let heard = self.moment();
+        if heard == before {
+            return Ok(());
+        }
         self.edit_line(
             line,
             LineChange::Hear { heard },

@@ -215,6 +215,16 @@ impl Step {
         Ok(())
     }
 
+    /// Makes room for so many packets that go out, and for as much to tell.
+    pub fn make_room(&mut self, count: usize) -> Result<(), StepFault>
+        ensures same { self.new ≡ self.old }
+        ensures fault { IfErr result (λ fault. fault ≡ StepFault.Memory) }
+    {
+        self.outputs.reserve(count)?;
+        self.reports.reserve(count)?;
+        Ok(())
+    }
+
     /// A session that stands. Takes no memory.
     pub fn session(&self, birth: u64) -> Option<&Session>
         ensures { option_copied result ≡ session_at birth self.now.broker.records }

@@ -171,12 +171,15 @@ impl Tables {
         self.moment
     }
 
-    /// Sets the moment. Want of memory changes nothing.
+    /// Sets the moment, if it is another one. Want of memory changes nothing.
     pub(crate) fn set_moment(&mut self, moment: u64) -> Result<(), AllocError>
         ensures ok { OnOk result (self.new
             ≡ become (with_moment_of moment self.old.broker) self.old) }
         ensures err { OnErr result (self.new ≡ self.old) }
     {
+        if moment == self.moment {
+            return Ok(());
+        }
         self.journal.push(Undo::SetMoment {
             moment: self.moment,
         })?;

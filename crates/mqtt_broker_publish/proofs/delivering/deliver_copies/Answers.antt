@@ -7,10 +7,10 @@ use Rattle.mqtt_broker_publish.proofs.delivering.deliver_copies.Goals as goal
 
 pub returns-clause-ok : goal.returns-clause-ok
 returns-clause-ok c =
-    subst (λ (copies : List MessageCopy). OnOk c.deliver_by-done.result (Does (delivers_all (addressed_all copies)) c.args.step.now c.deliver_by-done.new.step))
-    c.copies.view_is c.deliver_by-done.ensures.ok
+    subst (λ (copies : List MessageCopy). OnOk c.deliver_in_room-done.result (Does (delivers_all (addressed_all copies)) c.args.step.now c.deliver_in_room-done.new.step))
+    c.copies.view_is c.deliver_in_room-done.ensures.ok
 
 pub returns-clause-left : goal.returns-clause-left
 returns-clause-left c =
-    subst (λ (copies : List MessageCopy). IfErr c.deliver_by-done.result (λ fault. Leaves (delivers_all (addressed_all copies)) fault c.args.step.now c.deliver_by-done.new.step))
-    c.copies.view_is c.deliver_by-done.ensures.left
+    subst (λ (copies : List MessageCopy). IfErr c.deliver_in_room-done.result (λ fault. Leaves (delivers_all (addressed_all copies)) fault c.args.step.now c.deliver_in_room-done.new.step))
+    c.copies.view_is c.deliver_in_room-done.ensures.left
