@@ -18,3 +18,4 @@ pub mod NumbersBefore
 pub mod Then
 pub mod PlaceLists
 pub mod Telling
+pub mod RowThere

@@ -20,6 +20,7 @@ mod places;
 mod resuming;
 mod retained;
 mod retained_looks;
+mod seeking;
 mod sessions;
 mod started;
 mod step;

@@ -14,6 +14,7 @@ ghost use Rattle.mqtt_broker_step.specs.Backs.{TakesLineBack};
 ghost use Rattle.mqtt_broker_step.specs.Undoing.{become, settled, taken_back, undone, broker_of, with_change, with_lines, with_line_changed, with_linked, with_moment_of, moment_of};
 
 use crate::line::{LineChange, LineState};
+use crate::seeking::row_of;
 use crate::started::{publications_before, subscribes_before};
 use crate::undo::Undo;
 use mqtt_base::LINE_LIMIT;
@@ -130,7 +131,7 @@ impl Tables {
     pub(crate) fn session(&self, birth: u64) -> Option<&Session>
         ensures { option_copied result ≡ session_at birth self.now.broker.records }
     {
-        match self.records.records().sessions.get(birth) {
+        match row_of(&self.records.records().sessions, birth) {
             Some(session) => Some(session.get()),
             None => None,
         }
@@ -209,7 +210,7 @@ impl Tables {
     pub(crate) fn line(&self, number: u64) -> Option<&LineState>
         ensures { option_copied result ≡ row_at line_number number self.now.broker.lines }
     {
-        self.lines.get(number)
+        row_of(&self.lines, number)
     }
 
     /// The lines, in the order in which they were linked.
