@@ -7,3 +7,4 @@ pub mod Drains
 pub mod Delivered
 pub mod Scripts
 pub mod Begins
+pub mod Examples
