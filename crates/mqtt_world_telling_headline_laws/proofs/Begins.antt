@@ -1,10 +1,9 @@
 -- Both worlds begin alike, with nothing stored or on what earlier lives of the broker left (MQTT 5.0, 4.1).
-use Rattle.std.proofs.Common.{◌≡◌, List, [], ◌∷◌, refl, sym, subst}
+use Rattle.std.proofs.Common.{List, [], ◌∷◌, refl, sym, subst}
 use Rattle.mqtt_rules.specs.declared.Limits.{Limits}
 use Rattle.mqtt_rules.specs.Laws.{AreWithin}
 use Rattle.mqtt_rules_granting_laws.specs.Naming.{NamesTopics}
 use Rattle.mqtt_rules_granting_laws.proofs.Steps.{opening_named}
-use Rattle.mqtt_world_model.specs.Run.{run}
 use Rattle.mqtt_world_model.specs.World.{World, start}
 use Rattle.mqtt_world_receiver_laws.specs.Drains.{Doing, after_doings, all_turns}
 use Rattle.mqtt_world_receiver_laws.proofs.drains.DrainRuns.{drains_are_runs}

@@ -1,5 +1,5 @@
 -- Runs in forms and runs of what packets mean have the same course at the broker, and accept the same from each publisher.
-use Rattle.std.proofs.Common.{◌≡◌, ℕ, List, [], ◌∷◌, ◌++◌, Option, refl, sym, ap, ap₂, subst, ◌∙◌}
+use Rattle.std.proofs.Common.{◌≡◌, ℕ, List, [], ◌∷◌, ◌++◌, refl, sym, ap, ap₂, ◌∙◌}
 use Rattle.mqtt_rules.specs.Deeds.{Deed}
 use Rattle.mqtt_rules.specs.State.{Broker}
 use Rattle.mqtt_rules.specs.declared.Limits.{Limits}
@@ -12,7 +12,7 @@ use Rattle.mqtt_world_telling_laws.specs.AsSent.{AsSent, Most, run, turned}
 use Rattle.mqtt_world_telling_laws.proofs.Calls.{by_world}
 use Rattle.mqtt_world_telling_headline_laws.specs.Reading.{Course, accepted_over, course, from_over, read_over}
 use Rattle.mqtt_world_telling_headline_laws.proofs.Pairs.{Pair, pair_run, pair_turn}
-use Rattle.mqtt_world_telling_headline_laws.proofs.Readings.{LooksAtNone, acceptances_none, asked_none, deeds_none, message_same, read_same, steps_none, with_ends}
+use Rattle.mqtt_world_telling_headline_laws.proofs.Readings.{LooksAtNone, acceptances_none, asked_none, deeds_none, message_same, read_same, steps_none}
 
 -- the course of a run of what packets mean
 abbrev pub meant_course : Limits → List Turn → World → Course

@@ -1,5 +1,5 @@
 -- What is delivered once in a run of what packets mean is so in the run in forms.
-use Rattle.std.proofs.Common.{◌≡◌, ℕ, List, [], ◌∷◌, ◌++◌, nat_eq, Option, Some, None, refl, sym, ap, subst, ◌∙◌}
+use Rattle.std.proofs.Common.{◌≡◌, ℕ, List, ◌++◌, nat_eq, Option, Some, sym, subst}
 use Rattle.std.specs.Prelude.{All, count_by, filter_map}
 use Rattle.std.specs.List.{AllByRecursion}
 use Rattle.std.proofs.lemmas.List.Elements.{All-weaker}
@@ -13,11 +13,11 @@ use Rattle.mqtt_rules.specs.Laws.{FewOpen}
 use Rattle.mqtt_rules.specs.State.{Broker}
 use Rattle.mqtt_rules.specs.declared.Limits.{Limits}
 use Rattle.mqtt_world_model.specs.Ends.{Content, Receiver}
-use Rattle.mqtt_world_model.specs.Laws.{WasTaken, contents_by, fate_of}
+use Rattle.mqtt_world_model.specs.Laws.{WasTaken, fate_of}
 use Rattle.mqtt_world_model.specs.Lines.{Down}
-use Rattle.mqtt_world_model.specs.Run.{Acceptance, End, From, Turn, ended_in, the_deeds}
+use Rattle.mqtt_world_model.specs.Run.{Acceptance, End, From, Turn, ended_in}
 use Rattle.mqtt_world_model.specs.Run as meant
-use Rattle.mqtt_world_model.specs.World.{World, publisher_named, receiver_named}
+use Rattle.mqtt_world_model.specs.World.{World, receiver_named}
 use Rattle.mqtt_world_acceptance_laws.specs.Once.{CarriesIn, carriers}
 use Rattle.mqtt_world_routing_laws.specs.Intended as meant_intended
 use Rattle.mqtt_world_delivery_laws.specs.HandedOnce.{WasHanded}

@@ -1,19 +1,19 @@
 -- Drains and scripts of runs in forms are made of the same events as those of runs of what packets mean, and empty their queues.
-use Rattle.std.proofs.Common.{◌≡◌, ◌≤◌, ◌+◌, ℕ, zero, suc, Bool, true, false, cond, not, List, [], ◌∷◌, ◌++◌, length, Option, refl, sym, ap, ap₂, subst, ◌∙◌, arith}
+use Rattle.std.proofs.Common.{◌≡◌, ◌≤◌, ◌+◌, ℕ, zero, suc, Bool, true, false, cond, not, List, [], ◌∷◌, ◌++◌, length, Option, Some, None, refl, sym, ap, ap₂, subst, ◌∙◌, arith}
 use Rattle.std.specs.Prelude.{◌||◌}
 use Rattle.std.specs.List.{AllByRecursion}
 use Rattle.mqtt_rules.specs.State.{Broker, MemberChoice, session_named}
 use Rattle.mqtt_rules.specs.declared.Limits.{Limits}
-use Rattle.mqtt_world_model.specs.Ends.{Publisher, Receiver}
+use Rattle.mqtt_world_model.specs.Ends.{Receiver}
 use Rattle.mqtt_world_model.specs.Run.{Turn}
 use Rattle.mqtt_world_model.specs.Run as meant
 use Rattle.mqtt_world_model.specs.Tellings.{queue_length}
 use Rattle.mqtt_world_model.specs.World.{World, ask, pump, receiver_named, to_broker, to_end}
 use Rattle.mqtt_world_acceptance_laws.specs.Copies.{entered_from}
 use Rattle.mqtt_world_cause_laws.specs.Endings.{EndAt, ends_over}
-use Rattle.mqtt_world_receiver_laws.specs.Drains.{Doing, all_to_broker, all_to_end, copies_by, copies_left, count_by_end, downs_by, drain_by, drains, enough_rounds, happens, is_bad_drain, is_none_left, is_over, line_stands, times, turn_of, ups_by}
+use Rattle.mqtt_world_receiver_laws.specs.Drains.{Doing, all_to_broker, all_to_end, copies_by, copies_left, count_by_end, drain_by, drains, enough_rounds, happens, is_bad_drain, is_none_left, is_over, line_stands, times, turn_of}
 use Rattle.mqtt_world_receiver_laws.specs.Drains as meant_drains
-use Rattle.mqtt_world_drain_laws.specs.Emptied.{copies_to_take, waiting_for}
+use Rattle.mqtt_world_drain_laws.specs.Emptied.{copies_to_take}
 use Rattle.mqtt_world_drain_laws.specs.Emptied as meant_emptied
 use Rattle.mqtt_world_drain_cause_laws.specs.DrainEnds.{IsOfDrain, moment_of}
 use Rattle.mqtt_world_headline_laws.specs.Delivery as meant_delivery
@@ -27,8 +27,8 @@ use Rattle.mqtt_world_telling_headline_laws.proofs.Pairs.{Pair, pair_run, run_jo
 
 -- whether a line stands is asked of the broker alone
 line_at_broker : (o : Option Receiver) (x w : World) → w.broker ≡ x.broker → line_stands o w ≡ line_stands o x
-line_at_broker (Option.Some r) x w e = ap (λ (b : Broker). line_stands (Option.Some r) (record x { broker = b })) e
-line_at_broker Option.None x w e = refl
+line_at_broker (Some r) x w e = ap (λ (b : Broker). line_stands (Some r) (record x { broker = b })) e
+line_at_broker None x w e = refl
 
 few : (a b c d : ℕ) → a ≡ c → b ≡ d → c ≤ enough_rounds d → a ≤ enough_rounds b
 few a b c d e f h = omega (arith, e, f, h)

@@ -1,11 +1,10 @@
 -- The same ends are found by a name in both worlds, but for what is under way to them.
-use Rattle.std.proofs.Common.{◌≡◌, ℕ, suc, Bool, true, false, cond, List, [], ◌∷◌, map, length, bytes_eq, Option, Some, None, refl, sym, ap, ap₂, subst, ◌∙◌}
+use Rattle.std.proofs.Common.{◌≡◌, ℕ, suc, Bool, true, false, cond, List, [], ◌∷◌, length, bytes_eq, Option, Some, None, refl, sym, ap, subst, ◌∙◌}
 use Rattle.std.specs.Prelude.{find}
 use Rattle.mqtt_topic.specs.Aliases.{AliasTable}
 use Rattle.mqtt_rules.specs.State.{Telling}
-use Rattle.mqtt_flow_inbound.specs.Publisher.{Fate}
 use Rattle.mqtt_world_model.specs.Lines.{Down}
-use Rattle.mqtt_world_model.specs.Ends.{Content, Publisher, Receiver}
+use Rattle.mqtt_world_model.specs.Ends.{Publisher, Receiver}
 use Rattle.mqtt_world_model.specs.Laws.{contents_by, fate_by, fate_of}
 use Rattle.mqtt_world_model.specs.Run.{front_of_line, front_of_old}
 use Rattle.mqtt_world_model.specs.World.{World, publisher_named, receiver_named}
@@ -113,10 +112,11 @@ module _ (x w : World) (h : AllPublishersAlike x.publishers w.publishers) (clien
   pub same_contents : contents_by (publisher_named client x) ≡ contents_by (publisher_named client w)
   same_contents = here contents_by (λ p downs. refl)
 
-  -- the message whose PUBLISH comes first, on its line and on the line that it gave up
+  -- the message whose PUBLISH comes first on its line
   pub same_front : front_of_line (publisher_named client x) ≡ front_of_line (publisher_named client w)
   same_front = here front_of_line (λ p downs. refl)
 
+  -- and on the line that it gave up
   pub same_old_front : front_of_old (publisher_named client x) ≡ front_of_old (publisher_named client w)
   same_old_front = here front_of_old (λ p downs. refl)
 

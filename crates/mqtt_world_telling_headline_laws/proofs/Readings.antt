@@ -1,18 +1,17 @@
 -- What is read off an event at the broker doesn't depend on what is under way to ends.
-use Rattle.std.proofs.Common.{◌≡◌, ℕ, zero, suc, Bool, true, false, cond, List, [], ◌∷◌, ◌++◌, map, Option, Some, None, refl, sym, ap, ap₂, subst, ◌∙◌}
+use Rattle.std.proofs.Common.{◌≡◌, ℕ, zero, suc, Bool, true, false, cond, List, Option, Some, None, refl, sym, ap, ap₂, subst, ◌∙◌}
 use Rattle.std.specs.Prelude.{bytes_eq, is_some}
 use Rattle.mqtt_topic.specs.Aliases.{AliasTable}
 use Rattle.mqtt_rules.specs.State.{Telling}
 use Rattle.mqtt_rules.specs.Step.{Call}
-use Rattle.mqtt_rules.specs.Deeds.{Deed}
 use Rattle.mqtt_world_model.specs.Ends.{Publisher, Receiver}
 use Rattle.mqtt_world_model.specs.World.{World, Setting, Asking, to_broker, old_to_broker, break, pump, tick, stranger}
-use Rattle.mqtt_world_model.specs.World.{Event, publisher, receiver, connect_end, give_up, publish, subscribe, to_end, clock, ask, restart, stop_before, stop_after}
-use Rattle.mqtt_world_model.specs.World.{before, call_of, call_of_stranger, calls, calls_if, comes, first_step, held_count, is_bad, linked_at, next_held, publisher_named, stranger_named}
-use Rattle.mqtt_world_model.specs.Run.{Acceptance, Reading, read_asked, read_at, read_first, read_if, read_in, read_rest, the_acceptances, the_deeds}
+use Rattle.mqtt_world_model.specs.World.{Event, connect_end, ask, restart, stop_before, stop_after}
+use Rattle.mqtt_world_model.specs.World.{before, call_of, call_of_stranger, calls, calls_if, comes, first_step, held_count, is_bad, linked_at, next_held, stranger_named}
+use Rattle.mqtt_world_model.specs.Run.{Reading, read_asked, read_at, read_first, read_if, read_in, read_rest, the_acceptances, the_deeds}
 use Rattle.mqtt_world_model.specs.Run.{asked_from, message_read}
-use Rattle.mqtt_world_acceptance_laws.specs.Steps.{Step, the_steps}
-use Rattle.mqtt_world_cause_laws.specs.Endings.{Asked, the_asked}
+use Rattle.mqtt_world_acceptance_laws.specs.Steps.{the_steps}
+use Rattle.mqtt_world_cause_laws.specs.Endings.{the_asked}
 use Rattle.mqtt_world_telling_laws.specs.AsSent.{Most}
 use Rattle.mqtt_world_telling_laws.specs.Likewise.{AllPublishersAlike, AllReceiversAlike}
 use Rattle.mqtt_world_telling_laws.proofs.Bad.{bad_same, call_same}
@@ -35,16 +34,19 @@ pub record LooksAtNone {X : Type 0} (r : Reading X) : Type 0 where
   pub called : (set : Setting) (call : Call) (w : World) (ms : List Publisher) (vs : List Receiver) → r.called set call (with_ends ms vs w) ≡ r.called set call w
   pub opened : (set : Setting) (w : World) (ms : List Publisher) (vs : List Receiver) → r.opened set (with_ends ms vs w) ≡ r.opened set w
 
--- so it is of deeds, of what is accepted, of steps and of what is asked
+-- so it is of deeds
 pub deeds_none : LooksAtNone the_deeds
 deeds_none = record { linked = λ set w ms vs. refl; called = λ set call w ms vs. refl; opened = λ set w ms vs. refl }
 
+-- of what is accepted
 pub acceptances_none : LooksAtNone the_acceptances
 acceptances_none = record { linked = λ set w ms vs. refl; called = λ set call w ms vs. refl; opened = λ set w ms vs. refl }
 
+-- of steps
 pub steps_none : LooksAtNone the_steps
 steps_none = record { linked = λ set w ms vs. refl; called = λ set call w ms vs. refl; opened = λ set w ms vs. refl }
 
+-- and of what is asked
 pub asked_none : LooksAtNone the_asked
 asked_none = record { linked = λ set w ms vs. refl; called = λ set call w ms vs. refl; opened = λ set w ms vs. refl }
 

@@ -8,7 +8,7 @@ use Rattle.mqtt_routes.specs.Acceptance.{Routed, Served}
 use Rattle.mqtt_rules.specs.Laws.{FewOpen}
 use Rattle.mqtt_rules.specs.Numbers.{CountsOn, publication_given}
 use Rattle.mqtt_rules.specs.Routing.{accepted_copies, answers, publication_of, routing_of, subscribers}
-use Rattle.mqtt_rules.specs.State.{Broker, MemberChoice, session_named}
+use Rattle.mqtt_rules.specs.State.{MemberChoice, session_named}
 use Rattle.mqtt_rules.specs.declared.Limits.{Limits}
 use Rattle.mqtt_rules_spelling_laws.specs.Sending.{SendsWell}
 use Rattle.mqtt_world_model.specs.Ends.{Entry, Receiver}
@@ -34,7 +34,7 @@ use Rattle.mqtt_world_drain_cause_laws.specs.Fitting.{IsNotTooLarge}
 use Rattle.mqtt_world_reading_laws.specs.Sayable.{AreSayableDoings}
 use Rattle.mqtt_world_telling_laws.specs.AsSent.{AsSent, Most, run}
 use Rattle.mqtt_world_telling_laws.specs.Likewise.{AllUnderstand}
-use Rattle.mqtt_world_telling_headline_laws.specs.Reading.{Course, accepted_over, course, ended, ends, entered, from_over, times_accepted}
+use Rattle.mqtt_world_telling_headline_laws.specs.Reading.{Course, course, ended, ends, entered, from_over, times_accepted}
 use Rattle.mqtt_world_telling_headline_laws.specs.Drains.{after_doings, all_turns, drain_turns, drained, round_turns, rounds_taken, turns_of}
 
 -- ---- messages are accepted once
