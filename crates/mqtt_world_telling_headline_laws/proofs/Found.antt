@@ -49,12 +49,13 @@ finds most ts client [] (k ∷ ks) ms h = absurd h
 finds most ts client (r ∷ rs) [] ms h = absurd h
 finds most ts client (r ∷ rs) (k ∷ ks) [] h = absurd h
 
--- as many packets are under way to it, and from it
+-- as many packets are under way to it
 pub same_downs : (o q : Option Receiver) → Finds o q → downs_by o ≡ downs_by q
 same_downs None q h = sym (ap downs_by h)
 same_downs (Some r) None h = absurd h
 same_downs (Some r) (Some q) h = sym (ap (λ (x : Receiver). length x.line.down) h.is ∙ h.many)
 
+-- and from it
 pub same_ups : (o q : Option Receiver) → Finds o q → ups_by o ≡ ups_by q
 same_ups None q h = sym (ap ups_by h)
 same_ups (Some r) None h = absurd h
