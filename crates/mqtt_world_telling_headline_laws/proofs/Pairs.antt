@@ -1,0 +1,57 @@
+-- A run in forms beside the run of what packets mean: they stay alike, whatever happens (MQTT 5.0, 3.3.2.3.4).
+use Rattle.std.proofs.Common.{◌≡◌, List, [], ◌∷◌, ◌++◌, refl}
+use Rattle.std.specs.Prelude.{ℕ}
+use Rattle.std.specs.List.{AllByRecursion}
+use Rattle.mqtt_topic.specs.Aliases.{AliasTable}
+use Rattle.mqtt_rules.specs.Deeds.{Deed, Greet, On, Send}
+use Rattle.mqtt_rules.specs.State.{Telling}
+use Rattle.mqtt_rules.specs.declared.Limits.{Limits}
+use Rattle.mqtt_rules_telling_laws.specs.Meaning.{GrantsWithin}
+use Rattle.mqtt_rules_granting_laws.specs.Naming.{NamesTopics}
+use Rattle.mqtt_world_model.specs.Ends.{Receiver}
+use Rattle.mqtt_world_model.specs.Run.{Turn, deeds_over}
+use Rattle.mqtt_world_model.specs.Run as meant
+use Rattle.mqtt_world_model.specs.World.{World}
+use Rattle.mqtt_world_granting_laws.proofs.Runs.{run_grants, run_holds}
+use Rattle.mqtt_world_telling_laws.specs.AsSent.{AsSent, Most, run, turned}
+use Rattle.mqtt_world_telling_laws.specs.Likewise.{AllReceiversAlike, AllUnderstand, SendsItsTopic}
+use Rattle.mqtt_world_telling_laws.proofs.Calls.{Goes}
+use Rattle.mqtt_world_telling_laws.proofs.Readings.{are_understood}
+use Rattle.mqtt_world_telling_laws.proofs.Runs.{run_alike}
+
+-- both are alike, and all that the broker holds names its topics
+pub record Pair (most : Most) (s : AsSent) (w : World) : Type 0 where
+  pub goes : Goes most s w
+  pub names : NamesTopics w.broker
+
+send_topics : (n most : ℕ) (ds : List Deed) → GrantsWithin n most ds → AllByRecursion SendsItsTopic ds
+send_topics n most [] h = tt
+send_topics n most (Send k packet ∷ ds) h = (h.0, send_topics n most ds h.1)
+send_topics n most (On k (Greet birth keep_alive window largest given) ∷ ds) h = (tt, send_topics n most ds h.1)
+send_topics n most (d ∷ ds) h = (tt, send_topics n most ds h)
+
+-- so they are after the same turns
+pub pair_run : (most : Most) (limits : Limits) (ts : List Turn) (s : AsSent) (w : World) → Pair most s w → Pair most (run most limits ts s) (meant.run limits ts w)
+pair_run most limits ts s w p = record {
+  goes = run_alike most limits ts s w p.goes (send_topics 0 0 (deeds_over limits ts w) (run_grants limits ts w 0 0 p.names));
+  names = run_holds limits ts w p.names;
+}
+
+-- and after the same turn
+pub pair_turn : (most : Most) (limits : Limits) (t : Turn) (s : AsSent) (w : World) → Pair most s w → Pair most (turned most limits t s) (meant.turned limits t w)
+pair_turn most limits t s w p = pair_run most limits (t ∷ []) s w p
+
+all_understand : (most : Most) (ts : List Telling) (rs : List Receiver) (ks : List AliasTable) (vs : List Receiver) → AllReceiversAlike most ts rs ks vs → AllUnderstand rs ks
+all_understand most ts [] ks vs h = tt
+all_understand most ts (r ∷ rs) (k ∷ ks) (v ∷ vs) h = (are_understood k r.line.down v.line.down h.0.means, all_understand most ts rs ks vs h.1)
+all_understand most ts (r ∷ rs) [] vs h = absurd h
+all_understand most ts (r ∷ rs) (k ∷ ks) [] h = absurd h
+
+-- what is under way is understood there
+pub pair_understands : (most : Most) (s : AsSent) (w : World) → Pair most s w → AllUnderstand s.world.receivers s.known
+pair_understands most s w p = all_understand most s.tellings s.world.receivers s.known w.receivers p.goes.worlds.receivers
+
+-- one run and then another is the run of both
+pub run_joined : (most : Most) (limits : Limits) (xs ys : List Turn) (s : AsSent) → run most limits (xs ++ ys) s ≡ run most limits ys (run most limits xs s)
+run_joined most limits [] ys s = refl
+run_joined most limits (t ∷ xs) ys s = run_joined most limits xs ys (turned most limits t s)
