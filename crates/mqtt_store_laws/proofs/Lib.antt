@@ -1,2 +1,3 @@
 pub mod records
 pub mod tables
+pub mod changes

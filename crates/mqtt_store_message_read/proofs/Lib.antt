@@ -5,3 +5,4 @@ pub mod Loaded
 pub mod Refused
 pub mod Vacant
 pub mod Begun
+pub mod Either
