@@ -2,4 +2,3 @@ pub mod Held
 pub mod Loads
 pub mod Applies
 pub mod Opened
-pub mod Order

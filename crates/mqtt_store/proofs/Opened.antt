@@ -3,8 +3,8 @@ use Rattle.std.proofs.Common.{◌≡◌, ◌≤◌, true, false, Result, Ok, Err
 use Rattle.std.proofs.lemmas.Bool.{cases_Bool}
 use Rattle.sqlite_disk.specs.Disk.{MoreFaults}
 use Rattle.sqlite_trees.specs.Tree.{Trees}
-use Rattle.sqlite_trees.specs.Objects.{catalog_tree, IsListed}
-use Rattle.sqlite_trees.specs.View.{View, doubt, IsClean, IsQuiet, IsRolledBack, IsOrdered as AreOrdered}
+use Rattle.sqlite_trees.specs.Objects.{catalog_tree}
+use Rattle.sqlite_trees.specs.View.{View, doubt, IsClean, IsQuiet, IsRolledBack}
 use Rattle.sqlite_trees.specs.declared.error.StoreError.{StoreError}
 use Rattle.sqlite_trees.specs.declared.error.StoreError.TheVariants.{OutOfMemory, Io, Corrupt, Full, Broken, Unstorable}
 use Rattle.sqlite_trees.specs.declared.store.Store.{Ghosts}
@@ -19,10 +19,8 @@ use Rattle.sqlite.specs.State.{State, HasCleanDisk, Opens, IsLive, store_error}
 use Rattle.sqlite.specs.Steps.{FailsToOpen}
 use Rattle.mqtt_records.specs.declared.records.Records.{Records}
 use Rattle.mqtt_store_load.specs.Keeping.{FindsIn, Keeps, Finds}
-use Rattle.mqtt_store_load.specs.Loading.{IsOrdered}
 use Rattle.mqtt_store.specs.Holding.{Has, Holds, Leaves}
 use Rattle.mqtt_store.specs.Opening.{OpensAnew, IsUnharmed, RefusesToOpen, rolled_back}
-use Rattle.mqtt_store.proofs.Order.{ordered_over}
 
 -- trees are listed as one schema alone
 one_database : (a b : Database) → a.trees ≡ b.trees → IsDatabase a → IsDatabase b → a ≡ b
@@ -88,14 +86,6 @@ module _ {S : Type 0} (g : Ghosts S) (h : Held S) (store : S) (live : IsLive (st
           shows = λ clean is_open. rows clean is_open ∙ (before clean).1;
           committed = λ clean is_open. settled h.store (g.view e.1).committed (before clean).0 (first.outcomes _ (then.outcomes _ (stays e.1 is_open)));
         }
-
-    -- its rows are in order
-    pub orders : (res : Result (Held S) (Error × S)) → IfOk res (λ c. HasCleanDisk (state g c) → Opens (state g c) × IsLive (state g c)) → IfOk res (λ c. doubt (g.view store).is_clean ≤ doubt (state g c).is_clean)
-        → IfOk res (λ c. HasCleanDisk (state g c) → (state g c).now.trees ≡ (g.view store).trees) → (IsClean (g.view store) → (g.view store).is_broken ≡ false)
-        → ((g.view store).is_broken ≡ false → AreOrdered (g.view store).shape (g.view store).trees) → ((g.view store).is_broken ≡ false → IsListed ((g.view store).trees catalog_tree) (g.view store).shape (g.view store).reals)
-        → IfOk res (λ c. IsOrdered (state g c))
-    orders (Ok c) fresh less trees sound ordered listed = ordered_over (g.view store) (state g c) fresh less trees sound ordered listed
-    orders (Err e) fresh less trees sound ordered listed = tt
 
 -- ---- what it has then
 

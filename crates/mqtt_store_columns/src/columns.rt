@@ -1,7 +1,7 @@
 //! What stands in the columns of a row that is put, in both schemas (4.1).
 ghost use Rattle.std.specs.Prelude.{◌≡◌, IfOk};
 ghost use Rattle.mqtt_props.specs.Properties.{block};
-ghost use Rattle.mqtt_store_laws.specs.Steps.{counter_name};
+ghost use Rattle.mqtt_store_laws.specs.Counters.{counter_name};
 ghost use Rattle.mqtt_store_laws.specs.Items.{cause_number, cause_text, cause_n, phase_number, packet_identifier, release_order};
 ghost use Rattle.mqtt_store_laws.specs.Items.{session_columns, will_columns, subscription_columns};
 ghost use Rattle.mqtt_store_columns.specs.Columns.{columns_in};

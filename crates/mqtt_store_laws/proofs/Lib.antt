@@ -1,3 +1,2 @@
 pub mod records
 pub mod tables
-pub mod changes

@@ -1,4 +1,4 @@
--- The rows of tables, what finds them, and the tables that a change leaves alone.
+-- The rows of tables, and what finds them.
 pub mod Edited
 pub mod Five
 pub mod Kept
@@ -6,4 +6,3 @@ pub mod Keys
 pub mod Numbers
 pub mod Single
 pub mod Tables
-pub mod Trees

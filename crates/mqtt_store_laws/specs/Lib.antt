@@ -1,4 +1,4 @@
 pub mod Members
 pub mod Items
 pub mod Written
-pub mod Steps
+pub mod Counters

@@ -1,5 +1,4 @@
-//! What a database keeps of records, what each change makes of their items, and what each statement makes of what is kept
-//! (MQTT 5.0, 4.1). Private.
+//! What a database of schema 1 keeps of records, and what each change makes of their items (MQTT 5.0, 4.1). Private.
 #![tactic(auto)]
 
 mod laws;
@@ -7,10 +6,7 @@ mod member_laws;
 mod rows;
 mod wishes;
 
-pub use laws::{
-    change_keeps_order, statement_finds_its_row, statement_keeps_rows, statements_find_their_rows,
-    statements_keep_rows,
-};
+pub use laws::change_keeps_order;
 pub use member_laws::{
     copy_is_put, copy_is_removed, copy_is_set, rows_determine_sessions, session_is_removed,
 };

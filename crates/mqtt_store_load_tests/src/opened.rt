@@ -14,8 +14,6 @@ pub(crate) fn reopen<S: Alter + Drop>(
     ensures autocommit { IfOk result (λ anew. anew.in_transaction ≡ false) }
     ensures ordered { IfOk result (λ anew. IsOrdered (state S.Store anew)) }
 {
-    // This shows that what was committed obeys its schema.
-    let _schema = conn.schema();
     let store = conn.into_store();
     if store.is_broken() {
         return Err((Error::SqliteFailure(ErrorCode::Closed), store));

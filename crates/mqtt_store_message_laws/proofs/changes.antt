@@ -9,7 +9,6 @@ pub mod Retained
 pub mod Rest
 pub mod First
 pub mod Numbers
-pub mod All
 pub mod Asked
 pub mod Dropped
 pub mod Tables

@@ -1,4 +1,4 @@
--- What the statements of a change make of the trees of schema 2 (4.1).
+-- What the statements of a change of copies or retained messages make of the trees of schema 2 (4.1).
 use Rattle.std.specs.Prelude.{◌≡◌, ℕ, ℤ, pos, List, [], ◌∷◌, Option}
 use Rattle.sqlite_value.specs.declared.value.Value.TheVariants.{Int}
 use Rattle.sqlite_trees.specs.Tree.{Trees}
@@ -6,16 +6,12 @@ use Rattle.sqlite_rules.specs.Lists.{Has}
 use Rattle.mqtt_base.specs.declared.session.Phase.{Phase}
 use Rattle.mqtt_records_message.specs.declared.message.RetainedMessage.{RetainedMessage}
 use Rattle.mqtt_records_message.specs.Queue.{CopyRow}
-use Rattle.mqtt_records.specs.declared.change.Change.{Change}
-use Rattle.mqtt_records.specs.declared.change.Change.TheVariants as change
 use Rattle.mqtt_records.specs.Contents.{StoredMessage, copy_message, retained_message}
 use Rattle.mqtt_store_schema_two.specs.declared.tables.Making.{Making}
 use Rattle.mqtt_store_write.specs.Layout.{second_layout}
 use Rattle.mqtt_store_write.specs.Content.{is_of}
-use Rattle.mqtt_store_write.specs.Put.{PutsInto, PutsNumbered, open_row, is_retained}
-use Rattle.mqtt_store_write.specs.Removal.{is_keyed, is_subscription, RemovesFrom}
-use Rattle.mqtt_store_write.specs.Columns.{session_row, will_row, subscription_row}
-use Rattle.mqtt_store_write.specs.Numbers.{number_row, SetsNumber}
+use Rattle.mqtt_store_write.specs.Put.{PutsInto, PutsNumbered, is_retained}
+use Rattle.mqtt_store_write.specs.Removal.{is_keyed, RemovesFrom}
 use Rattle.mqtt_store_message.specs.Places.{message_tree, queued_tree, kept_tree}
 use Rattle.mqtt_store_message.specs.Rows.{QueuedColumns, message_row, queued_row, kept_row}
 use Rattle.mqtt_store_message.specs.Messages.{PutsMessage, Sweeps}
@@ -24,8 +20,7 @@ use Rattle.mqtt_store_message.specs.Copies.{SetsQueued}
 use Rattle.mqtt_store_message.specs.Endings.{EndsSession}
 use Rattle.mqtt_store_message.specs.References.{Finds, FindsAll}
 use Rattle.mqtt_store_laws.specs.Members.{listed}
-use Rattle.mqtt_store_laws.specs.Items.{session_columns, will_columns, subscription_columns, packet_identifier, phase_number, release_order}
-use Rattle.mqtt_store_laws.specs.Steps.{counter_name}
+use Rattle.mqtt_store_laws.specs.Items.{packet_identifier, phase_number, release_order}
 use Rattle.mqtt_store_message_laws.specs.Items.{message_columns, queued_columns, kept_columns}
 
 -- ---- copies and retained messages
@@ -93,30 +88,3 @@ pub record RemovesRetained (making : Making) (place : ℕ) (old new : Trees) : T
   pub asks : Finds (kept_tree making) 4 (is_of 0 (pos place)) found old
   pub removes : RemovesFrom (second_layout making) (kept_tree making) (is_of 0 (pos place)) old left
   pub sweeps : SweepsEach making (listed found) left new
-
--- ---- each change
-
--- what the statements of a change make of the trees; those on the first five tables are those of schema 1
-abbrev pub MakesRowsTwo : Making → Change → Trees → Trees → Type 0
-MakesRowsTwo making (change.SetCounter counter value) old new =
-    (id : ℤ) × (n : ℕ) × Has (old 0) (Int id ∷ number_row (counter_name counter) n) × SetsNumber (second_layout making) (counter_name counter) value id old new
-MakesRowsTwo making (change.PutSession row) old new = PutsInto (second_layout making) 2 (session_row row.birth (session_columns row)) (is_of 0 (pos row.birth)) old new
-MakesRowsTwo making (change.SetSession row) old new = PutsInto (second_layout making) 2 (session_row row.birth (session_columns row)) (is_of 0 (pos row.birth)) old new
-MakesRowsTwo making (change.RemoveSession birth) old new = RemovesWholeSession making birth old new
-MakesRowsTwo making (change.PutWill birth will) old new = PutsInto (second_layout making) 4 (will_row birth (will_columns will)) (is_of 0 (pos birth)) old new
-MakesRowsTwo making (change.RemoveWill birth) old new = RemovesFrom (second_layout making) 4 (is_of 0 (pos birth)) old new
-MakesRowsTwo making (change.PutSubscription birth put) old new =
-    PutsNumbered (second_layout making) 5 (subscription_row birth put.filter (subscription_columns put)) (is_subscription (pos birth) put.filter) old new
-MakesRowsTwo making (change.RemoveSubscription birth text) old new = RemovesFrom (second_layout making) 5 (is_subscription (pos birth) text) old new
-MakesRowsTwo making (change.PutInbound birth n) old new = PutsNumbered (second_layout making) 7 (open_row birth n) (is_keyed (pos birth) (pos n)) old new
-MakesRowsTwo making (change.RemoveInbound birth n) old new = RemovesFrom (second_layout making) 7 (is_keyed (pos birth) (pos n)) old new
-MakesRowsTwo making (change.PutCopy birth row) old new = PutsCopy making birth row old new
-MakesRowsTwo making (change.SetCopy birth place phase) old new = SetsPhase making birth place phase old new
-MakesRowsTwo making (change.RemoveCopy birth place) old new = RemovesCopy making birth place old new
-MakesRowsTwo making (change.PutRetained kept) old new = PutsRetained making kept old new
-MakesRowsTwo making (change.RemoveRetained place) old new = RemovesRetained making place old new
-
--- those of one change after the other
-abbrev pub MakeRowsTwo : Making → List Change → Trees → Trees → Type 0
-MakeRowsTwo making [] old new = new ≡ old
-MakeRowsTwo making (change ∷ changes) old new = (mid : Trees) × MakesRowsTwo making change old mid × MakeRowsTwo making changes mid new

@@ -7,7 +7,7 @@ use Rattle.mqtt_records.specs.Contents.{copy_message, retained_message}
 use Rattle.mqtt_store_message.specs.declared.change.TableChange.{TableChange}
 use Rattle.mqtt_store_message.specs.declared.change.TableChange.TheVariants.{SetNumber, PutSession, RemoveSession, PutWill, RemoveWill, PutSubscription, RemoveSubscription, PutOpen, RemoveOpen, PutCopy, SetCopy, RemoveCopy, PutRetained, RemoveRetained}
 use Rattle.mqtt_store_laws.specs.Items.{session_columns, will_columns, subscription_columns, packet_identifier, phase_number, release_order}
-use Rattle.mqtt_store_laws.specs.Steps.{counter_name}
+use Rattle.mqtt_store_laws.specs.Counters.{counter_name}
 use Rattle.mqtt_store_message_laws.specs.Items.{message_columns, queued_columns, kept_columns}
 
 -- those that name something by a text

@@ -1,50 +1,22 @@
-//! What the statements of any change make of the rows that are kept.
-ghost use Rattle.std.specs.Prelude.{ℕ, ℤ, ◌∷◌, List};
+//! What a change sets, and a new database.
+ghost use Rattle.std.specs.Prelude.{ℕ, ℤ, ◌∷◌};
 ghost use Rattle.sqlite_value.specs.declared.value.Value.TheVariants.{Int};
 ghost use Rattle.sqlite_trees.specs.Tree.{Trees};
 ghost use Rattle.sqlite_rules.specs.Lists.{Has};
 ghost use Rattle.sqlite.specs.Effect.{Database};
 ghost use Rattle.mqtt_base.specs.declared.session.Phase.{Phase};
-ghost use Rattle.mqtt_records.specs.declared.change.Change.{Change};
 ghost use Rattle.mqtt_records.specs.declared.change.Change.TheVariants.{SetCopy};
 ghost use Rattle.mqtt_records.specs.declared.change.Counter.{Counter};
 ghost use Rattle.mqtt_records.specs.declared.records.Records.{Records};
-ghost use Rattle.mqtt_records.specs.Records.{nothing, changed, changed_all, Fits, FitAll};
-ghost use Rattle.mqtt_records.specs.Contents.{FitsContents, FitContents};
+ghost use Rattle.mqtt_records.specs.Records.{nothing, Fits};
 ghost use Rattle.mqtt_store_schema_two.specs.Creation.{IsNewSecond};
 ghost use Rattle.mqtt_store_schema_two.specs.declared.tables.Making.{Making};
 ghost use Rattle.mqtt_store_schema_two.specs.declared.tables.Making.TheVariants.{New};
 ghost use Rattle.mqtt_store_write.specs.Numbers.{number_row};
 ghost use Rattle.mqtt_store_message.specs.Places.{queued_tree};
 ghost use Rattle.mqtt_store_message.specs.Rows.{QueuedColumns, queued_row};
-ghost use Rattle.mqtt_store_laws.specs.Steps.{counter_name};
-ghost use Rattle.mqtt_store_laws.specs.Written.{IsSayable, AllSayable};
+ghost use Rattle.mqtt_store_laws.specs.Counters.{counter_name};
 ghost use Rattle.mqtt_store_message_laws.specs.Written.{KeepsRowsTwo, AreInOrderTwo};
-ghost use Rattle.mqtt_store_message_laws.specs.Steps.{MakesRowsTwo, MakeRowsTwo};
-
-/// The statements of a change make the rows those of the records after it.
-pub fn change_keeps_rows()
-    ensures rows { (making : Making) (change : Change) (db next : Trees) (r : Records)
-        → KeepsRowsTwo making db r → AreInOrderTwo making db → Fits change r
-        → FitsContents change r → IsSayable change → MakesRowsTwo making change db next
-        → KeepsRowsTwo making next (changed change r) }
-    ensures order { (making : Making) (change : Change) (db next : Trees) (r : Records)
-        → KeepsRowsTwo making db r → AreInOrderTwo making db → Fits change r
-        → FitsContents change r → IsSayable change → MakesRowsTwo making change db next
-        → AreInOrderTwo making next }
-{}
-
-/// The statements of the changes of a step make the rows those of the records after it.
-pub fn changes_keep_rows()
-    ensures rows { (making : Making) (changes : List Change) (db next : Trees) (r : Records)
-        → KeepsRowsTwo making db r → AreInOrderTwo making db → FitAll changes r
-        → FitContents changes r → AllSayable changes → MakeRowsTwo making changes db next
-        → KeepsRowsTwo making next (changed_all changes r) }
-    ensures order { (making : Making) (changes : List Change) (db next : Trees) (r : Records)
-        → KeepsRowsTwo making db r → AreInOrderTwo making db → FitAll changes r
-        → FitContents changes r → AllSayable changes → MakeRowsTwo making changes db next
-        → AreInOrderTwo making next }
-{}
 
 /// What a change sets stands: the row of the copy, or of the number.
 pub fn rows_that_are_set_stand()

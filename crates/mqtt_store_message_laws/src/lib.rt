@@ -13,9 +13,7 @@ pub use copies::{
     message_that_is_removed_keeps_rows, message_that_is_retained_keeps_rows,
     session_that_is_removed_keeps_rows,
 };
-pub use laws::{
-    change_keeps_rows, changes_keep_rows, new_second_keeps_nothing, rows_that_are_set_stand,
-};
+pub use laws::{new_second_keeps_nothing, rows_that_are_set_stand};
 pub use sessions::{
     identifier_that_is_put_keeps_rows, identifier_that_is_removed_keeps_rows,
     number_that_is_set_keeps_rows, session_that_is_put_keeps_rows,

@@ -18,7 +18,7 @@ ghost use Rattle.mqtt_store_write.specs.Numbers.{number_row, SetsNumber};
 ghost use Rattle.mqtt_store_write.specs.Put.{PutsInto, PutsNumbered, open_row};
 ghost use Rattle.mqtt_store_write.specs.Removal.{is_keyed, is_subscription, RemovesFrom};
 ghost use Rattle.mqtt_store_laws.specs.Items.{session_columns, will_columns, subscription_columns};
-ghost use Rattle.mqtt_store_laws.specs.Steps.{counter_name};
+ghost use Rattle.mqtt_store_laws.specs.Counters.{counter_name};
 ghost use Rattle.mqtt_store_laws.specs.Written.{IsSayableWill, IsSayableSubscription};
 ghost use Rattle.mqtt_store_message_laws.specs.Written.{KeepsRowsTwo, AreInOrderTwo};
 

@@ -5,4 +5,3 @@ pub mod Loaded
 pub mod Refused
 pub mod Vacant
 pub mod Begun
-pub mod Either

@@ -1,7 +1,6 @@
--- Which records a database of either schema has, and why a load of it is refused (4.1).
+-- Why a load of a database of either schema is refused (4.1).
 use Rattle.std.specs.Prelude.{◌≡◌, ◌⊎◌, ⊤}
 use Rattle.sqlite_trees.specs.declared.store.Store.{Ghosts}
-use Rattle.sqlite.specs.Effect.{Database}
 use Rattle.sqlite.specs.Held.{Held, state}
 use Rattle.sqlite.specs.State.{State}
 use Rattle.mqtt_records.specs.declared.records.Records.{Records}
@@ -11,16 +10,8 @@ use Rattle.mqtt_store_schema.specs.Tables.{keep_schema}
 use Rattle.mqtt_store_schema_two.specs.Tables.{second_schema}
 use Rattle.mqtt_store_schema_two.specs.Finding.{Differs, SaysKnown, SaysUnknown}
 use Rattle.mqtt_store_schema_two.specs.declared.tables.Making.{Making}
-use Rattle.mqtt_store_read.specs.Kept.{HasRecords, Keeps, IsAsked}
+use Rattle.mqtt_store_read.specs.Kept.{HasRecords, IsAsked}
 use Rattle.mqtt_store_message_read.specs.Kept.{HasRecordsTwo}
-
--- its tables are those of schema 2, and have these records
-abbrev pub KeepsSecond : Database → Records → Type 0
-KeepsSecond db r = (making : Making) × (db.schema ≡ second_schema making) × HasRecordsTwo making db.trees r
-
--- the store's tables of either schema have these records; and an empty database has none yet
-abbrev pub KeepsEither : Database → Records → Type 0
-KeepsEither db r = Keeps db r ⊎ KeepsSecond db r
 
 -- its tables are those of schema 1, or of schema 2, and their rows give no records
 abbrev pub GivesNoFirst : State → Type 0

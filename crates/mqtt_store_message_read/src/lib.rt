@@ -7,7 +7,7 @@ mod opening;
 mod reading;
 mod refusing;
 
-pub use laws::{either_database_has_one, second_database_has_one};
+pub use laws::second_database_has_one;
 pub use loading::records_in;
 pub use opening::begin_second;
 pub use reading::{AddedTable, rows_of_added};

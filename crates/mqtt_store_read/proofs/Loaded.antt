@@ -1,27 +1,22 @@
--- What the rows of all tables give, and those of a new store.
-use Rattle.std.proofs.Common.{◌≡◌, ◌≢◌, ◌⊎◌, inl, inr, IfErr, IsErrOf, ℕ, zero, suc, ◌+◌, List, [], ◌∷◌, codes, ◌≤◌, IsTrue, Result, Ok, Err, IfOk, refl, sym, ap, subst, ◌∙◌, arith, IsSorted}
+-- What the rows of all tables give, and the numbers of a new store.
+use Rattle.std.proofs.Common.{◌≡◌, ◌⊎◌, inl, inr, ℕ, zero, suc, ◌+◌, List, [], ◌∷◌, codes, ◌≤◌, IsTrue, Result, Ok, Err, IfOk, refl, sym, ap, subst, ◌∙◌, arith, IsSorted}
 use Rattle.std.proofs.lemmas.List.Sorted.{IsPermutation-refl}
 use Rattle.sqlite_value.specs.declared.value.Value.TheVariants.{Text}
 use Rattle.sqlite_value.specs.Order.{Row}
 use Rattle.sqlite_trees.specs.Tree.{Trees}
-use Rattle.sqlite_trees.specs.declared.store.Store.{Ghosts}
-use Rattle.sqlite.specs.Held.{Held, state}
-use Rattle.sqlite.specs.Effect.{Database}
 use Rattle.mqtt_records_contents.proofs.Nothing.{nothing_shared}
 use Rattle.mqtt_records_lawful.specs.Lawful.{IsLawful}
 use Rattle.mqtt_records.specs.declared.records.Records.{Records}
 use Rattle.mqtt_records.specs.declared.keep.KeepError.{KeepError}
-use Rattle.mqtt_records.specs.declared.keep.KeepError.TheVariants.{Memory, Disk, Size, Corrupt, Schema}
+use Rattle.mqtt_records.specs.declared.keep.KeepError.TheVariants.{Memory, Disk, Corrupt}
 use Rattle.mqtt_records.specs.Records.{nothing}
 use Rattle.mqtt_store_rows.specs.Values.{number}
-use Rattle.mqtt_store_rows.specs.Rows.{SaysNumbers}
-use Rattle.mqtt_store_rows.specs.Gives.{Rows, Gives, no_parts, counters_of}
+use Rattle.mqtt_store_rows.specs.Gives.{Rows, Gives}
 use Rattle.mqtt_store_rows.proofs.LawfulLemmas.{lawful_within}
-use Rattle.mqtt_store_schema.specs.Asking.{SaysOne, SaysOther}
-use Rattle.mqtt_store_schema.specs.Creation.{IsNewStore, numbers_of}
+use Rattle.mqtt_store_schema.specs.Creation.{numbers_of}
 use Rattle.mqtt_store_schema.specs.declared.schema.StoreTable.TheVariants.{Meta}
 use Rattle.mqtt_store_read.specs.Listing.{by_columns, IsListingOf, IsListing}
-use Rattle.mqtt_store_read.specs.Kept.{AreListed, HasRecords, HasNone, Refuses}
+use Rattle.mqtt_store_read.specs.Kept.{AreListed, HasRecords}
 use Rattle.mqtt_store_read.proofs.Rising.{Rise}
 use Rattle.mqtt_store_read.proofs.Unique.{by_total, names_rise, listed_one}
 
@@ -53,19 +48,6 @@ named name n = Text name ∷ number n ∷ []
 abbrev pub new_meta : ℕ → List Row
 new_meta schema = named (codes "autos") 0 ∷ named (codes "births") 0 ∷ named (codes "moment") 0 ∷ named (codes "publications") 0 ∷ named (codes "schema") schema ∷ named (codes "subscribes") 0 ∷ []
 
-abbrev new_rows : Rows
-new_rows = record { meta = new_meta 1; sessions = []; parts = no_parts; retained = [] }
-
-new_numbers : SaysNumbers (counters_of nothing) (new_meta 1)
-new_numbers = (
-  record { name = refl; value = refl; range = omega arith },
-  record { name = refl; value = refl; range = omega arith },
-  record { name = refl; value = refl; range = omega arith },
-  record { name = refl; value = refl; range = omega arith },
-  record { name = refl; value = refl; range = omega arith },
-  record { name = refl; value = refl; range = omega arith },
-)
-
 -- they are the listing of the rows that a new store writes
 pub meta_listed : (schema : ℕ) (db : Trees) → db 0 ≡ numbers_of schema → IsListing Meta db (new_meta schema)
 meta_listed schema db is = record {
@@ -86,36 +68,6 @@ nothing_lawful = record {
   retained = record { table = record { ascending = tt; within = omega arith }; topics = tt; each = tt };
   shared = nothing_shared;
 }
-
--- a new store has no records
-pub new_store_has : (db : Database) → IsNewStore db → HasRecords db.trees nothing
-new_store_has db h = record {
-  rows = new_rows;
-  listed = record {
-    meta = meta_listed 1 db.trees h.meta_rows;
-    sessions = empty_listed _ _ _ h.empty.0;
-    parts = record {
-      wills = empty_listed _ _ _ h.empty.1.0;
-      subscriptions = empty_listed _ _ _ h.empty.1.1.0;
-      inbound = empty_listed _ _ _ h.empty.1.1.1.0;
-      copies = empty_listed _ _ _ h.empty.1.1.1.1.0;
-    };
-    retained = empty_listed _ _ _ h.empty.1.1.1.1.1.0;
-  };
-  gives = record { numbers = new_numbers; sessions = refl; retained = tt };
-  lawful = nothing_lawful;
-}
-
--- ---- refusals
-
--- the device and want of memory say nothing; else it has no records, and was asked for its schema
-pub refusal_is : {S : Type 0} (g : Ghosts S) (old mid new : Held S) (fault : KeepError) → HasNone (state g old) → (state g mid).now ≡ (state g old).now → fault ≢ Size
-    → (fault ≡ Corrupt → SaysOne (state g mid) (state g new)) → (fault ≡ Schema → SaysOther (state g mid) (state g new)) → Refuses g old fault
-refusal_is g old mid new Memory none same only one other = tt
-refusal_is g old mid new Disk none same only one other = tt
-refusal_is g old mid new Size none same only one other = absurd (only refl)
-refusal_is g old mid new Corrupt none same only one other = (none, (mid, new, same, one refl))
-refusal_is g old mid new Schema none same only one other = (none, (mid, new, same, other refl))
 
 -- a failure of the database is not `Corrupt`
 pub fault_other : (e : KeepError) → (e ≡ Memory) ⊎ (e ≡ Disk) → ◌≡◌ {A = Result Records KeepError} (Err e) (Err Corrupt) → ⊥

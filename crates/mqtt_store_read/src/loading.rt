@@ -1,19 +1,18 @@
 //! The records of a database, through a connection (4.1).
-ghost use Rattle.std.specs.Prelude.{◌≡◌, ◌≢◌, ◌⊎◌, ◌↔◌, false, IfOk, IfErr, OnOk, IsErrOf, IsTrue};
+ghost use Rattle.std.specs.Prelude.{◌≡◌, ◌⊎◌, ◌↔◌, IfOk, IfErr, OnOk, IsErrOf, IsTrue};
 ghost use Rattle.sqlite.specs.Held.{state};
 ghost use Rattle.sqlite.specs.State.{HasCleanDisk};
 ghost use Rattle.mqtt_records.specs.declared.records.Records.{Records};
 ghost use Rattle.mqtt_store_rows.specs.Tables.{parts_in, rows_in};
 ghost use Rattle.mqtt_store_schema.specs.Settled.{IsSettled, OnlyReads};
-ghost use Rattle.mqtt_store_schema.specs.Asking.{SaysOne, SaysOther};
 ghost use Rattle.mqtt_store_schema.specs.Tables.{keep_schema};
 ghost use Rattle.mqtt_store_read.specs.Listing.{IsListing};
-ghost use Rattle.mqtt_store_read.specs.Kept.{ArePartsListed, AreListed, HasRecords, Refuses};
+ghost use Rattle.mqtt_store_read.specs.Kept.{ArePartsListed, AreListed, HasRecords};
 
 use crate::reading::rows_of;
 use mqtt_records::{KeepError, Records};
 use mqtt_store_rows::{Tables, lawful_records_of};
-use mqtt_store_schema::{StoreTable, says_one};
+use mqtt_store_schema::StoreTable;
 use sqlite::{Alter, Connection, Error, ErrorCode, Row};
 use std::alloc::Global;
 
@@ -97,40 +96,4 @@ pub fn records_in<S: Alter>(alloc: Global, conn: &mut Connection<S>) -> Result<R
     };
     drop(tables);
     answer
-}
-
-/// Why a database that has no records is refused: `Corrupt` if it says that its schema is 1.
-fn refusal_of<S: Alter>(conn: &mut Connection<S>) -> KeepError
-    ensures corrupt { HasCleanDisk (state S.Store conn.new) → result ≡ KeepError.Corrupt
-        → SaysOne (state S.Store conn.old) (state S.Store conn.new) }
-    ensures schema { HasCleanDisk (state S.Store conn.new) → result ≡ KeepError.Schema
-        → SaysOther (state S.Store conn.old) (state S.Store conn.new) }
-    ensures only { result ≢ KeepError.Size }
-    ensures reads { OnlyReads (state S.Store conn.old) (state S.Store conn.new) }
-{
-    match says_one(conn) {
-        Ok(true) => KeepError::Corrupt,
-        Ok(false) => KeepError::Schema,
-        Err(error) => fault_of(&error),
-    }
-}
-
-/// The records of a database that has the store's tables. If its rows give none it is `Corrupt`,
-/// or of another schema.
-pub fn records_or_refusal<S: Alter>(
-    alloc: Global,
-    conn: &mut Connection<S>,
-) -> Result<Records, KeepError>
-    ensures ok { HasCleanDisk (state S.Store conn.new) → (state S.Store conn.old).now.schema ≡ keep_schema → IsSettled (state S.Store conn.old)
-        → IfOk result (HasRecords (state S.Store conn.old).now.trees) }
-    ensures refused { HasCleanDisk (state S.Store conn.new) → (state S.Store conn.old).now.schema ≡ keep_schema
-        → (IsTrue (state S.Store conn.old).is_open → IsSettled (state S.Store conn.old)) → IfErr result (Refuses S.Store conn.old) }
-    ensures is_open { HasCleanDisk (state S.Store conn.new) → OnOk result (IsTrue (state S.Store conn.new).is_open) }
-    ensures reads { OnlyReads (state S.Store conn.old) (state S.Store conn.new) }
-{
-    match records_in(alloc, conn) {
-        Ok(records) => Ok(records),
-        Err(KeepError::Corrupt) => Err(refusal_of(conn)),
-        Err(fault) => Err(fault),
-    }
 }

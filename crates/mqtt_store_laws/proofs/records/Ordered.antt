@@ -15,7 +15,7 @@ use Rattle.mqtt_records_rows.proofs.OrderLemmas.{put-ascending, filter-ascending
 use Rattle.mqtt_records.specs.Session.{birth_of, place_of, number_of, copy_place, in_phase, fresh, with_columns, with_will}
 use Rattle.mqtt_records.specs.Session.{with_subscription, without_subscription, with_open, without_open, with_copy, with_phase, without_copy}
 use Rattle.mqtt_records.specs.Records.{changed, kept_place, with_counter, in_session}
-use Rattle.mqtt_store_laws.specs.Members.{IsOrdered, AllOrdered}
+use Rattle.mqtt_store_laws.specs.Members.{IsKept, IsOrdered, AllOrdered}
 
 -- ---- what holds of each row holds after an edit
 
@@ -151,3 +151,21 @@ by_place_after (SetCopy birth place phase) r h = h
 by_place_after (RemoveCopy birth place) r h = h
 by_place_after (PutRetained kept) r h = put-ascending kept_place RETAINED_LIMIT kept r.retained h
 by_place_after (RemoveRetained place) r h = remove-ascending kept_place place r.retained h
+
+-- ---- records in order
+
+queues_kept : (sessions : List Session) → AllByRecursion IsOrdered sessions → AllByRecursion (λ (s : Session). IsAscending copy_place s.queue) sessions
+queues_kept [] all = tt
+queues_kept (s ∷ sessions) all = (all.0.queue, queues_kept sessions all.1)
+
+-- records in order have queues in order
+pub kept_of : (r : Records) → AllOrdered r → IsKept r
+kept_of r h = record { sessions = h.sessions; queues = queues_kept r.sessions h.lists }
+
+-- a number that is set leaves the sessions
+pub counted_sessions : (counter : Counter) (value : ℕ) (r : Records) → (with_counter counter value r).sessions ≡ r.sessions
+counted_sessions Births value r = refl
+counted_sessions Publications value r = refl
+counted_sessions Subscribes value r = refl
+counted_sessions Autos value r = refl
+counted_sessions Moment value r = refl

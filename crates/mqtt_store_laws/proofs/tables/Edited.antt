@@ -11,8 +11,8 @@ use Rattle.mqtt_records.specs.Session.{birth_of, columns_of}
 use Rattle.mqtt_records.specs.Records.{in_session}
 use Rattle.mqtt_records.specs.Members.{InPart, InQueue, queue_of}
 use Rattle.mqtt_store_laws.specs.Members.{HasColumns, will_of, subscriptions_of, inbound_of}
-use Rattle.mqtt_store_laws.specs.Items.{IsSessionRow, IsWillRow, IsSubscriptionRow, IsOpenRow, IsCopyRow}
-use Rattle.mqtt_store_laws.specs.Written.{AreWritten, AreSayable, IsWillOf, IsSubscriptionOf, IsOpenOf, IsCopyOf, IsSayableWill, IsSayableSubscription, IsSayableCopy}
+use Rattle.mqtt_store_laws.specs.Items.{IsSessionRow, IsWillRow, IsSubscriptionRow, IsOpenRow}
+use Rattle.mqtt_store_laws.specs.Written.{AreWritten, AreSayable, IsWillOf, IsSubscriptionOf, IsOpenOf, IsSayableWill, IsSayableSubscription}
 use Rattle.mqtt_store_laws.proofs.records.Parts.{part_new, part_old, own_new, own_old}
 use Rattle.mqtt_store_laws.proofs.tables.Tables.{unchanged}
 
@@ -43,11 +43,6 @@ module _ (r : Records) (birth : ℕ) (f : Session → Session) (up : IsAscending
     inbound_stays same is w = unchanged IsOpenRow (IsOpenOf r) (IsOpenOf after) (db 7) (next 7) is
         (λ x. part_new birth f r.sessions up keeps inbound_of same x.0 x.1) (λ x. part_old birth f r.sessions up keeps inbound_of same x.0 x.1) w
 
-    -- a change that leaves the queues alone leaves the table of copies written
-    pub copies_stay : ((s : Session) → queue_of (f s) ≡ queue_of s) → next 9 ≡ db 9 → AreWritten IsCopyRow (IsCopyOf r) (db 9) → AreWritten IsCopyRow (IsCopyOf after) (next 9)
-    copies_stay same is w = unchanged IsCopyRow (IsCopyOf r) (IsCopyOf after) (db 9) (next 9) is
-        (λ x. part_new birth f r.sessions up keeps queue_of same x.0 x.1) (λ x. part_old birth f r.sessions up keeps queue_of same x.0 x.1) w
-
   -- ---- what their rows can say
 
   module _ (sayable : AreSayable r) where
@@ -62,7 +57,3 @@ module _ (r : Records) (birth : ℕ) (f : Session → Session) (up : IsAscending
     -- a change that leaves the queues alone leaves each copy in the queue of its own session
     pub own_said : ((s : Session) → queue_of (f s) ≡ queue_of s) → (b : ℕ) (x : CopyRow) → InQueue after b x → x.copy.id.birth ≡ b
     own_said same b x h = sayable.own b x (part_new birth f r.sessions up keeps queue_of same b x h)
-
-    -- a change that leaves the queues alone leaves what rows can say of copies
-    pub copies_said : ((s : Session) → queue_of (f s) ≡ queue_of s) → (b : ℕ) (x : CopyRow) → InQueue after b x → IsSayableCopy x.copy
-    copies_said same b x h = sayable.copies b x (part_new birth f r.sessions up keeps queue_of same b x h)

@@ -22,7 +22,3 @@ numbers_same old new same s = subst Named (sym same) s.numbers
 -- in a table of copies that stays no two rows have one session and place
 pub copies_same : (old new : Trees) → new 9 ≡ old 9 → AreAllSingle old → Placed (new 9)
 copies_same old new same s = subst Placed (sym same) s.copies
-
--- if both tables stay, no two rows in them have the same key
-pub single_same : (old new : Trees) → new 0 ≡ old 0 → new 9 ≡ old 9 → AreAllSingle old → AreAllSingle new
-single_same old new meta copy s = record { numbers = numbers_same old new meta s; copies = copies_same old new copy s }

@@ -17,7 +17,7 @@ use Rattle.mqtt_store_schema_two.specs.declared.tables.Making.{Making}
 use Rattle.mqtt_store_write.specs.Numbers.{number_row}
 use Rattle.mqtt_store_message.specs.Places.{queued_tree}
 use Rattle.mqtt_store_message.specs.Rows.{QueuedColumns, queued_row}
-use Rattle.mqtt_store_laws.specs.Steps.{counter_name}
+use Rattle.mqtt_store_laws.specs.Counters.{counter_name}
 use Rattle.mqtt_store_laws.proofs.records.Members.{found_has}
 use Rattle.mqtt_store_laws.proofs.records.Owns.{some_row}
 use Rattle.mqtt_store_message_laws.specs.Items.{queued_columns}

@@ -14,10 +14,9 @@ use Rattle.mqtt_store_write.specs.Layout.{second_layout}
 use Rattle.mqtt_store_write.specs.Numbers.{number_row, SetsNumber}
 use Rattle.mqtt_store_laws.specs.Members.{HasColumns, AllOrdered}
 use Rattle.mqtt_store_laws.specs.Items.{IsNumberRow, IsSessionRow, IsWillRow, IsSubscriptionRow, IsOpenRow}
-use Rattle.mqtt_store_laws.specs.Steps.{counter_name}
+use Rattle.mqtt_store_laws.specs.Counters.{counter_name}
 use Rattle.mqtt_store_laws.specs.Written.{AreWritten, IsWillOf, IsSubscriptionOf, IsOpenOf}
-use Rattle.mqtt_store_laws.proofs.changes.Numbers.{counted_sessions}
-use Rattle.mqtt_store_laws.proofs.records.Ordered.{ordered_after}
+use Rattle.mqtt_store_laws.proofs.records.Ordered.{counted_sessions, ordered_after}
 use Rattle.mqtt_store_laws.proofs.tables.Kept.{moved}
 use Rattle.mqtt_store_laws.proofs.tables.Numbers.{set_one, number_set, number_named}
 use Rattle.mqtt_store_message_laws.specs.Written.{KeepsRowsTwo, AreInOrderTwo, second_numbers}

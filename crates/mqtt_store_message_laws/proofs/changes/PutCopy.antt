@@ -20,8 +20,7 @@ use Rattle.mqtt_store_message.specs.Places.{message_tree, queued_tree, kept_tree
 use Rattle.mqtt_store_message.specs.Rows.{queued_row}
 use Rattle.mqtt_store_laws.specs.Members.{IsKept, listed}
 use Rattle.mqtt_store_laws.specs.Written.{AreWritten, IsCopyOf, IsSayableCopy}
-use Rattle.mqtt_store_laws.proofs.changes.Copies.{kept_of}
-use Rattle.mqtt_store_laws.proofs.records.Ordered.{ordered_after}
+use Rattle.mqtt_store_laws.proofs.records.Ordered.{kept_of, ordered_after}
 use Rattle.mqtt_store_laws.proofs.records.Queues.{put_new}
 use Rattle.mqtt_store_laws.proofs.tables.Kept.{moved}
 use Rattle.mqtt_store_laws.proofs.tables.Tables.{unchanged}

@@ -14,8 +14,7 @@ use Rattle.mqtt_store_write.specs.Removal.{RemovesFrom, is_keyed}
 use Rattle.mqtt_store_message.specs.Places.{message_tree, queued_tree, kept_tree}
 use Rattle.mqtt_store_laws.specs.Members.{IsKept, listed}
 use Rattle.mqtt_store_laws.specs.Written.{AreWritten}
-use Rattle.mqtt_store_laws.proofs.changes.Copies.{kept_of}
-use Rattle.mqtt_store_laws.proofs.records.Ordered.{ordered_after}
+use Rattle.mqtt_store_laws.proofs.records.Ordered.{kept_of, ordered_after}
 use Rattle.mqtt_store_laws.proofs.records.Queues.{removed_copy_new}
 use Rattle.mqtt_store_laws.proofs.tables.Tables.{unchanged}
 use Rattle.mqtt_store_message_laws.specs.Messages.{EitherSays}

@@ -12,8 +12,7 @@ use Rattle.mqtt_store_schema_two.specs.declared.tables.Making.{Making}
 use Rattle.mqtt_store_message.specs.Places.{message_tree, queued_tree, kept_tree}
 use Rattle.mqtt_store_laws.specs.Members.{IsKept}
 use Rattle.mqtt_store_laws.specs.Written.{AreWritten}
-use Rattle.mqtt_store_laws.proofs.changes.Copies.{kept_of}
-use Rattle.mqtt_store_laws.proofs.records.Ordered.{ordered_after}
+use Rattle.mqtt_store_laws.proofs.records.Ordered.{kept_of, ordered_after}
 use Rattle.mqtt_store_laws.proofs.records.Queues.{set_new}
 use Rattle.mqtt_store_laws.proofs.tables.Tables.{unchanged}
 use Rattle.mqtt_store_message_laws.specs.Messages.{EitherSays}

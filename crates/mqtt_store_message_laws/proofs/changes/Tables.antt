@@ -21,13 +21,16 @@ use Rattle.mqtt_store_message.specs.Step.{Asks, Does, AskAll, DoAll}
 use Rattle.mqtt_store_message.specs.declared.change.TableChange.{TableChange}
 use Rattle.mqtt_store_message.specs.declared.change.TableChange.TheVariants.{SetNumber, PutSubscription, RemoveSubscription}
 use Rattle.mqtt_store_laws.specs.Items.{subscription_columns}
-use Rattle.mqtt_store_laws.specs.Steps.{counter_name}
+use Rattle.mqtt_store_laws.specs.Counters.{counter_name}
 use Rattle.mqtt_store_laws.specs.Written.{IsSayable, AllSayable}
+use Rattle.mqtt_store_message_laws.specs.Steps.{SetsPhase}
 use Rattle.mqtt_store_message_laws.specs.TableChanges.{IsNumberChange, IsSubscriptionChange, IsSubscriptionRemoval, IsTableChangeFor, AreTableChangesFor}
 use Rattle.mqtt_store_message_laws.specs.Written.{KeepsRowsTwo, AreInOrderTwo}
-use Rattle.mqtt_store_message_laws.proofs.changes.All.{makes_keep}
 use Rattle.mqtt_store_message_laws.proofs.changes.Asked.{copy_asked, number_asked}
 use Rattle.mqtt_store_message_laws.proofs.changes.Dropped.{copy_put, copy_removed, session_removed, retained_put, retained_removed}
+use Rattle.mqtt_store_message_laws.proofs.changes.First as first
+use Rattle.mqtt_store_message_laws.proofs.changes.Numbers as numbers
+use Rattle.mqtt_store_message_laws.proofs.changes.SetCopy as set
 
 -- ---- those that name something by a text
 
@@ -71,26 +74,42 @@ module _ (making : Making) where
   -- the change of the tables that is that of a change of records makes of their rows those of the changed ones, and leaves them in order
   pub does_keep : (c : Change) (it : TableChange) (db next : Trees) (r : Records) → Law c it db next r
   does_keep (change.SetCounter counter value) it db next r k o fits agrees says is does =
-      makes_keep making (change.SetCounter counter value) db next r k o fits agrees says (number_done making db next (counter_name counter) value it is does)
-  does_keep (change.PutSession row) it db next r k o fits agrees says is does = makes_keep making (change.PutSession row) db next r k o fits agrees says (done_as making db next it _ is does)
-  does_keep (change.SetSession row) it db next r k o fits agrees says is does = makes_keep making (change.SetSession row) db next r k o fits agrees says (done_as making db next it _ is does)
+      let h = number_done making db next (counter_name counter) value it is does in
+      (numbers.set_keeps making db next r k o counter value h.1 h.0 h.2 h.3, numbers.set_order making db next r k o counter value h.1 h.0 h.2 h.3)
+  does_keep (change.PutSession row) it db next r k o fits agrees says is does =
+      let h = done_as making db next it _ is does in
+      (first.session_put_keeps making db next r k o row h fits, first.session_put_order making db next r k o row h)
+  does_keep (change.SetSession row) it db next r k o fits agrees says is does =
+      let h = done_as making db next it _ is does in
+      (first.session_set_keeps making db next r k o row h fits, first.session_put_order making db next r k o row h)
   does_keep (change.RemoveSession birth) it db next r k o fits agrees says is does =
       let h = done_as making db next it _ is does in
       session_removed making db h.0 next r k o h.2 birth h.1
-  does_keep (change.PutWill birth will) it db next r k o fits agrees says is does = makes_keep making (change.PutWill birth will) db next r k o fits agrees says (done_as making db next it _ is does)
-  does_keep (change.RemoveWill birth) it db next r k o fits agrees says is does = makes_keep making (change.RemoveWill birth) db next r k o fits agrees says (done_as making db next it _ is does)
+  does_keep (change.PutWill birth will) it db next r k o fits agrees says is does =
+      let h = done_as making db next it _ is does in
+      (first.will_put_keeps making db next r k o birth will fits says h, first.will_put_order making db next r k o birth will h)
+  does_keep (change.RemoveWill birth) it db next r k o fits agrees says is does =
+      let h = done_as making db next it _ is does in
+      (first.will_removal_keeps making db next r k o birth h, first.will_removal_order making db next r k o birth h)
   does_keep (change.PutSubscription birth put) it db next r k o fits agrees says is does =
-      makes_keep making (change.PutSubscription birth put) db next r k o fits agrees says (subscription_done making db next birth put it is does)
+      let h = subscription_done making db next birth put it is does in
+      (first.subscription_put_keeps making db next r k o birth put fits says h, first.subscription_put_order making db next r k o birth put h)
   does_keep (change.RemoveSubscription birth text) it db next r k o fits agrees says is does =
-      makes_keep making (change.RemoveSubscription birth text) db next r k o fits agrees says (removal_done making db next birth text it is does)
-  does_keep (change.PutInbound birth n) it db next r k o fits agrees says is does = makes_keep making (change.PutInbound birth n) db next r k o fits agrees says (done_as making db next it _ is does)
-  does_keep (change.RemoveInbound birth n) it db next r k o fits agrees says is does = makes_keep making (change.RemoveInbound birth n) db next r k o fits agrees says (done_as making db next it _ is does)
+      let h = removal_done making db next birth text it is does in
+      (first.subscription_removal_keeps making db next r k o birth text h, first.subscription_removal_order making db next r k o birth text h)
+  does_keep (change.PutInbound birth n) it db next r k o fits agrees says is does =
+      let h = done_as making db next it _ is does in
+      (first.open_put_keeps making db next r k o birth n fits h, first.open_put_order making db next r k o birth n h)
+  does_keep (change.RemoveInbound birth n) it db next r k o fits agrees says is does =
+      let h = done_as making db next it _ is does in
+      (first.open_removal_keeps making db next r k o birth n h, first.open_removal_order making db next r k o birth n h)
   does_keep (change.PutCopy birth row) it db next r k o fits agrees says is does =
       let h = done_as making db next it _ is does in
       copy_put making db h.0 next r k o h.2 birth row h.1.0 fits agrees says h.1.1 h.1.2
   does_keep (change.SetCopy birth place phase) it db next r k o fits agrees says is does =
       let h = done_as making db next it _ is does in
-      makes_keep making (change.SetCopy birth place phase) db next r k o fits agrees says (record { id = h.0; columns = h.1; stood = h.2; sets = h.3 })
+      let sets : SetsPhase making birth place phase db next = record { id = h.0; columns = h.1; stood = h.2; sets = h.3 } in
+      (set.set_keeps making db next r k o birth place phase sets, set.set_order making db next r k o birth place phase sets)
   does_keep (change.RemoveCopy birth place) it db next r k o fits agrees says is does =
       let h = done_as making db next it _ is does in
       copy_removed making db h.0 next r k o h.2 birth place h.1

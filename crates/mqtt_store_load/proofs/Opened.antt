@@ -1,14 +1,17 @@
--- In which order the rows of a store's tables stand.
-use Rattle.std.proofs.Common.{◌≡◌, ◌≤◌, ℕ, false, List, [], ◌∷◌, sym, subst, arith}
+-- A connection that was just opened shows the rows of its tables in order.
+use Rattle.std.proofs.Common.{◌≡◌, ◌≤◌, ℕ, false, List, [], ◌∷◌, Result, Ok, Err, IfOk, sym, subst, arith}
 use Rattle.std.specs.List.{AllByRecursion}
 use Rattle.sqlite_schema.specs.declared.schema.Table.{Table}
 use Rattle.sqlite_trees.specs.declared.store.Shape.TheVariants as shape
 use Rattle.sqlite_trees.specs.Tree.{Trees}
+use Rattle.sqlite_trees.specs.declared.store.Store.{Ghosts}
 use Rattle.sqlite_trees.specs.View.{View, IsShaped, IsOrdered as TreesAreOrdered, doubt, IsClean}
 use Rattle.sqlite_trees.specs.Objects.{catalog_tree, IsListed}
 use Rattle.sqlite_catalog.specs.Listing.{IsSound}
 use Rattle.sqlite_catalog.proofs.LayoutLemmas.{laid_out, objects_rise}
+use Rattle.sqlite.specs.declared.error.Error.{Error}
 use Rattle.sqlite.specs.Effect.{Database}
+use Rattle.sqlite.specs.Held.{Held, state}
 use Rattle.sqlite.specs.State.{State, HasCleanDisk, Opens, IsLive}
 use Rattle.mqtt_store_write.specs.Content.{IsShapedAt}
 use Rattle.mqtt_store_load.specs.Keeping.{AreOrdered}
@@ -36,3 +39,11 @@ ordered_over v s opens less trees unbroken ordered listed tidy up =
     let live = (opens tidy).1 (opens tidy).0.is_open in
     let obeyed : IsSound s.now.schema v.trees = subst (IsSound s.now.schema) (trees tidy) live.0 in
     subst (λ (db : Trees). AllByRecursion (λ t. IsShapedAt db t.tree) s.now.schema.tables) (sym (trees tidy)) (shaped_from v s.now (ordered sound) (listed sound) obeyed)
+
+-- so does one over a store that isn't broken, if it was opened
+pub opened_in_order : {S : Type 0} (g : Ghosts S) (store : S) (res : Result (Held S) (Error × S)) → IfOk res (λ c. HasCleanDisk (state g c) → Opens (state g c) × IsLive (state g c))
+    → IfOk res (λ c. doubt (g.view store).is_clean ≤ doubt (state g c).is_clean) → IfOk res (λ c. HasCleanDisk (state g c) → (state g c).now.trees ≡ (g.view store).trees)
+    → (IsClean (g.view store) → (g.view store).is_broken ≡ false) → ((g.view store).is_broken ≡ false → TreesAreOrdered (g.view store).shape (g.view store).trees)
+    → ((g.view store).is_broken ≡ false → IsListed ((g.view store).trees catalog_tree) (g.view store).shape (g.view store).reals) → IfOk res (λ c. IsOrdered (state g c))
+opened_in_order g store (Ok c) fresh less trees sound ordered listed = ordered_over (g.view store) (state g c) fresh less trees sound ordered listed
+opened_in_order g store (Err e) fresh less trees sound ordered listed = tt

@@ -1,7 +1,7 @@
 use Rattle.sqlite.specs.Held.{state}
 use Rattle.mqtt_store_schema.proofs.Staying.{unchanged_stays}
 use Rattle.mqtt_store_read.proofs.Probing.{not_run_stays}
-use Rattle.mqtt_store_read.proofs.opening.probe.Goals as goal
+use Rattle.mqtt_store_read.proofs.connection.probe.Goals as goal
 
 pub returns-in-Ok-clause-reads : goal.returns-in-Ok-clause-reads
 returns-in-Ok-clause-reads g c = record {
