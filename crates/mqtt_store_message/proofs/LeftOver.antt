@@ -34,7 +34,8 @@ use Rattle.mqtt_store_message.proofs.Behind.{asked}
 use Rattle.mqtt_store_message.proofs.Named.{or_from, or_true}
 use Rattle.mqtt_store_message.proofs.Sweeping.{apart, referred_same}
 
-message_spared : (making : Making) → IsNoIndex (schema_of (second_layout making)) (message_tree making)
+-- no index lies at the tree of messages
+pub message_spared : (making : Making) → IsNoIndex (schema_of (second_layout making)) (message_tree making)
 message_spared New = (asked New).tables.0
 message_spared TakenOver = (asked TakenOver).tables.1.1.0
 

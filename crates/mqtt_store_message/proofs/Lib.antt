@@ -6,6 +6,7 @@ pub mod Deletes
 pub mod Done
 pub mod InsertQueued
 pub mod Inside
+pub mod Known
 pub mod LeftOver
 pub mod Named
 pub mod PutKept

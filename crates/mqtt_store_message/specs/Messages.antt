@@ -1,5 +1,5 @@
 -- What the statements on messages make of the trees.
-use Rattle.std.specs.Prelude.{◌≡◌, ◌≢◌, ℕ, ℤ, Bool, not, ◌&&◌, ◌||◌, if◌then◌else◌, List}
+use Rattle.std.specs.Prelude.{◌≡◌, ◌≢◌, ℕ, ℤ, pos, Bool, true, not, ◌&&◌, ◌||◌, if◌then◌else◌, List, Option, IfSome}
 use Rattle.std.specs.List.{list_any}
 use Rattle.sqlite_value.specs.Order.{Row}
 use Rattle.sqlite_trees.specs.Tree.{Trees, put_row}
@@ -26,3 +26,7 @@ is_referred making n db = list_any (is_of 3 n) (db (queued_tree making)) || list
 -- the message of that number goes if nothing refers to it, and all other rows are as they were
 abbrev pub Sweeps : Making → ℤ → Trees → Trees → Type 0
 Sweeps making n old = RemovesFrom (second_layout making) (message_tree making) (λ r. is_of 0 n r && not (is_referred making n old)) old
+
+-- if a publication is named, a message of its number stands
+abbrev pub StandsIf : Making → Option ℕ → Trees → Type 0
+StandsIf making known db = IfSome known (λ n. list_any (is_of 0 (pos n)) (db (message_tree making)) ≡ true)

@@ -5,13 +5,14 @@ ghost use Rattle.mqtt_store_schema.specs.Settled.{StaysInside};
 ghost use Rattle.mqtt_store_schema_two.specs.declared.tables.Making.{Making};
 ghost use Rattle.mqtt_store_write.specs.Layout.{second_layout};
 ghost use Rattle.mqtt_store_write.specs.Writing.{WritesIf, StaysWhole};
+ghost use Rattle.mqtt_store_message.specs.Messages.{StandsIf};
 ghost use Rattle.mqtt_store_message.specs.Step.{IsSized, Asks, Does};
 
 use crate::kept::KeptColumns;
 use crate::kinds::{change_queue, done, write_own, write_wish};
 use crate::messages::MessageColumns;
 use crate::queued::QueuedColumns;
-use crate::referring::{end_session, put_retained, remove_retained};
+use crate::referring::{end_session, put_behind, put_retained, remove_retained};
 use mqtt_store_write::{SessionColumns, SubscriptionColumns, WillColumns};
 use sqlite::{Alter, Error, Transaction};
 use std::alloc::Global;
@@ -114,5 +115,31 @@ pub fn change_tables<S: Alter>(
             kept,
         } => put_retained(tx, *place, message, kept),
         TableChange::RemoveRetained { place } => remove_retained(tx, *place),
+    }
+}
+
+/// Changes the tables so, if a message of the publication that is named stands: a further copy of it
+/// is put alone.
+pub fn change_knowing<S: Alter>(
+    alloc: Global,
+    tx: &mut Transaction<'_, S>,
+    known: Option<u64>,
+    change: &TableChange<'_>,
+) -> Result<(), Error>
+    requires { IsSized change.now }
+    ensures same_reference { tx.new.conn.ghost_name ≡ tx.old.conn.ghost_name }
+    ensures made { (making : Making) → WritesIf (second_layout making) S.Store tx.old.conn.now tx.new.conn.now result
+        (λ db. StandsIf making known db × Asks making change.now db) (Does making change.now) }
+    ensures whole { (making : Making) → StaysWhole (second_layout making) S.Store tx.old.conn.now tx.new.conn.now result }
+    ensures inside { StaysInside (state S.Store tx.old.conn.now) (state S.Store tx.new.conn.now) }
+{
+    match change {
+        TableChange::PutCopy {
+            birth,
+            place,
+            copy,
+            ..
+        } if known == Some(copy.publication) => put_behind(tx, *birth, *place, copy),
+        _ => change_tables(alloc, tx, change),
     }
 }

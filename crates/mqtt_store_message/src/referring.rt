@@ -40,6 +40,29 @@ fn replace_copy<S: Alter>(
     sweep_found(tx, found)
 }
 
+/// Puts a copy behind its message. The message of the copy that stood at its place goes if nothing
+/// refers to it any more.
+pub(crate) fn put_behind<S: Alter>(
+    tx: &mut Transaction<'_, S>,
+    birth: u64,
+    place: u64,
+    copy: &QueuedColumns<'_>,
+) -> Result<(), Error>
+    requires birth { birth < 2 ^ 63 }
+    requires place { place < 2 ^ 63 }
+    requires sized { IsSized copy.now }
+    ensures same_reference { tx.new.conn.ghost_name ≡ tx.old.conn.ghost_name }
+    ensures put { ChangesBy S.Store tx.old.conn.now tx.new.conn.now result
+        (λ making. LetsGo making (PutsQueued making birth place copy.now)) }
+    ensures inside { StaysInside (state S.Store tx.old.conn.now) (state S.Store tx.new.conn.now) }
+{
+    // Nearly always none stands there: then nothing is asked, and nothing swept.
+    if insert_queued(tx, birth, place, copy)? {
+        return Ok(());
+    }
+    replace_copy(tx, birth, place, copy)
+}
+
 /// Puts a copy, and its message if that is missing. The message of the copy that stood there goes
 /// if nothing refers to it any more.
 pub(crate) fn put_copy<S: Alter>(
@@ -58,12 +81,7 @@ pub(crate) fn put_copy<S: Alter>(
     ensures inside { StaysInside (state S.Store tx.old.conn.now) (state S.Store tx.new.conn.now) }
 {
     put_message(tx, copy.publication, message)?;
-
-    // Nearly always none stands there: then nothing is asked, and nothing swept.
-    if insert_queued(tx, birth, place, copy)? {
-        return Ok(());
-    }
-    replace_copy(tx, birth, place, copy)
+    put_behind(tx, birth, place, copy)
 }
 
 /// Removes a copy. Its message goes if nothing refers to it any more.

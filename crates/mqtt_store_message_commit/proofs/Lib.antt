@@ -1,5 +1,6 @@
 pub mod Catalog
 pub mod Contents
 pub mod Kept
+pub mod Known
 pub mod Settled
 pub mod Spelled

@@ -1,8 +1,9 @@
 -- What changes of records make of the tables of schema 2, one after the other.
-use Rattle.std.specs.Prelude.{List}
+use Rattle.std.specs.Prelude.{ℕ, List, Option, Some, None}
 use Rattle.sqlite_trees.specs.Tree.{Trees}
 use Rattle.sqlite.specs.State.{State}
 use Rattle.mqtt_records.specs.declared.change.Change.{Change}
+use Rattle.mqtt_records.specs.declared.change.Change.TheVariants.{PutCopy}
 use Rattle.mqtt_store_schema_two.specs.declared.tables.Making.{Making}
 use Rattle.mqtt_store_message.specs.declared.change.TableChange.{TableChange}
 use Rattle.mqtt_store_message.specs.Step.{Asks, Does}
@@ -17,6 +18,11 @@ Makes making change old new = (it : TableChange) × IsTableChangeFor change it �
 -- what that sets stands
 abbrev pub Needs : Making → Change → Trees → Type 0
 Needs making change db = (it : TableChange) → IsTableChangeFor change it → Asks making it db
+
+-- the publication of the copy that is put
+abbrev pub publication_in : Change → Option ℕ
+publication_in (PutCopy birth row) = Some row.copy.id.publication
+publication_in _ = None
 
 -- one after the other
 abbrev pub MakeAll : Making → List Change → Trees → Trees → Type 0

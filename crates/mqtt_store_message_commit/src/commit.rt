@@ -6,31 +6,34 @@ ghost use Rattle.mqtt_store_schema.specs.Settled.{StaysInside};
 ghost use Rattle.mqtt_store_schema_two.specs.declared.tables.Making.{Making};
 ghost use Rattle.mqtt_store_write.specs.Layout.{second_layout};
 ghost use Rattle.mqtt_store_write.specs.Writing.{WritesIf, StaysWhole};
+ghost use Rattle.mqtt_store_message.specs.Messages.{StandsIf};
 ghost use Rattle.mqtt_store_columns.specs.Making.{MakesUnless, NeedsUnless};
 ghost use Rattle.mqtt_store_columns.specs.Shortened.{shortened};
 ghost use Rattle.mqtt_store_message_commit.specs.Parts.{ArePartsOf};
-ghost use Rattle.mqtt_store_message_commit.specs.Making.{Makes, Needs, MakeAll, NeedAll, MayCommit};
+ghost use Rattle.mqtt_store_message_commit.specs.Making.{Makes, Needs, MakeAll, NeedAll, MayCommit, publication_in};
 ghost use Rattle.mqtt_store_message_commit.specs.Settled.{IsSettled};
 
 use crate::change::table_change_of;
 use crate::parts::{Parts, parts_of};
 use mqtt_records::Change;
 use mqtt_store_columns::{goes_by, known_behind};
-use mqtt_store_message::{change_tables, is_sized};
+use mqtt_store_message::{change_knowing, is_sized};
 use sqlite::{Alter, Connection, Error, ErrorCode, Transaction};
 use std::alloc::Global;
 
-/// Writes what a change says, whose parts these are. `TooBig` if SQL has no such number.
+/// Writes what a change says, whose parts these are, if a message of the publication that is named
+/// stands. `TooBig` if SQL has no such number.
 fn write_parts<S: Alter>(
     alloc: Global,
     tx: &mut Transaction<'_, S>,
+    known: Option<u64>,
     change: &Change,
     parts: &Parts,
 ) -> Result<(), Error>
     requires { ArePartsOf change.now parts.now }
     ensures same_reference { tx.new.conn.ghost_name ≡ tx.old.conn.ghost_name }
     ensures made { (making : Making) → WritesIf (second_layout making) S.Store tx.old.conn.now tx.new.conn.now result
-        (Needs making change.now) (Makes making change.now) }
+        (λ db. StandsIf making known db × Needs making change.now db) (Makes making change.now) }
     ensures whole { (making : Making) → StaysWhole (second_layout making) S.Store tx.old.conn.now tx.new.conn.now result }
     ensures inside { StaysInside (state S.Store tx.old.conn.now) (state S.Store tx.new.conn.now) }
 {
@@ -38,7 +41,30 @@ fn write_parts<S: Alter>(
     if !is_sized(&it) {
         return Err(Error::SqliteFailure(ErrorCode::TooBig));
     }
-    change_tables(alloc, tx, &it)
+    change_knowing(alloc, tx, known, &it)
+}
+
+/// Writes what a change says, if a message of the publication that is named stands.
+fn write_knowing<S: Alter>(
+    alloc: Global,
+    tx: &mut Transaction<'_, S>,
+    known: Option<u64>,
+    change: &Change,
+) -> Result<(), Error>
+    ensures same_reference { tx.new.conn.ghost_name ≡ tx.old.conn.ghost_name }
+    ensures made { (making : Making) → WritesIf (second_layout making) S.Store tx.old.conn.now tx.new.conn.now result
+        (λ db. StandsIf making known db × Needs making change.now db) (Makes making change.now) }
+    ensures whole { (making : Making) → StaysWhole (second_layout making) S.Store tx.old.conn.now tx.new.conn.now result }
+    ensures inside { StaysInside (state S.Store tx.old.conn.now) (state S.Store tx.new.conn.now) }
+{
+    match parts_of(alloc, change) {
+        Ok(parts) => {
+            let written = write_parts(alloc, tx, known, change, &parts);
+            drop(parts);
+            written
+        }
+        Err(_) => Err(Error::SqliteFailure(ErrorCode::OutOfMemory)),
+    }
 }
 
 /// Writes what one change says, in a transaction that is under way. `OutOfMemory` for want of memory,
@@ -54,37 +80,43 @@ pub fn write_change<S: Alter>(
     ensures whole { (making : Making) → StaysWhole (second_layout making) S.Store tx.old.conn.now tx.new.conn.now result }
     ensures inside { StaysInside (state S.Store tx.old.conn.now) (state S.Store tx.new.conn.now) }
 {
-    match parts_of(alloc, change) {
-        Ok(parts) => {
-            let written = write_parts(alloc, tx, change, &parts);
-            drop(parts);
-            written
-        }
-        Err(_) => Err(Error::SqliteFailure(ErrorCode::OutOfMemory)),
-    }
+    write_knowing(alloc, tx, None, change)
 }
 
-/// Writes what a change says, unless its row goes with its session.
+/// Writes what a change says, unless its row goes with its session, if a message of the publication
+/// that is named stands.
 fn write_unless<S: Alter>(
     alloc: Global,
     tx: &mut Transaction<'_, S>,
     goes: bool,
+    known: Option<u64>,
     change: &Change,
 ) -> Result<(), Error>
     ensures same_reference { tx.new.conn.ghost_name ≡ tx.old.conn.ghost_name }
     ensures made { (making : Making) → WritesIf (second_layout making) S.Store tx.old.conn.now tx.new.conn.now result
-        (NeedsUnless goes (Needs making change.now)) (MakesUnless goes (Makes making change.now)) }
+        (λ db. StandsIf making known db × NeedsUnless goes (Needs making change.now) db) (MakesUnless goes (Makes making change.now)) }
     ensures whole { (making : Making) → StaysWhole (second_layout making) S.Store tx.old.conn.now tx.new.conn.now result }
     ensures inside { StaysInside (state S.Store tx.old.conn.now) (state S.Store tx.new.conn.now) }
 {
     if goes {
         Ok(())
     } else {
-        write_change(alloc, tx, change)
+        write_knowing(alloc, tx, known, change)
     }
 }
 
-/// Writes what changes say, one after the other, but for copies that go with their session.
+/// The publication of the copy that a change puts: its message stands behind it.
+fn publication_put(change: &Change) -> Option<u64>
+    ensures { result ≡ publication_in change.now }
+{
+    match change {
+        Change::PutCopy { birth: _, row } => Some(row.get().copy().id.publication),
+        _ => None,
+    }
+}
+
+/// Writes what changes say, one after the other, but for copies that go with their session. The
+/// message of copies that are put one behind the other is put with the first.
 fn write_changes<S: Alter>(
     alloc: Global,
     tx: &mut Transaction<'_, S>,
@@ -98,9 +130,11 @@ fn write_changes<S: Alter>(
 {
     let mut rest = changes;
     let mut known = None;
+    let mut stands = None;
     while let Some((change, after)) = rest.split_first() {
         known = known_behind(known, change, after);
-        write_unless(alloc, tx, goes_by(known), change)?;
+        write_unless(alloc, tx, goes_by(known), stands, change)?;
+        stands = publication_put(change);
         rest = after;
     }
     Ok(())

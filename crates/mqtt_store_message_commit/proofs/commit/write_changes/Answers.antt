@@ -1,10 +1,17 @@
-use Rattle.std.proofs.Common.{◌≡◌, ◌∷◌, ◌∙◌, length, rules}
+use Rattle.std.proofs.Common.{◌≡◌, ℕ, ◌∷◌, Option, sym, ◌∙◌, subst, length, rules}
 use Rattle.sqlite.specs.State.{HasCleanDisk}
 use Rattle.sqlite.specs.Held.{state}
+use Rattle.mqtt_store_message.specs.Messages.{StandsIf}
+use Rattle.mqtt_store_message.proofs.Behind.{message_shaped}
 use Rattle.mqtt_store_message.proofs.Inside.{clean_before, stays_then}
+use Rattle.mqtt_store_schema_two.specs.declared.tables.Making.{Making}
+use Rattle.mqtt_store_write.specs.Layout.{second_layout}
+use Rattle.mqtt_store_write.specs.Content.{IsWhole}
+use Rattle.mqtt_store_columns.specs.Making.{MakesUnless, NeedsUnless}
 use Rattle.mqtt_store_columns.specs.Shortened.{goes_anyway}
 use Rattle.mqtt_store_columns.proofs.Leads.{leads_on, leads_end}
 use Rattle.mqtt_store_message_commit.specs.Making.{Makes, Needs}
+use Rattle.mqtt_store_message_commit.proofs.Known.{stands_behind}
 use Rattle.mqtt_store_message_commit.proofs.commit.write_changes.Goals as goal
 
 pub loop-change-preserved : goal.loop-change-preserved
@@ -19,13 +26,17 @@ loop-change-preserved g c =
     let after = c.in-Some.after.now in
     let goes : c.goes_by.result ≡ goes_anyway change after = c.goes_by.ensures ∙ c.known_behind-known.ensures.goes in
     let splits : c.loop-change.rest.now ≡ change ∷ after = search rules in
+    let made : (making : Making) → HasCleanDisk new → IsWhole (second_layout making) old → NeedsUnless c.goes_by.result (Needs making change) mid.now.trees → MakesUnless c.goes_by.result (Makes making change) mid.now.trees new.now.trees =
+    λ making clean whole needs. did.made making clean (inv.whole making (tidy clean) whole) (inv.stands making (tidy clean) whole, needs) in
     record {
       same = did.same_reference ∙ inv.same;
       inside = stays_then old mid new inv.inside did.inside;
       whole = λ making clean whole. did.whole making clean (inv.whole making (tidy clean) whole);
       left = λ making clean whole need.
           leads_on (Needs making) (Makes making) c.goes_by.result c.args.changes.now change after c.loop-change.rest.now old.now.trees mid.now.trees new.now.trees splits goes
-          (inv.left making (tidy clean) whole need) (did.made making clean (inv.whole making (tidy clean) whole));
+          (inv.left making (tidy clean) whole need) (made making clean whole);
+      stands = λ making clean whole. subst (λ (known : Option ℕ). StandsIf making known new.now.trees) (sym c.publication_put-stands.ensures)
+          (stands_behind making c.goes_by.result change after mid.now.trees new.now.trees goes (message_shaped making mid (inv.whole making (tidy clean) whole)) (made making clean whole));
       knows = c.known_behind-known.ensures.known;
     }
 

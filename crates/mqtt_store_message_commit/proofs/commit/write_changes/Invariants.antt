@@ -5,6 +5,7 @@ use Rattle.mqtt_store_schema.specs.Settled.{StaysInside}
 use Rattle.mqtt_store_schema_two.specs.declared.tables.Making.{Making}
 use Rattle.mqtt_store_write.specs.Layout.{second_layout}
 use Rattle.mqtt_store_write.specs.Content.{IsWhole}
+use Rattle.mqtt_store_message.specs.Messages.{StandsIf}
 use Rattle.mqtt_store_columns.specs.Shortened.{KnowsEnd, shortened}
 use Rattle.mqtt_store_columns.proofs.Leads.{Leads}
 use Rattle.mqtt_store_message_commit.specs.Making.{Makes, Needs, NeedAll}
@@ -19,6 +20,7 @@ invariant-loop-change g l =
       inside : StaysInside old now;
       whole : (making : Making) → HasCleanDisk now → IsWhole (second_layout making) old → IsWhole (second_layout making) now;
       left : (making : Making) → HasCleanDisk now → IsWhole (second_layout making) old → NeedAll making (shortened l.changes) old.now.trees → Leads (Needs making) (Makes making) l.changes l.rest old.now.trees now.now.trees;
+      stands : (making : Making) → HasCleanDisk now → IsWhole (second_layout making) old → StandsIf making l.stands now.now.trees;
       knows : KnowsEnd l.known l.rest;
     }
 
