@@ -2,7 +2,8 @@
 
 use crate::course::database;
 use mqtt_store_message::{
-    KeptColumns, MessageColumns, QueuedColumns, TableChange, change_tables, is_sized, pub_of_topic,
+    KeptColumns, MessageColumns, QueuedColumns, TableChange, change_knowing, change_tables, is_sized,
+    pub_of_topic,
 };
 use mqtt_store_write::{SessionColumns, SubscriptionColumns, WillColumns};
 use sqlite::{Alter, Error, Transaction};
@@ -27,13 +28,8 @@ fn message() -> MessageColumns<'static> {
     }
 }
 
-/// Puts a copy that refers to a publication, in the queue of session 1.
-fn put_copy<S: Alter>(
-    alloc: Global,
-    tx: &mut Transaction<'_, S>,
-    place: u8,
-    publication: u8,
-) -> Result<i64, Error> {
+/// A copy that refers to a publication, put in the queue of session 1.
+fn copy_at(place: u8, publication: u8) -> TableChange<'static> {
     let copy = QueuedColumns {
         publication: u64::from(publication),
         cause: 0,
@@ -47,13 +43,34 @@ fn put_copy<S: Alter>(
         identifiers: &[],
         arrived: 1_000,
     };
-    let change = TableChange::PutCopy {
+    TableChange::PutCopy {
         birth: 1,
         place: u64::from(place),
         message: message(),
         copy,
-    };
-    change_tables(alloc, tx, &change)?;
+    }
+}
+
+/// Puts a copy that refers to a publication, in the queue of session 1.
+fn put_copy<S: Alter>(
+    alloc: Global,
+    tx: &mut Transaction<'_, S>,
+    place: u8,
+    publication: u8,
+) -> Result<i64, Error> {
+    change_tables(alloc, tx, &copy_at(place, publication))?;
+    standing(tx)
+}
+
+/// The same, by who knows that a message of a publication stands.
+fn put_knowing<S: Alter>(
+    alloc: Global,
+    tx: &mut Transaction<'_, S>,
+    known: u64,
+    place: u8,
+    publication: u8,
+) -> Result<i64, Error> {
+    change_knowing(alloc, tx, Some(known), &copy_at(place, publication))?;
     standing(tx)
 }
 
@@ -197,6 +214,18 @@ fn replaced<S: Alter>(alloc: Global, tx: &mut Transaction<'_, S>) -> Result<[i64
     Ok([first, over, again, copies])
 }
 
+/// The messages that stand while copies are put by who knows that one stands, and how many copies stand in the end.
+fn known<S: Alter>(alloc: Global, tx: &mut Transaction<'_, S>) -> Result<[i64; 4], Error> {
+    put_session(alloc, tx)?;
+    let first = put_copy(alloc, tx, 1, 7)?;
+    let further = put_knowing(alloc, tx, 7, 2, 7)?;
+    let other = put_knowing(alloc, tx, 7, 3, 8)?;
+    let copies = tx
+        .query_row("SELECT count(*) FROM queued WHERE pub = 7", &[])?
+        .get(0)?;
+    Ok([first, further, other, copies])
+}
+
 /// Sets the copy in place 1, and removes the one in place 2.
 fn set_and_remove<S: Alter>(alloc: Global, tx: &mut Transaction<'_, S>) -> Result<i64, Error> {
     change_tables(
@@ -253,6 +282,19 @@ fn replaced_in(alloc: Global, is_new: bool) -> Result<[i64; 4], Error> {
     seen
 }
 
+/// What is seen in a database in memory.
+fn known_in(alloc: Global, is_new: bool) -> Result<[i64; 4], Error> {
+    let mut conn = database(alloc, is_new)?;
+    let seen = if conn.is_autocommit() {
+        let mut tx = conn.transaction();
+        known(alloc, &mut tx)
+    } else {
+        Err(Error::InvalidQuery)
+    };
+    drop(conn);
+    seen
+}
+
 #[test]
 fn rows_of_both_schemas_come_and_go(rt: HostRuntime) -> Result<(), Fail> {
     let want = [130, 109, 9];
@@ -279,6 +321,16 @@ fn the_message_of_a_copy_that_is_replaced_goes(rt: HostRuntime) -> Result<(), Fa
     let new = replaced_in(rt.alloc(), true)?;
     assert_eq!(rt; new, want);
     let taken_over = replaced_in(rt.alloc(), false)?;
+    assert_eq!(rt; taken_over, want);
+    Ok(())
+}
+
+#[test]
+fn a_further_copy_is_put_beside_the_message_that_stands(rt: HostRuntime) -> Result<(), Fail> {
+    let want = [1, 1, 3, 2];
+    let new = known_in(rt.alloc(), true)?;
+    assert_eq!(rt; new, want);
+    let taken_over = known_in(rt.alloc(), false)?;
     assert_eq!(rt; taken_over, want);
     Ok(())
 }
