@@ -17,5 +17,6 @@ pub mod AliasDeeds
 pub mod NumbersBefore
 pub mod Then
 pub mod PlaceLists
-pub mod Telling
+pub mod Sendings
+pub mod TellingBacks
 pub mod RowThere

@@ -4,7 +4,7 @@ use Rattle.mqtt_records.specs.declared.change.Change.TheVariants.{SetCounter, Pu
 use Rattle.mqtt_records.specs.declared.change.Counter.TheVariants.{Births, Publications, Subscribes, Autos, Moment}
 use Rattle.mqtt_rules.specs.State.{Broker}
 use Rattle.mqtt_broker_step.specs.declared.undo.Undo.{Undo}
-use Rattle.mqtt_broker_step.specs.declared.undo.Undo.TheVariants.{Make, PutSession, PutLine, RemoveLine, EditLine, SetMoment}
+use Rattle.mqtt_broker_step.specs.declared.undo.Undo.TheVariants.{Make, PutSession, PutLine, RemoveLine, EditLine, PutTelling, RemoveTelling, CutTelling, SetMoment}
 use Rattle.mqtt_broker_step.specs.Undoing.{publications_before, publications_set, subscribes_before, subscribes_set, set_or, taken_back, undone}
 
 publications_undone : (u : Undo) (b : Broker) → (undone u b).records.publications ≡ set_or (publications_set u) b.records.publications
@@ -31,6 +31,9 @@ publications_undone (PutSession s) b = refl
 publications_undone (PutLine l) b = refl
 publications_undone (RemoveLine n g) b = refl
 publications_undone (EditLine n c) b = refl
+publications_undone (PutTelling t) b = refl
+publications_undone (RemoveTelling n) b = refl
+publications_undone (CutTelling n k) b = refl
 publications_undone (SetMoment m) b = refl
 
 subscribes_undone : (u : Undo) (b : Broker) → (undone u b).records.subscribes ≡ set_or (subscribes_set u) b.records.subscribes
@@ -57,6 +60,9 @@ subscribes_undone (PutSession s) b = refl
 subscribes_undone (PutLine l) b = refl
 subscribes_undone (RemoveLine n g) b = refl
 subscribes_undone (EditLine n c) b = refl
+subscribes_undone (PutTelling t) b = refl
+subscribes_undone (RemoveTelling n) b = refl
+subscribes_undone (CutTelling n k) b = refl
 subscribes_undone (SetMoment m) b = refl
 
 -- the journal tells the number of the last publication before the step

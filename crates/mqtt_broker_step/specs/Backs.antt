@@ -5,9 +5,10 @@ use Rattle.mqtt_records.specs.declared.change.Change.{Change}
 use Rattle.mqtt_records.specs.declared.records.Records.{Records}
 use Rattle.mqtt_records.specs.declared.session.Session.{Session}
 use Rattle.mqtt_records.specs.Records.{changed}
-use Rattle.mqtt_rules.specs.State.{Line, session_at}
+use Rattle.mqtt_rules.specs.State.{Line, Telling, session_at, told_line}
 use Rattle.mqtt_broker_step.specs.declared.line.LineChange.{LineChange}
 use Rattle.mqtt_broker_step.specs.Lines.{line_changed, line_number}
+use Rattle.mqtt_broker_step.specs.Tellings.{telling_cut}
 
 -- after the change the other one makes of any records with this session what they were
 abbrev pub TakesBack : (change undo : Change) → Session → Type 0
@@ -17,6 +18,11 @@ TakesBack change undo s = (r : Records) → session_at s.birth r ≡ Some s → 
 abbrev pub TakesLineBack : ℕ → (old new : List Line) → Option LineChange → Type 0
 TakesLineBack number old new None = new ≡ old
 TakesLineBack number old new (Some undo) = change_row line_number number (line_changed undo) new ≡ old
+
+-- to forget the topics behind the first so many makes of the tellings what they were; without a number they are
+abbrev pub TakesTellingBack : ℕ → (old new : List Telling) → Option ℕ → Type 0
+TakesTellingBack line old new None = new ≡ old
+TakesTellingBack line old new (Some count) = change_row told_line line (telling_cut count) new ≡ old
 
 -- the change makes this of a line on which these places went out
 abbrev pub Makes : (Line → Line) → List ℕ → LineChange → Type 0

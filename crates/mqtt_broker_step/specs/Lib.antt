@@ -1,5 +1,6 @@
 pub mod Places
 pub mod Lines
+pub mod Tellings
 pub mod Undoing
 pub mod Stepping
 pub mod Doing

@@ -8,21 +8,24 @@ use Rattle.mqtt_records.specs.declared.change.Change.TheVariants.{SetCounter}
 use Rattle.mqtt_records.specs.declared.change.Counter.TheVariants.{Publications, Subscribes}
 use Rattle.mqtt_records.specs.Records.{changed}
 use Rattle.mqtt_records.specs.Session.{birth_of}
-use Rattle.mqtt_rules.specs.State.{Line, Broker}
+use Rattle.mqtt_rules.specs.State.{Line, Telling, Broker, told_line}
 use Rattle.mqtt_broker_step.specs.declared.line.LineChange.{LineChange}
 use Rattle.mqtt_broker_step.specs.declared.undo.Undo.{Undo}
-use Rattle.mqtt_broker_step.specs.declared.undo.Undo.TheVariants.{Make, PutSession, PutLine, RemoveLine, EditLine, SetMoment}
+use Rattle.mqtt_broker_step.specs.declared.undo.Undo.TheVariants.{Make, PutSession, PutLine, RemoveLine, EditLine, PutTelling, RemoveTelling, CutTelling, SetMoment}
 use Rattle.mqtt_broker_step.specs.Lines.{line_number, line_changed}
+use Rattle.mqtt_broker_step.specs.Tellings.{telling_cut}
 
--- nothing is told of topics (ours)
-abbrev pub broker_of : Records → List Line → ℕ → ℕ → Broker
-broker_of r ls given moment = record { records = r; lines = ls; given = given; now = moment; tellings = [] }
+abbrev pub broker_of : Records → List Line → List Telling → ℕ → ℕ → Broker
+broker_of r ls ts given moment = record { records = r; lines = ls; given = given; now = moment; tellings = ts }
 
 abbrev pub with_records : Records → Broker → Broker
 with_records r b = record b { records = r }
 
 abbrev pub with_lines : List Line → Broker → Broker
 with_lines ls b = record b { lines = ls }
+
+abbrev pub with_tellings : List Telling → Broker → Broker
+with_tellings ts b = record b { tellings = ts }
 
 abbrev pub moment_of : Broker → ℕ
 moment_of b = b.now
@@ -51,6 +54,9 @@ undone (PutSession session) b =
 undone (PutLine line) b = with_lines (put_row line_number LINE_LIMIT line b.lines) b
 undone (RemoveLine number given) b = record b { lines = remove_row line_number number b.lines; given = given }
 undone (EditLine number change) b = with_line_changed number change b
+undone (PutTelling telling) b = with_tellings (put_row told_line LINE_LIMIT telling b.tellings) b
+undone (RemoveTelling line) b = with_tellings (remove_row told_line line b.tellings) b
+undone (CutTelling line count) b = with_tellings (change_row told_line line (telling_cut count) b.tellings) b
 undone (SetMoment moment) b = record b { now = moment }
 
 -- the last change is taken back first

@@ -26,12 +26,15 @@ mod started;
 mod step;
 mod subscribing;
 mod tables;
+mod telling;
 mod undo;
 
 pub use call::{EngineError, Outcome, commit, commit_kept};
 pub use fault::StepFault;
 pub use line::{LineChange, LineState};
+pub use outputs::Outgoing;
 pub use places::Places;
 pub use step::Step;
 pub use subscribing::{filters_stay_apart, subscription_to};
+pub use telling::LineTopics;
 pub use undo::Undo;

@@ -1,13 +1,13 @@
 //! Deeds of lines (MQTT 5.0, 3.1, 3.1.2.10).
-ghost use Rattle.std.specs.Prelude.{◌≡◌, ◌∷◌, [], Some, option_copied, ◌++◌, ◌≤◌, length, IfOk, OnOk, OnErr, IfErr};
+ghost use Rattle.std.specs.Prelude.{◌≡◌, ◌∷◌, [], ℕ, Some, option_copied, ◌++◌, ◌≤◌, length, IfOk, OnOk, OnErr, IfErr};
 ghost use Rattle.mqtt_base.specs.declared.limits.TheConstants.{LINE_LIMIT as line_limit};
 ghost use Rattle.mqtt_records_rows.specs.Order.{IsAscending, row_at};
 ghost use Rattle.mqtt_rules.specs.State.{Line};
-ghost use Rattle.mqtt_rules.specs.Deeds.{Gone, Hear, Greet, Went, On, always};
+ghost use Rattle.mqtt_rules.specs.Deeds.{Gone, Hear, Greet, Went, On, always, greeted, on_line};
 ghost use Rattle.mqtt_broker_step.specs.Lines.{line_changed, line_number, with_went};
 ghost use Rattle.mqtt_broker_step.specs.Backs.{Makes};
-ghost use Rattle.mqtt_broker_step.specs.Undoing.{with_line_changed};
-ghost use Rattle.mqtt_broker_step.specs.Stepping.{Did, IsLeft, with_broker};
+ghost use Rattle.mqtt_broker_step.specs.Undoing.{with_line_changed, with_lines, with_tellings};
+ghost use Rattle.mqtt_broker_step.specs.Stepping.{Did, IsKept, IsLeft, with_broker};
 
 use crate::fault::StepFault;
 use crate::line::{LineChange, LineState};
@@ -83,9 +83,22 @@ impl Step {
         )
     }
 
-    /// A session is connected on a line, with the client's Keep Alive in seconds, Receive Maximum and
-    /// Maximum Packet Size in bytes. It is told nothing of topics (3.1.2.10, 3.1.2.11).
-    pub fn greet(
+    /// The client on a line is told so many aliases at most, and was told nothing; none if so many is 0.
+    fn begin_telling(&mut self, line: u64, most: u16) -> Result<(), StepFault>
+        ensures ok { OnOk result (self.new ≡ with_broker
+            (with_tellings (greeted line most self.old.broker.tellings) self.old.broker) self.old) }
+        ensures left { IfErr result (λ fault. IsKept fault self.old self.new) }
+    {
+        if most == 0 {
+            return Ok(());
+        }
+        self.tables.take_telling(line)?;
+        self.tables.put_telling(line, most)?;
+        Ok(())
+    }
+
+    /// A session is connected on a line. A refusal changes nothing.
+    fn connect_line(
         &mut self,
         line: u64,
         birth: u64,
@@ -93,11 +106,11 @@ impl Step {
         window: u16,
         largest: u32,
     ) -> Result<(), StepFault>
-        ensures ok { OnOk result (Did
-            (always (On line (Greet birth keep_alive window largest 0) ∷ [])) self.old self.new) }
-        ensures left { IfErr result (λ fault. IsLeft
-            (always (On line (Greet birth keep_alive window largest 0) ∷ [])) fault
-            self.old self.new) }
+        ensures ok { (most : ℕ) → OnOk result (self.new ≡ with_broker
+            (with_lines (on_line self.old.broker.now line (Greet birth keep_alive window largest most)
+            self.old.broker.lines) self.old.broker) self.old) }
+        ensures err { OnErr result (self.new ≡ self.old) }
+        ensures fault { IfErr result (λ fault. fault ≡ StepFault.Memory) }
     {
         let Some(state) = self.line(line) else {
             return Ok(());
@@ -115,6 +128,27 @@ impl Step {
             largest,
         };
         self.edit_line(line, change, undo)
+    }
+
+    /// A session is connected on a line, with the client's Keep Alive in seconds, Receive Maximum and
+    /// Maximum Packet Size in bytes, and the most aliases that it is told; it was told nothing (3.1.2.10, 3.1.2.11).
+    pub fn greet(
+        &mut self,
+        line: u64,
+        birth: u64,
+        keep_alive: u16,
+        window: u16,
+        largest: u32,
+        most: u16,
+    ) -> Result<(), StepFault>
+        ensures ok { OnOk result (Did
+            (always (On line (Greet birth keep_alive window largest most) ∷ [])) self.old self.new) }
+        ensures left { IfErr result (λ fault. IsLeft
+            (always (On line (Greet birth keep_alive window largest most) ∷ [])) fault
+            self.old self.new) }
+    {
+        self.begin_telling(line, most)?;
+        self.connect_line(line, birth, keep_alive, window, largest)
     }
 
     /// A copy's PUBLISH goes out on a line (4.3).
@@ -136,8 +170,8 @@ impl Step {
         ensures left { IfErr result (λ fault.
             IsLeft (always (Gone line ∷ [])) fault self.old self.new) }
     {
-        self.tables.show_untold();
         self.tables.take_line(line)?;
+        self.tables.take_telling(line)?;
         self.shut(line)
     }
 }

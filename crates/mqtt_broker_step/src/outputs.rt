@@ -1,9 +1,13 @@
 //! What goes out, and what is told beside it.
-ghost use Rattle.std.specs.Prelude.{◌≡◌, ◌∷◌, [], OnOk, IfOk, IfErr};
+ghost use Rattle.std.specs.Prelude.{◌≡◌, ◌∷◌, [], IsFalse, OnErr, OnOk, IfOk, IfErr};
 ghost use Rattle.mqtt_codec.specs.Packets.{HasSpelling, shortest_of};
 ghost use Rattle.mqtt_codec.specs.declared.packet.Packet.{Packet as ThePacket};
+ghost use Rattle.mqtt_codec.specs.declared.packet.Packet.TheVariants as packets;
+ghost use Rattle.mqtt_codec.specs.declared.publish.Publish.{Publish};
 ghost use Rattle.mqtt_rules.specs.Deeds.{Send, RefuseWill, Whose, always};
-ghost use Rattle.mqtt_broker_step.specs.Stepping.{Did, IsLeft};
+ghost use Rattle.mqtt_broker_step.specs.Stepping.{Did, IsLeft, with_broker};
+ghost use Rattle.mqtt_broker_step.specs.Tellings.{IsFoundBy, IsNoPublish, IsOutgoing, form_on, told_also};
+ghost use Rattle.mqtt_broker_step.specs.Undoing.{with_tellings};
 
 use crate::fault::StepFault;
 use crate::step::Step;
@@ -11,7 +15,17 @@ use bytes::Bytes;
 use mqtt_base::Text;
 use mqtt_codec::{Packet, encode};
 use mqtt_rules::Report;
+use mqtt_topic_aliases::{Form, OtherBytes};
 use std::alloc::Global;
+
+/// A PUBLISH as it goes out on a line.
+#[derive(Drop)]
+pub struct Outgoing {
+    /// Its topic, if its form tells the client an alias for it (3.3.2.3.4).
+    pub told: Option<Text>,
+    /// Its shortest spelling (2.1.4). Copies that are sent as equal packets share it.
+    pub bytes: Bytes,
+}
 
 /// A packet in its shortest spelling (2.1.4).
 fn spelling(alloc: Global, packet: &Packet) -> Result<Bytes, StepFault>
@@ -26,21 +40,75 @@ fn spelling(alloc: Global, packet: &Packet) -> Result<Bytes, StepFault>
 }
 
 impl Step {
-    /// A packet goes out on a line, in the bytes that are its shortest spelling: copies that are sent as
-    /// equal packets share them (2.1.4).
+    /// A packet that is no PUBLISH goes out on a line, in the bytes that are its shortest spelling (2.1.4).
     pub fn send_spelled(&mut self, line: u64, bytes: Bytes) -> Result<(), StepFault>
-        ensures ok { (packet : ThePacket) → bytes ≡ shortest_of packet
+        ensures ok { (packet : ThePacket) → IsNoPublish packet → bytes ≡ shortest_of packet
             → OnOk result (Did (always (Send line packet ∷ [])) self.old self.new) }
         ensures left { (packet : ThePacket) → IfErr result (λ fault.
             IsLeft (always (Send line packet ∷ [])) fault self.old self.new) }
     {
-        self.tables.show_untold();
         self.put_out(line, bytes)
     }
 
-    /// A packet goes out on a line (2.1.4).
+    /// The client on a line is told a topic, if there is one to tell. A refusal changes nothing.
+    fn tell_topic(&mut self, line: u64, told: Option<Text>) -> Result<(), StepFault>
+        ensures ok { OnOk result (self.new ≡ with_broker (with_tellings
+            (told_also line told self.old.broker.tellings) self.old.broker) self.old) }
+        ensures err { OnErr result (self.new ≡ self.old) }
+        ensures fault { IfErr result (λ fault. fault ≡ StepFault.Memory) }
+    {
+        if let Some(topic) = told {
+            self.tables.tell(line, &topic)?;
+        }
+        Ok(())
+    }
+
+    /// Whether the client on a line may be told topics by aliases. If not, each PUBLISH goes out plain. Takes no memory.
+    pub fn takes_aliases(&self, line: u64) -> bool
+        ensures { IsFalse result → (p : Publish) → form_on line p self.now.broker ≡ Form.Plain }
+    {
+        self.tables.telling(line).is_some()
+    }
+
+    /// The form in which a PUBLISH goes out on a line, by its topic and its other bytes: the first that is within
+    /// the client's Maximum Packet Size, and plain if none is (3.1.2.11.4, 3.3.2.3.4). Takes no memory.
+    pub fn form_of(&self, line: u64, topic: &Text, other: OtherBytes) -> Form
+        ensures { (p : Publish) → p.topic ≡ topic.now → IsFoundBy other p
+            → result ≡ form_on line p self.now.broker }
+    {
+        let Some(state) = self.line(line) else {
+            return Form::Plain;
+        };
+        let Some(telling) = self.tables.telling(line) else {
+            return Form::Plain;
+        };
+        match telling.topics().form_for(state.largest(), topic, other) {
+            Some(form) => form,
+            None => Form::Plain,
+        }
+    }
+
+    /// A PUBLISH goes out on a line as it does there; if it names its topic, the client is told it (3.3.2.3.4).
+    pub fn send_publish(&mut self, line: u64, out: Outgoing) -> Result<(), StepFault>
+        ensures ok { (p : Publish) → IsOutgoing line p self.old.broker out
+            → OnOk result (Did (always (Send line (packets.Publish p) ∷ [])) self.old self.new) }
+        ensures left { (packet : ThePacket) → IfErr result (λ fault.
+            IsLeft (always (Send line packet ∷ [])) fault self.old self.new) }
+    {
+        let Outgoing { told, bytes } = out;
+        match self.tell_topic(line, told) {
+            Ok(()) => self.put_out(line, bytes),
+            Err(fault) => {
+                drop(bytes);
+                Err(fault)
+            }
+        }
+    }
+
+    /// A packet that is no PUBLISH goes out on a line (2.1.4).
     pub fn send(&mut self, line: u64, packet: &Packet) -> Result<(), StepFault>
-        requires { HasSpelling packet.now }
+        requires spelled { HasSpelling packet.now }
+        requires other { IsNoPublish packet.now }
         ensures ok { OnOk result (Did (always (Send line packet.now ∷ [])) self.old self.new) }
         ensures left { IfErr result (λ fault.
             IsLeft (always (Send line packet.now ∷ [])) fault self.old self.new) }

@@ -39,6 +39,9 @@ fn publications_set(undo: &Undo) -> Option<u64>
         | Undo::PutLine { .. }
         | Undo::RemoveLine { .. }
         | Undo::EditLine { .. }
+        | Undo::PutTelling { .. }
+        | Undo::RemoveTelling { .. }
+        | Undo::CutTelling { .. }
         | Undo::SetMoment { .. } => None,
     }
 }
@@ -72,6 +75,9 @@ fn subscribes_set(undo: &Undo) -> Option<u64>
         | Undo::PutLine { .. }
         | Undo::RemoveLine { .. }
         | Undo::EditLine { .. }
+        | Undo::PutTelling { .. }
+        | Undo::RemoveTelling { .. }
+        | Undo::CutTelling { .. }
         | Undo::SetMoment { .. } => None,
     }
 }

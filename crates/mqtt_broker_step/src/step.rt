@@ -133,7 +133,7 @@ impl Step {
         moment: u64,
     ) -> Result<Step, AllocError>
         ensures { IfOk result (λ step. step
-            ≡ at_rest limits (broker_of records [] 0 moment)) }
+            ≡ at_rest limits (broker_of records [] [] 0 moment)) }
     {
         Ok(Step {
             alloc,

@@ -1,23 +1,26 @@
 //! What is stored and the lines, changed in place, with a journal that takes the changes back.
-ghost use Rattle.std.specs.Prelude.{◌≡◌, ◌≤◌, [], Some, length, option_copied, IfOk, OnOk, OnErr};
+ghost use Rattle.std.specs.Prelude.{◌≡◌, ◌≤◌, [], None, Some, length, option_copied, IfOk, OnOk, OnErr};
 ghost use Rattle.mqtt_base.specs.declared.limits.TheConstants.{LINE_LIMIT as line_limit};
-ghost use Rattle.mqtt_records_rows.specs.Order.{IsAscending, row_at, change_row, remove_row};
+ghost use Rattle.mqtt_records_rows.specs.Order.{IsAscending, row_at, put_row, change_row, remove_row};
 ghost use Rattle.mqtt_records.specs.Records.{changed, kept_place};
 ghost use Rattle.mqtt_records.specs.declared.session.Session.{Session as TheSession};
 ghost use Rattle.mqtt_records.specs.Session.{birth_of, copy_place};
 ghost use Rattle.mqtt_records.specs.declared.change.Change.TheVariants.{RemoveSession, RemoveCopy, RemoveRetained};
 ghost use Rattle.mqtt_topic.specs.Aliases.{IsInRange};
 ghost use Rattle.mqtt_rules.specs.Laws.{HasTables};
-ghost use Rattle.mqtt_rules.specs.State.{IsUntold, Line, session_at, session_named};
+ghost use Rattle.mqtt_rules.specs.State.{Line, session_at, session_named, told_line};
+ghost use Rattle.mqtt_topic_aliases.specs.Told.{none_told};
 ghost use Rattle.mqtt_broker_step.specs.Lines.{line_changed, line_number, with_alias};
-ghost use Rattle.mqtt_broker_step.specs.Backs.{TakesLineBack};
-ghost use Rattle.mqtt_broker_step.specs.Undoing.{become, settled, taken_back, undone, broker_of, with_change, with_lines, with_line_changed, with_linked, with_moment_of, moment_of};
+ghost use Rattle.mqtt_broker_step.specs.Backs.{TakesLineBack, TakesTellingBack};
+ghost use Rattle.mqtt_broker_step.specs.Tellings.{telling_more};
+ghost use Rattle.mqtt_broker_step.specs.Undoing.{become, settled, taken_back, undone, broker_of, with_change, with_lines, with_line_changed, with_linked, with_tellings, with_moment_of, moment_of};
 
 use crate::line::{LineChange, LineState};
 use crate::seeking::row_of;
 use crate::started::{publications_before, subscribes_before};
+use crate::telling::LineTopics;
 use crate::undo::Undo;
-use mqtt_base::LINE_LIMIT;
+use mqtt_base::{LINE_LIMIT, Text};
 use mqtt_records::{Change, Records, Session};
 use mqtt_records_names::NamedRecords;
 use mqtt_records_rows::Rows;
@@ -30,6 +33,7 @@ use std::marker::Model;
 pub(crate) struct Tables {
     records: NamedRecords,
     lines: Rows<LineState, LINE_LIMIT>,
+    tellings: Rows<LineTopics, LINE_LIMIT>,
     given: u64,
     moment: u64,
     journal: Vec<Undo>,
@@ -40,19 +44,20 @@ impl Model for Tables {
 
     ghost Value = { Changing };
 
-    ghost view = { λ a. changing a.journal.items (broker_of a.records a.lines a.given a.moment) };
+    ghost view = { λ a. changing a.journal.items (broker_of a.records a.lines a.tellings a.given a.moment) };
 }
 
 /// Takes one change back.
 fn undo_one(
     records: &mut NamedRecords,
     lines: &mut Rows<LineState, LINE_LIMIT>,
+    tellings: &mut Rows<LineTopics, LINE_LIMIT>,
     given: &mut u64,
     moment: &mut u64,
     undo: Undo,
 )
-    ensures { broker_of records.new lines.new given.new moment.new
-        ≡ undone undo (broker_of records.old lines.old given.old moment.old) }
+    ensures { broker_of records.new lines.new tellings.new given.new moment.new
+        ≡ undone undo (broker_of records.old lines.old tellings.old given.old moment.old) }
 {
     match undo {
         Undo::Make { change } => records.change(change),
@@ -66,6 +71,9 @@ fn undo_one(
             *given = before;
         }
         Undo::EditLine { number, change } => lines.edit(number, change),
+        Undo::PutTelling { telling } => tellings.put(telling),
+        Undo::RemoveTelling { line } => tellings.remove(line),
+        Undo::CutTelling { line, count } => tellings.edit(line, count),
         Undo::SetMoment { moment: before } => *moment = before,
     }
 }
@@ -74,16 +82,17 @@ fn undo_one(
 fn undo_all(
     records: &mut NamedRecords,
     lines: &mut Rows<LineState, LINE_LIMIT>,
+    tellings: &mut Rows<LineTopics, LINE_LIMIT>,
     given: &mut u64,
     moment: &mut u64,
     journal: &mut Vec<Undo>,
 )
-    ensures tables { broker_of records.new lines.new given.new moment.new
-        ≡ taken_back journal.old.items (broker_of records.old lines.old given.old moment.old) }
+    ensures tables { broker_of records.new lines.new tellings.new given.new moment.new
+        ≡ taken_back journal.old.items (broker_of records.old lines.old tellings.old given.old moment.old) }
     ensures journal { journal.new.items ≡ [] }
 {
     while let Some(undo) = journal.pop() {
-        undo_one(records, lines, given, moment, undo);
+        undo_one(records, lines, tellings, given, moment, undo);
     }
 }
 
@@ -113,14 +122,39 @@ fn set_alias_of(
     }
 }
 
+/// The client on a line is told a further topic, if it takes aliases and one is free; gives how many it was told before.
+fn tell_in(
+    tellings: &mut Rows<LineTopics, LINE_LIMIT>,
+    line: u64,
+    topic: &Text,
+) -> Result<Option<usize>, AllocError>
+    ensures ok { OnOk result (tellings.new
+        ≡ change_row told_line line (telling_more topic.now) tellings.old) }
+    ensures back { IfOk result (TakesTellingBack line tellings.old tellings.new) }
+    ensures err { OnErr result (tellings.new ≡ tellings.old) }
+{
+    tellings.as_slice();
+    let Some(mut telling) = tellings.take(line) else {
+        return Ok(None);
+    };
+    let count = telling.topics().count();
+    let told = telling.tell(topic);
+    tellings.put(telling);
+    match told {
+        Ok(()) => Ok(Some(count)),
+        Err(fault) => Err(fault),
+    }
+}
+
 impl Tables {
     /// Tables without lines, on which no step is under way.
     pub(crate) fn new(alloc: Global, records: Records, moment: u64) -> Result<Tables, AllocError>
-        ensures { IfOk result (λ tables. tables ≡ settled (broker_of records [] 0 moment)) }
+        ensures { IfOk result (λ tables. tables ≡ settled (broker_of records [] [] 0 moment)) }
     {
         Ok(Tables {
             records: NamedRecords::new(alloc, records)?,
             lines: Rows::new(alloc)?,
+            tellings: Rows::new(alloc)?,
             given: 0,
             moment,
             journal: Vec::new(alloc),
@@ -222,11 +256,56 @@ impl Tables {
         self.lines.as_slice()
     }
 
-    /// Shows that nothing is told of topics. Takes no memory.
-    pub(crate) fn show_untold(&self)
-        ensures { IsUntold self.now.broker }
+    /// What the client on a line was told of topics, if it takes aliases. Takes no memory.
+    pub(crate) fn telling(&self, line: u64) -> Option<&LineTopics>
+        ensures { option_copied result ≡ row_at told_line line self.now.broker.tellings }
     {
-        self.lines.as_slice();
+        self.tellings.get(line)
+    }
+
+    /// The client on a line takes so many aliases, and was told nothing. Want of memory changes nothing.
+    pub(crate) fn put_telling(&mut self, line: u64, most: u16) -> Result<(), AllocError>
+        requires new { row_at told_line line self.old.broker.tellings ≡ None }
+        ensures ok { OnOk result (self.new ≡ become (with_tellings
+            (put_row told_line line_limit (record { line = line; topics = none_told most })
+            self.old.broker.tellings) self.old.broker) self.old) }
+        ensures err { OnErr result (self.new ≡ self.old) }
+    {
+        self.tellings.as_slice();
+        self.journal.push(Undo::RemoveTelling { line })?;
+        let alloc = *self.journal.allocator();
+        self.tellings.put(LineTopics::new(alloc, line, most));
+        Ok(())
+    }
+
+    /// The client on a line is told a further topic, if it takes aliases and one is free. Want of memory changes nothing.
+    pub(crate) fn tell(&mut self, line: u64, topic: &Text) -> Result<(), AllocError>
+        ensures ok { OnOk result (self.new ≡ become (with_tellings
+            (change_row told_line line (telling_more topic.now) self.old.broker.tellings)
+            self.old.broker) self.old) }
+        ensures err { OnErr result (self.new ≡ self.old) }
+    {
+        self.journal.reserve(1)?;
+        match tell_in(&mut self.tellings, line, topic)? {
+            Some(count) => self.journal.push(Undo::CutTelling { line, count }).unwrap(),
+            None => {}
+        }
+        Ok(())
+    }
+
+    /// What the client on a line was told is forgotten; the journal keeps it. Want of memory changes nothing.
+    pub(crate) fn take_telling(&mut self, line: u64) -> Result<(), AllocError>
+        ensures ok { OnOk result (self.new ≡ become (with_tellings
+            (remove_row told_line line self.old.broker.tellings) self.old.broker) self.old) }
+        ensures err { OnErr result (self.new ≡ self.old) }
+    {
+        self.journal.reserve(1)?;
+        self.tellings.as_slice();
+        match self.tellings.take(line) {
+            Some(telling) => self.journal.push(Undo::PutTelling { telling }).unwrap(),
+            None => {}
+        }
+        Ok(())
     }
 
     /// Changes a part of a line, if it stands. Want of memory changes nothing.
@@ -380,6 +459,7 @@ impl Tables {
         undo_all(
             &mut self.records,
             &mut self.lines,
+            &mut self.tellings,
             &mut self.given,
             &mut self.moment,
             &mut self.journal,

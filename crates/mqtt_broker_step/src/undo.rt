@@ -1,5 +1,6 @@
 //! What takes a change of the tables back.
 use crate::line::{LineChange, LineState};
+use crate::telling::LineTopics;
 use mqtt_records::{Change, Session};
 use mqtt_records_rows::Boxed;
 
@@ -16,6 +17,12 @@ pub enum Undo {
     RemoveLine { number: u64, given: u64 },
     /// A line's part is what it was.
     EditLine { number: u64, change: LineChange },
+    /// What the client on a line was told is put back, when the line left the table.
+    PutTelling { telling: LineTopics },
+    /// The client on a line takes no aliases.
+    RemoveTelling { line: u64 },
+    /// The client on a line was told so many topics.
+    CutTelling { line: u64, count: usize },
     /// The moment is what it was.
     SetMoment { moment: u64 },
 }

@@ -1,6 +1,6 @@
 -- A step is a list of deeds, in the order of what they tell. All else of a step is read off its deeds.
 use Rattle.std.specs.Prelude.{ℕ, Bool, true, false, cond, not, List, [], ◌∷◌, ◌++◌, filter, find, map, nat_eq, nat_le, Option, Some, None, unwrap_or}
-use Rattle.mqtt_base.specs.declared.limits.TheConstants.{ALIAS_LIMIT}
+use Rattle.mqtt_base.specs.declared.limits.TheConstants.{ALIAS_LIMIT, LINE_LIMIT}
 use Rattle.mqtt_base.specs.declared.session.Qos.{Qos}
 use Rattle.mqtt_base.specs.declared.session.Phase.{Phase}
 use Rattle.mqtt_base.specs.declared.session.Phase.TheVariants.{Waiting}
@@ -23,13 +23,14 @@ use Rattle.mqtt_records.specs.declared.records.Records.{Records}
 use Rattle.mqtt_records.specs.declared.change.Counter.TheVariants.{Births, Publications, Subscribes, Autos}
 use Rattle.mqtt_records.specs.declared.change.Change.{Change}
 use Rattle.mqtt_records.specs.declared.change.Change.TheVariants.{SetCounter, PutSession, SetSession, RemoveSession, PutWill, RemoveWill, PutSubscription, RemoveSubscription, PutInbound, RemoveInbound, PutCopy, SetCopy, RemoveCopy, PutRetained, RemoveRetained}
+use Rattle.mqtt_records_rows.specs.Order.{change_row, put_row, remove_row}
 use Rattle.mqtt_records.specs.Session.{columns_of, copy_place}
 use Rattle.mqtt_records.specs.Records.{changed_all}
 use Rattle.mqtt_rules.specs.declared.Report.{Report}
 use Rattle.mqtt_rules.specs.declared.Report.TheVariants as reports
 use Rattle.mqtt_rules.specs.Packets.{size_of}
 use Rattle.mqtt_rules.specs.Forms.{form_for, in_form}
-use Rattle.mqtt_rules.specs.State.{Line, Telling, Broker, session_at, line_at, told_on, is_of, next_of}
+use Rattle.mqtt_rules.specs.State.{Line, Telling, Broker, session_at, line_at, told_line, told_on, is_of, next_of}
 
 -- whose a deed is: a session by its birth, with its client identifier
 pub record Whose : Type 0 where
@@ -191,16 +192,16 @@ tells (Some l) (Publish p) told = after_send (form_for l.largest told p) p.topic
 tells (Some l) packet told = told
 
 abbrev pub tells_on : ℕ → Option Line → Packet → List Telling → List Telling
-tells_on n o packet [] = []
-tells_on n o packet (t ∷ ts) =
-    cond (nat_eq t.line n) (record t { topics = tells o packet t.topics } ∷ ts) (t ∷ tells_on n o packet ts)
+tells_on n o packet ts = change_row told_line n (λ t. record t { topics = tells o packet t.topics }) ts
 
 abbrev pub without_telling : ℕ → List Telling → List Telling
-without_telling n ts = filter (λ t. not (nat_eq t.line n)) ts
+without_telling n ts = remove_row told_line n ts
 
--- with a CONNECT that is accepted the connection has a table of its own, unless its client takes no alias
+-- with a CONNECT that is accepted the connection has a table of its own, unless its client takes no alias; there are as many
+-- tables as lines may stand (ours)
 abbrev pub greeted : ℕ → ℕ → List Telling → List Telling
-greeted n most ts = cond (nat_eq most 0) ts (without_telling n ts ++ record { line = n; topics = none_told most } ∷ [])
+greeted n most ts =
+    cond (nat_eq most 0) ts (put_row told_line LINE_LIMIT (record { line = n; topics = none_told most }) (without_telling n ts))
 
 abbrev pub told_part : ℕ → LinePart → List Telling → List Telling
 told_part n (Greet birth keep_alive window largest most) ts = greeted n most ts

@@ -39,7 +39,7 @@ pub record Broker : Type 0 where
   pub lines : List Line  -- in the order in which they were linked
   pub given : ℕ  -- lines so far
   pub now : ℕ  -- the greatest moment handed in
-  pub tellings : List Telling  -- of lines whose clients take aliases
+  pub tellings : List Telling  -- of lines whose clients take aliases, in the order of the lines
 
 -- Stored: the part of the state that the store keeps
 abbrev pub stored : Broker → Records
@@ -76,8 +76,11 @@ abbrev pub topics_in : Option Telling → ToldTopics
 topics_in None = none_told 0
 topics_in (Some t) = t.topics
 
+abbrev pub told_line : Telling → ℕ
+told_line t = t.line
+
 abbrev pub told_on : ℕ → List Telling → ToldTopics
-told_on n ts = topics_in (find (λ t. nat_eq t.line n) ts)
+told_on n ts = topics_in (row_at told_line n ts)
 
 -- no client that stands on a line takes aliases
 abbrev pub IsUntold : Broker → Type 0

@@ -25,7 +25,7 @@ module _ (n : ℕ) (table : AliasTable) where
   greets k granted ts h within = elim (cases_Bool (nat_eq k n)) [
     | inl mine ↦
         subst (λ (j : ℕ). Knows table (told_on n (greeted j granted ts))) (sym (eqb-true k n mine))
-        (greeted_own n granted (Knows table) ts h (knows_nothing table granted (within mine)))
+        (greeted_own n granted (Knows table) ts h (knows_nothing table 0 (omega arith)) (knows_nothing table granted (within mine)))
     | inr other ↦ subst (Knows table) (sym (greeted_other n k granted ts other)) h
   ]
 

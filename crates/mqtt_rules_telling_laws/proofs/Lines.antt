@@ -1,5 +1,6 @@
 -- What was told on a line, by what happens on it and on others.
-use Rattle.std.proofs.Common.{◌≡◌, ℕ, Bool, true, false, cond, List, [], ◌∷◌, ◌++◌, nat_eq, Option, Some, None, refl, sym, ap, subst, ◌∙◌, inl, inr}
+use Rattle.std.proofs.Common.{◌≡◌, ℕ, Bool, true, false, cond, List, [], ◌∷◌, nat_eq, Option, Some, None, refl, sym, ap, subst, ◌∙◌, inl, inr}
+use Rattle.std.specs.Prelude.{◌||◌, length, nat_lt}
 use Rattle.std.proofs.lemmas.Bool.{cases_Bool, eqb-true}
 use Rattle.std.proofs.lemmas.Cmp.{nat_eq_equiv}
 use Rattle.mqtt_codec.specs.declared.packet.Packet.{Packet}
@@ -8,7 +9,9 @@ use Rattle.mqtt_codec.specs.declared.publish.Publish.{Publish}
 use Rattle.mqtt_topic_aliases.specs.declared.form.Form.TheVariants.{Plain}
 use Rattle.mqtt_topic_aliases.specs.Told.{ToldTopics, none_told, after_send}
 use Rattle.mqtt_rules.specs.Forms.{is_within}
-use Rattle.mqtt_rules.specs.State.{Line, Telling, told_on}
+use Rattle.mqtt_base.specs.declared.limits.TheConstants.{LINE_LIMIT}
+use Rattle.mqtt_records_rows.specs.Order.{has_row, insert_row, put_row}
+use Rattle.mqtt_rules.specs.State.{Line, Telling, told_line, told_on}
 use Rattle.mqtt_rules.specs.Deeds.{greeted, tells, tells_on, without_telling}
 
 -- a client that takes no alias is told nothing
@@ -62,36 +65,58 @@ gone_other n k (t ∷ ts) apart = elim (cases_Bool (nat_eq t.line k)) [
   ]
 ]
 
--- a table that begins is the line's own
-begun_own : (n : ℕ) (told : ToldTopics) (ts : List Telling) → told_on n (without_telling n ts ++ record { line = n; topics = told } ∷ []) ≡ told
+-- a row in its place is the line's own
+begun_own : (n : ℕ) (told : ToldTopics) (ts : List Telling) → told_on n (insert_row told_line (record { line = n; topics = told }) ts) ≡ told
 begun_own n told [] = let same = nat_eq_equiv.refl n in rw same refl
-begun_own n told (t ∷ ts) = elim (cases_Bool (nat_eq t.line n)) [
-  | inl here ↦ rw here (begun_own n told ts)
-  | inr other ↦ rw (other, other) (begun_own n told ts)
-]
-
-begun_other : (n k : ℕ) (told : ToldTopics) (ts : List Telling) → nat_eq k n ≡ false → told_on n (without_telling k ts ++ record { line = k; topics = told } ∷ []) ≡ told_on n ts
-begun_other n k told [] apart = rw apart refl
-begun_other n k told (t ∷ ts) apart = elim (cases_Bool (nat_eq t.line k)) [
-  | inl here ↦ let off = another t.line k n here apart in rw (here, off) (begun_other n k told ts apart)
-  | inr further ↦ elim (cases_Bool (nat_eq t.line n)) [
-    | inl mine ↦ rw (further, mine) refl
-    | inr off ↦ rw (further, off) (begun_other n k told ts apart)
+begun_own n told (t ∷ ts) = elim (cases_Bool (nat_lt n t.line)) [
+  | inl before ↦ let same = nat_eq_equiv.refl n in rw (before, same) refl
+  | inr behind ↦ elim (cases_Bool (nat_eq n t.line)) [
+    | inl here ↦ let same = nat_eq_equiv.refl n in rw (behind, here, same) refl
+    | inr other ↦ let off = nat_eq_equiv.symm t.line n ∙ other in rw (behind, other, off) (begun_own n told ts)
   ]
 ]
 
--- a client that is greeted has an empty table; one that takes no alias has the one that it had, which is none
-pub greeted_own : (n most : ℕ) (P : ToldTopics → Type 0) (ts : List Telling) → P (told_on n ts) → P (none_told most) → P (told_on n (greeted n most ts))
-greeted_own n most P ts was new = by (nat_eq most 0)
-  where
-    by : (t : Bool) → P (told_on n (cond t ts (without_telling n ts ++ record { line = n; topics = none_told most } ∷ [])))
-    by true = was
-    by false = subst P (sym (begun_own n (none_told most) ts)) new
+-- and the others stay
+begun_other : (n k : ℕ) (told : ToldTopics) (ts : List Telling) → nat_eq k n ≡ false → told_on n (insert_row told_line (record { line = k; topics = told }) ts) ≡ told_on n ts
+begun_other n k told [] apart = rw apart refl
+begun_other n k told (t ∷ ts) apart = elim (cases_Bool (nat_lt k t.line)) [
+  | inl before ↦ rw (before, apart) refl
+  | inr behind ↦ elim (cases_Bool (nat_eq k t.line)) [
+    | inl here ↦ let off = another t.line k n (nat_eq_equiv.symm t.line k ∙ here) apart in rw (behind, here, apart, off) refl
+    | inr further ↦ elim (cases_Bool (nat_eq t.line n)) [
+      | inl mine ↦ rw (behind, further, mine) refl
+      | inr off ↦ rw (behind, further, off) (begun_other n k told ts apart)
+    ]
+  ]
+]
 
--- and so has any other client
+-- a client that is greeted has an empty table, or none if there is no room for it; one that takes no alias has what it had
+pub greeted_own : (n most : ℕ) (P : ToldTopics → Type 0) (ts : List Telling) → P (told_on n ts) → P (none_told 0) → P (none_told most)
+    → P (told_on n (greeted n most ts))
+greeted_own n most P ts was none new = by (nat_eq most 0)
+  where
+    row : Telling
+    row = record { line = n; topics = none_told most }
+    rest : List Telling
+    rest = without_telling n ts
+    put : (t : Bool) → P (told_on n (cond t (insert_row told_line row rest) rest))
+    put true = subst P (sym (begun_own n (none_told most) rest)) new
+    put false = subst P (sym (gone_own n ts)) none
+    by : (t : Bool) → P (told_on n (cond t ts (put_row told_line LINE_LIMIT row rest)))
+    by true = was
+    by false = put (has_row told_line n rest || nat_lt (length rest) LINE_LIMIT)
+
+-- and any other client what it had
 pub greeted_other : (n k most : ℕ) (ts : List Telling) → nat_eq k n ≡ false → told_on n (greeted k most ts) ≡ told_on n ts
 greeted_other n k most ts apart = by (nat_eq most 0)
   where
-    by : (t : Bool) → told_on n (cond t ts (without_telling k ts ++ record { line = k; topics = none_told most } ∷ [])) ≡ told_on n ts
+    row : Telling
+    row = record { line = k; topics = none_told most }
+    rest : List Telling
+    rest = without_telling k ts
+    put : (t : Bool) → told_on n (cond t (insert_row told_line row rest) rest) ≡ told_on n ts
+    put true = begun_other n k (none_told most) rest apart ∙ gone_other n k ts apart
+    put false = gone_other n k ts apart
+    by : (t : Bool) → told_on n (cond t ts (put_row told_line LINE_LIMIT row rest)) ≡ told_on n ts
     by true = refl
-    by false = begun_other n k (none_told most) ts apart
+    by false = put (has_row told_line k rest || nat_lt (length rest) LINE_LIMIT)

@@ -6,7 +6,7 @@ ghost use Rattle.mqtt_topic_aliases.specs.Sizes.{alias_size, first_within, is_sp
 
 use crate::form::Form;
 use mqtt_base::varint_len;
-use mqtt_topic::TopicName;
+use mqtt_base::Text;
 
 /// What the Remaining Length of a packet is below (2.1.4).
 const REMAINING_END: usize = 268_435_456;
@@ -21,7 +21,7 @@ pub struct OtherBytes {
 }
 
 /// The bytes of the topic that stands in the packet, without its length.
-fn topic_len(form: Form, topic: &TopicName) -> usize
+fn topic_len(form: Form, topic: &Text) -> usize
     ensures value { result ≡ length (topic_in form topic.now) }
     ensures below { result < 2 ^ 16 }
 {
@@ -45,7 +45,7 @@ fn alias_len(form: Form) -> usize
 }
 
 /// The Remaining Length, if the packet has a spelling.
-fn remaining_in(form: Form, topic: &TopicName, other: OtherBytes) -> Option<u32>
+fn remaining_in(form: Form, topic: &Text, other: OtherBytes) -> Option<u32>
     ensures { result ≡ cond (is_spelled (remaining_in form topic.now other))
         (Some (remaining_in form topic.now other)) None }
 {
@@ -67,7 +67,7 @@ fn remaining_in(form: Form, topic: &TopicName, other: OtherBytes) -> Option<u32>
 
 /// Bytes of a PUBLISH in a form, fixed header included; none if it has no spelling, since more
 /// than 268,435,455 bytes would follow the fixed header (2.1.4). Takes no memory.
-pub fn size_in(form: Form, topic: &TopicName, other: OtherBytes) -> Option<usize>
+pub fn size_in(form: Form, topic: &Text, other: OtherBytes) -> Option<usize>
     ensures { result ≡ size_in form topic.now other }
 {
     let remaining = remaining_in(form, topic, other)?;
@@ -75,7 +75,7 @@ pub fn size_in(form: Form, topic: &TopicName, other: OtherBytes) -> Option<usize
 }
 
 /// Whether a PUBLISH in a form is within a Maximum Packet Size.
-fn is_within(largest: u32, topic: &TopicName, other: OtherBytes, form: Form) -> bool
+fn is_within(largest: u32, topic: &Text, other: OtherBytes, form: Form) -> bool
     ensures { result ≡ is_within largest topic.now other form }
 {
     match size_in(form, topic, other) {
@@ -85,7 +85,7 @@ fn is_within(largest: u32, topic: &TopicName, other: OtherBytes, form: Form) -> 
 }
 
 /// The plain form, if it is within.
-pub(crate) fn if_plain(largest: u32, topic: &TopicName, other: OtherBytes) -> Option<Form>
+pub(crate) fn if_plain(largest: u32, topic: &Text, other: OtherBytes) -> Option<Form>
     ensures { result ≡ first_within largest topic.now other (Form.Plain ∷ []) }
 {
     if is_within(largest, topic, other, Form::Plain) {
@@ -98,7 +98,7 @@ pub(crate) fn if_plain(largest: u32, topic: &TopicName, other: OtherBytes) -> Op
 /// A form, or the plain one: the first that is within.
 pub(crate) fn or_plain(
     largest: u32,
-    topic: &TopicName,
+    topic: &Text,
     other: OtherBytes,
     form: Form,
 ) -> Option<Form>

@@ -5,7 +5,8 @@ ghost use Rattle.mqtt_topic_aliases.specs.Sizes.{form_for};
 
 use crate::form::Form;
 use crate::sizes::{OtherBytes, if_plain, or_plain};
-use mqtt_topic::{TopicFault, TopicName};
+use mqtt_base::Text;
+use mqtt_topic::TopicFault;
 use std::alloc::Global;
 use std::marker::Model;
 
@@ -28,7 +29,7 @@ pub fn most_of(asked: Option<u16>) -> u16
 #[derive(Drop)]
 pub struct OutAliases {
     max: u16,
-    topics: Vec<TopicName>,
+    topics: Vec<Text>,
 }
 
 impl Model for OutAliases {
@@ -81,8 +82,21 @@ impl OutAliases {
     }
 
     /// Tells a further topic, and answers its alias; none if none is free.
-    pub fn add(&mut self, topic: &TopicName) -> Result<Option<u16>, TopicFault>
+    pub fn add(&mut self, topic: &Text) -> Result<Option<u16>, TopicFault>
         requires new { alias_of topic.now self.old ≡ None }
+        ensures number { IfOk result (λ number. number ≡ next_alias self.old) }
+        ensures ok { OnOk result (self.new ≡ told_if (next_alias self.old) topic.now self.old) }
+
+        // Want of memory is the only refusal, only if an alias is free, and changes nothing.
+        ensures fault { IfErr result (λ fault. fault ≡ TopicFault.Memory) }
+        ensures only { OnErr result (IsSome (next_alias self.old)) }
+        ensures err { OnErr result (self.new ≡ self.old) }
+    {
+        self.tell(topic)
+    }
+
+    /// Tells a topic, whether it was told or not: the alias is the next one; none if none is free.
+    pub fn tell(&mut self, topic: &Text) -> Result<Option<u16>, TopicFault>
         ensures number { IfOk result (λ number. number ≡ next_alias self.old) }
         ensures ok { OnOk result (self.new ≡ told_if (next_alias self.old) topic.now self.old) }
 
@@ -94,7 +108,9 @@ impl OutAliases {
         let Some(alias) = self.next() else {
             return Ok(None);
         };
-        let kept = topic.try_clone()?;
+        let Ok(kept) = topic.clone() else {
+            return Err(TopicFault::Memory);
+        };
         match self.topics.push(kept) {
             Ok(()) => Ok(Some(alias)),
             Err(_) => Err(TopicFault::Memory),
@@ -110,7 +126,7 @@ impl OutAliases {
 
     /// The form in which a PUBLISH goes out, to a client that takes so many bytes (3.1.2.11.4): the
     /// first that is within; none if it is too large in each. Takes no memory.
-    pub fn form_for(&self, largest: u32, topic: &TopicName, other: OtherBytes) -> Option<Form>
+    pub fn form_for(&self, largest: u32, topic: &Text, other: OtherBytes) -> Option<Form>
         ensures { result ≡ form_for largest self.now topic.now other }
     {
         match self.look(topic.as_str()) {
@@ -127,7 +143,7 @@ impl OutAliases {
     pub fn send(
         &mut self,
         largest: u32,
-        topic: &TopicName,
+        topic: &Text,
         other: OtherBytes,
     ) -> Result<Option<Form>, TopicFault>
         ensures form { IfOk result (λ form. form ≡ form_for largest self.old topic.now other) }
@@ -148,7 +164,7 @@ impl OutAliases {
 }
 
 /// Where a topic stands among others, from 1; they are at most so many.
-fn place(max: u16, topics: &[TopicName], topic: &str) -> Option<u16>
+fn place(max: u16, topics: &[Text], topic: &str) -> Option<u16>
     requires { length topics.now ≤ max }
     ensures { result ≡ place_from 1 topic.now topics.now }
 {

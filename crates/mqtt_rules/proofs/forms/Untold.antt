@@ -44,7 +44,7 @@ use Rattle.mqtt_rules.proofs.acts.Acts.{anyone, finds_anyone, call_of_anyone, cl
 -- ---- what goes out while nothing is told
 
 -- to a client that takes no alias a PUBLISH goes out plain
-plain_form : (l : Line) (p : Publish) → unwrap_or (form_for l.largest (none_told 0) p) Plain ≡ Plain
+pub plain_form : (l : Line) (p : Publish) → unwrap_or (form_for l.largest (none_told 0) p) Plain ≡ Plain
 plain_form l p = by (is_within l.largest p Plain)
   where
     by : (t : Bool) → unwrap_or (cond t (Some Plain) None) Plain ≡ Plain

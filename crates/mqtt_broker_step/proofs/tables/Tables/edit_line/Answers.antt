@@ -12,7 +12,7 @@ use Rattle.mqtt_broker_step.proofs.tables.Tables.edit_line.Goals as goal
 pub returns-clause-ok : goal.returns-clause-ok
 returns-clause-ok c =
     let ls : List Line = c.self.inside.lines in
-    let b : Broker = broker_of c.self.inside.records ls c.self.inside.given c.self.inside.moment in
+    let b : Broker = broker_of c.self.inside.records ls c.self.inside.tellings c.self.inside.given c.self.inside.moment in
     let here : ls ≡ c.args.self.now.broker.lines = ap (λ (v : Changing). v.broker.lines) c.self.view_is in
     let noted = rw c.unwrap.ensures at c.push.ensures.items in
     let kept : c.reserve.new.self.items ≡ c.self.inside.journal.items = c.reserve.ensures.items in

@@ -10,7 +10,7 @@ use Rattle.mqtt_broker_step.proofs.tables.Tables.make.Goals as goal
 pub returns-clause-ok : goal.returns-clause-ok
 returns-clause-ok c =
     let r : Records = c.self.inside.records in
-    let b : Broker = broker_of r c.self.inside.lines c.self.inside.given c.self.inside.moment in
+    let b : Broker = broker_of r c.self.inside.lines c.self.inside.tellings c.self.inside.given c.self.inside.moment in
     let here : r ≡ c.args.self.now.broker.records = ap (λ (v : Changing). v.broker.records) c.self.view_is in
     let noted = rw c.unwrap.ensures at c.push.ensures.items in
     let kept : c.reserve.new.self.items ≡ c.self.inside.journal.items = c.reserve.ensures.items in

@@ -10,5 +10,5 @@ returns c =
     c.publications_before.ensures
     ∙ (ap (λ (r : Records). publications_before c.deref.result.now r.publications) c.records.ensures
     ∙ (ap (λ (us : List Undo). publications_before us c.self.inside.records.publications) c.deref.ensures.value
-    ∙ (sym (publications_taken_back c.self.inside.journal.items (broker_of c.self.inside.records c.self.inside.lines c.self.inside.given c.self.inside.moment))
+    ∙ (sym (publications_taken_back c.self.inside.journal.items (broker_of c.self.inside.records c.self.inside.lines c.self.inside.tellings c.self.inside.given c.self.inside.moment))
     ∙ ap (λ (v : Changing). v.start.records.publications) c.self.view_is)))

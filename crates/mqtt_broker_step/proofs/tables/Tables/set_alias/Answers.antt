@@ -10,7 +10,7 @@ use Rattle.mqtt_broker_step.proofs.tables.Tables.set_alias.Goals as goal
 pub returns-in-Some-clause-ok : goal.returns-in-Some-clause-ok
 returns-in-Some-clause-ok c =
     let xs : List Line = c.self.inside.lines in
-    let b : Broker = broker_of c.self.inside.records xs c.self.inside.given c.self.inside.moment in
+    let b : Broker = broker_of c.self.inside.records xs c.self.inside.tellings c.self.inside.given c.self.inside.moment in
     let noted = rw c.unwrap.ensures at c.push.ensures.items in
     let kept : c.reserve.new.self.items ≡ c.self.inside.journal.items = c.reserve.ensures.items in
     let pushed : c.push.new.self.items ≡ c.self.inside.journal.items ++ EditLine c.args.number c.in-Some.change ∷ [] = cc in
@@ -24,7 +24,7 @@ returns-in-Some-clause-ok c =
 pub returns-in-None-clause-ok : goal.returns-in-None-clause-ok
 returns-in-None-clause-ok c =
     let xs : List Line = c.self.inside.lines in
-    let b : Broker = broker_of c.self.inside.records xs c.self.inside.given c.self.inside.moment in
+    let b : Broker = broker_of c.self.inside.records xs c.self.inside.tellings c.self.inside.given c.self.inside.moment in
     let set : c.set_alias_of.new.lines ≡ change_row line_number c.args.number (with_alias c.args.alias c.args.topic.now) xs = c.in_ok-change.ensures.ok in
     let same = rw c.in-None.is at c.in_ok-change.ensures.back in
     same_is c.self.inside.journal.items c.reserve.new.self.items b (with_lines c.set_alias_of.new.lines b)

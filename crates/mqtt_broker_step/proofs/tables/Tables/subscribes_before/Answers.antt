@@ -10,5 +10,5 @@ returns c =
     c.subscribes_before.ensures
     ∙ (ap (λ (r : Records). subscribes_before c.deref.result.now r.subscribes) c.records.ensures
     ∙ (ap (λ (us : List Undo). subscribes_before us c.self.inside.records.subscribes) c.deref.ensures.value
-    ∙ (sym (subscribes_taken_back c.self.inside.journal.items (broker_of c.self.inside.records c.self.inside.lines c.self.inside.given c.self.inside.moment))
+    ∙ (sym (subscribes_taken_back c.self.inside.journal.items (broker_of c.self.inside.records c.self.inside.lines c.self.inside.tellings c.self.inside.given c.self.inside.moment))
     ∙ ap (λ (v : Changing). v.start.records.subscribes) c.self.view_is)))

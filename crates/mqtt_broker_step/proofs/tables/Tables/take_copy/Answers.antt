@@ -15,7 +15,7 @@ use Rattle.mqtt_broker_step.proofs.tables.Tables.take_copy.Goals as goal
 pub returns-in-Some-clause-ok : goal.returns-in-Some-clause-ok
 returns-in-Some-clause-ok c =
     let r : Records = c.self.inside.records in
-    let b : Broker = broker_of r c.self.inside.lines c.self.inside.given c.self.inside.moment in
+    let b : Broker = broker_of r c.self.inside.lines c.self.inside.tellings c.self.inside.given c.self.inside.moment in
     let here : r ≡ c.args.self.now.broker.records = ap (λ (v : Changing). v.broker.records) c.self.view_is in
     let noted = rw c.unwrap.ensures at c.push.ensures.items in
     let kept : c.reserve.new.self.items ≡ c.self.inside.journal.items = c.reserve.ensures.items in
@@ -32,7 +32,7 @@ returns-in-Some-clause-ok c =
 pub returns-in-None-clause-ok : goal.returns-in-None-clause-ok
 returns-in-None-clause-ok c =
     let r : Records = c.self.inside.records in
-    let b : Broker = broker_of r c.self.inside.lines c.self.inside.given c.self.inside.moment in
+    let b : Broker = broker_of r c.self.inside.lines c.self.inside.tellings c.self.inside.given c.self.inside.moment in
     let rest : c.take_copy.new.self ≡ changed (RemoveCopy c.args.birth c.args.place) r = c.take_copy.ensures.rest in
     let same : changed (RemoveCopy c.args.birth c.args.place) r ≡ r = left_none c.args.birth c.args.place r (sym c.in-None.ensures.row) in
     same_is c.self.inside.journal.items c.reserve.new.self.items b (with_records c.take_copy.new.self b) (with_change (RemoveCopy c.args.birth c.args.place) b)

@@ -14,7 +14,7 @@ use Rattle.mqtt_broker_step.proofs.tables.Tables.take_line.Goals as goal
 pub returns-in-Some-clause-ok : goal.returns-in-Some-clause-ok
 returns-in-Some-clause-ok c =
     let xs : List Line = c.self.inside.lines in
-    let b : Broker = broker_of c.self.inside.records c.self.inside.lines c.self.inside.given c.self.inside.moment in
+    let b : Broker = broker_of c.self.inside.records c.self.inside.lines c.self.inside.tellings c.self.inside.given c.self.inside.moment in
     let noted = rw c.unwrap.ensures at c.push.ensures.items in
     let kept : c.reserve.new.self.items ≡ c.self.inside.journal.items = c.reserve.ensures.items in
     let pushed : c.push.new.self.items ≡ c.self.inside.journal.items ++ PutLine c.in-Some.line ∷ [] = cc in
@@ -28,7 +28,7 @@ returns-in-Some-clause-ok c =
 pub returns-in-None-clause-ok : goal.returns-in-None-clause-ok
 returns-in-None-clause-ok c =
     let xs : List Line = c.self.inside.lines in
-    let b : Broker = broker_of c.self.inside.records c.self.inside.lines c.self.inside.given c.self.inside.moment in
+    let b : Broker = broker_of c.self.inside.records c.self.inside.lines c.self.inside.tellings c.self.inside.given c.self.inside.moment in
     let same : remove_row line_number c.args.number xs ≡ xs = remove-none line_number c.args.number xs (sym c.in-None.ensures.row) in
     let rest : c.take.new.self ≡ remove_row line_number c.args.number xs = c.take.ensures.rest in
     same_is c.self.inside.journal.items c.reserve.new.self.items b (with_lines c.take.new.self b) (with_lines (remove_row line_number c.args.number xs) b)

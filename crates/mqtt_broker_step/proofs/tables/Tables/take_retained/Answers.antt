@@ -18,7 +18,7 @@ pub returns-in-Some-clause-ok : goal.returns-in-Some-clause-ok
 returns-in-Some-clause-ok c =
     let r : Records = c.self.inside.records in
     let xs : List RetainedMessage = r.retained in
-    let b : Broker = broker_of r c.self.inside.lines c.self.inside.given c.self.inside.moment in
+    let b : Broker = broker_of r c.self.inside.lines c.self.inside.tellings c.self.inside.given c.self.inside.moment in
     let noted = rw c.unwrap.ensures at c.push.ensures.items in
     let kept : c.reserve.new.self.items ≡ c.self.inside.journal.items = c.reserve.ensures.items in
     let pushed : c.push.new.self.items ≡ c.self.inside.journal.items ++ Make (PutRetained c.in-Some.kept) ∷ [] = cc in
@@ -36,7 +36,7 @@ pub returns-in-None-clause-ok : goal.returns-in-None-clause-ok
 returns-in-None-clause-ok c =
     let r : Records = c.self.inside.records in
     let xs : List RetainedMessage = r.retained in
-    let b : Broker = broker_of r c.self.inside.lines c.self.inside.given c.self.inside.moment in
+    let b : Broker = broker_of r c.self.inside.lines c.self.inside.tellings c.self.inside.given c.self.inside.moment in
     let same : remove_row kept_place c.args.place xs ≡ xs = remove-none kept_place c.args.place xs (sym c.in-None.ensures.kept) in
     let rest : c.take_retained.new.self ≡ record r { retained = remove_row kept_place c.args.place xs } = c.take_retained.ensures.rest in
     same_is c.self.inside.journal.items c.reserve.new.self.items b (with_records c.take_retained.new.self b) (with_change (RemoveRetained c.args.place) b)

@@ -18,7 +18,7 @@ pub returns-in-Some-clause-ok : goal.returns-in-Some-clause-ok
 returns-in-Some-clause-ok c =
     let r : Records = c.self.inside.records in
     let xs : List Session = r.sessions in
-    let b : Broker = broker_of r c.self.inside.lines c.self.inside.given c.self.inside.moment in
+    let b : Broker = broker_of r c.self.inside.lines c.self.inside.tellings c.self.inside.given c.self.inside.moment in
     let noted = rw c.unwrap.ensures at c.push.ensures.items in
     let kept : c.reserve.new.self.items ≡ c.self.inside.journal.items = c.reserve.ensures.items in
     let pushed : c.push.new.self.items ≡ c.self.inside.journal.items ++ PutSession c.in-Some.session ∷ [] = cc in
@@ -36,7 +36,7 @@ pub returns-in-None-clause-ok : goal.returns-in-None-clause-ok
 returns-in-None-clause-ok c =
     let r : Records = c.self.inside.records in
     let xs : List Session = r.sessions in
-    let b : Broker = broker_of r c.self.inside.lines c.self.inside.given c.self.inside.moment in
+    let b : Broker = broker_of r c.self.inside.lines c.self.inside.tellings c.self.inside.given c.self.inside.moment in
     let same : remove_row birth_of c.args.birth xs ≡ xs = remove-none birth_of c.args.birth xs (sym c.in-None.ensures.session) in
     let rest : c.take_session.new.self ≡ record r { sessions = remove_row birth_of c.args.birth xs } = c.take_session.ensures.rest in
     same_is c.self.inside.journal.items c.reserve.new.self.items b (with_records c.take_session.new.self b) (with_change (RemoveSession c.args.birth) b)
