@@ -10,7 +10,7 @@ use mqtt_broker_step::{Step, StepFault};
 use mqtt_codec_connect::Connect;
 
 /// A session is connected on a line, with the Keep Alive, the Receive Maximum and the Maximum Packet Size of
-/// a CONNECT (3.1.2.10, 3.1.2.11.3, 3.1.2.11.4).
+/// a CONNECT. It is told nothing of topics (3.1.2.10, 3.1.2.11.3, 3.1.2.11.4).
 pub(crate) fn greet(
     step: &mut Step,
     line: u64,
@@ -24,5 +24,5 @@ pub(crate) fn greet(
 {
     let window = window_of(connect);
     let largest = largest_of(connect);
-    step.greet(line, birth, connect.keep_alive, window, largest)
+    step.greet(line, birth, connect.keep_alive, window, largest, 0)
 }

@@ -6,3 +6,4 @@ pub mod RoomLeft
 pub mod Stayings
 pub mod Entered
 pub mod Sending
+pub mod Forms

@@ -5,6 +5,7 @@
 mod answering;
 mod entering;
 mod lapsing;
+mod outgoing;
 mod pumping;
 mod queue;
 mod repeats;
@@ -15,6 +16,7 @@ mod turns;
 pub use answering::{Answered, puback, pubcomp, pubrec};
 pub use entering::enter;
 pub use lapsing::expire;
+pub use outgoing::offer_publish;
 pub use pumping::pump;
 pub use repeats::repeats_of;
 pub use rooms::room;

@@ -9,8 +9,9 @@ ghost use Rattle.mqtt_rules.specs.State.{session_at};
 ghost use Rattle.mqtt_broker_step.specs.Stepping.{Did, IsLeft, to_session};
 ghost use Rattle.mqtt_broker_queue.specs.Turning.{takes_turn};
 
+use crate::outgoing::outgoing_row;
 use mqtt_base::{Phase, Reason};
-use mqtt_broker_packets::{publish_row, pubrel};
+use mqtt_broker_packets::pubrel;
 use mqtt_broker_step::{Step, StepFault};
 use mqtt_flow::Turn;
 use mqtt_records_message::CopyRow;
@@ -87,11 +88,11 @@ fn send(
     let Some(row) = copy_at(step, birth, place) else {
         return Ok(());
     };
-    let bytes = publish_row(alloc, step.moment(), false, identifier, row)?;
+    let out = outgoing_row(alloc, step, line, false, identifier, row)?;
     match mark_sent(step, line, birth, place, identifier) {
-        Ok(()) => step.send_spelled(line, bytes),
+        Ok(()) => step.send_publish(line, out),
         Err(fault) => {
-            drop(bytes);
+            drop(out);
             Err(fault)
         }
     }
@@ -114,11 +115,11 @@ fn resend(
     let Some(row) = copy_at(step, birth, place) else {
         return Ok(());
     };
-    let bytes = publish_row(alloc, step.moment(), true, identifier, row)?;
+    let out = outgoing_row(alloc, step, line, true, identifier, row)?;
     match step.went(line, place) {
-        Ok(()) => step.send_spelled(line, bytes),
+        Ok(()) => step.send_publish(line, out),
         Err(fault) => {
-            drop(bytes);
+            drop(out);
             Err(fault)
         }
     }

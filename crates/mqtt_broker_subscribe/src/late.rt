@@ -8,7 +8,7 @@ ghost use Rattle.mqtt_broker_step.specs.Stepping.{Did, IsLeft};
 ghost use Rattle.mqtt_broker_subscribe.specs.Offering.{offer_within};
 ghost use Rattle.mqtt_broker_subscribe.specs.Bringing.{late_within};
 
-use mqtt_broker_packets::{publish, publish_len};
+use mqtt_broker_queue::offer_publish;
 use mqtt_broker_step::{Step, StepFault};
 use mqtt_records_message::MessageCopy;
 use std::alloc::Global;
@@ -32,10 +32,7 @@ fn offer_late(
     let Some(largest) = largest else {
         return Ok(());
     };
-    if publish_len(copy) > largest as usize {
-        return Ok(());
-    }
-    step.send_spelled(line, publish(alloc, moment, false, 0, copy)?)
+    offer_publish(alloc, step, line, largest, moment, copy)
 }
 
 /// The same, and the copy is let go.

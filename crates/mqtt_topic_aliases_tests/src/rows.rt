@@ -71,8 +71,8 @@ fn goes_out(
         rest: 4,
     };
     let name = TopicName::parse(alloc, topic)?;
-    let sent = told.send(65_536, &name, other);
-    let size = size_in(*form, &name, other);
+    let sent = told.send(65_536, name.text(), other);
+    let size = size_in(*form, name.text(), other);
     drop(name);
     Ok(sent? == Some(*form) && size == Some(frame.len()) && is_read(frame, known, topic, *form))
 }

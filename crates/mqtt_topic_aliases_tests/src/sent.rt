@@ -41,8 +41,8 @@ fn is_sent(
 ) -> Result<bool, Fail> {
     let (largest, topic, expected) = call;
     let name = TopicName::parse(alloc, topic)?;
-    let found = aliases.form_for(*largest, &name, other);
-    let form = aliases.send(*largest, &name, other);
+    let found = aliases.form_for(*largest, name.text(), other);
+    let form = aliases.send(*largest, name.text(), other);
     drop(name);
     Ok(found == *expected && form? == *expected)
 }
@@ -106,7 +106,7 @@ fn sizes_are_those_of_the_layout(rt: HostRuntime) -> Result<(), Fail> {
             rest: *rest,
         };
         assert!(rt;
-            size_in(*form, &name, other) == *size,
+            size_in(*form, name.text(), other) == *size,
             "{properties} {rest}"
         );
     }

@@ -29,7 +29,7 @@ fn add(alloc: Global, aliases: &mut OutAliases, topic: &str) -> Result<Option<u1
         return Ok(None);
     }
     let name = TopicName::parse(alloc, topic)?;
-    let number = aliases.add(&name);
+    let number = aliases.add(name.text());
     drop(name);
     Ok(number?)
 }
