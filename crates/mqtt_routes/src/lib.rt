@@ -20,6 +20,7 @@ mod subscriber;
 mod subscribers;
 mod subscription;
 mod subscription_tree;
+mod table;
 
 pub use answers::Sessions;
 pub use copy::RoutedCopy;

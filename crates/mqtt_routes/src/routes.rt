@@ -16,6 +16,7 @@ use crate::serve::{has_room, serve};
 use crate::service::service_of;
 use crate::subscription::Subscription;
 use crate::subscription_tree::SubscriptionTree;
+use crate::table::SubscriptionTable;
 use mqtt_topic::{SubFilter, TopicName};
 use std::alloc::Global;
 use std::hash::RandomState;

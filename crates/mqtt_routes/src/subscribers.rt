@@ -9,6 +9,7 @@ use crate::row::Row;
 use crate::spot::Spot;
 use crate::subscriber::Subscriptions;
 use crate::subscription::Subscription;
+use crate::table::SubscriptionTable;
 use indexmap::IndexMap;
 use std::alloc::Global;
 use std::hash::RandomState;
@@ -35,6 +36,52 @@ impl Model for Subscribers {
     ghost invariant = { λ s. AreInOrder (subscribers s.sessions.entries) };
 }
 
+impl SubscriptionTable for Subscribers {
+    ghost sessions = { λ s. s.sessions };
+
+    ghost room = { λ s. s.room };
+
+    fn make_room(&mut self, birth: u64, new: &[Subscription]) -> Result<(), RoutesFault> {
+        if new.is_empty() {
+            return Ok(());
+        }
+        if let Some(subscriptions) = self.sessions.get_mut(&birth) {
+            return subscriptions.make_room(new.len());
+        }
+        let mut subscriptions = Subscriptions::new(self.alloc, self.hasher);
+        subscriptions.make_room(new.len())?;
+        let i = self.spot(birth);
+        self.sessions.shift_insert(i, birth, subscriptions)?;
+        Ok(())
+    }
+
+    fn subscribe(&mut self, birth: u64, subscription: Subscription) -> Result<(), RoutesFault> {
+        if let Some(subscriptions) = self.sessions.get_mut(&birth) {
+            return subscriptions.put(subscription);
+        }
+        let mut subscriptions = Subscriptions::new(self.alloc, self.hasher);
+        subscriptions.put(subscription)?;
+        let i = self.spot(birth);
+        self.sessions.shift_insert(i, birth, subscriptions)?;
+        Ok(())
+    }
+
+    fn unsubscribe(&mut self, birth: u64, filter: &str) -> bool {
+        let Some(subscriptions) = self.sessions.get_mut(&birth) else {
+            return false;
+        };
+        subscriptions.remove(filter)
+    }
+
+    fn drop_session(&mut self, birth: u64) {
+        let _subscriptions = self.sessions.shift_remove(&birth);
+    }
+
+    fn show_order(&self) {
+        let _sessions = &self.sessions;
+    }
+}
+
 impl Subscribers {
     /// No session.
     pub(crate) fn new(alloc: Global, hasher: RandomState) -> Subscribers
@@ -55,81 +102,6 @@ impl Subscribers {
             .keys()
             .as_slice()
             .partition_point(|other| *other < birth)
-    }
-
-    /// Makes room for subscriptions of a session, which stands in the table from then on.
-    pub(crate) fn make_room(&mut self, birth: u64, new: &[Subscription]) -> Result<(), RoutesFault>
-        ensures ok { OnOk result (self.new.sessions ≡ standing birth (filters_of new.now) self.old.sessions) }
-        ensures err { OnErr result (self.new.sessions ≡ self.old.sessions) }
-        ensures room { OnOk result (have_room birth (filters_of new.now) self.new.room ≡ true) }
-        ensures fault { IfErr result (λ fault. fault ≡ RoutesFault.Memory) }
-        ensures memory { OnErr result (have_room birth (filters_of new.now) self.old.room ≡ false) }
-    {
-        if new.is_empty() {
-            return Ok(());
-        }
-        if let Some(subscriptions) = self.sessions.get_mut(&birth) {
-            return subscriptions.make_room(new.len());
-        }
-        let mut subscriptions = Subscriptions::new(self.alloc, self.hasher);
-        subscriptions.make_room(new.len())?;
-        let i = self.spot(birth);
-        self.sessions.shift_insert(i, birth, subscriptions)?;
-        Ok(())
-    }
-
-    /// Puts a subscription of a session.
-    pub(crate) fn subscribe(
-        &mut self,
-        birth: u64,
-        subscription: Subscription,
-    ) -> Result<(), RoutesFault>
-        ensures ok { OnOk result (self.new.sessions
-            ≡ subscribed birth subscription self.old.sessions) }
-        ensures only { OnOk result (takes_filter subscription.filter
-            (subs_of birth self.old.sessions) ≡ true) }
-        ensures err { OnErr result (self.new.sessions ≡ self.old.sessions) }
-        ensures refused { IfErr result (RefusesPut subscription (subs_of birth self.old.sessions)) }
-        ensures memory { (rest : List (List ℕ))
-            → have_room birth (subscription.filter ∷ rest) self.old.room ≡ true
-            → IfErr result (λ fault. fault ≡ RoutesFault.Full) }
-        ensures room { (rest : List (List ℕ))
-            → have_room birth (subscription.filter ∷ rest) self.old.room ≡ true
-            → have_room birth rest self.new.room ≡ true }
-    {
-        if let Some(subscriptions) = self.sessions.get_mut(&birth) {
-            return subscriptions.put(subscription);
-        }
-        let mut subscriptions = Subscriptions::new(self.alloc, self.hasher);
-        subscriptions.put(subscription)?;
-        let i = self.spot(birth);
-        self.sessions.shift_insert(i, birth, subscriptions)?;
-        Ok(())
-    }
-
-    /// Removes the subscription of a session to a filter, if there is one. Takes no memory.
-    pub(crate) fn unsubscribe(&mut self, birth: u64, filter: &str) -> bool
-        ensures found { result ≡ has_filter filter.now (subs_of birth self.old.sessions) }
-        ensures after { self.new.sessions ≡ unsubscribed birth filter.now self.old.sessions }
-    {
-        let Some(subscriptions) = self.sessions.get_mut(&birth) else {
-            return false;
-        };
-        subscriptions.remove(filter)
-    }
-
-    /// Removes the subscriptions of a session. Takes no memory.
-    pub(crate) fn drop_session(&mut self, birth: u64)
-        ensures { self.new.sessions ≡ without_session birth self.old.sessions }
-    {
-        let _subscriptions = self.sessions.shift_remove(&birth);
-    }
-
-    /// Shows that the sessions are in the order of their births. Takes no memory.
-    pub(crate) fn show_order(&self)
-        ensures { AreInOrder self.now.sessions }
-    {
-        let _sessions = &self.sessions;
     }
 
     /// How many subscriptions a session has. Takes no memory.

@@ -10,6 +10,7 @@ use crate::publication::Publication;
 use crate::spot::{Spot, move_down};
 use crate::subscribers::Subscribers;
 use crate::subscription::Subscription;
+use crate::table::SubscriptionTable;
 use mqtt_base::SUBSCRIPTION_LIMIT;
 use mqtt_routes_tree::{Filters, matching, place};
 use mqtt_topic::TopicName;
@@ -56,50 +57,18 @@ impl Filters for SubscriptionTree {
     }
 }
 
-impl SubscriptionTree {
-    /// No session. Filters, which strangers choose, are hashed by `hasher`.
-    pub(crate) fn new(alloc: Global, hasher: RandomState) -> SubscriptionTree
-        ensures { result.sessions ≡ [] }
-    {
-        SubscriptionTree {
-            alloc,
-            subscribers: Subscribers::new(alloc, hasher),
-            spots: Vec::new(alloc),
-        }
-    }
+impl SubscriptionTable for SubscriptionTree {
+    ghost sessions = { λ t. t.sessions };
 
-    /// Makes room for subscriptions of a session, which stands in the table from then on.
-    pub(crate) fn make_room(&mut self, birth: u64, new: &[Subscription]) -> Result<(), RoutesFault>
-        ensures ok { OnOk result (self.new.sessions ≡ standing birth (filters_of new.now) self.old.sessions) }
-        ensures err { OnErr result (self.new.sessions ≡ self.old.sessions) }
-        ensures room { OnOk result (have_room birth (filters_of new.now) self.new.room ≡ true) }
-        ensures fault { IfErr result (λ fault. fault ≡ RoutesFault.Memory) }
-        ensures memory { OnErr result (have_room birth (filters_of new.now) self.old.room ≡ false) }
-    {
+    ghost room = { λ t. t.room };
+
+    fn make_room(&mut self, birth: u64, new: &[Subscription]) -> Result<(), RoutesFault> {
         self.subscribers.show_order();
         self.spots.reserve(new.len())?;
         self.subscribers.make_room(birth, new)
     }
 
-    /// Puts a subscription of a session.
-    pub(crate) fn subscribe(
-        &mut self,
-        birth: u64,
-        subscription: Subscription,
-    ) -> Result<(), RoutesFault>
-        ensures ok { OnOk result (self.new.sessions
-            ≡ subscribed birth subscription self.old.sessions) }
-        ensures only { OnOk result (takes_filter subscription.filter
-            (subs_of birth self.old.sessions) ≡ true) }
-        ensures err { OnErr result (self.new.sessions ≡ self.old.sessions) }
-        ensures refused { IfErr result (RefusesPut subscription (subs_of birth self.old.sessions)) }
-        ensures memory { (rest : List (List ℕ))
-            → have_room birth (subscription.filter ∷ rest) self.old.room ≡ true
-            → IfErr result (λ fault. fault ≡ RoutesFault.Full) }
-        ensures room { (rest : List (List ℕ))
-            → have_room birth (subscription.filter ∷ rest) self.old.room ≡ true
-            → have_room birth rest self.new.room ≡ true }
-    {
+    fn subscribe(&mut self, birth: u64, subscription: Subscription) -> Result<(), RoutesFault> {
         self.subscribers.show_order();
         if self
             .subscribers
@@ -119,11 +88,7 @@ impl SubscriptionTree {
         Ok(())
     }
 
-    /// Removes the subscription of a session to a filter, if there is one. Takes no memory.
-    pub(crate) fn unsubscribe(&mut self, birth: u64, filter: &str) -> bool
-        ensures found { result ≡ has_filter filter.now (subs_of birth self.old.sessions) }
-        ensures after { self.new.sessions ≡ unsubscribed birth filter.now self.old.sessions }
-    {
+    fn unsubscribe(&mut self, birth: u64, filter: &str) -> bool {
         self.subscribers.show_order();
         let Some(at) = self.subscribers.number(birth, filter) else {
             return false;
@@ -135,20 +100,27 @@ impl SubscriptionTree {
         true
     }
 
-    /// Removes the subscriptions of a session. Takes no memory.
-    pub(crate) fn drop_session(&mut self, birth: u64)
-        ensures { self.new.sessions ≡ without_session birth self.old.sessions }
-    {
+    fn drop_session(&mut self, birth: u64) {
         self.subscribers.show_order();
         self.spots.retain(|spot| spot.birth != birth);
         self.subscribers.drop_session(birth);
     }
 
-    /// Shows that the sessions are in the order of their births. Takes no memory.
-    pub(crate) fn show_order(&self)
-        ensures { AreInOrder self.now.sessions }
-    {
+    fn show_order(&self) {
         self.subscribers.show_order();
+    }
+}
+
+impl SubscriptionTree {
+    /// No session. Filters, which strangers choose, are hashed by `hasher`.
+    pub(crate) fn new(alloc: Global, hasher: RandomState) -> SubscriptionTree
+        ensures { result.sessions ≡ [] }
+    {
+        SubscriptionTree {
+            alloc,
+            subscribers: Subscribers::new(alloc, hasher),
+            spots: Vec::new(alloc),
+        }
     }
 
     /// Where the subscriptions to a topic stand, by session birth, and those of a session in the

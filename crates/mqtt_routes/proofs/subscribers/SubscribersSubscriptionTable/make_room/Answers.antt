@@ -5,7 +5,7 @@ use Rattle.indexmap.specs.IndexMap.{insert_entry, insert_index, move_index}
 use Rattle.mqtt_routes.specs.Subscriptions.{AreInOrder, Held, subscribers, rooms, room_of, spot_of, subs_of, with_subs, filters_of}
 use Rattle.mqtt_routes.proofs.SpotLemmas.{order-with_subs, subs_of-found, subs_of-none, set_value-held, with_subs-found, with_subs-new, spot_of-most}
 use Rattle.mqtt_routes.proofs.RoomLemmas.{room_of-found, room_of-none, room_of-set, room_made, room_lacks, length-filters_of, standing-none, standing-some, room_for_none, some_length}
-use Rattle.mqtt_routes.proofs.subscribers.Subscribers.make_room.Goals as goal
+use Rattle.mqtt_routes.proofs.subscribers.SubscribersSubscriptionTable.make_room.Goals as goal
 
 -- ---- room for nothing
 

@@ -1,7 +1,7 @@
 use Rattle.std.proofs.Common.{subst, sym, ◌∙◌, ap}
 use Rattle.mqtt_routes.specs.Subscriptions.{AreInOrder, subscribers, has_filter, subs_of, unsubscribed}
 use Rattle.mqtt_routes.proofs.SpotLemmas.{order-unsubscribed, subs_of-found, subs_of-none, unsubscribed-found, unsubscribed-none}
-use Rattle.mqtt_routes.proofs.subscribers.Subscribers.unsubscribe.Goals as goal
+use Rattle.mqtt_routes.proofs.subscribers.SubscribersSubscriptionTable.unsubscribe.Goals as goal
 
 pub returns-in_default-clause-found : goal.returns-in_default-clause-found
 returns-in_default-clause-found c =

@@ -5,7 +5,7 @@ use Rattle.mqtt_routes.specs.Subscriptions.{AreInOrder, Held, subscribers, rooms
 use Rattle.std.specs.Prelude.{nat_le}
 use Rattle.mqtt_routes.proofs.RoomLemmas.{room_of-found, room_of-none, room_of-set, some_room, room_left, no_room}
 use Rattle.mqtt_routes.proofs.SpotLemmas.{order-with_subs, subs_of-found, subs_of-none, set_value-held, with_subs-found, with_subs-new, spot_of-most}
-use Rattle.mqtt_routes.proofs.subscribers.Subscribers.subscribe.Goals as goal
+use Rattle.mqtt_routes.proofs.subscribers.SubscribersSubscriptionTable.subscribe.Goals as goal
 
 pub invariant_of-self : goal.invariant_of-self
 invariant_of-self c =

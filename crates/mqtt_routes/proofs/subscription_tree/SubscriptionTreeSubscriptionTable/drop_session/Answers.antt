@@ -5,7 +5,7 @@ use Rattle.mqtt_routes.specs.Subscriptions.{subs_of}
 use Rattle.mqtt_routes.specs.Spots.{IsIndex}
 use Rattle.mqtt_routes.proofs.SubsLemmas.{subs_of-without_session}
 use Rattle.mqtt_routes.proofs.RemoveLemmas.{dropped_index, filter_birth}
-use Rattle.mqtt_routes.proofs.subscription_tree.SubscriptionTree.drop_session.Goals as goal
+use Rattle.mqtt_routes.proofs.subscription_tree.SubscriptionTreeSubscriptionTable.drop_session.Goals as goal
 
 turned : (b c : ℕ) → nat_eq b c ≡ false → nat_eq c b ≡ false
 turned b c h = grind (arith, nat_tests)

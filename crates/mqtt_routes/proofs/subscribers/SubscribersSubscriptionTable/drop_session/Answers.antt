@@ -1,7 +1,7 @@
 use Rattle.std.proofs.Common.{subst, ◌∙◌, ap, sym}
 use Rattle.mqtt_routes.specs.Subscriptions.{AreInOrder, subscribers, without_session}
 use Rattle.mqtt_routes.proofs.SpotLemmas.{order-without_session, without_session-remove_entry}
-use Rattle.mqtt_routes.proofs.subscribers.Subscribers.drop_session.Goals as goal
+use Rattle.mqtt_routes.proofs.subscribers.SubscribersSubscriptionTable.drop_session.Goals as goal
 
 pub invariant_of-self : goal.invariant_of-self
 invariant_of-self c =

@@ -11,7 +11,7 @@ use Rattle.mqtt_routes.specs.Spots.{IsIndex, texts_of}
 use Rattle.mqtt_routes.proofs.IndexLemmas.{ordered_from}
 use Rattle.mqtt_routes.proofs.RoomWithinLemmas.{by_result, room_within, both_rooms, room_there, most_there}
 use Rattle.mqtt_routes.proofs.PutIndexLemmas.{replaced_index, put_index}
-use Rattle.mqtt_routes.proofs.subscription_tree.SubscriptionTree.subscribe.Goals as goal
+use Rattle.mqtt_routes.proofs.subscription_tree.SubscriptionTreeSubscriptionTable.subscribe.Goals as goal
 
 pub place-number-requires : goal.place-number-requires
 place-number-requires c = record {

@@ -6,7 +6,7 @@ use Rattle.mqtt_routes.specs.Subscriptions.{has_filter, subs_of, without}
 use Rattle.mqtt_routes.specs.Spots.{IsIndex, is_spot, matched_at, moved_down}
 use Rattle.mqtt_routes.proofs.SubsLemmas.{subs_of-unsubscribed, unsubscribed_none, place_of, without_below, without_above, without_long}
 use Rattle.mqtt_routes.proofs.LeaveLemmas.{left_index, left_and_moved}
-use Rattle.mqtt_routes.proofs.subscription_tree.SubscriptionTree.unsubscribe.Goals as goal
+use Rattle.mqtt_routes.proofs.subscription_tree.SubscriptionTreeSubscriptionTable.unsubscribe.Goals as goal
 
 pub returns-clause-found : goal.returns-clause-found
 returns-clause-found c = sym (ap is_some c.in-Some.is) ∙ c.number.ensures.found ∙ ap (λ (x : _). has_filter c.args.filter.now (subs_of c.args.birth x.sessions)) c.self.view_is

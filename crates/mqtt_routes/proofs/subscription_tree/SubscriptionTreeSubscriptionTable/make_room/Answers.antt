@@ -7,7 +7,7 @@ use Rattle.mqtt_routes.specs.Spots.{IsIndex}
 use Rattle.mqtt_routes.proofs.RoomLemmas.{length-filters_of}
 use Rattle.mqtt_routes.proofs.RoomWithinLemmas.{by_result, room_within, both_rooms, less_room, less_most}
 use Rattle.mqtt_routes.proofs.PutIndexLemmas.{stood_index}
-use Rattle.mqtt_routes.proofs.subscription_tree.SubscriptionTree.make_room.Goals as goal
+use Rattle.mqtt_routes.proofs.subscription_tree.SubscriptionTreeSubscriptionTable.make_room.Goals as goal
 
 pub invariant_of-self-2 : goal.invariant_of-self-2
 invariant_of-self-2 c =
