@@ -1,6 +1,7 @@
 use Rattle.std.proofs.Common.{◌≡◌, false, ap, sym, ◌∙◌}
 use Rattle.std.specs.Prelude.{Some}
 use Rattle.mqtt_codec.specs.Packets.{shortest_of}
+use Rattle.mqtt_rules.specs.Forms.{published_of}
 use Rattle.mqtt_rules.specs.Packets.{publish_of}
 use Rattle.mqtt_rules.specs.State.{line_of}
 use Rattle.mqtt_broker_step.specs.Undoing.{moment_of}
@@ -9,17 +10,36 @@ use Rattle.mqtt_broker_publish.specs.Copies.{copy_for}
 use Rattle.mqtt_broker_publish.proofs.Offered.{offered, offer_left}
 use Rattle.mqtt_broker_publish.proofs.offering.offer_copy.Goals as goal
 
+pub returns-then-takes_aliases-clause-ok : goal.returns-then-takes_aliases-clause-ok
+returns-then-takes_aliases-clause-ok g c =
+    let s = c.args.step.now in
+    let to = g.T.Addressed.addressee c.args.to.now in
+    let found : line_of to.birth s.broker ≡ Some c.in-Some.line.now = sym (c.in-Some.ensures ∙ ap (λ n. line_of n s.broker) c.birth.ensures) in
+    on_ok c.offer_told.result
+    (offered to.birth (copy_for c.args.common.now to) c.in-Some.line.now s c.offer_told.new.step found)
+    (c.offer_told.ensures.ok c.in-Some.line.now (sym c.number-number.ensures) (sym c.largest-largest.ensures))
+
+pub returns-then-takes_aliases-clause-left : goal.returns-then-takes_aliases-clause-left
+returns-then-takes_aliases-clause-left g c =
+    let s = c.args.step.now in
+    let to = g.T.Addressed.addressee c.args.to.now in
+    let found : line_of to.birth s.broker ≡ Some c.in-Some.line.now = sym (c.in-Some.ensures ∙ ap (λ n. line_of n s.broker) c.birth.ensures) in
+    if_err c.offer_told.result
+    (λ fault. offer_left to.birth (copy_for c.args.common.now to) c.in-Some.line.now fault s c.offer_told.new.step found)
+    (c.offer_told.ensures.left c.in-Some.line.now (sym c.number-number.ensures) (sym c.largest-largest.ensures))
+
 pub returns-in-Ok-clause-ok : goal.returns-in-Ok-clause-ok
 returns-in-Ok-clause-ok g c =
     let s = c.args.step.now in
     let to = g.T.Addressed.addressee c.args.to.now in
     let copy = copy_for c.args.common.now to in
+    let p = published_of (moment_of s.broker) false 0 copy in
     let packet = publish_of (moment_of s.broker) false 0 copy in
     let found : line_of to.birth s.broker ≡ Some c.in-Some.line.now = sym (c.in-Some.ensures ∙ ap (λ n. line_of n s.broker) c.birth.ensures) in
     let bytes : c.in-Ok.bytes ≡ shortest_of packet = c.in-Ok.ensures.bytes ∙ ap (λ t. shortest_of (publish_of t false 0 copy)) c.moment.ensures in
     on_ok c.send_within.result
     (offered to.birth copy c.in-Some.line.now s c.send_within.new.step found)
-    (c.send_within.ensures.ok c.in-Some.line.now packet (sym c.number-number.ensures) (sym c.largest-largest.ensures) bytes)
+    (c.send_within.ensures.ok c.in-Some.line.now p (sym c.number-number.ensures) (sym c.largest-largest.ensures) (c.takes_aliases.ensures c.if-takes_aliases.false p) bytes)
 
 pub returns-in-Ok-clause-left : goal.returns-in-Ok-clause-left
 returns-in-Ok-clause-left g c =
