@@ -282,19 +282,3 @@ pub fn row_len(row: &CopyRow) -> u32
 {
     row.size()
 }
-
-/// The PUBLISH of a copy in a queue at a moment in milliseconds, with its DUP flag and its packet
-/// identifier (3.3).
-pub fn publish_row(
-    alloc: Global,
-    now: u64,
-    dup: bool,
-    identifier: u16,
-    row: &CopyRow,
-) -> Result<Bytes, AllocError>
-    ensures { IfOk result (λ bytes. bytes ≡ shortest_of (publish_of now dup identifier row.now.copy)) }
-{
-    // This shows that the copy's PUBLISH has a spelling.
-    let _spelled = row.size();
-    publish(alloc, now, dup, identifier, row.copy())
-}

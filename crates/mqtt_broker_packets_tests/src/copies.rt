@@ -2,7 +2,7 @@
 
 use bytes::Bytes;
 use mqtt_base::{Cause, CopyId, Phase, Qos, Text};
-use mqtt_broker_packets::{has_spelling, publish, publish_len, publish_row, row_len};
+use mqtt_broker_packets::{has_spelling, publish, publish_len, row_len};
 use mqtt_props::{PropList, PropName, PropRef, ValueRef};
 use mqtt_records_message::{Content, CopyRow, MessageCopy, PassedOn, SubscriptionIdentifiers};
 use std::alloc::{AllocError, Global};
@@ -190,7 +190,7 @@ fn a_queued_copy_is_sent_as_it_was_measured(rt: HostRuntime) -> Result<(), Fail>
     let copy = copy(alloc, Qos::ExactlyOnce, &[], PassedOn::new())?;
     let row = CopyRow::new(alloc, 1, Phase::Waiting, copy)?;
     assert_eq!(rt; row_len(&row), 12);
-    let bytes = publish_row(alloc, 0, false, 1, &row);
+    let bytes = publish(alloc, 0, false, 1, row.copy());
     drop(row);
     let bytes = bytes?;
     let want = [
