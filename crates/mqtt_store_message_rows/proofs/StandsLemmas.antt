@@ -1,12 +1,13 @@
--- The message that stands under a number, and the first of sessions.
-use Rattle.std.proofs.Common.{◌≡◌, ℕ, Bool, cond, nat_eq, List, [], ◌∷◌, refl, sym, ap, subst, ◌∙◌, inl, inr}
+-- The message that stands under a number, where a search by halves ends, and the first of sessions.
+use Rattle.std.proofs.Common.{◌≡◌, ℕ, ◌<◌, ◌≤◌, Bool, cond, nat_eq, List, [], ◌∷◌, length, get_or, refl, sym, ap, subst, ◌∙◌, arith, inl, inr}
 use Rattle.std.specs.Prelude.{Some, None, slice_get}
 use Rattle.std.proofs.lemmas.Bool.{cases_Bool, eqb-true}
 use Rattle.std.proofs.lemmas.Cmp.{nat_eq_equiv}
+use Rattle.std.proofs.lemmas.Option.{slice_get_read, slice_get_within}
 use Rattle.mqtt_records_message.specs.declared.message.Content.{Content}
-use Rattle.mqtt_records_rows.specs.Order.{IsAscending, row_at, remove_row}
+use Rattle.mqtt_records_rows.specs.Order.{IsAscending, row_at, remove_row, front_len}
 use Rattle.mqtt_records_rows.proofs.LookUps.{row_at-here}
-use Rattle.mqtt_records_rows.proofs.OrderLemmas.{above_none, remove-none}
+use Rattle.mqtt_records_rows.proofs.OrderLemmas.{above_none, remove-none, front_here, front_none}
 use Rattle.mqtt_records.specs.Contents.{StoredMessage, stored_message}
 use Rattle.mqtt_store_message_rows.specs.Joins.{publication_of, Stands}
 use Rattle.mqtt_store_message_rows.specs.Ones.{same_stored}
@@ -50,3 +51,17 @@ module _ {X : Type 0} (key : X → ℕ) where
   pub first_stands : (xs : List X) (x : X) → slice_get xs 0 ≡ Some x → row_at key (key x) xs ≡ Some x
   first_stands [] x first = absurd cc
   first_stands (z ∷ xs) x first = let is : z ≡ x = cc in subst (λ (w : X). row_at key (key w) (z ∷ xs) ≡ Some w) is (row_at-here key z xs)
+
+  -- what stands where a search ends is found, if it has the key
+  pub found_at : (k : ℕ) (xs : List X) (i : ℕ) (x : X) → i ≡ front_len key k xs → i < length xs → x ≡ get_or xs i x → key x ≡ k → Some x ≡ row_at key k xs
+  found_at k xs i x at within is same = sym (front_here key k xs x (ap (slice_get xs) (sym at) ∙ slice_get_read xs (length xs) i x refl within is) same)
+
+  -- if it has another key, none is found
+  pub other_at : (k : ℕ) (xs : List X) (i : ℕ) (x : X) → IsAscending key xs → i ≡ front_len key k xs → i < length xs → x ≡ get_or xs i x → (key x ≡ k → ⊥) → None ≡ row_at key k xs
+  other_at k xs i x up at within is other =
+      sym (front_none key k xs up (λ y there same. let both : Some x ≡ Some y = sym (slice_get_read xs (length xs) i x refl within is) ∙ (ap (slice_get xs) at ∙ there) in let one : x ≡ y = cc in other (ap key one ∙ same)))
+
+  -- if nothing stands there, none is found
+  pub nothing_at : (k : ℕ) (xs : List X) (i : ℕ) → IsAscending key xs → i ≡ front_len key k xs → length xs ≤ i → None ≡ row_at key k xs
+  nothing_at k xs i up at past =
+      sym (front_none key k xs up (λ y there same. let within : i < length xs = slice_get_within xs i y (ap (slice_get xs) at ∙ there) in absurd (omega (arith, within, past))))

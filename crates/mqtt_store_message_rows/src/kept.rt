@@ -7,7 +7,8 @@ ghost use Rattle.mqtt_records_message.specs.declared.message.Content.{Content};
 ghost use Rattle.mqtt_records.specs.Contents.{stored_message};
 ghost use Rattle.mqtt_store_message_rows.specs.Joins.{Stands, SaysRetained};
 
-use crate::refers::{Messages, Refers, content_at};
+use crate::messages::Messages;
+use crate::refers::{Refers, content_at};
 use mqtt_records::KeepError;
 use mqtt_records_message::{Content, RetainedMessage};
 use mqtt_store_rows::{counted, kept, qos, text, value_at};

@@ -8,7 +8,7 @@ use mqtt_base::{QUEUE_LIMIT, RETAINED_LIMIT, SESSION_LIMIT, Text};
 use mqtt_records::KeepError;
 use mqtt_records_message::{Content, PassedOn};
 use mqtt_records_rows::Row;
-use mqtt_store_rows::{Stored, blob, counted, is_short, passed, text, value_at};
+use mqtt_store_rows::{blob, counted, is_short, passed, text, value_at};
 use std::alloc::{AllocError, Global};
 use std::marker::Model;
 
@@ -88,19 +88,4 @@ pub fn message_of(alloc: Global, row: &sqlite::Row) -> Result<Message, KeepError
         properties,
         payload,
     })
-}
-
-impl Stored for Message {
-    ghost use Rattle.mqtt_store_message_rows.specs.Rows.{SaysMessage};
-    ghost use Rattle.mqtt_store_message_rows.specs.Ones.{one_message};
-
-    ghost says = { SaysMessage };
-
-    fn read(alloc: Global, row: &sqlite::Row) -> Result<Self, KeepError> {
-        message_of(alloc, row)
-    }
-
-    ghost one = { one_message };
-
-    ghost from_one = { λ m row h. h.publication_range.0 };
 }

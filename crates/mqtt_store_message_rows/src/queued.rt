@@ -14,7 +14,8 @@ ghost use Rattle.mqtt_store_rows.specs.Rows.{SaysId};
 ghost use Rattle.mqtt_store_message_rows.specs.Joins.{Stands, SaysSent, SaysCopy};
 
 use crate::identifiers::identifiers_of;
-use crate::refers::{Messages, Refers, content_at};
+use crate::messages::Messages;
+use crate::refers::{Refers, content_at};
 use mqtt_base::{CopyId, Qos};
 use mqtt_records::KeepError;
 use mqtt_records_message::{Content, CopyFault, CopyRow, MessageCopy};

@@ -8,7 +8,8 @@ ghost use Rattle.mqtt_records_rows.specs.Order.{IsTable};
 ghost use Rattle.mqtt_store_rows.specs.Gives.{IsWithin};
 ghost use Rattle.mqtt_store_message_rows.specs.Gives.{without_queue, AreQueues};
 
-use crate::refers::{Messages, part_with};
+use crate::messages::Messages;
+use crate::refers::part_with;
 use mqtt_base::{QUEUE_LIMIT, SESSION_LIMIT};
 use mqtt_records::{KeepError, Session};
 use mqtt_records_message::CopyRow;

@@ -5,7 +5,7 @@ ghost use Rattle.std.specs.List.Sorted.{IsNonDecreasing};
 ghost use Rattle.mqtt_store_message_rows.specs.Gives.{copy_number, queue_numbers, kept_number, numbers_in, is_among, IsReferred};
 
 use crate::message::Message;
-use crate::refers::Messages;
+use crate::messages::Messages;
 use mqtt_records::{Records, Session};
 use mqtt_records_message::{CopyRow, RetainedMessage};
 use mqtt_records_rows::{Boxed, Row};
@@ -84,7 +84,7 @@ fn is_among(numbers: &[u64], number: u64) -> bool
 }
 
 /// Whether the number of each message is among these, which don't fall.
-fn are_among(numbers: &[u64], messages: &[Boxed<Message>]) -> bool
+fn are_among(numbers: &[u64], messages: &[Message]) -> bool
     requires { IsNonDecreasing numbers.now }
     ensures { IsTrue result ↔ AllByRecursion (λ m. IsTrue (is_among m.publication numbers.now)) messages.now }
 {

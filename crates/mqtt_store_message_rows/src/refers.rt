@@ -9,15 +9,12 @@ ghost use Rattle.mqtt_records.specs.Contents.{StoredMessage, stored_message};
 ghost use Rattle.mqtt_store_rows.specs.Lists.{AreRows, TakesAll};
 ghost use Rattle.mqtt_store_message_rows.specs.Joins.{Stands};
 
-use crate::message::{MESSAGE_LIMIT, Message};
+use crate::messages::Messages;
 use mqtt_records::KeepError;
 use mqtt_records_message::Content;
 use mqtt_records_rows::{Boxed, Row, Rows, newest_comes_last};
 use mqtt_store_rows::front_of;
 use std::alloc::Global;
-
-/// The messages of a store, by their numbers.
-pub type Messages = Rows<Boxed<Message>, MESSAGE_LIMIT>;
 
 /// What is said under a number, by what arrived then. Its bytes are shared. `Corrupt` if no
 /// message has the number.
@@ -29,7 +26,7 @@ pub fn content_at(messages: &Messages, publication: u64, arrived: u64) -> Result
     ensures fault { IfErr result (λ e. (e ≡ KeepError.Memory) ⊎ (e ≡ KeepError.Corrupt)) }
 {
     match messages.get(publication) {
-        Some(message) => Ok(message.get().content(arrived)?),
+        Some(message) => Ok(message.content(arrived)?),
         None => Err(KeepError::Corrupt),
     }
 }

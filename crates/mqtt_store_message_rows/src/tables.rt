@@ -11,17 +11,17 @@ ghost use Rattle.mqtt_store_rows.specs.Gives.{AreSessions, IsWithin, AreWithin};
 ghost use Rattle.mqtt_store_message_rows.specs.Gives.{parts_of, without_queue, AreSessionsWith, GivesBy, IsReferred, Gives};
 ghost use Rattle.mqtt_store_message_rows.specs.Tables.{rows_in};
 
-use crate::message::{MESSAGE_LIMIT, Message};
+use crate::messages::{Messages, messages_of};
 use crate::meta::counters_of;
 use crate::queues::{Sessions, put_queues};
 use crate::referred::are_referred;
-use crate::refers::{Messages, all_with};
+use crate::refers::all_with;
 use mqtt_base::RETAINED_LIMIT;
 use mqtt_records::{KeepError, Records};
 use mqtt_records_lawful::is_lawful;
 use mqtt_records_message::RetainedMessage;
 use mqtt_records_rows::{Boxed, Rows};
-use mqtt_store_rows::{PartRows, all_of, sessions_of};
+use mqtt_store_rows::{PartRows, sessions_of};
 use sqlite::Row;
 use std::alloc::Global;
 
@@ -175,7 +175,7 @@ pub fn records_of(alloc: Global, tables: &Tables) -> Result<Records, KeepError>
         → (r : Records) → Gives (rows_in tables.now) r → AreWithin r → ⊥ }
     ensures fault { IfErr result (λ e. (e ≡ KeepError.Memory) ⊎ (e ≡ KeepError.Corrupt)) }
 {
-    let messages = match all_of::<Boxed<Message>, MESSAGE_LIMIT>(alloc, &tables.messages) {
+    let messages = match messages_of(alloc, &tables.messages) {
         Ok(messages) => messages,
         Err(fault) => return Err(fault),
     };

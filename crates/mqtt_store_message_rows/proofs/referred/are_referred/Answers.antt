@@ -19,6 +19,6 @@ returns c =
     let says = c.are_among-all.ensures in
     let moved : IsPermutation all sorted = subst (λ (l : List ℕ). IsPermutation l sorted) c.in_ok-numbers.ensures
     (subst (λ (l : List ℕ). IsPermutation c.in_ok-numbers.numbers.items l) (sym c.deref.ensures.value) c.sort_unstable.ensures.permutation) in (
-      λ t. same_referred sorted all messages (IsPermutation-sym all sorted moved) (subst (AllByRecursion (λ (m : StoredMessage). IsTrue (is_among m.publication sorted))) c.as_slice.ensures.rows (says.0 t)),
-      λ each. says.1 (subst (AllByRecursion (λ (m : StoredMessage). IsTrue (is_among m.publication sorted))) (sym c.as_slice.ensures.rows) (same_referred all sorted messages moved each)),
+      λ t. same_referred sorted all messages (IsPermutation-sym all sorted moved) (subst (AllByRecursion (λ (m : StoredMessage). IsTrue (is_among m.publication sorted))) c.as_slice.ensures (says.0 t)),
+      λ each. says.1 (subst (AllByRecursion (λ (m : StoredMessage). IsTrue (is_among m.publication sorted))) (sym c.as_slice.ensures) (same_referred all sorted messages moved each)),
     )

@@ -1,4 +1,4 @@
-use Rattle.std.proofs.Common.{◌≡◌, sym, ap, ◌∙◌}
+use Rattle.std.proofs.Common.{◌≡◌, sym, ap}
 use Rattle.std.specs.Prelude.{Some}
 use Rattle.mqtt_records_message.specs.declared.message.Content.{Content}
 use Rattle.mqtt_records_rows.specs.Order.{row_at}
@@ -8,8 +8,8 @@ use Rattle.mqtt_store_message_rows.proofs.refers.content_at.Goals as goal
 
 pub returns-in_ok-content-in-Some-clause-ok : goal.returns-in_ok-content-in-Some-clause-ok
 returns-in_ok-content-in-Some-clause-ok c =
-    let message = c.get-in-Some.result.now in
-    let found : row_at publication_of c.args.publication c.args.messages.now ≡ Some c.get-in-Some.result.now = sym c.in-Some.ensures ∙ ap Some (sym c.get-in-Some.ensures) in
+    let message = c.in-Some.message.now in
+    let found : row_at publication_of c.args.publication c.args.messages.now ≡ Some message = sym c.in-Some.ensures in
     let is = c.in_ok-content-in-Some.ensures in
     stands_at c.args.messages.now c.args.publication message c.in_ok-content-in-Some.field-0 found
     (ap (λ (x : Content). x.topic) is) (ap (λ (x : Content). x.properties) is) (ap (λ (x : Content). x.payload) is)
