@@ -26,7 +26,7 @@ use Rattle.mqtt_store_message_read.specs.Opening.{HasNowTwo, BeginsSecond}
 use Rattle.mqtt_store_message_read.specs.Refusals.{RefusesEither}
 use Rattle.mqtt_store_message_laws.specs.Written.{KeepsRowsTwo}
 use Rattle.mqtt_store_message_laws.proofs.New.{new_keeps, new_in_order}
-use Rattle.mqtt_store_message_load_laws.proofs.Found.{found_distinct, old_empty}
+use Rattle.mqtt_store_message_load_laws.proofs.Found.{found_distinct}
 use Rattle.mqtt_store_message_load_laws.proofs.Kept.{distinct_kept}
 use Rattle.mqtt_store_load.specs.Keeping.{FindsIn, Keeps, Saves, AreOrdered}
 use Rattle.mqtt_store_load.specs.Loading.{IsTidy, IsOrdered, HasKept, MayCommit, OnlyLoads, Loads}
@@ -81,7 +81,7 @@ module _ {S : Type 0} (g : Ghosts S) (old new : Held S) (making : Making) (tidy 
       let stays = (reads.stays clean).same up settled in
       let obeys = subst (λ (x : Schema). Obeys x s.now.trees) is (live was).0.obeys in
       let shaped = shaped_in (second_schema making) s.now is (order (before clean) was) in
-      let rows = distinct_kept making s.now.trees obeys (second_order making s.now.trees shaped) r (old_empty making s.now.trees h.listed.old) (found_distinct making s.now.trees r h) in
+      let rows = distinct_kept making s.now.trees obeys (second_order making s.now.trees shaped) r h.listed.old (found_distinct making s.now.trees r h) in
       record {
         is_open = up;
         settled = record { committed = stays.1 ∙ (settled.committed ∙ sym stays.0); autocommit = reads.mode settled.autocommit };

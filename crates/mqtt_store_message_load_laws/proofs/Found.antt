@@ -9,7 +9,6 @@ use Rattle.mqtt_records.specs.declared.records.Records.{Records}
 use Rattle.mqtt_records.specs.Members.{Has as HasItem, InQueue, queue_of}
 use Rattle.mqtt_records.specs.Contents.{StoredMessage, copy_message, retained_message, IsMessageOf}
 use Rattle.mqtt_store_schema_two.specs.declared.tables.Making.{Making}
-use Rattle.mqtt_store_schema_two.specs.declared.tables.Making.TheVariants.{New, TakenOver}
 use Rattle.mqtt_store_rows.specs.Ones.{one_number}
 use Rattle.mqtt_store_laws.specs.Written.{AreSayable, IsSayableCopy, IsCopyOf}
 use Rattle.mqtt_store_load_laws.proofs.Traverse.{IsSaid, SaysOf, rows_each, rows_only, shares_each, shares_only}
@@ -18,19 +17,13 @@ use Rattle.mqtt_store_load_laws.proofs.First.{AreFirstListed, AreFirstSaid, firs
 use Rattle.mqtt_store_load_laws.proofs.Found.{ordered_each}
 use Rattle.mqtt_store_message_rows.specs.Rows.{SaysMessage}
 use Rattle.mqtt_store_message_rows.specs.Joins.{SaysCopy, SaysRetained}
-use Rattle.mqtt_store_message_laws.specs.Written.{HasNoOldRows}
 use Rattle.mqtt_store_message_read.specs.declared.reading.AddedTable.TheVariants.{Message, Queued, Kept}
 use Rattle.mqtt_store_message_read.specs.Listing.{added_tree}
-use Rattle.mqtt_store_message_read.specs.Kept.{HasNoneOfFirst, HasRecordsTwo}
+use Rattle.mqtt_store_message_read.specs.Kept.{HasRecordsTwo}
 use Rattle.mqtt_store_message_load_laws.proofs.Lines.{shown, message_line, queued_line, kept_line, message_said, queued_said, kept_said}
 use Rattle.mqtt_store_message_load_laws.proofs.Messages.{copies_share, copy_said, retained_said, found_shares, said_listed, listed_said}
 use Rattle.mqtt_store_message_load_laws.proofs.Bare.{first_rows, first_said}
 use Rattle.mqtt_store_message_load_laws.proofs.Alike.{HasLines, AreDistinct}
-
--- a load finds schema 1's tables of copies and retained messages without rows, if they stand
-pub old_empty : (making : Making) (db : Trees) → HasNoneOfFirst making db → HasNoOldRows making db
-old_empty New db none = tt
-old_empty TakenOver db none = none
 
 module _ (making : Making) (db : Trees) (q : Records) (h : HasRecordsTwo making db q) where
   abbrev messages : List StoredMessage

@@ -9,7 +9,7 @@ use Rattle.sqlite.specs.State.{State, HasCleanDisk}
 use Rattle.mqtt_store_schema.specs.Settled.{IsSettled, OnlyReads}
 use Rattle.mqtt_store_schema_two.specs.declared.tables.Making.TheVariants.{TakenOver}
 use Rattle.mqtt_store_read.specs.Listing.{shown_at, IsListingOf}
-use Rattle.mqtt_store_message_read.specs.Kept.{HasNoneOfFirst}
+use Rattle.mqtt_store_message_laws.specs.Written.{HasNoOldRows}
 
 -- a table has no row exactly if its listing has none
 pub vacant_is : (columns key : List ℕ) (stored rows : List Row) (n : ℕ) (b : Bool) → n ≡ length rows → IsListingOf columns key stored rows → b ≡ (n == 0) → MatchBool b (stored ≡ []) (stored ≢ [])
@@ -26,7 +26,7 @@ vacant_is columns key stored rows n false long h is = λ empty.
     eqb-false n 0 (sym is) none
 
 -- no copies stand, and retained messages may
-pub vacant_then : (retained : Bool) (db : Trees) → db 9 ≡ [] → MatchBool retained (db 11 ≡ []) (db 11 ≢ []) → MatchBool retained (HasNoneOfFirst TakenOver db) (¬ HasNoneOfFirst TakenOver db)
+pub vacant_then : (retained : Bool) (db : Trees) → db 9 ≡ [] → MatchBool retained (db 11 ≡ []) (db 11 ≢ []) → MatchBool retained (HasNoOldRows TakenOver db) (¬ HasNoOldRows TakenOver db)
 vacant_then true db none h = (none, h)
 vacant_then false db none h = λ both. h both.1
 

@@ -1,20 +1,14 @@
 -- Which records a database of schema 2 has.
-use Rattle.std.specs.Prelude.{◌≡◌, []}
 use Rattle.sqlite_trees.specs.Tree.{Trees}
 use Rattle.mqtt_records_lawful.specs.Lawful.{IsLawful}
 use Rattle.mqtt_records.specs.declared.records.Records.{Records}
-use Rattle.mqtt_store_schema.specs.declared.schema.StoreTable.TheVariants.{Meta, Session, Will, Subscription, Inbound, Copy, Retained}
+use Rattle.mqtt_store_schema.specs.declared.schema.StoreTable.TheVariants.{Meta, Session, Will, Subscription, Inbound}
 use Rattle.mqtt_store_schema_two.specs.declared.tables.Making.{Making}
-use Rattle.mqtt_store_schema_two.specs.declared.tables.Making.TheVariants.{New, TakenOver}
-use Rattle.mqtt_store_read.specs.Listing.{tree_of, IsListing}
+use Rattle.mqtt_store_read.specs.Listing.{IsListing}
 use Rattle.mqtt_store_message_rows.specs.Gives.{Rows, Gives}
+use Rattle.mqtt_store_message_laws.specs.Written.{HasNoOldRows}
 use Rattle.mqtt_store_message_read.specs.declared.reading.AddedTable.TheVariants.{Message, Queued, Kept}
 use Rattle.mqtt_store_message_read.specs.Listing.{IsAddedListing}
-
--- schema 1's tables of copies and retained messages have no row, if they still stand
-abbrev pub HasNoneOfFirst : Making → Trees → Type 0
-HasNoneOfFirst New db = Unit {0}
-HasNoneOfFirst TakenOver db = (db (tree_of Copy) ≡ []) × (db (tree_of Retained) ≡ [])
 
 -- the rows of the tables that both schemas have
 pub record AreSharedListed (db : Trees) (rows : Rows) : Type 0 where
@@ -34,7 +28,7 @@ pub record AreAddedListed (making : Making) (db : Trees) (rows : Rows) : Type 0 
 pub record AreListedTwo (making : Making) (db : Trees) (rows : Rows) : Type 0 where
   pub shared : AreSharedListed db rows
   pub added : AreAddedListed making db rows
-  pub old : HasNoneOfFirst making db
+  pub old : HasNoOldRows making db
 
 -- the rows of the tables give these records, and they are lawful
 pub record HasRecordsTwo (making : Making) (db : Trees) (r : Records) : Type 0 where

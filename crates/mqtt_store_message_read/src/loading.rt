@@ -8,8 +8,9 @@ ghost use Rattle.mqtt_store_schema_two.specs.Tables.{second_schema};
 ghost use Rattle.mqtt_store_schema_two.specs.declared.tables.Making.{Making};
 ghost use Rattle.mqtt_store_read.specs.Listing.{tree_of, IsInSecond, IsListing};
 ghost use Rattle.mqtt_store_message_rows.specs.Tables.{rows_in};
+ghost use Rattle.mqtt_store_message_laws.specs.Written.{HasNoOldRows};
 ghost use Rattle.mqtt_store_message_read.specs.Listing.{IsAddedListing};
-ghost use Rattle.mqtt_store_message_read.specs.Kept.{HasNoneOfFirst, AreSharedListed, AreAddedListed, HasRecordsTwo};
+ghost use Rattle.mqtt_store_message_read.specs.Kept.{AreSharedListed, AreAddedListed, HasRecordsTwo};
 
 use crate::reading::{AddedTable, rows_of_added};
 use mqtt_records::{KeepError, Records};
@@ -37,8 +38,8 @@ fn is_vacant<S: Alter>(conn: &mut Connection<S>, table: StoreTable) -> Result<bo
 fn are_vacant<S: Alter>(conn: &mut Connection<S>) -> Result<bool, Error>
     ensures vacant { HasCleanDisk (state S.Store conn.new)
         → (state S.Store conn.old).now.schema ≡ second_schema Making.TakenOver → IsSettled (state S.Store conn.old)
-        → IfOk result (λ yes. MatchBool yes (HasNoneOfFirst Making.TakenOver (state S.Store conn.old).now.trees)
-        (¬ HasNoneOfFirst Making.TakenOver (state S.Store conn.old).now.trees)) }
+        → IfOk result (λ yes. MatchBool yes (HasNoOldRows Making.TakenOver (state S.Store conn.old).now.trees)
+        (¬ HasNoOldRows Making.TakenOver (state S.Store conn.old).now.trees)) }
     ensures is_open { HasCleanDisk (state S.Store conn.new) → OnOk result (IsTrue (state S.Store conn.new).is_open) }
     ensures reads { OnlyReads (state S.Store conn.old) (state S.Store conn.new) }
 {
@@ -127,7 +128,7 @@ fn read_all<S: Alter>(conn: &mut Connection<S>, tables: &mut Tables) -> Result<(
 fn given<S: Alter>(alloc: Global, conn: &mut Connection<S>) -> Result<Records, KeepError>
     ensures ok { (making : Making) → HasCleanDisk (state S.Store conn.new)
         → (state S.Store conn.old).now.schema ≡ second_schema making → IsSettled (state S.Store conn.old)
-        → HasNoneOfFirst making (state S.Store conn.old).now.trees
+        → HasNoOldRows making (state S.Store conn.old).now.trees
         → IfOk result (HasRecordsTwo making (state S.Store conn.old).now.trees) }
     ensures err { (making : Making) → HasCleanDisk (state S.Store conn.new)
         → (state S.Store conn.old).now.schema ≡ second_schema making → IsSettled (state S.Store conn.old)
