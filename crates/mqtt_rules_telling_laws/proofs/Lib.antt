@@ -2,3 +2,4 @@ pub mod Blocks
 pub mod Forms
 pub mod Lines
 pub mod Deeds
+pub mod Plainly

@@ -5,7 +5,6 @@ use Rattle.std.proofs.lemmas.Bool.{cases_Bool, eqb-true}
 use Rattle.std.proofs.lemmas.Cmp.{nat_eq_equiv}
 use Rattle.mqtt_codec.specs.declared.packet.Packet.{Packet}
 use Rattle.mqtt_codec.specs.declared.packet.Packet.TheVariants as packets
-use Rattle.mqtt_codec.specs.declared.publish.Publish.{Publish}
 use Rattle.mqtt_topic_aliases.specs.declared.form.Form.TheVariants.{Plain}
 use Rattle.mqtt_topic_aliases.specs.Told.{ToldTopics, none_told, after_send}
 use Rattle.mqtt_rules.specs.Forms.{is_within}
@@ -15,7 +14,7 @@ use Rattle.mqtt_rules.specs.State.{Line, Telling, told_line, told_on}
 use Rattle.mqtt_rules.specs.Deeds.{greeted, tells, tells_on, without_telling}
 
 -- a client that takes no alias is told nothing
-nothing_told : (o : Option Line) (packet : Packet) → tells o packet (none_told 0) ≡ none_told 0
+pub nothing_told : (o : Option Line) (packet : Packet) → tells o packet (none_told 0) ≡ none_told 0
 nothing_told None packet = refl
 nothing_told (Some l) (packets.Publish p) = by (is_within l.largest p Plain)
   where
@@ -97,11 +96,14 @@ greeted_own n most P ts was none new = by (nat_eq most 0)
   where
     row : Telling
     row = record { line = n; topics = none_told most }
+
     rest : List Telling
     rest = without_telling n ts
+
     put : (t : Bool) → P (told_on n (cond t (insert_row told_line row rest) rest))
     put true = subst P (sym (begun_own n (none_told most) rest)) new
     put false = subst P (sym (gone_own n ts)) none
+
     by : (t : Bool) → P (told_on n (cond t ts (put_row told_line LINE_LIMIT row rest)))
     by true = was
     by false = put (has_row told_line n rest || nat_lt (length rest) LINE_LIMIT)
@@ -112,11 +114,14 @@ greeted_other n k most ts apart = by (nat_eq most 0)
   where
     row : Telling
     row = record { line = k; topics = none_told most }
+
     rest : List Telling
     rest = without_telling k ts
+
     put : (t : Bool) → told_on n (cond t (insert_row told_line row rest) rest) ≡ told_on n ts
     put true = begun_other n k (none_told most) rest apart ∙ gone_other n k ts apart
     put false = gone_other n k ts apart
+
     by : (t : Bool) → told_on n (cond t ts (put_row told_line LINE_LIMIT row rest)) ≡ told_on n ts
     by true = refl
     by false = put (has_row told_line k rest || nat_lt (length rest) LINE_LIMIT)

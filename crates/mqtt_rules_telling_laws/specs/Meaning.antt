@@ -70,3 +70,9 @@ GrantsWithin n most (On k (Greet birth keep_alive window largest granted) ∷ ds
     (nat_eq k n ≡ true → granted ≤ most) × GrantsWithin n most ds
 GrantsWithin n most (Send k packet ∷ ds) = HasItsTopic packet × GrantsWithin n most ds
 GrantsWithin n most (d ∷ ds) = GrantsWithin n most ds
+
+-- the client on the line is granted no alias, whatever the others are
+abbrev pub GrantsNone : ℕ → List Deed → Type 0
+GrantsNone n [] = ⊤
+GrantsNone n (On k (Greet birth keep_alive window largest granted) ∷ ds) = (nat_eq k n ≡ true → granted ≡ 0) × GrantsNone n ds
+GrantsNone n (d ∷ ds) = GrantsNone n ds
