@@ -28,8 +28,14 @@ fn message() -> MessageColumns<'static> {
     }
 }
 
-/// A copy that refers to a publication, put in the queue of session 1.
-fn copy_at(place: u8, publication: u8) -> TableChange<'static> {
+/// Puts a copy that refers to a publication, in the queue of session 1, by who may know that a message of one stands.
+fn put_by<S: Alter>(
+    alloc: Global,
+    tx: &mut Transaction<'_, S>,
+    known: Option<u64>,
+    place: u8,
+    publication: u8,
+) -> Result<i64, Error> {
     let copy = QueuedColumns {
         publication: u64::from(publication),
         cause: 0,
@@ -43,35 +49,27 @@ fn copy_at(place: u8, publication: u8) -> TableChange<'static> {
         identifiers: &[],
         arrived: 1_000,
     };
-    TableChange::PutCopy {
+    let change = TableChange::PutCopy {
         birth: 1,
         place: u64::from(place),
         message: message(),
         copy,
+    };
+    match known {
+        Some(_) => change_knowing(alloc, tx, known, &change)?,
+        None => change_tables(alloc, tx, &change)?,
     }
+    standing(tx)
 }
 
-/// Puts a copy that refers to a publication, in the queue of session 1.
+/// The same by who knows of none.
 fn put_copy<S: Alter>(
     alloc: Global,
     tx: &mut Transaction<'_, S>,
     place: u8,
     publication: u8,
 ) -> Result<i64, Error> {
-    change_tables(alloc, tx, &copy_at(place, publication))?;
-    standing(tx)
-}
-
-/// The same, by who knows that a message of a publication stands.
-fn put_knowing<S: Alter>(
-    alloc: Global,
-    tx: &mut Transaction<'_, S>,
-    known: u64,
-    place: u8,
-    publication: u8,
-) -> Result<i64, Error> {
-    change_knowing(alloc, tx, Some(known), &copy_at(place, publication))?;
-    standing(tx)
+    put_by(alloc, tx, None, place, publication)
 }
 
 /// Puts a retained message for a/b that refers to a publication.
@@ -218,8 +216,8 @@ fn replaced<S: Alter>(alloc: Global, tx: &mut Transaction<'_, S>) -> Result<[i64
 fn known<S: Alter>(alloc: Global, tx: &mut Transaction<'_, S>) -> Result<[i64; 4], Error> {
     put_session(alloc, tx)?;
     let first = put_copy(alloc, tx, 1, 7)?;
-    let further = put_knowing(alloc, tx, 7, 2, 7)?;
-    let other = put_knowing(alloc, tx, 7, 3, 8)?;
+    let further = put_by(alloc, tx, Some(7), 2, 7)?;
+    let other = put_by(alloc, tx, Some(7), 3, 8)?;
     let copies = tx
         .query_row("SELECT count(*) FROM queued WHERE pub = 7", &[])?
         .get(0)?;
