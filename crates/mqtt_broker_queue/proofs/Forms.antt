@@ -93,9 +93,11 @@ went_by now m n place told p (l ∷ ls) = elim (cases_Bool (nat_eq l.number m)) 
   where
     rest : Option Line
     rest = find (λ x. nat_eq x.number n) ls
+
     here : (t : Bool) → form_by (cond t (Some (record l { went = l.went ++ place ∷ [] })) rest) told p ≡ form_by (cond t (Some l) rest) told p
     here true = refl
     here false = refl
+
     later : (t : Bool) → form_by (find (λ x. nat_eq x.number n) (on_line now m (Went place) ls)) told p ≡ form_by rest told p
         → form_by (cond t (Some l) (find (λ x. nat_eq x.number n) (on_line now m (Went place) ls))) told p ≡ form_by (cond t (Some l) rest) told p
     later true same = refl

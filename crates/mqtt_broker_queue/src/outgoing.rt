@@ -66,7 +66,15 @@ pub(crate) fn outgoing_row(
 {
     // This shows that the copy's PUBLISH has a spelling.
     let _spelled = row.size();
-    outgoing(alloc, step, line, step.moment(), dup, identifier, row.copy())
+    outgoing(
+        alloc,
+        step,
+        line,
+        step.moment(),
+        dup,
+        identifier,
+        row.copy(),
+    )
 }
 
 /// A copy of QoS 0, whose PUBLISH has a spelling, goes out at a moment on a line whose client takes so many bytes; it is

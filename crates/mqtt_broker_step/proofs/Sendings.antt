@@ -88,9 +88,11 @@ named_is_free largest told p alias is = by (alias_of p.topic told) (next_alias t
     not_short x true u e = absurd cc
     not_short x false true e = absurd cc
     not_short x false false e = absurd cc
+
     not_plain : (t : Bool) → cond t (Some Plain) None ≡ Some (Named alias) → ⊥
     not_plain true e = absurd cc
     not_plain false e = absurd cc
+
     by : (has next : Option ℕ) → first_within largest p (forms_by has next) ≡ Some (Named alias) → told_if next p.topic told ≡ with_told p.topic told
     by (Some x) next e = absurd (not_short x (is_within largest p (Short x)) (is_within largest p Plain) e)
     by None (Some y) e = refl
@@ -107,10 +109,12 @@ row_told n (Some l) p ts t found = by (form_for l.largest t.topics p) refl
   where
     told : Telling → Telling
     told x = record x { topics = after_send (form_for l.largest x.topics p) p.topic x.topics }
+
     as_was : (form : Option Form) → form_for l.largest t.topics p ≡ form → after_send form p.topic t.topics ≡ t.topics → ts ≡ change_row told_line n told ts
     as_was form is same =
         sym (change_same told_line n told t ts found
         (ap (λ (f : Option Form). with_topics t (after_send f p.topic t.topics)) is ∙ ap (with_topics t) same))
+
     by : (form : Option Form) → form_for l.largest t.topics p ≡ form → told_also n (told_by (unwrap_or form Plain) p.topic) ts ≡ change_row told_line n told ts
     by None is = as_was None is refl
     by (Some Plain) is = as_was (Some Plain) is refl

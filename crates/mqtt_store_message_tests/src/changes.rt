@@ -2,8 +2,8 @@
 
 use crate::course::database;
 use mqtt_store_message::{
-    KeptColumns, MessageColumns, QueuedColumns, TableChange, change_knowing, change_tables, is_sized,
-    pub_of_topic,
+    KeptColumns, MessageColumns, QueuedColumns, TableChange, change_knowing, change_tables,
+    is_sized, pub_of_topic,
 };
 use mqtt_store_write::{SessionColumns, SubscriptionColumns, WillColumns};
 use sqlite::{Alter, Error, Transaction};

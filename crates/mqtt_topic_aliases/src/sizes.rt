@@ -5,8 +5,7 @@ ghost use Rattle.mqtt_topic_aliases.specs.Told.{topic_in};
 ghost use Rattle.mqtt_topic_aliases.specs.Sizes.{alias_size, first_within, is_spelled, is_within, remaining_in, size_in};
 
 use crate::form::Form;
-use mqtt_base::varint_len;
-use mqtt_base::Text;
+use mqtt_base::{Text, varint_len};
 
 /// What the Remaining Length of a packet is below (2.1.4).
 const REMAINING_END: usize = 268_435_456;
@@ -96,12 +95,7 @@ pub(crate) fn if_plain(largest: u32, topic: &Text, other: OtherBytes) -> Option<
 }
 
 /// A form, or the plain one: the first that is within.
-pub(crate) fn or_plain(
-    largest: u32,
-    topic: &Text,
-    other: OtherBytes,
-    form: Form,
-) -> Option<Form>
+pub(crate) fn or_plain(largest: u32, topic: &Text, other: OtherBytes, form: Form) -> Option<Form>
     ensures { result ≡ first_within largest topic.now other (form ∷ Form.Plain ∷ []) }
 {
     if is_within(largest, topic, other, form) {
