@@ -1,6 +1,7 @@
 -- Worked examples of the broker's step.
 pub mod Examples
 pub mod ExamplesAcks
+pub mod ExamplesAliases
 pub mod ExamplesArrival
 pub mod ExamplesChoices
 pub mod ExamplesClosing

@@ -8,6 +8,7 @@ use Rattle.mqtt_props.specs.Laws.{has}
 use Rattle.mqtt_codec_connect.specs.declared.connect.Connect.{Connect}
 use Rattle.mqtt_codec_connect.specs.declared.connect.Will.{Will as WillAsked}
 use Rattle.mqtt_topic.specs.Names.{is_topic_name, is_empty}
+use Rattle.mqtt_topic_aliases.specs.Told.{most_of}
 use Rattle.mqtt_base.specs.Codes.{success, client_identifier_not_valid, bad_authentication_method, session_taken_over, topic_name_invalid, packet_too_large, quota_exceeded}
 use Rattle.mqtt_base.specs.declared.limits.TheConstants.{OPEN_LIMIT, ALIAS_LIMIT, PACKET_LIMIT, CLIENT_LIMIT}
 use Rattle.mqtt_flow.specs.Outbound.{resumed_with}
@@ -16,7 +17,7 @@ use Rattle.mqtt_records.specs.declared.session.Columns.{Columns}
 use Rattle.mqtt_records.specs.declared.session.Session.{Session}
 use Rattle.mqtt_records.specs.declared.records.Records.{Records}
 use Rattle.mqtt_rules.specs.Packets.{number_or, connack}
-use Rattle.mqtt_records_message.specs.PassedOn.{property}
+use Rattle.mqtt_records_message.specs.PassedOn.{number_at, property}
 use Rattle.mqtt_rules.specs.State.{Line, Env, session_named, line_of, queue_on}
 use Rattle.mqtt_rules.specs.Deeds.{whose, Resume, Greet, Deed, Begin, Name, At, On, Send, Gone, Act, after_all, always, series, only_if, with_session, with_line}
 use Rattle.mqtt_rules.specs.Outbound.{all_turn_deeds}
@@ -98,8 +99,12 @@ prepare env c b = series (
 abbrev pub window_of : Connect → ℕ
 window_of c = number_or 65535 ReceiveMaximum c.properties
 
+-- the most topics that the client is told by aliases: as many as it takes, and at most ten (3.1.2.11.5)
+abbrev pub aliases_of : Connect → ℕ
+aliases_of c = most_of (number_at TopicAliasMaximum c.properties)
+
 abbrev pub greet : Line → Connect → ℕ → Deed
-greet l c birth = On l.number (Greet birth c.keep_alive (window_of c) (largest_of c) 0)
+greet l c birth = On l.number (Greet birth c.keep_alive (window_of c) (largest_of c) (aliases_of c))
 
 abbrev pub assigned : Bool → List ℕ → List Prop
 assigned false client = []

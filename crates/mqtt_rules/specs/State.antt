@@ -82,10 +82,6 @@ told_line t = t.line
 abbrev pub told_on : ℕ → List Telling → ToldTopics
 told_on n ts = topics_in (row_at told_line n ts)
 
--- no client that stands on a line takes aliases
-abbrev pub IsUntold : Broker → Type 0
-IsUntold b = b.tellings ≡ []
-
 abbrev pub is_of : Option ℕ → ℕ → Bool
 is_of None birth = false
 is_of (Some x) birth = nat_eq x birth

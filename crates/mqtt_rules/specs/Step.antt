@@ -21,7 +21,7 @@ use Rattle.mqtt_rules.specs.declared.Report.{Report}
 use Rattle.mqtt_rules.specs.Packets.{connack}
 use Rattle.mqtt_records_message.specs.PassedOn.{number_at}
 use Rattle.mqtt_rules.specs.State.{Line, Broker, Env, session_at, line_at, is_connected, queue_on, capped, MemberChoice}
-use Rattle.mqtt_rules.specs.Deeds.{whose, Close, Hear, Deed, Link, On, Send, At, Act, after_all, rows_of_all, always, series, of_session, with_line, output, closing, report}
+use Rattle.mqtt_rules.specs.Deeds.{whose, Close, Hear, Deed, Link, On, Send, At, Act, after_all, rows_of_all, always, series, of_session, with_line, output, wires, closing, report}
 use Rattle.mqtt_rules.specs.Closing.{close, drop_line, settle}
 use Rattle.mqtt_rules.specs.Connect.{on_connect}
 use Rattle.mqtt_rules.specs.Inbound.{on_publish, on_pubrel, on_puback, on_pubrec, on_pubcomp, on_disconnect, pump_deeds}
@@ -143,22 +143,25 @@ is_again Tick ds = cond (is_none_done ds) false true
 is_again call ds = false
 
 pub record Outcome : Type 0 where
-  pub outputs : List (ℕ × Packet)  -- in order, each with its line
+  pub outputs : List (ℕ × Packet)  -- what is meant, in order, each packet with its line
+  pub wires : List (ℕ × Packet)  -- the same as it goes out, each PUBLISH in its form (3.3.2.3.4)
   pub closed : List ℕ
   pub reports : List Report
   pub taken : ℕ  -- bytes of a piece
   pub again : Bool
 
 abbrev pub nothing_told : Outcome
-nothing_told = record { outputs = []; closed = []; reports = []; taken = 0; again = false }
+nothing_told = record { outputs = []; wires = []; closed = []; reports = []; taken = 0; again = false }
 
 -- its packets as they go out, each in its shortest spelling (2.1.4)
 abbrev pub bytes_out : Outcome → List (ℕ × List ℕ)
-bytes_out out = map (λ x. (x.0, shortest_of x.1)) out.outputs
+bytes_out out = map (λ x. (x.0, shortest_of x.1)) out.wires
 
-abbrev pub outcome_of : Call → List Deed → Outcome
-outcome_of call ds = record {
+-- what these deeds tell, done on this broker
+abbrev pub outcome_of : Call → List Deed → Broker → Outcome
+outcome_of call ds b = record {
   outputs = filter_map output ds;
+  wires = wires ds b;
   closed = filter_map closing ds;
   reports = filter_map report ds;
   taken = 0;
@@ -166,7 +169,7 @@ outcome_of call ds = record {
 }
 
 abbrev pub told : Limits → MemberChoice → ℕ → Call → Broker → Outcome
-told limits choice now call b = outcome_of call (deeds limits choice now call b)
+told limits choice now call b = outcome_of call (deeds limits choice now call b) (at_moment now b)
 
 -- ---- spent numbers: a birth, a number, a place or an order above the last one is refused, and nothing changes (ours)
 

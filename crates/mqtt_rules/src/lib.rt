@@ -13,7 +13,6 @@ mod line_laws;
 mod number_laws;
 mod routing_laws;
 mod saying_laws;
-mod telling_laws;
 mod topic_laws;
 
 pub use content_laws::{contents_are_lawful, stored_copies_have_a_spelling};
@@ -35,7 +34,6 @@ pub use number_laws::{
 };
 pub use routing_laws::{copies_find_room, members_are_reached};
 pub use saying_laws::rows_can_be_said;
-pub use telling_laws::nothing_is_told;
 pub use topic_laws::topics_are_resolved;
 
 /// The sizes of the tables.

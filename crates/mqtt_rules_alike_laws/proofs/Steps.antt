@@ -95,8 +95,8 @@ module _ (P : Type 0) where
   again_same Tick ds es k = ap (λ (t : Bool). cond t false true) (none_same ds es k)
 
   -- alike deeds tell alike
-  pub outcome_alike : (call : Call) (ds es : List Deed) → Each (AlikeDeeds P) ds es → AlikeOutcomes P (outcome_of call ds) (outcome_of call es)
-  outcome_alike call ds es k = record {
+  pub outcome_alike : (call : Call) (ds es : List Deed) (b c : Broker) → Each (AlikeDeeds P) ds es → AlikeOutcomes P (outcome_of call ds b) (outcome_of call es c)
+  outcome_alike call ds es b c k = record {
     outputs = each_picked (AlikeDeeds P) (AlikeOutputs P) output output_alike ds es k;
     closed = picked_same (AlikeDeeds P) closing closing_same ds es k;
     reports = picked_same (AlikeDeeds P) report report_same ds es k;
@@ -129,7 +129,7 @@ module _ (limits : Limits) (choice : MemberChoice) (now : ℕ) where
 
   -- a step on alike brokers tells alike
   pub told_alike : (call : Call) (b c : Broker) → AlikeBrokers b c → AlikeOutcomes (IsPump call) (told limits choice now call b) (told limits choice now call c)
-  told_alike call b c h = outcome_alike (IsPump call) call (deeds limits choice now call b) (deeds limits choice now call c) (deeds_alike call b c h)
+  told_alike call b c h = outcome_alike (IsPump call) call (deeds limits choice now call b) (deeds limits choice now call c) (at_moment now b) (at_moment now c) (deeds_alike call b c h)
 
   -- a step on alike brokers writes the same
   pub written_same : (call : Call) (b c : Broker) → AlikeBrokers b c

@@ -112,7 +112,7 @@ AlikePackets Says one other = (one ≡ other) ⊎ (Says × AlikePublishes one ot
 abbrev pub AlikeOutputs : Type 0 → ℕ × Packet → ℕ × Packet → Type 0
 AlikeOutputs Says one other = (one.0 ≡ other.0) × AlikePackets Says one.1 other.1
 
--- the same, packet by packet alike
+-- the same, packet by packet as it is meant alike
 pub record AlikeOutcomes (Says : Type 0) (one other : Outcome) : Type 0 where
   pub outputs : Each (AlikeOutputs Says) one.outputs other.outputs
   pub closed : one.closed ≡ other.closed

@@ -185,11 +185,11 @@ will_named c r e =
     asked_topic c.will all.1.1.1.1.0
 
 resume_names : (l : Line) (c : Greeting) (now : ℕ) (s : Session) → IsNamedWill (will_of c) → HasNamed s → AllName (resume l c now s)
-resume_names l c now s will h = (will, (refl, (tt, turns_name now l.number s (resumed_with (queue_on [] s)) h)))
+resume_names l c now s will h = (will, (tt, (tt, turns_name now l.number s (resumed_with (queue_on [] s)) h)))
 
 begin_names : (t : Bool) (l : Line) (c : Greeting) (r : Records) → IsNamedWill (will_of c) → AllName (begin_named t l c r)
-begin_names false l c r will = (will, (refl, (tt, tt)))
-begin_names true l c r will = (tt, (will, (refl, (tt, tt))))
+begin_names false l c r will = (will, (tt, (tt, tt)))
+begin_names true l c r will = (tt, (will, (tt, (tt, tt))))
 
 module _ (env : Env) where
   -- ---- Wills, ends, settling and closing

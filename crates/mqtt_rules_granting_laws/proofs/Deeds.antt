@@ -17,10 +17,10 @@ use Rattle.mqtt_rules.proofs.numbers.Copies.{each_append, each_filter, each_map,
 use Rattle.mqtt_rules.specs.Deeds.{Accept, At, Begin, Count, Deed, Enter, Finish, Forget, Gone, Greet, Hear, Keep, Leave, LinePart, Link, Name, On, Part, Resume, Send, SetAlias, Went, Whose, after, after_all, fresh_line, line_after, lines_after, lines_at, on_line, part_rows_of, rows_of, without_place}
 use Rattle.mqtt_rules.specs.State.{Broker, Line, is_of, session_at}
 use Rattle.mqtt_rules_granting_laws.specs.Naming.{HasNamed, HasNames, IsNamed, IsNamedWill, NamesTopics, StoresNamed}
-use Rattle.mqtt_rules_telling_laws.specs.Meaning.{GrantsWithin, HasItsTopic}
+use Rattle.mqtt_rules_telling_laws.specs.Meaning.{HasItsTopic, SendsItsTopic}
 use Rattle.mqtt_topic.specs.Aliases.{AliasTable, after_resolve, with_topic}
 use Rattle.mqtt_topic.specs.Names.{IsTopicName}
-use Rattle.std.proofs.Common.{Bool, List, None, Option, Some, [], arith, cond, false, inl, inr, nat_eq, not, true, ℕ, ◌++◌, ◌∷◌, ◌≡◌}
+use Rattle.std.proofs.Common.{Bool, List, None, Option, Some, [], cond, false, inl, inr, nat_eq, not, true, ℕ, ◌++◌, ◌∷◌}
 use Rattle.std.proofs.lemmas.Bool.{cases_Bool}
 use Rattle.std.specs.List.{AllByRecursion}
 use Rattle.std.specs.Prelude.{⊤}
@@ -81,14 +81,13 @@ rows_kept (row ∷ rows) r q h = rows_kept rows (changed row r) q.1 (row_kept ro
 
 -- ---- deeds
 
--- a PUBLISH that is sent names its topic; so does what is stored to be sent; and nobody is greeted as one that takes aliases
+-- a PUBLISH that is sent names its topic; so does what is stored to be sent
 abbrev pub Names : Deed → Type 0
 Names (Begin row will) = IsNamedWill will
 Names (At who (Resume expiry will)) = IsNamedWill will
 Names (At who (Enter copy)) = IsNamed copy.content
 Names (Keep kept) = IsNamed kept.content
 Names (On line (SetAlias alias topic)) = IsTopicName topic
-Names (On line (Greet birth keep_alive window largest most)) = most ≡ 0
 Names (Send line packet) = HasItsTopic packet
 Names d = ⊤
 
@@ -183,9 +182,8 @@ next xs ys b p q h = let first = p h in each_append Names xs ys first (q (kept_a
 
 -- ---- what is asked where packets go out in forms
 
--- deeds that name their topics grant any client no more than it takes
-pub granted : (n most : ℕ) (ds : List Deed) → AllName ds → GrantsWithin n most ds
-granted n most [] h = tt
-granted n most (On k (Greet birth keep_alive window largest given) ∷ ds) h = ((λ here. let none = h.0 in omega (arith, none)), granted n most ds h.1)
-granted n most (Send k packet ∷ ds) h = (h.0, granted n most ds h.1)
-granted n most (d ∷ ds) h = granted n most ds h.1
+-- deeds that name their topics send each PUBLISH with its topic
+pub sends_topics : (ds : List Deed) → AllName ds → AllByRecursion SendsItsTopic ds
+sends_topics [] h = tt
+sends_topics (Send k packet ∷ ds) h = (h.0, sends_topics ds h.1)
+sends_topics (d ∷ ds) h = (tt, sends_topics ds h.1)

@@ -13,10 +13,12 @@ use Rattle.mqtt_rules.specs.Step.{Call, at_moment, deeds, env_of, opened, openin
 use Rattle.mqtt_rules.specs.declared.Limits.{Limits}
 use Rattle.mqtt_rules_granting_laws.proofs.Acts.{call_names, opening_names}
 use Rattle.mqtt_rules_granting_laws.proofs.Blocks.{passed_is_unaliased}
-use Rattle.mqtt_rules_granting_laws.proofs.Deeds.{AllName, granted, kept_all}
+use Rattle.mqtt_rules_granting_laws.proofs.Deeds.{AllName, kept_all, sends_topics}
+use Rattle.mqtt_rules_granting_laws.proofs.Grants.{call_grants, grants_none, grants_within_most, opening_grants}
+use Rattle.mqtt_rules_granting_laws.specs.Granting.{TakesWithin}
 use Rattle.mqtt_rules_granting_laws.specs.Naming.{HasNamed, IsNamed, IsNamedWill, NamesTopics, StoresNamed, StoresPassedOn}
 use Rattle.mqtt_rules_telling_laws.proofs.Deeds.{knows, means}
-use Rattle.mqtt_rules_telling_laws.specs.Meaning.{AllMean, GrantsWithin, Knows, after_reading_all, on_line}
+use Rattle.mqtt_rules_telling_laws.specs.Meaning.{AllMean, GrantsNone, GrantsWithin, Knows, SendsItsTopic, after_reading_all, on_line}
 use Rattle.mqtt_topic.specs.Aliases.{AliasTable}
 use Rattle.std.proofs.Common.{List, None, Option, Some, [], refl, subst, sym, ℕ, ◌∷◌, ◌≡◌}
 use Rattle.std.specs.List.{AllByRecursion}
@@ -65,9 +67,22 @@ module _ (limits : Limits) (choice : MemberChoice) (now : ℕ) where
   step_names : (call : Call) (b : Broker) → NamesTopics b → AllName (deeds limits choice now call b)
   step_names call b h = call_names (env_of limits choice b) call (at_moment now b) (later_named now b h)
 
-  -- a step sends each PUBLISH with its topic, and grants no alias
-  pub step_grants : (n most : ℕ) (call : Call) (b : Broker) → NamesTopics b → GrantsWithin n most (deeds limits choice now call b)
-  step_grants n most call b h = granted n most (deeds limits choice now call b) (step_names call b h)
+  -- a step sends each PUBLISH with its topic
+  pub step_topics : (call : Call) (b : Broker) → NamesTopics b → AllByRecursion SendsItsTopic (deeds limits choice now call b)
+  step_topics call b h = sends_topics (deeds limits choice now call b) (step_names call b h)
+
+  -- and grants a client no more aliases than it takes
+  pub step_grants : (n most : ℕ) (call : Call) (b : Broker) → NamesTopics b → TakesWithin n most call → GrantsWithin n most (deeds limits choice now call b)
+  step_grants n most call b h takes =
+      grants_within_most n most (deeds limits choice now call b) (at_moment now b) (step_names call b h) (call_grants n most (env_of limits choice b) call (at_moment now b) takes)
+
+  -- and none, if it takes none
+  pub step_grants_none : (n : ℕ) (call : Call) (b : Broker) → TakesWithin n 0 call → GrantsNone n (deeds limits choice now call b)
+  step_grants_none n call b takes = grants_none n (deeds limits choice now call b) (at_moment now b) (call_grants n 0 (env_of limits choice b) call (at_moment now b) takes)
+
+  -- nor does an opening
+  pub opening_grants_none : (n : ℕ) (r : Records) → GrantsNone n (opening_deeds limits choice now r)
+  opening_grants_none n r = let c = unopened now r in grants_none n (opening_deeds limits choice now r) c (opening_grants n 0 (env_of limits choice c) c)
 
   -- all topics are named still behind a step
   pub step_named : (call : Call) (b : Broker) → NamesTopics b → NamesTopics (stepped limits choice now call b)
@@ -87,16 +102,16 @@ module _ (limits : Limits) (choice : MemberChoice) (now : ℕ) where
   -- ---- what goes out by a step
 
   -- means what was meant
-  pub step_means : (n : ℕ) (table : AliasTable) (call : Call) (b : Broker) → Knows table (told_on n b.tellings) → NamesTopics b
-      → AllMean table (on_line n (wires (deeds limits choice now call b) (at_moment now b))) (on_line n (told limits choice now call b).outputs)
-  step_means n table call b knows_told h = means n table (deeds limits choice now call b) (at_moment now b) knows_told (step_grants n table.max call b h)
+  pub step_means : (n : ℕ) (table : AliasTable) (call : Call) (b : Broker) → Knows table (told_on n b.tellings) → NamesTopics b → TakesWithin n table.max call
+      → AllMean table (on_line n (told limits choice now call b).wires) (on_line n (told limits choice now call b).outputs)
+  step_means n table call b knows_told h takes = means n table (deeds limits choice now call b) (at_moment now b) knows_told (step_grants n table.max call b h takes)
 
   -- and the client knows what it was told by then
-  pub step_knows : (n : ℕ) (table : AliasTable) (call : Call) (b : Broker) → Knows table (told_on n b.tellings) → NamesTopics b
-      → Knows (after_reading_all table (on_line n (wires (deeds limits choice now call b) (at_moment now b)))) (told_on n (stepped limits choice now call b).tellings)
-  step_knows n table call b knows_told h =
+  pub step_knows : (n : ℕ) (table : AliasTable) (call : Call) (b : Broker) → Knows table (told_on n b.tellings) → NamesTopics b → TakesWithin n table.max call
+      → Knows (after_reading_all table (on_line n (told limits choice now call b).wires)) (told_on n (stepped limits choice now call b).tellings)
+  step_knows n table call b knows_told h takes =
       let c = at_moment now b in
       let ds = deeds limits choice now call b in
       let read = after_reading_all table (on_line n (wires ds c)) in
       subst (λ ts. Knows read (told_on n ts)) (sym (moment_tellings (rows_of_all ds c.records) (after_all ds c)))
-      (knows n table ds c knows_told (step_grants n table.max call b h))
+      (knows n table ds c knows_told (step_grants n table.max call b h takes))

@@ -4,4 +4,7 @@
 
 mod laws;
 
-pub use laws::{each_publish_names_its_topic, each_step_means_what_was_meant};
+pub use laws::{
+    each_client_is_granted_what_it_takes, each_publish_names_its_topic,
+    each_step_means_what_was_meant,
+};

@@ -9,7 +9,7 @@ use Rattle.mqtt_topic_aliases.specs.Told.{ToldTopics, none_told}
 use Rattle.mqtt_rules.specs.Forms.{in_form}
 use Rattle.mqtt_rules.specs.State.{Line, Telling, Broker, line_at, told_on}
 use Rattle.mqtt_rules.specs.Deeds.{Deed, Gone, Greet, On, Send, after, after_all, greeted, output, spoken, tells, tells_on, wires, without_telling}
-use Rattle.mqtt_rules.proofs.forms.Untold.{plain_form}
+use Rattle.mqtt_rules.proofs.forms.PlainForm.{plain_form}
 use Rattle.mqtt_rules_telling_laws.specs.Meaning.{GrantsNone, on_line}
 use Rattle.mqtt_rules_telling_laws.proofs.Lines.{gone_other, gone_own, greeted_other, nothing_told, told_other, told_own}
 

@@ -63,6 +63,11 @@ abbrev pub HasItsTopic : Packet → Type 0
 HasItsTopic (packets.Publish p) = IsTopicName p.topic × (alias_on p ≡ None)
 HasItsTopic packet = ⊤
 
+-- so has each that a deed sends
+abbrev pub SendsItsTopic : Deed → Type 0
+SendsItsTopic (Send n packet) = HasItsTopic packet
+SendsItsTopic d = ⊤
+
 -- each has, and the client on the line is granted no more aliases than it takes
 abbrev pub GrantsWithin : ℕ → ℕ → List Deed → Type 0
 GrantsWithin n most [] = ⊤

@@ -211,21 +211,21 @@ map_same : {X : Type 0} (f : X → X) (xs : List X) → ((x : X) → f x ≡ x) 
 map_same f [] h = refl
 map_same f (x ∷ xs) h = ap (λ y. y ∷ map f xs) (h x) ∙ ap (λ ys. x ∷ ys) (map_same f xs h)
 
-link_out : (can : Bool) (n : ℕ) → (outcome_of NewLine (cond can (Link n ∷ []) [])).outputs ≡ []
-link_out true n = refl
-link_out false n = refl
+link_out : (can : Bool) (n : ℕ) (b : Broker) → (outcome_of NewLine (cond can (Link n ∷ []) []) b).outputs ≡ []
+link_out true n b = refl
+link_out false n b = refl
 
-link_closed : (can : Bool) (n : ℕ) → (outcome_of NewLine (cond can (Link n ∷ []) [])).closed ≡ []
-link_closed true n = refl
-link_closed false n = refl
+link_closed : (can : Bool) (n : ℕ) (b : Broker) → (outcome_of NewLine (cond can (Link n ∷ []) []) b).closed ≡ []
+link_closed true n b = refl
+link_closed false n b = refl
 
 -- a new line is a call of the broker's
 pub line_begins : (set : Setting) (w : World) → calls set NewLine w ≡ record w { broker = stepped set.limits set.choice w.now NewLine w.broker }
 line_begins set w =
     let b = stepped set.limits set.choice w.now NewLine w.broker in
     let out = told set.limits set.choice w.now NewLine w.broker in
-    let none = link_out (can_link w.broker) (suc w.broker.given) in
-    let shut = link_closed (can_link w.broker) (suc w.broker.given) in
+    let none = link_out (can_link w.broker) (suc w.broker.given) w.broker in
+    let shut = link_closed (can_link w.broker) (suc w.broker.given) w.broker in
     ap (λ (ps : List Publisher). record (calls set NewLine w) { publishers = ps })
     (map_same (publisher_told b out) w.publishers (λ p. ap (λ (l : Line _). record p { line = l }) (nothing_told_by b out p.line none shut)))
     ∙ ap (λ (rs : List Receiver). record w { broker = b; receivers = rs })

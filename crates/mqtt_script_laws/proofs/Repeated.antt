@@ -79,7 +79,7 @@ ready_after client limits ts t w after h x carried = record {
 abbrev called_by : Call → List Deed → World → World
 called_by call ds w =
     let b = done ds (at_moment w.now w.broker) in
-    let out = outcome_of call ds in
+    let out = outcome_of call ds (at_moment w.now w.broker) in
     record w { broker = b; publishers = map (publisher_told b out) w.publishers; receivers = map (receiver_told b out) w.receivers }
 
 -- the event is the same by both

@@ -1,15 +1,16 @@
 -- Each PUBLISH of a run names its topic, and all that the broker holds does so after it (MQTT 5.0, 3.3.2.1, 3.3.2.3.4).
 use Rattle.std.proofs.Common.{ℕ, zero, suc, Bool, true, false, cond, List, [], ◌∷◌, ◌++◌, Option, Some, None}
+use Rattle.std.specs.List.{AllByRecursion}
 use Rattle.std.specs.Prelude.{is_some}
 use Rattle.mqtt_rules.proofs.numbers.Copies.{each_append}
 use Rattle.mqtt_rules.specs.Deeds.{Deed}
 use Rattle.mqtt_rules.specs.State.{Broker}
 use Rattle.mqtt_rules.specs.Step.{Call, NewLine, at_moment, deeds, env_of, opening_deeds, unopened}
 use Rattle.mqtt_rules.specs.declared.Limits.{Limits}
-use Rattle.mqtt_rules_telling_laws.specs.Meaning.{GrantsWithin}
+use Rattle.mqtt_rules_telling_laws.specs.Meaning.{SendsItsTopic}
 use Rattle.mqtt_rules_granting_laws.specs.Naming.{NamesTopics}
 use Rattle.mqtt_rules_granting_laws.proofs.Acts.{call_names, opening_names}
-use Rattle.mqtt_rules_granting_laws.proofs.Deeds.{AllName, Names, granted}
+use Rattle.mqtt_rules_granting_laws.proofs.Deeds.{AllName, Names, sends_topics}
 use Rattle.mqtt_rules_granting_laws.proofs.Steps.{opening_named, step_named}
 use Rattle.mqtt_world_model.specs.Run.{Turn, deeds_over, read_asked, read_at, read_first, read_if, read_in, read_rest, run, setting, the_deeds, turned}
 use Rattle.mqtt_world_model.specs.World.{Asking, Event, Setting, World, answers_rest, ask, asks, before, break, call_of, call_of_stranger, calls, calls_if, clock, comes, connect_end, first_step, give_up, happens, held_count, is_bad, linked_at, links, next_held, next_line, old_to_broker, publish, publisher, pump, receiver, restart, restarts, start, stop_after, stop_before, stranger, stranger_named, subscribe, tick, to_broker, to_end}
@@ -156,10 +157,10 @@ pub run_holds : (limits : Limits) (ts : List Turn) (w : World) → Holds w → H
 run_holds limits [] w h = h
 run_holds limits (t ∷ ts) w h = run_holds limits ts (turned limits t w) (turn_holds limits t w h)
 
--- its deeds grant any client no more than it takes, and send each PUBLISH with its topic
-pub run_grants : (limits : Limits) (ts : List Turn) (w : World) (n most : ℕ) → Holds w → GrantsWithin n most (deeds_over limits ts w)
-run_grants limits ts w n most h = granted n most (deeds_over limits ts w) (run_deeds limits ts w h)
+-- its deeds send each PUBLISH with its topic
+pub run_topics : (limits : Limits) (ts : List Turn) (w : World) → Holds w → AllByRecursion SendsItsTopic (deeds_over limits ts w)
+run_topics limits ts w h = sends_topics (deeds_over limits ts w) (run_deeds limits ts w h)
 
 -- also from the start
-pub start_grants : (limits : Limits) (ts : List Turn) (n most : ℕ) → GrantsWithin n most (deeds_over limits ts start)
-start_grants limits ts n most = run_grants limits ts start n most (record { stored = record { sessions = tt; retained = tt }; lines = tt })
+pub start_topics : (limits : Limits) (ts : List Turn) → AllByRecursion SendsItsTopic (deeds_over limits ts start)
+start_topics limits ts = run_topics limits ts start (record { stored = record { sessions = tt; retained = tt }; lines = tt })

@@ -1,20 +1,16 @@
 -- A run in forms beside the run of what packets mean: they stay alike, whatever happens (MQTT 5.0, 3.3.2.3.4).
 use Rattle.std.proofs.Common.{◌≡◌, List, [], ◌∷◌, ◌++◌, refl}
-use Rattle.std.specs.Prelude.{ℕ}
-use Rattle.std.specs.List.{AllByRecursion}
 use Rattle.mqtt_topic.specs.Aliases.{AliasTable}
-use Rattle.mqtt_rules.specs.Deeds.{Deed, Greet, On, Send}
 use Rattle.mqtt_rules.specs.State.{Telling}
 use Rattle.mqtt_rules.specs.declared.Limits.{Limits}
-use Rattle.mqtt_rules_telling_laws.specs.Meaning.{GrantsWithin}
 use Rattle.mqtt_rules_granting_laws.specs.Naming.{NamesTopics}
 use Rattle.mqtt_world_model.specs.Ends.{Receiver}
-use Rattle.mqtt_world_model.specs.Run.{Turn, deeds_over}
+use Rattle.mqtt_world_model.specs.Run.{Turn}
 use Rattle.mqtt_world_model.specs.Run as meant
 use Rattle.mqtt_world_model.specs.World.{World}
-use Rattle.mqtt_world_granting_laws.proofs.Runs.{run_grants, run_holds}
+use Rattle.mqtt_world_granting_laws.proofs.Runs.{run_holds, run_topics}
 use Rattle.mqtt_world_telling_laws.specs.AsSent.{AsSent, Most, run, turned}
-use Rattle.mqtt_world_telling_laws.specs.Likewise.{AllReceiversAlike, AllUnderstand, SendsItsTopic}
+use Rattle.mqtt_world_telling_laws.specs.Likewise.{AllReceiversAlike, AllUnderstand}
 use Rattle.mqtt_world_telling_laws.proofs.Calls.{Goes}
 use Rattle.mqtt_world_telling_laws.proofs.Readings.{are_understood}
 use Rattle.mqtt_world_telling_laws.proofs.Runs.{run_alike}
@@ -24,16 +20,10 @@ pub record Pair (most : Most) (s : AsSent) (w : World) : Type 0 where
   pub goes : Goes most s w
   pub names : NamesTopics w.broker
 
-send_topics : (n most : ℕ) (ds : List Deed) → GrantsWithin n most ds → AllByRecursion SendsItsTopic ds
-send_topics n most [] h = tt
-send_topics n most (Send k packet ∷ ds) h = (h.0, send_topics n most ds h.1)
-send_topics n most (On k (Greet birth keep_alive window largest given) ∷ ds) h = (tt, send_topics n most ds h.1)
-send_topics n most (d ∷ ds) h = (tt, send_topics n most ds h)
-
 -- so they are after the same turns
 pub pair_run : (most : Most) (limits : Limits) (ts : List Turn) (s : AsSent) (w : World) → Pair most s w → Pair most (run most limits ts s) (meant.run limits ts w)
 pair_run most limits ts s w p = record {
-  goes = run_alike most limits ts s w p.goes (send_topics 0 0 (deeds_over limits ts w) (run_grants limits ts w 0 0 p.names));
+  goes = run_alike most limits ts s w p.goes (run_topics limits ts w p.names);
   names = run_holds limits ts w p.names;
 }
 

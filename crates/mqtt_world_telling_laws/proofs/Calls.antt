@@ -7,7 +7,7 @@ use Rattle.mqtt_topic.specs.Aliases.{AliasTable}
 use Rattle.mqtt_rules.specs.State.{Broker, Telling}
 use Rattle.mqtt_rules.specs.Deeds.{Deed, after_all, rows_of_all, wires}
 use Rattle.mqtt_rules.specs.Step.{Call, Outcome, at_moment, deeds, env_of, stepped, told, with_moment}
-use Rattle.mqtt_rules_telling_laws.specs.Meaning.{AllMean, GrantsWithin, on_line}
+use Rattle.mqtt_rules_telling_laws.specs.Meaning.{AllMean, GrantsWithin, SendsItsTopic, on_line}
 use Rattle.mqtt_rules_telling_laws.proofs.Deeds.{knows, means}
 use Rattle.mqtt_world_model.specs.Lines.{Down, sent_to}
 use Rattle.mqtt_world_model.specs.Ends.{Publisher, Receiver}
@@ -16,7 +16,7 @@ use Rattle.mqtt_world_model.specs.World.{World, Setting, publisher_told, receive
 use Rattle.mqtt_world_model.specs.World as meant
 use Rattle.mqtt_world_model.specs.Run.{read_if, the_deeds}
 use Rattle.mqtt_world_telling_laws.specs.AsSent.{AsSent, Most, calls, calls_if, deeds_granted, telling, told_as_sent}
-use Rattle.mqtt_world_telling_laws.specs.Likewise.{AllPublishersAlike, AllReceiversAlike, KnowsOn, Likewise, PublishersAlike, ReceiversAlike, SendsItsTopic, WorldsAlike, after_down}
+use Rattle.mqtt_world_telling_laws.specs.Likewise.{AllPublishersAlike, AllReceiversAlike, KnowsOn, Likewise, PublishersAlike, ReceiversAlike, WorldsAlike, after_down}
 use Rattle.mqtt_world_telling_laws.proofs.Downs.{DownsAlike, SentOn, max_down, sent_alike}
 use Rattle.mqtt_world_telling_laws.proofs.Ends.{Alters, Changes, publisher_with, publishers_changed, receiver_with, receivers_changed, stays_known}
 use Rattle.mqtt_world_telling_laws.proofs.Given.{IsNumbered, call_given, call_numbered}

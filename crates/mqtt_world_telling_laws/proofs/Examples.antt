@@ -15,14 +15,14 @@ use Rattle.mqtt_topic_aliases.specs.declared.form.Form.TheVariants.{Named, Short
 use Rattle.mqtt_rules.specs.Forms.{in_form}
 use Rattle.mqtt_rules.specs.Deeds.{Deed, Send}
 use Rattle.mqtt_rules.proofs.examples.Play.{usual, topic, hi}
-use Rattle.mqtt_rules_telling_laws.specs.Meaning.{alias_on}
+use Rattle.mqtt_rules_telling_laws.specs.Meaning.{SendsItsTopic, alias_on}
 use Rattle.mqtt_world_model.specs.Lines.{Down}
 use Rattle.mqtt_world_model.specs.Ends.{Draft, Entry, Receiver}
 use Rattle.mqtt_world_model.specs.World.{Event, publisher, receiver, give_up, publish, to_end, ask, to_broker, pump, receiver_named, start}
 use Rattle.mqtt_world_model.specs.Run.{deeds_over, after as after_meant}
 use Rattle.mqtt_world_model.proofs.examples.Scripts.{turns, p1, r1, joins, subscribes}
 use Rattle.mqtt_world_telling_laws.specs.AsSent.{Most, after}
-use Rattle.mqtt_world_telling_laws.specs.Likewise.{Likewise, SendsItsTopic}
+use Rattle.mqtt_world_telling_laws.specs.Likewise.{Likewise}
 use Rattle.mqtt_world_telling_laws.proofs.Runs.{likewise}
 
 -- each client takes one alias, or none

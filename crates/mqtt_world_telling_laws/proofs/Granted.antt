@@ -10,13 +10,12 @@ use Rattle.mqtt_topic_aliases.specs.Told.{ToldTopics, most_of, none_told}
 use Rattle.mqtt_rules.specs.State.{Broker, Line, Telling, line_at, told_on}
 use Rattle.mqtt_rules.specs.Deeds.{Deed, Gone, Greet, Hear, Link, On, Send, SetAlias, Went, after, after_all, greeted, output, spoken, tells, tells_on, wires, without_telling}
 use Rattle.mqtt_rules.proofs.acts.Goods.{AreGood}
-use Rattle.mqtt_rules_telling_laws.specs.Meaning.{GrantsWithin, HasItsTopic}
+use Rattle.mqtt_rules_telling_laws.specs.Meaning.{GrantsWithin, HasItsTopic, SendsItsTopic}
 use Rattle.mqtt_rules_telling_laws.proofs.Lines.{gone_other, gone_own, greeted_other, told_other, told_own}
 use Rattle.mqtt_world_model.specs.Lines.{sent_to}
 use Rattle.mqtt_world_model.specs.Ends.{heard}
 use Rattle.mqtt_world_model.specs.Seen.{heard_in}
 use Rattle.mqtt_world_telling_laws.specs.AsSent.{Most, granted}
-use Rattle.mqtt_world_telling_laws.specs.Likewise.{SendsItsTopic}
 use Rattle.mqtt_world_telling_laws.proofs.Given.{IsGiven}
 
 -- ---- what is asked of them

@@ -16,10 +16,11 @@ use Rattle.mqtt_world_model.specs.World.{asks_wish, before, call_of, call_of_str
 use Rattle.mqtt_world_model.specs.World as meant
 use Rattle.mqtt_world_model.specs.Run.{Turn, read_asked, read_at, read_first, read_if, read_in, read_opening, read_over, read_rest, setting, the_deeds}
 use Rattle.mqtt_world_model.specs.Run as meant_run
+use Rattle.mqtt_rules_telling_laws.specs.Meaning.{SendsItsTopic}
 use Rattle.mqtt_world_telling_laws.specs.Reading.{known_after, receiver_reads}
 use Rattle.mqtt_world_telling_laws.specs.AsSent.{AsSent, Most, answers_rest, asks, calls_if, changed_for, end_reads, first_step, happens, in_world, known_joined, receivers_read, restarted, run, start_as_sent, turned}
 use Rattle.mqtt_world_telling_laws.specs.AsSent as sent
-use Rattle.mqtt_world_telling_laws.specs.Likewise.{AllPublishersAlike, AllReceiversAlike, AllSendTopics, AllUnderstand, Likewise, ReceiversAlike, SendsItsTopic, WorldsAlike}
+use Rattle.mqtt_world_telling_laws.specs.Likewise.{AllPublishersAlike, AllReceiversAlike, AllSendTopics, AllUnderstand, Likewise, ReceiversAlike, WorldsAlike}
 use Rattle.mqtt_world_telling_laws.proofs.Downs.{DownsAlike}
 use Rattle.mqtt_world_telling_laws.proofs.Ends.{by_receiver, for_publisher, kept_receiver, publishers_changed, publishers_more, receiver_with, receivers_more}
 use Rattle.mqtt_world_telling_laws.proofs.Given.{opening_numbered}

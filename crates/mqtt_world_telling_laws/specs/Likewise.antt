@@ -4,8 +4,7 @@ use Rattle.std.specs.List.{AllByRecursion}
 use Rattle.mqtt_topic.specs.Aliases.{AliasTable}
 use Rattle.mqtt_rules.specs.declared.Limits.{Limits}
 use Rattle.mqtt_rules.specs.State.{Telling, told_on}
-use Rattle.mqtt_rules.specs.Deeds.{Deed, Send}
-use Rattle.mqtt_rules_telling_laws.specs.Meaning.{HasItsTopic, Knows, Means, after_reading}
+use Rattle.mqtt_rules_telling_laws.specs.Meaning.{Knows, Means, SendsItsTopic, after_reading}
 use Rattle.mqtt_world_model.specs.Lines.{Down, Line}
 use Rattle.mqtt_world_model.specs.Ends.{Publisher, Receiver}
 use Rattle.mqtt_world_model.specs.World.{World, start}
@@ -79,12 +78,7 @@ Likewise most s w = WorldsAlike most s.tellings s.known s.world w
 
 -- ---- what is asked of a run
 
--- a PUBLISH that is meant has a topic name, and no Topic Alias
-abbrev pub SendsItsTopic : Deed → Type 0
-SendsItsTopic (Send n packet) = HasItsTopic packet
-SendsItsTopic d = ⊤
-
--- so has each that the broker sends
+-- each PUBLISH that the broker means has a topic name, and no Topic Alias
 abbrev pub AllSendTopics : Limits → List Turn → Type 0
 AllSendTopics limits ts = AllByRecursion SendsItsTopic (deeds_over limits ts start)
 

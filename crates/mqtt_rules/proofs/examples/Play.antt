@@ -77,8 +77,10 @@ asks es e = tells e (runs es blank)
 abbrev pub reopened : ℕ → Broker → Broker
 reopened now b = opened usual first now b.records
 
+-- no client here takes an alias, so each packet goes out as it is meant
 abbrev pub out : List (ℕ × Packet) → List ℕ → List Report → Bool → Outcome
-out outputs closed reports again = record { outputs = outputs; closed = closed; reports = reports; taken = 0; again = again }
+out outputs closed reports again =
+    record { outputs = outputs; wires = outputs; closed = closed; reports = reports; taken = 0; again = again }
 
 -- ---- packets
 

@@ -18,7 +18,7 @@ use Rattle.mqtt_records.specs.Records.{changed_all}
 use Rattle.mqtt_rules.specs.State.{Line, Broker, session_at, line_of, is_of}
 use Rattle.mqtt_rules.specs.Deeds.{Whose, whose, Resume, Close, DropWill, Leave, Greet, Deed, Begin, At, Finish, Link, On, Gone, part_rows_of, stored_after, fresh_line, line_after, after, after_all}
 use Rattle.mqtt_rules.specs.Closing.{end_session}
-use Rattle.mqtt_rules.specs.Connect.{expiry_of, will_of, greet, window_of, largest_of}
+use Rattle.mqtt_rules.specs.Connect.{expiry_of, will_of, greet, window_of, largest_of, aliases_of}
 use Rattle.mqtt_rules.specs.Lines.{line_number, session_on, closed_at, HasUniqueLines}
 use Rattle.mqtt_rules.specs.Laws.{IsAmong}
 use Rattle.mqtt_rules.proofs.flight.FlightRows.{found_key, above_found, all_found}
@@ -263,13 +263,13 @@ unique_greeted : (l : Line) (c : Greeting) (birth : ℕ) (b d : Broker) → HasU
     → (closed_at birth b.records ≡ Some None → ⊥) → ((k : ℕ) → closed_at k d.records ≡ cond (nat_eq birth k) (Some None) (closed_at k b.records)) → HasUniqueLines (after (greet l c birth) d)
 unique_greeted l c birth b d u lines given free shut closed =
     let e = after (greet l c birth) d in
-    let part = Greet birth c.keep_alive (window_of c) (largest_of c) 0 in
+    let part = Greet birth c.keep_alive (window_of c) (largest_of c) (aliases_of c) in
     let same : (k : ℕ) → session_on k d ≡ session_on k b = λ k. ap (λ (ls : List Line). option_map (λ (x : Line). x.session) (find (λ (x : Line). nat_eq x.number k) ls)) lines in
     let up : IsAscending line_number d.lines = subst (IsAscending line_number) (sym lines) u.ascending in
     let low : IsBelow line_number (suc d.given) d.lines = subst (λ (n : ℕ). IsBelow line_number (suc n) d.lines) (sym given) (subst (IsBelow line_number (suc b.given)) (sym lines) u.given) in
     unique_of e
     (joined_greeted (sessions_on b) (closed_of b) (sessions_on e) (closed_of e) (joined_of b u) l.number birth free shut
-    (λ k. on_greeted l.number k birth c.keep_alive (window_of c) (largest_of c) 0 d None (same l.number ∙ free) ∙ ap (λ (o : Option (Option ℕ)). cond (nat_eq l.number k) (Some (Some birth)) o) (same k)) closed)
+    (λ k. on_greeted l.number k birth c.keep_alive (window_of c) (largest_of c) (aliases_of c) d None (same l.number ∙ free) ∙ ap (λ (o : Option (Option ℕ)). cond (nat_eq l.number k) (Some (Some birth)) o) (same k)) closed)
     (subst (IsAscending line_number) (sym (on_line_is d.now l.number part d.lines)) (change-ascending line_number l.number (line_after d.now part) d.lines (numbered d.now part) up))
     (subst (IsBelow line_number (suc d.given)) (sym (on_line_is d.now l.number part d.lines)) (below_change line_number (suc d.given) l.number (line_after d.now part) d.lines (numbered d.now part) low))
 

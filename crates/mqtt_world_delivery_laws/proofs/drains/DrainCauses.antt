@@ -75,7 +75,7 @@ older publications subscribes id h = λ n is. subst (λ (k : Cause). subscribe_i
 
 -- ---- in the first round the broker reads the CONNECT, in a step that spends no number
 
-untold : (call : Call) (b : Broker) (r : Receiver) → receiver_told b (outcome_of call []) r ≡ r
+untold : (call : Call) (b : Broker) (r : Receiver) → receiver_told b (outcome_of call [] b) r ≡ r
 untold call b r =
     let closed = none_closed r.line.number in
     let old_closed = none_closed r.line.old_number in
@@ -114,7 +114,7 @@ module _ (c : List ℕ) (limits : Limits) (choice : MemberChoice) (clean : Bool)
   sent_receiver : receiver_named c sent ≡ Some r
   sent_receiver =
       receiver_called_is c set (Pump l.number) v r e
-      ∙ (ap (λ (ds : List Deed). Some (receiver_told sent.broker (outcome_of (Pump l.number) ds) r)) idle ∙ ap Some (untold (Pump l.number) sent.broker r))
+      ∙ (ap (λ (ds : List Deed). Some (receiver_told sent.broker (outcome_of (Pump l.number) ds first) r)) idle ∙ ap Some (untold (Pump l.number) sent.broker r))
 
   sent_publisher : publisher_named c sent ≡ None
   sent_publisher = publisher_called_is c set (Pump l.number) v alone

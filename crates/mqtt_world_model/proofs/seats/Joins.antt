@@ -23,7 +23,7 @@ new_is limits choice now b can = ap (λ (t : Bool). done (cond t (Linked (suc b.
 
 -- a new line tells nothing
 pub told_none : (limits : Limits) (choice : MemberChoice) (now : ℕ) (b : Broker) → can_link b ≡ true → told limits choice now NewLine b ≡ nothing_told
-told_none limits choice now b can = ap (λ (t : Bool). outcome_of NewLine (cond t (Linked (suc b.given) ∷ []) [])) can
+told_none limits choice now b can = ap (λ (t : Bool). outcome_of NewLine (cond t (Linked (suc b.given) ∷ []) []) (at_moment now b)) can
 
 -- nobody is connected on a line that was just given
 pub fresh_free : (n now : ℕ) (ls : List BrokerLine) → IsBelow line_number n ls → has_session (find (λ (l : BrokerLine). nat_eq l.number n) (ls ++ fresh_line n now ∷ [])) ≡ false

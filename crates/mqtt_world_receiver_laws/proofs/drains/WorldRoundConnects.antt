@@ -68,7 +68,7 @@ none_sent None b = refl
 none_sent (Some n) b = refl
 
 -- whoever is told nothing stays as it is
-untold_same : (call : Call) (b : Broker) (r : Receiver) → receiver_told b (outcome_of call []) r ≡ r
+untold_same : (call : Call) (b : Broker) (r : Receiver) → receiver_told b (outcome_of call [] b) r ≡ r
 untold_same call b r =
     let closed = none_closed r.line.number in
     let old_closed = none_closed r.line.old_number in
@@ -119,7 +119,7 @@ module _ (limits : Limits) (choice : MemberChoice) (clean : Bool) (client : List
   sent_receiver : receiver_named client sent ≡ Some r
   sent_receiver =
       receiver_called_is client s (Pump n) w r j.named
-      ∙ (ap (λ (ds : List Deed). Some (receiver_told sent.broker (outcome_of (Pump n) ds) r)) idle ∙ ap Some (untold_same (Pump n) sent.broker r))
+      ∙ (ap (λ (ds : List Deed). Some (receiver_told sent.broker (outcome_of (Pump n) ds first) r)) idle ∙ ap Some (untold_same (Pump n) sent.broker r))
 
   sent_publisher : publisher_named client sent ≡ None
   sent_publisher = publisher_called_is client s (Pump n) w j.alone
@@ -134,7 +134,7 @@ module _ (limits : Limits) (choice : MemberChoice) (clean : Bool) (client : List
   heard_same : heard sent.broker ≡ heard b
   heard_same =
       let env = env_of limits choice b in
-      let by : Broker → Broker × Receiver = λ m. (done (deeds_of env call m) m, receiver_told (done (deeds_of env call m) m) (outcome_of call (deeds_of env call m)) q) in
+      let by : Broker → Broker × Receiver = λ m. (done (deeds_of env call m) m, receiver_told (done (deeds_of env call m) m) (outcome_of call (deeds_of env call m) m) q) in
       let again : at_moment w.now first ≡ first = λ i. record b { now = moment_again b.now (capped w.now) i } in
       ap heard sent_broker ∙ ap by again
 

@@ -384,5 +384,5 @@ late_awaiting largest ids limits choice now ns n r b k none late =
       lines = record { own = k.lines.own; old = k.lines.old };
     } in
     let both : IsAwaiting largest ids ns (shut n r first) (after (Gone n) first) × (session_named r.client (after (Gone n) first).records ≡ None) = (awaits, none) in
-    subst (λ (ds : List Deed). IsAwaiting largest ids ns (receiver_told (done ds first) (outcome_of Tick ds) r) (done ds first) × (session_named r.client (done ds first).records ≡ None))
+    subst (λ (ds : List Deed). IsAwaiting largest ids ns (receiver_told (done ds first) (outcome_of Tick ds first) r) (done ds first) × (session_named r.client (done ds first).records ≡ None))
     (sym (late_deeds (env_of limits choice b) n late.line first late.idle late.silent late.number)) both

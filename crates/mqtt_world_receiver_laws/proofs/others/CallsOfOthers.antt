@@ -228,13 +228,13 @@ first_runs number largest all birth r now b h =
 
 -- what others are told goes on with the hop
 pub told_run : (number : Numbering) (largest : ℕ) (copies : List Lot) (ns : List ℕ) (r : Receiver) (call : Call) (ds : List Deed) (b new : Broker) → HasLines ns r → AreGood (IsMuteHere ns) ds b
-    → IsRun number largest copies r new → IsRun number largest copies (receiver_told new (outcome_of call ds) r) new
+    → IsRun number largest copies r new → IsRun number largest copies (receiver_told new (outcome_of call ds b) r) new
 told_run number largest copies ns r call ds b new has mute h =
     let ids = map id_of copies in
     let own = spared_on number ids ns r.line.number new ds b has.own mute in
     let old = spared_on number ids ns r.line.old_number new ds b has.old mute in
     let w = seen number copies r new in
-    let out = outcome_of call ds in
+    let out = outcome_of call ds b in
     let q = receiver_told new out r in
     let sent = sent_to r.line.number new (filter_map output ds) in
     let ups : filter_map answered (unless_closed (is_one_of r.line.number out.closed) r.line.up) ≡ filter_map answered r.line.up =
@@ -258,7 +258,7 @@ told_run number largest copies ns r call ds b new has mute h =
 
 -- for all copies
 pub told_all : (number : Numbering) (largest : ℕ) (all : List CopyId) (birth : ℕ) (ns : List ℕ) (r : Receiver) (call : Call) (ds : List Deed) (b new : Broker) → HasLines ns r → AreGood (IsMuteHere ns) ds b
-    → RunsWithAll number largest all birth r new → RunsWithAll number largest all birth (receiver_told new (outcome_of call ds) r) new
+    → RunsWithAll number largest all birth r new → RunsWithAll number largest all birth (receiver_told new (outcome_of call ds b) r) new
 told_all number largest all birth ns r call ds b new has mute h = record {
   after = h.after;
   same = h.same;

@@ -85,12 +85,12 @@ pub idle_pump_in_step : (largest : ℕ) (ids : List CopyId) (birth : ℕ) (ns : 
     → IsInStep largest ids birth ns r b → IsIdle n b → IsInStep largest ids birth ns (receiver_called limits choice now (Pump n) r b) (stepped limits choice now (Pump n) b)
 idle_pump_in_step largest ids birth ns limits choice now n r b k idle =
     let first = at_moment now b in
-    let base : IsInStep largest ids birth ns (receiver_told first (outcome_of (Pump n) []) r) first = record {
+    let base : IsInStep largest ids birth ns (receiver_told first (outcome_of (Pump n) [] first) r) first = record {
       runs = λ number m. told_all number largest ids birth ns r (Pump n) [] first first k.lines tt (first_runs number largest ids birth r now b (k.runs number m));
       served = first_served r.client birth ns now b k.served;
       lines = record { own = k.lines.own; old = k.lines.old };
     } in
-    subst (λ (ds : List Deed). IsInStep largest ids birth ns (receiver_told (done ds first) (outcome_of (Pump n) ds) r) (done ds first)) (sym (pump_none (env_of limits choice b) n first (first_idle now n b idle))) base
+    subst (λ (ds : List Deed). IsInStep largest ids birth ns (receiver_told (done ds first) (outcome_of (Pump n) ds first) r) (done ds first)) (sym (pump_none (env_of limits choice b) n first (first_idle now n b idle))) base
 
 -- so does the loss of such a line
 pub idle_loss_in_step : (largest : ℕ) (ids : List CopyId) (birth : ℕ) (ns : List ℕ) (limits : Limits) (choice : MemberChoice) (now n : ℕ) (r : Receiver) (b : Broker)
@@ -102,14 +102,14 @@ idle_loss_in_step largest ids birth ns limits choice now n r b k idle =
     let served = first_served r.client birth ns now b k.served in
     elim (lost_none (env_of limits choice b) n first there) [
       | inl none ↦
-          let q = receiver_told first (outcome_of (Lost n) []) r in
+          let q = receiver_told first (outcome_of (Lost n) [] first) r in
           let told : RunsFor largest ids birth q first = λ number m. told_all number largest ids birth ns r (Lost n) [] first first k.lines tt (runs number m) in
           let base : IsInStep largest ids birth ns (record q { line = left q.line }) first = record {
             runs = left_for largest ids birth q first told;
             served = served;
             lines = record { own = λ m e. absurd cc; old = k.lines.old };
           } in
-          subst (λ (ds : List Deed). let x = receiver_told (done ds first) (outcome_of (Lost n) ds) r in IsInStep largest ids birth ns (record x { line = left x.line }) (done ds first)) (sym none) base
+          subst (λ (ds : List Deed). let x = receiver_told (done ds first) (outcome_of (Lost n) ds first) r in IsInStep largest ids birth ns (record x { line = left x.line }) (done ds first)) (sym none) base
       | inr gone ↦
           let q = shut n r first in
           let c = after (Gone n) first in
@@ -118,7 +118,7 @@ idle_loss_in_step largest ids birth ns limits choice now n r b k idle =
             served = closing_served r.client birth ns n first served;
             lines = record { own = λ m e. absurd cc; old = k.lines.old };
           } in
-          subst (λ (ds : List Deed). let x = receiver_told (done ds first) (outcome_of (Lost n) ds) r in IsInStep largest ids birth ns (record x { line = left x.line }) (done ds first)) (sym gone) base
+          subst (λ (ds : List Deed). let x = receiver_told (done ds first) (outcome_of (Lost n) ds first) r in IsInStep largest ids birth ns (record x { line = left x.line }) (done ds first)) (sym gone) base
     ]
 
 -- ---- before its session begins
@@ -128,7 +128,7 @@ pub idle_pump_awaiting : (largest : ℕ) (ids : List CopyId) (ns : List ℕ) (li
     → IsAwaiting largest ids ns r b → IsIdle n b → IsAwaiting largest ids ns (receiver_called limits choice now (Pump n) r b) (stepped limits choice now (Pump n) b)
 idle_pump_awaiting largest ids ns limits choice now n r b k idle =
     let first = at_moment now b in
-    let base : IsAwaiting largest ids ns (receiver_told first (outcome_of (Pump n) []) r) first = record {
+    let base : IsAwaiting largest ids ns (receiver_told first (outcome_of (Pump n) [] first) r) first = record {
       runs = λ number m.
           let h = k.runs number m in
           record { after = h.after; same = h.same; run_is = told_run number largest h.after ns r (Pump n) [] first first k.lines tt (carried_run number largest h.after r b first refl refl h.run_is) };
@@ -136,7 +136,7 @@ idle_pump_awaiting largest ids ns limits choice now n r b k idle =
       given = k.given;
       lines = record { own = k.lines.own; old = k.lines.old };
     } in
-    subst (λ (ds : List Deed). IsAwaiting largest ids ns (receiver_told (done ds first) (outcome_of (Pump n) ds) r) (done ds first)) (sym (pump_none (env_of limits choice b) n first (first_idle now n b idle))) base
+    subst (λ (ds : List Deed). IsAwaiting largest ids ns (receiver_told (done ds first) (outcome_of (Pump n) ds first) r) (done ds first)) (sym (pump_none (env_of limits choice b) n first (first_idle now n b idle))) base
 
 -- so does the loss
 pub idle_loss_awaiting : (largest : ℕ) (ids : List CopyId) (ns : List ℕ) (limits : Limits) (choice : MemberChoice) (now n : ℕ) (r : Receiver) (b : Broker)
@@ -146,7 +146,7 @@ idle_loss_awaiting largest ids ns limits choice now n r b k idle =
     let there = first_idle now n b idle in
     elim (lost_none (env_of limits choice b) n first there) [
       | inl none ↦
-          let q = receiver_told first (outcome_of (Lost n) []) r in
+          let q = receiver_told first (outcome_of (Lost n) [] first) r in
           let base : IsAwaiting largest ids ns (record q { line = left q.line }) first = record {
             runs = λ number m.
                 let h = k.runs number m in
@@ -156,7 +156,7 @@ idle_loss_awaiting largest ids ns limits choice now n r b k idle =
             given = k.given;
             lines = record { own = λ m e. absurd cc; old = k.lines.old };
           } in
-          subst (λ (ds : List Deed). let x = receiver_told (done ds first) (outcome_of (Lost n) ds) r in IsAwaiting largest ids ns (record x { line = left x.line }) (done ds first)) (sym none) base
+          subst (λ (ds : List Deed). let x = receiver_told (done ds first) (outcome_of (Lost n) ds first) r in IsAwaiting largest ids ns (record x { line = left x.line }) (done ds first)) (sym none) base
       | inr gone ↦
           let q = shut n r first in
           let c = after (Gone n) first in
@@ -169,5 +169,5 @@ idle_loss_awaiting largest ids ns limits choice now n r b k idle =
             given = k.given;
             lines = record { own = λ m e. absurd cc; old = k.lines.old };
           } in
-          subst (λ (ds : List Deed). let x = receiver_told (done ds first) (outcome_of (Lost n) ds) r in IsAwaiting largest ids ns (record x { line = left x.line }) (done ds first)) (sym gone) base
+          subst (λ (ds : List Deed). let x = receiver_told (done ds first) (outcome_of (Lost n) ds first) r in IsAwaiting largest ids ns (record x { line = left x.line }) (done ds first)) (sym gone) base
     ]

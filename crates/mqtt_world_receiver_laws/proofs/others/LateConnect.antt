@@ -119,7 +119,7 @@ sent_none (Some m) b = refl
 -- ---- what is seen of it
 
 abbrev pub shut : ℕ → Receiver → Broker → Receiver
-shut n r b = receiver_told (after (Gone n) b) (outcome_of Tick (Gone n ∷ [])) r
+shut n r b = receiver_told (after (Gone n) b) (outcome_of Tick (Gone n ∷ []) b) r
 
 -- such a close goes on with the hop
 pub closing_runs : (number : Numbering) (largest : ℕ) (copies : List Lot) (n : ℕ) (r : Receiver) (b : Broker) → IsIdle n b → IsRun number largest copies r b → IsRun number largest copies (shut n r b) (after (Gone n) b)
@@ -187,6 +187,6 @@ late_goes_on largest ids limits choice now birth ns n r b f v late =
     let first = at_moment now b in
     let served : IsServed r.client birth ns first = record { sessions = v.sessions; lines = v.lines; births = v.births; given = v.given } in
     let runs : RunsFor largest ids birth r first = λ number numbered. first_runs number largest ids birth r now b (f number numbered) in
-    subst (λ (ds : List Deed). RunsFor largest ids birth (receiver_told (done ds first) (outcome_of Tick ds) r) (done ds first) × IsServed r.client birth ns (done ds first))
+    subst (λ (ds : List Deed). RunsFor largest ids birth (receiver_told (done ds first) (outcome_of Tick ds first) r) (done ds first) × IsServed r.client birth ns (done ds first))
     (sym (late_deeds (env_of limits choice b) n late.line first late.idle late.silent late.number))
     (closing_goes_on largest ids birth n r first late.idle runs, closing_served r.client birth ns n first served)

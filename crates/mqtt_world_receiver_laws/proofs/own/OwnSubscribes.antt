@@ -198,12 +198,12 @@ hush_queue (d ∷ ds) q = absurd q.0
 -- the SUBSCRIBE is taken off a line, which leaves these packets, and nothing of copies comes to it
 told_hushed_run : (number : Numbering) (largest : ℕ) (lots : List Lot) (r : Receiver) (call : Call) (up old : List Back) (ds : List Deed) (new : Broker) → AllByRecursion IsHushed ds
     → filter_map answered up ≡ filter_map answered r.line.up → filter_map answered old ≡ filter_map answered r.line.old
-    → IsRun number largest lots r new → IsRun number largest lots (receiver_told new (outcome_of call ds) (record r { line = record r.line { up = up; old = old } })) new
+    → IsRun number largest lots r new → IsRun number largest lots (receiver_told new (outcome_of call ds new) (record r { line = record r.line { up = up; old = old } })) new
 told_hushed_run number largest lots r call up old ds new hush same_up same_old h =
     let ids = map id_of lots in
     let x = hushed_on number ids r.line.number new ds hush in
     let none = hush_closes ds hush in
-    let out = outcome_of call ds in
+    let out = outcome_of call ds new in
     let q = receiver_told new out (record r { line = record r.line { up = up; old = old } }) in
     let sent = sent_to r.line.number new (filter_map output ds) in
     let ups : filter_map answered (unless_closed (is_one_of r.line.number (filter_map closing ds)) up) ≡ filter_map answered r.line.up =
@@ -223,7 +223,7 @@ told_hushed_run number largest lots r call up old ds new hush same_up same_old h
 
 told_hushed : (number : Numbering) (largest : ℕ) (all : List CopyId) (birth : ℕ) (r : Receiver) (call : Call) (up old : List Back) (ds : List Deed) (new : Broker) → AllByRecursion IsHushed ds
     → filter_map answered up ≡ filter_map answered r.line.up → filter_map answered old ≡ filter_map answered r.line.old
-    → RunsWithAll number largest all birth r new → RunsWithAll number largest all birth (receiver_told new (outcome_of call ds) (record r { line = record r.line { up = up; old = old } })) new
+    → RunsWithAll number largest all birth r new → RunsWithAll number largest all birth (receiver_told new (outcome_of call ds new) (record r { line = record r.line { up = up; old = old } })) new
 told_hushed number largest all birth r call up old ds new hush same_up same_old h =
     record {
       after = h.after;
