@@ -9,7 +9,6 @@ use Rattle.mqtt_rules.specs.State.{Broker, MemberChoice, stored}
 use Rattle.mqtt_rules.specs.Step.{Call, is_opening_spent, is_step_spent, opened, stepped}
 use Rattle.mqtt_rules.proofs.contents.ContentLaw.{step_contents, opening_contents}
 use Rattle.mqtt_rules.proofs.flight.FlightStep.{step_keeps, opening_keeps}
-use Rattle.mqtt_rules.proofs.forms.Untold.{step_untold, opened_untold}
 use Rattle.mqtt_rules.proofs.contents.LawfulContents.{lawful_contents}
 use Rattle.mqtt_rules.proofs.contents.SpelledContents.{rows_are}
 use Rattle.mqtt_rules.proofs.fit.LawfulRecords.{lawful_coherent, lawful_accepted}
@@ -39,7 +38,6 @@ step_sound limits choice now call b unspent taken h = record {
   filters = step_filters limits choice now call b h.filters;
   lines = step_unique limits choice now call b h.limited h.coherent h.timed h.last unspent h.lines;
   contents = step_contents of_rows rows_are limits choice now call b taken h.contents;
-  untold = step_untold limits choice now call b h.untold;
 }
 
 -- an opening that spends no number makes a sound broker
@@ -57,7 +55,6 @@ opening_sound limits choice now r limited lawful unspent = record {
   filters = opening_filters limits choice now r lawful;
   lines = opening_unique limits choice now r;
   contents = opening_contents of_rows rows_are limits choice now r (lawful_contents r lawful);
-  untold = opened_untold limits choice now r;
 }
 
 -- a step keeps a sound broker within its own limits

@@ -4,7 +4,7 @@ use Rattle.mqtt_records.specs.declared.records.Records.{Records}
 use Rattle.mqtt_records.specs.Contents.{SharesContents}
 use Rattle.mqtt_records.specs.Records.{IsNumber}
 use Rattle.mqtt_rules.specs.declared.Limits.{Limits}
-use Rattle.mqtt_rules.specs.State.{Broker, IsUntold}
+use Rattle.mqtt_rules.specs.State.{Broker}
 use Rattle.mqtt_rules.specs.Contents.{AreContentsLawful}
 use Rattle.mqtt_rules.specs.Flight.{HasDistinctIdentifiers}
 use Rattle.mqtt_rules.specs.Laws.{AreWithin, IsCoherent, QueuesWithin}
@@ -15,8 +15,8 @@ use Rattle.mqtt_broker_queue.specs.Queues.{HasKeptOrders}
 
 -- limits within those of the tables; coherent records, of which the stored moment and the moment are such as are kept;
 -- copies and retained messages of accepted publications, those of one saying the same; packet identifiers in flight that differ; orders of release that
--- are such as are kept; each filter of a session once; lines that stand for the connected sessions; contents that packets
--- can carry; and nothing that is told of topics
+-- are such as are kept; each filter of a session once; lines that stand for the connected sessions; and contents that packets
+-- can carry
 pub record IsSound (limits : Limits) (b : Broker) : Type 0 where
   pub limited : AreWithin limits
   pub coherent : IsCoherent b.records
@@ -29,7 +29,6 @@ pub record IsSound (limits : Limits) (b : Broker) : Type 0 where
   pub filters : HaveFiltersOnce b.records
   pub lines : HasUniqueLines b
   pub contents : AreContentsLawful b
-  pub untold : IsUntold b
 
 -- the broker's own limits, which may be lower than those of what was stored under other ones (ours)
 pub record IsWithin (limits : Limits) (r : Records) : Type 0 where

@@ -16,6 +16,7 @@ use Rattle.mqtt_rules.specs.Step.{deeds_of, Lost}
 use Rattle.mqtt_broker_step.specs.Lines.{line_number}
 use Rattle.mqtt_broker_step.specs.declared.fault.StepFault.{StepFault}
 use Rattle.mqtt_broker_step.specs.Stepping.{Stepping, did, Did, IsLeft, env_in, to_session}
+use Rattle.mqtt_broker_step.proofs.Sendings.{line_found}
 use Rattle.mqtt_broker_step.proofs.Doing.{did_none}
 use Rattle.mqtt_broker_publish.specs.Choosing.{DoesSome, LeavesSome}
 use Rattle.mqtt_broker_step.proofs.Then.{same_act}
@@ -242,13 +243,6 @@ disconnect_left birth code expiry l x fault s new found late is =
     (λ choice. leave_act birth code expiry l x (env_in choice s) s.broker found ∙ sym (disconnect_is birth code expiry false l x (env_in choice s) s.broker found late)) is
 
 -- ---- a line is lost
-
-line_found : (n : ℕ) (ls : List Line) → row_at line_number n ls ≡ find (λ l. nat_eq l.number n) ls
-line_found n [] = refl
-line_found n (l ∷ ls) = elim (cases_Bool (nat_eq l.number n)) [
-  | inl here ↦ rw here refl
-  | inr later ↦ rw later (line_found n ls)
-]
 
 lost_act : (n : ℕ) (o : Option Line) (env : Env) (b : Broker) → row_at line_number n b.lines ≡ o → deeds_of env (Lost n) b ≡ with_line o (close env true) b
 lost_act n o env b found = ap (λ x. with_line x (close env true) b) (sym (line_found n b.lines) ∙ found)

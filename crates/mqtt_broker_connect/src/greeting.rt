@@ -5,12 +5,13 @@ ghost use Rattle.mqtt_rules.specs.Deeds.{always};
 ghost use Rattle.mqtt_rules.specs.Connect.{greet};
 ghost use Rattle.mqtt_broker_step.specs.Stepping.{Did, IsLeft};
 
-use mqtt_broker_decisions::{largest_of, window_of};
+use mqtt_broker_decisions::{aliases_of, largest_of, window_of};
 use mqtt_broker_step::{Step, StepFault};
 use mqtt_codec_connect::Connect;
 
 /// A session is connected on a line, with the Keep Alive, the Receive Maximum and the Maximum Packet Size of
-/// a CONNECT. It is told nothing of topics (3.1.2.10, 3.1.2.11.3, 3.1.2.11.4).
+/// a CONNECT. As many topics as its Topic Alias Maximum says, ten at most, may be told there by aliases; none was
+/// told yet (3.1.2.10, 3.1.2.11.3 to 3.1.2.11.5).
 pub(crate) fn greet(
     step: &mut Step,
     line: u64,
@@ -24,5 +25,6 @@ pub(crate) fn greet(
 {
     let window = window_of(connect);
     let largest = largest_of(connect);
-    step.greet(line, birth, connect.keep_alive, window, largest, 0)
+    let most = aliases_of(connect);
+    step.greet(line, birth, connect.keep_alive, window, largest, most)
 }

@@ -4,7 +4,7 @@ ghost use Rattle.std.specs.List.{starts_with};
 ghost use Rattle.mqtt_topic.specs.Names.{has_wildcard, is_topic_name};
 ghost use Rattle.mqtt_records.specs.declared.records.Records.{Records};
 ghost use Rattle.mqtt_rules.specs.State.{session_named};
-ghost use Rattle.mqtt_rules.specs.Connect.{expiry_of, fresh_row, has_bad_topic, largest_of, refusal, refusal_size, will_kept, will_of, window_of};
+ghost use Rattle.mqtt_rules.specs.Connect.{aliases_of, expiry_of, fresh_row, has_bad_topic, largest_of, refusal, refusal_size, will_kept, will_of, window_of};
 ghost use Rattle.mqtt_records.specs.Session.{auto};
 
 use crate::numbers::{number_at, u16_at};
@@ -12,6 +12,7 @@ use mqtt_base::{CLIENT_LIMIT, Reason, Text};
 use mqtt_codec_connect::{Connect, Will as WillAsked};
 use mqtt_props::PropName;
 use mqtt_records_message::Will;
+use mqtt_topic_aliases::most_of;
 use std::alloc::{AllocError, Global};
 
 /// Bytes: the smallest Maximum Packet Size that the broker takes (ours).
@@ -33,6 +34,14 @@ pub fn largest_of(connect: &Connect) -> u32
     ensures { result ≡ largest_of connect.now }
 {
     number_at(&connect.properties.lend(), PropName::MaximumPacketSize).unwrap_or(0xffff_ffff)
+}
+
+/// How many topics the client is told by aliases at most: the lesser of its Topic Alias Maximum and 10, and none
+/// if it sent none (3.1.2.11.5). Takes no memory.
+pub fn aliases_of(connect: &Connect) -> u16
+    ensures { result ≡ aliases_of connect.now }
+{
+    most_of(u16_at(&connect.properties.lend(), PropName::TopicAliasMaximum))
 }
 
 /// Its Session Expiry Interval in seconds, 0 if it sent none (3.1.2.11.2). Takes no memory.

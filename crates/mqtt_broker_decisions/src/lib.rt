@@ -14,7 +14,7 @@ mod topics;
 
 pub use codes::{accepted_code, again_code, drop_code, fault_code, filter_code, topic_code};
 pub use connecting::{
-    assigned_name, expiry_of, largest_of, refusal, takes_refusal, will_of, window_of,
+    aliases_of, assigned_name, expiry_of, largest_of, refusal, takes_refusal, will_of, window_of,
 };
 pub use filters::{
     has_filter, is_brought, is_new, place_among, retained_copy, subscription_of, wants_retained,

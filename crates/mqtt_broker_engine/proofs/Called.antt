@@ -14,7 +14,6 @@ use Rattle.mqtt_rules.proofs.fit.RowsFit.{step_fits}
 use Rattle.mqtt_rules_sharing_laws.proofs.Steps as sharing
 use Rattle.mqtt_rules.proofs.contents.SayableRows.{step_said}
 use Rattle.mqtt_rules.proofs.contents.SpelledContents.{rows_are as row_sizes}
-use Rattle.mqtt_rules.proofs.forms.Untold.{step_wires}
 use Rattle.mqtt_rules.proofs.numbers.Counters.{moment_stays, now_stays}
 use Rattle.mqtt_broker_step.specs.Stepping.{Stepping, spelled, with_stamp}
 use Rattle.mqtt_broker_step.specs.Undoing.{moment_of}
@@ -96,11 +95,9 @@ module _ (now : ℕ) (call : Call) (again : Bool) (s : Stepping) (h : DidCall no
   call_sound sound taken e =
       subst (λ (b : Broker). IsSound s.limits b) (sym broker_is) (step_sound s.limits h.choice now call s.start (call_unspent e) taken sound)
 
-  -- its bytes are the call's packets in their shortest spellings: nothing was told of topics, so each goes out as it is meant
-  call_out : IsSound s.limits s.start → (with_stamp s).outputs ≡ bytes_out (told s.limits h.choice now call s.start)
-  call_out sound =
-      ap (λ (t : Stepping). t.outputs) h.is
-      ∙ ap (map spelled) (step_wires s.limits h.choice now call s.start sound.untold)
+  -- its bytes are the call's packets as they go out, in their shortest spellings
+  call_out : (with_stamp s).outputs ≡ bytes_out (told s.limits h.choice now call s.start)
+  call_out = ap (λ (t : Stepping). t.outputs) h.is
 
   -- what is told of it is the call's answer
   pub call_answered : IsSound s.limits s.start → (out : Outcome) (new : Broker) → is_spent (with_stamp s).rows ≡ false → new ≡ (with_stamp s).broker → IsTold (with_stamp s) again out
@@ -108,7 +105,7 @@ module _ (now : ℕ) (call : Call) (again : Bool) (s : Stepping) (h : DidCall no
   call_answered sound out new e is its_told = record {
     told = told s.limits h.choice now call s.start;
     tells = record {
-      outputs = its_told.outputs ∙ call_out sound;
+      outputs = its_told.outputs ∙ call_out;
       closed = its_told.closed ∙ ap (λ (t : Stepping). t.closed) h.is;
       reports = its_told.reports ∙ ap (λ (t : Stepping). t.reports) h.is;
       taken = its_told.taken;

@@ -27,9 +27,9 @@ linked_unspent : (may : Bool) (n now was : ℕ) (r : Records) → is_spent (stam
 linked_unspent true n now was r = refl
 linked_unspent false n now was r = refl
 
-linked_told : (may : Bool) (n : ℕ) → nothing_told ≡ outcome_of NewLine (link_if may n)
-linked_told true n = refl
-linked_told false n = refl
+linked_told : (may : Bool) (n : ℕ) (b : Broker) → nothing_told ≡ outcome_of NewLine (link_if may n) b
+linked_told true n b = refl
+linked_told false n b = refl
 
 linked_records : (may : Bool) (n : ℕ) (b : Broker) → (after_all (link_if may n) b).records ≡ b.records
 linked_records true n b = refl
@@ -53,7 +53,7 @@ linked limits now b new is = record {
   choice = first_members;
   unspent = link_unspent limits now b;
   new_is = is ∙ linked_step limits now b;
-  out_is = linked_told (can_link (at_moment now b)) (suc b.given);
+  out_is = linked_told (can_link (at_moment now b)) (suc b.given) (at_moment now b);
 }
 
 -- ---- a call that does nothing
@@ -70,7 +70,7 @@ answered_none limits now call b new out none last is tells = record {
     choice = first_members;
     unspent = ap (λ ds. is_spent (rows_written ds (at_moment now b))) none;
     new_is = is ∙ sym (ap (λ ds. done ds (at_moment now b)) none);
-    out_is = sym (ap (outcome_of call) none ∙ ap nothing_more last);
+    out_is = sym (ap (λ ds. outcome_of call ds (at_moment now b)) none ∙ ap nothing_more last);
   };
 }
 

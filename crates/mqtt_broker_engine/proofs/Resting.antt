@@ -37,7 +37,6 @@ sound_at limits now b h = record {
   filters = h.filters;
   lines = record { ascending = h.lines.ascending; given = h.lines.given; once = h.lines.once; stands = h.lines.stands; connected = h.lines.connected };
   contents = record { stored = h.contents.stored; lines = h.contents.lines };
-  untold = h.untold;
 }
 
 -- ---- a step begins

@@ -62,14 +62,6 @@ expired_leave moment line s (e ∷ es) = by (is_waiting e.phase && is_late momen
 
 -- ---- the acts
 
--- a line that was found by its number
-pub line_found : (n : ℕ) (ls : List Line) → row_at line_number n ls ≡ find (λ l. nat_eq l.number n) ls
-line_found n [] = refl
-line_found n (l ∷ ls) = elim (cases_Bool (nat_eq l.number n)) [
-  | inl here ↦ rw here refl
-  | inr later ↦ rw later (line_found n ls)
-]
-
 three : {A B C R : Type 0} (mk : A → B → C → R) {a1 a2 : A} {b1 b2 : B} {c1 c2 : C} → a1 ≡ a2 → b1 ≡ b2 → c1 ≡ c2 → mk a1 b1 c1 ≡ mk a2 b2 c2
 three mk p q r = cc
 

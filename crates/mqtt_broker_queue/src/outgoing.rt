@@ -1,12 +1,12 @@
 //! A copy's PUBLISH as it goes out on a line (MQTT 5.0, 3.1.2.11.4, 3.3, 3.3.2.3.4).
-ghost use Rattle.std.specs.Prelude.{◌≡◌, Some, false, IfErr, IfOk, OnOk};
+ghost use Rattle.std.specs.Prelude.{◌≡◌, ℕ, Bool, Some, false, IfErr, IfOk, OnOk};
 ghost use Rattle.mqtt_records_message.specs.Queue.{IsSpelled};
 ghost use Rattle.mqtt_rules.specs.Deeds.{always, offer};
 ghost use Rattle.mqtt_rules.specs.Forms.{published_of};
 ghost use Rattle.mqtt_rules.specs.Packets.{publish_of};
 ghost use Rattle.mqtt_rules.specs.State.{Line};
 ghost use Rattle.mqtt_broker_step.specs.Stepping.{Did, IsLeft};
-ghost use Rattle.mqtt_broker_step.specs.Tellings.{IsOutgoing, told_by};
+ghost use Rattle.mqtt_broker_step.specs.Tellings.{IsOutgoing, form_on, told_by};
 ghost use Rattle.mqtt_broker_step.specs.Undoing.{moment_of};
 
 use mqtt_base::Text;
@@ -26,6 +26,22 @@ fn told_by(form: Form, topic: &Text) -> Result<Option<Text>, AllocError>
     }
 }
 
+/// The form in which the PUBLISH of a copy, which has a spelling, goes out on a line: plain, without a look at its
+/// bytes, to a client that takes no aliases (3.3.2.3.4). Takes no memory.
+fn form_on(step: &Step, line: u64, copy: &MessageCopy) -> Form
+    requires { IsSpelled copy.now }
+    ensures { (moment id : ℕ) (dup : Bool)
+        → result ≡ form_on line (published_of moment dup id copy.now) step.now.broker }
+{
+    if !step.takes_aliases(line) {
+        return Form::Plain;
+    }
+    let Some(other) = other_bytes(copy) else {
+        unreachable!();
+    };
+    step.form_of(line, &copy.content.topic, other)
+}
+
 /// The PUBLISH of a copy, which has a spelling, as it goes out on a line at a moment in milliseconds, with its DUP flag
 /// and its packet identifier; at QoS 0 it has neither (3.3).
 pub(crate) fn outgoing(
@@ -41,10 +57,7 @@ pub(crate) fn outgoing(
     ensures { IfOk result (IsOutgoing line
         (published_of moment dup identifier copy.now) step.now.broker) }
 {
-    let Some(other) = other_bytes(copy) else {
-        unreachable!();
-    };
-    let form = step.form_of(line, &copy.content.topic, other);
+    let form = form_on(step, line, copy);
     let bytes = publish_in(alloc, moment, dup, identifier, form, copy)?;
     Ok(Outgoing {
         told: told_by(form, &copy.content.topic)?,

@@ -15,7 +15,7 @@ use Rattle.mqtt_topic_aliases.specs.Sizes as sizes
 use Rattle.mqtt_topic_aliases.specs.Told.{ToldTopics, after_send, alias_of, forms_by, next_alias, none_told, told_if, with_told}
 use Rattle.mqtt_rules.specs.Forms.{first_within, form_for, in_form, is_within}
 use Rattle.mqtt_rules.specs.State.{Line, Telling, Broker, line_at, told_line, told_on, topics_in}
-use Rattle.mqtt_rules.proofs.forms.Untold.{plain_form}
+use Rattle.mqtt_rules.proofs.forms.PlainForm.{plain_form}
 use Rattle.mqtt_rules.specs.Deeds.{Send, after, always, spoken, tells, tells_on, wires}
 use Rattle.mqtt_broker_step.specs.Lines.{line_number}
 use Rattle.mqtt_broker_step.specs.Stepping.{Stepping, Did, spelled, sent, with_broker}

@@ -1,10 +1,10 @@
 -- What clients were told of topics on their lines, and the form in which a PUBLISH goes out there (MQTT 5.0, 3.1.2.11.4, 3.3.2.3.4).
-use Rattle.std.specs.Prelude.{◌≡◌, ⊤, ℕ, List, Option, Some, None, unwrap_or}
+use Rattle.std.specs.Prelude.{◌≡◌, ⊤, ℕ, Bool, List, Option, Some, None, is_some, unwrap_or}
 use Rattle.mqtt_codec.specs.declared.packet.Packet.{Packet}
 use Rattle.mqtt_codec.specs.declared.packet.Packet.TheVariants as packets
 use Rattle.mqtt_codec.specs.declared.publish.Publish.{Publish}
 use Rattle.mqtt_codec.specs.Packets.{shortest_of}
-use Rattle.mqtt_records_rows.specs.Order.{change_row}
+use Rattle.mqtt_records_rows.specs.Order.{change_row, row_at}
 use Rattle.mqtt_topic_aliases.specs.declared.form.Form.{Form}
 use Rattle.mqtt_topic_aliases.specs.declared.form.Form.TheVariants.{Plain, Named, Short}
 use Rattle.mqtt_topic_aliases.specs.declared.sizes.OtherBytes.{OtherBytes}
@@ -32,6 +32,10 @@ told_by (Short alias) topic = None
 abbrev pub told_also : ℕ → Option (List ℕ) → List Telling → List Telling
 told_also n None ts = ts
 told_also n (Some topic) ts = change_row told_line n (telling_more topic) ts
+
+-- the client on a line has a table of what it was told: its CONNECT was accepted, and it takes aliases
+abbrev pub takes_aliases : ℕ → Broker → Bool
+takes_aliases n b = is_some (row_at told_line n b.tellings)
 
 -- the form in which a PUBLISH goes out on a line, if it goes out, to a client that was told this
 abbrev pub form_by : Option Line → ToldTopics → Publish → Form

@@ -6,7 +6,7 @@ ghost use Rattle.mqtt_codec.specs.declared.packet.Packet.TheVariants as packets;
 ghost use Rattle.mqtt_codec.specs.declared.publish.Publish.{Publish};
 ghost use Rattle.mqtt_rules.specs.Deeds.{Send, RefuseWill, Whose, always};
 ghost use Rattle.mqtt_broker_step.specs.Stepping.{Did, IsLeft, with_broker};
-ghost use Rattle.mqtt_broker_step.specs.Tellings.{IsFoundBy, IsNoPublish, IsOutgoing, form_on, told_also};
+ghost use Rattle.mqtt_broker_step.specs.Tellings.{IsFoundBy, IsNoPublish, IsOutgoing, form_on, takes_aliases, told_also};
 ghost use Rattle.mqtt_broker_step.specs.Undoing.{with_tellings};
 
 use crate::fault::StepFault;
@@ -63,9 +63,11 @@ impl Step {
         Ok(())
     }
 
-    /// Whether the client on a line may be told topics by aliases. If not, each PUBLISH goes out plain. Takes no memory.
+    /// Whether there is a table of what the client on a line was told of topics: it is connected there, and takes
+    /// aliases. If not, each PUBLISH goes out plain (3.1.2.11.5, 3.3.2.3.4). Takes no memory.
     pub fn takes_aliases(&self, line: u64) -> bool
-        ensures { IsFalse result → (p : Publish) → form_on line p self.now.broker ≡ Form.Plain }
+        ensures exact { result ≡ takes_aliases line self.now.broker }
+        ensures plain { IsFalse result → (p : Publish) → form_on line p self.now.broker ≡ Form.Plain }
     {
         self.tables.telling(line).is_some()
     }

@@ -39,7 +39,7 @@ returns-in-Ok-clause-ok g c =
     let bytes : c.in-Ok.bytes ≡ shortest_of packet = c.in-Ok.ensures.bytes ∙ ap (λ t. shortest_of (publish_of t false 0 copy)) c.moment.ensures in
     on_ok c.send_within.result
     (offered to.birth copy c.in-Some.line.now s c.send_within.new.step found)
-    (c.send_within.ensures.ok c.in-Some.line.now p (sym c.number-number.ensures) (sym c.largest-largest.ensures) (c.takes_aliases.ensures c.if-takes_aliases.false p) bytes)
+    (c.send_within.ensures.ok c.in-Some.line.now p (sym c.number-number.ensures) (sym c.largest-largest.ensures) (c.takes_aliases.ensures.plain c.if-takes_aliases.false p) bytes)
 
 pub returns-in-Ok-clause-left : goal.returns-in-Ok-clause-left
 returns-in-Ok-clause-left g c =

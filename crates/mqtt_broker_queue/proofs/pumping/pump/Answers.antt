@@ -8,7 +8,8 @@ use Rattle.mqtt_broker_step.specs.Lines.{line_number}
 use Rattle.mqtt_broker_step.specs.Stepping.{IsLeft}
 use Rattle.mqtt_broker_step.proofs.Inverse.{row_key}
 use Rattle.mqtt_broker_queue.specs.Turning.{is_sending, takes_turns, pumps}
-use Rattle.mqtt_broker_queue.proofs.Pumped.{line_found, same_way, pumps_is, taken_of}
+use Rattle.mqtt_broker_step.proofs.Sendings.{line_found}
+use Rattle.mqtt_broker_queue.proofs.Pumped.{same_way, pumps_is, taken_of}
 use Rattle.mqtt_broker_step.proofs.Then.{same_act, same_left}
 use Rattle.mqtt_broker_queue.proofs.pumping.pump.Goals as goal
 
