@@ -174,11 +174,11 @@ module _ {K : Type 0} (g : Ghosts K) where
       runs_of : (es : List Event) (ts : List Telling) (new : Lasting K) → (h : Happen g es ts w new) → IsSoundAt g h.to → RunsTo limits es ts begun (world_at h.to)
       runs_of es ts new h sound =
           let same : h.from ≡ starts.at = ok_is w.stage h.from starts.at h.was starts.stage in
-          let reached : IsReached h.from.limits (broker_of h.from) = (has_come h.from h.was (h.runs.sound sound)).reached in
+          let came = has_come h.from h.was (h.runs.sound sound) in
           let limits_are : h.from.limits ≡ limits = ap (λ (s : Staged K). s.limits) same ∙ starts.limits_are in
           let world_is : world_at h.from ≡ begun = ap (λ (s : Staged K). world_at s) same ∙ starts.world in
           subst (λ (x : World). RunsTo limits es ts x (world_at h.to)) world_is
-          (subst (λ (l : Limits). RunsTo l es ts (world_at h.from) (world_at h.to)) limits_are (h.runs.runs sound reached))
+          (subst (λ (l : Limits). RunsTo l es ts (world_at h.from) (world_at h.to)) limits_are (h.runs.runs sound came.reached came.untold))
 
       runs_lines : (lines : List (List ℕ)) (text : List ℕ) (end : Standing (Lasting K)) → (c : Comes g lines (start w) text end)
           → IsSoundAt g c.happen.to → RunsLines limits lines begun text c.events (world_at c.happen.to)

@@ -11,6 +11,7 @@ ghost use Rattle.mqtt_rules.specs.Step.{Outcome as Told};
 ghost use Rattle.mqtt_broker_engine.specs.Calling.{Tells};
 ghost use Rattle.mqtt_world_clients.specs.Ends.{Become, BecomeAt, joins, reading};
 ghost use Rattle.mqtt_world_clients.specs.Lines.{changed};
+ghost use Rattle.mqtt_world_untold_laws.specs.Untold.{AllGoesAsMeant};
 ghost use Rattle.mqtt_world_clients.specs.Telling.{AreSpelled, ends_told};
 
 use crate::lines::Change;
@@ -161,6 +162,7 @@ impl Clients {
     /// What the broker answered reaches all ends. The engine is as the call left it.
     pub fn tell<K: Keep>(&mut self, engine: &Engine<K>, outcome: &Outcome) -> Result<(), AllocError>
         ensures told { (told : Told) → Tells told outcome.now → AreSpelled told
+            → AllGoesAsMeant told self.old.publishers self.old.receivers
             → OnOk result (self.new ≡ ends_told engine.now.broker told self.old) }
     {
         publishers::tell(self.alloc, &mut self.publishers, engine, outcome)?;

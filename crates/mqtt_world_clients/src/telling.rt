@@ -1,5 +1,6 @@
 //! What the broker answers reaches the ends (MQTT 5.0, 4.2).
 
+ghost use Rattle.std.specs.List.{AllByRecursion};
 ghost use Rattle.std.specs.Prelude.{◌≡◌, [], ◌∷◌, ℕ, List, IfOk, OnOk};
 ghost use Rattle.mqtt_codec.specs.declared.packet.Packet.{Packet as ThePacket};
 ghost use Rattle.mqtt_codec.specs.Packets.{HasSpelling, shortest_of};
@@ -7,6 +8,8 @@ ghost use Rattle.mqtt_world_model.specs.Lines.{copy_in, stands, told_by};
 ghost use Rattle.mqtt_rules.specs.State.{Broker};
 ghost use Rattle.mqtt_rules.specs.Step.{Outcome as Told};
 ghost use Rattle.mqtt_broker_engine.specs.Calling.{Tells};
+ghost use Rattle.mqtt_rules_telling_laws.specs.Meaning.{on_line};
+ghost use Rattle.mqtt_world_untold_laws.specs.Untold.{GoesAsMeant};
 ghost use Rattle.mqtt_world_clients.specs.Telling.{AreSpelled, HaveSpellings, copy_for, spelled, with_packet, with_packets};
 
 use bytes::Bytes;
@@ -120,7 +123,8 @@ fn push_if<K: Keep, U: Drop>(
     number: u64,
     output: &(u64, Bytes),
 ) -> Result<(), AllocError>
-    ensures { (x : ℕ × ThePacket) → HasSpelling x.1 → output.now ≡ (x.0, shortest_of x.1)
+    ensures { (x : ℕ × ThePacket) → AllByRecursion HasSpelling (on_line number (x ∷ []))
+        → output.now ≡ (x.0, shortest_of x.1)
         → OnOk result (line.exit.now
         ≡ with_packets number engine.now.broker (x ∷ []) line.entry.now) }
 {
@@ -139,7 +143,8 @@ fn push_all<K: Keep, U: Drop>(
     number: u64,
     outputs: &[(u64, Bytes)],
 ) -> Result<(), AllocError>
-    ensures { (packets : List (ℕ × ThePacket)) → outputs.now ≡ spelled packets → HaveSpellings packets
+    ensures { (packets : List (ℕ × ThePacket)) → outputs.now ≡ spelled packets
+        → AllByRecursion HasSpelling (on_line number packets)
         → OnOk result (line.exit.now
         ≡ with_packets number engine.now.broker packets line.entry.now) }
 {
@@ -147,6 +152,22 @@ fn push_all<K: Keep, U: Drop>(
         push_if(alloc, line, engine, number, output)?;
     }
     Ok(())
+}
+
+/// The same, of what goes out as it is meant: to an end that takes no aliases all does (3.3.2.3.4).
+fn push_meant<K: Keep, U: Drop>(
+    alloc: Global,
+    line: &mut Line<U>,
+    engine: &Engine<K>,
+    number: u64,
+    outputs: &[(u64, Bytes)],
+) -> Result<(), AllocError>
+    ensures { (packets meant : List (ℕ × ThePacket)) → outputs.now ≡ spelled packets → HaveSpellings meant
+        → on_line number packets ≡ on_line number meant
+        → OnOk result (line.exit.now
+        ≡ with_packets number engine.now.broker meant line.entry.now) }
+{
+    push_all(alloc, line, engine, number, outputs)
 }
 
 /// What the broker answered reaches the end of a line: packets to it are under way, and what is under way on a line that
@@ -158,10 +179,11 @@ pub(crate) fn tell_line<K: Keep, U: Drop>(
     outcome: &Outcome,
 ) -> Result<(), AllocError>
     ensures { (told : Told) → Tells told outcome.now → AreSpelled told
+        → GoesAsMeant told.wires told.outputs line.entry.now.number
         → OnOk result (line.exit.now ≡ told_by engine.now.broker told line.entry.now) }
 {
     if let Some(number) = line.number() {
-        push_all(alloc, line, engine, number, &outcome.outputs)?;
+        push_meant(alloc, line, engine, number, &outcome.outputs)?;
     }
     line.close(&outcome.closed);
     Ok(())

@@ -1,11 +1,12 @@
 -- What a call of the engine answered is what the call is in the world, at whatever moment (MQTT 5.0, 4.1).
-use Rattle.std.proofs.Common.{◌≡◌, ℕ, min, max, length, Bool, true, false, cond, not, List, [], ◌∷◌, filter, IfOk, OnOk, sym, ap, subst, ◌∙◌, arith}
+use Rattle.std.proofs.Common.{◌≡◌, ℕ, min, max, length, Bool, true, false, cond, not, List, [], ◌∷◌, filter, filter_map, suc, IfOk, OnOk, refl, sym, ap, subst, ◌∙◌, arith}
 use Rattle.std.specs.Prelude.{Result, Ok, Err}
 use Rattle.mqtt_base.specs.declared.limits.TheConstants.{LAST_NUMBER}
 use Rattle.mqtt_records.specs.declared.keep.Keep.{Ghosts}
-use Rattle.mqtt_world_model.specs.Tellings.{Telling}
+use Rattle.mqtt_world_model.specs.Tellings.{Telling, telling}
 use Rattle.mqtt_broker_engine.specs.Calling.{Tells}
 use Rattle.mqtt_broker_engine.specs.declared.outcome.Outcome.{Outcome}
+use Rattle.mqtt_rules.specs.Deeds.{Deed, Send, after, output, report, wires}
 use Rattle.mqtt_rules.specs.State.{Broker, MemberChoice}
 use Rattle.mqtt_rules.specs.Step.{Call, at_moment, deeds, deeds_of, done, env_of, is_spent, is_step_spent, outcome_of, rows_written, stepped, told, Outcome as Answer}
 use Rattle.mqtt_rules.specs.declared.Limits.{Limits}
@@ -14,6 +15,7 @@ use Rattle.mqtt_broker.specs.Serving.{Serving, Served, has_closed}
 use Rattle.mqtt_broker.specs.Framers.{HeldLine}
 use Rattle.mqtt_world_scene.specs.declared.over.Over.{Over}
 use Rattle.mqtt_world_clients.specs.Ends.{Ends}
+use Rattle.mqtt_world_untold_laws.specs.Untold.{AllGoesAsMeant}
 use Rattle.mqtt_world_clients.specs.Telling.{AreSpelled, ends_told}
 use Rattle.mqtt_world_scene.specs.Scenes.{Calls, HoldNone, HoldsNone, IsPlayable, Played}
 
@@ -34,6 +36,23 @@ stepped_capped limits choice now call b = ap (λ x. done (deeds_of (env_of limit
 -- and it does the same deeds
 pub deeds_capped : (limits : Limits) (choice : MemberChoice) (now : ℕ) (call : Call) (b : Broker) → deeds limits choice (min now LAST_NUMBER) call b ≡ deeds limits choice now call b
 deeds_capped limits choice now call b = ap (deeds_of (env_of limits choice b) call) (at_capped now b)
+
+-- and tells the same
+pub told_capped : (limits : Limits) (choice : MemberChoice) (now : ℕ) (call : Call) (b : Broker) → told limits choice (min now LAST_NUMBER) call b ≡ told limits choice now call b
+told_capped limits choice now call b = ap (λ x. outcome_of call (deeds_of (env_of limits choice b) call x) x) (at_capped now b)
+
+-- as many packets go out as are meant
+wires_count : (ds : List Deed) (b : Broker) → length (wires ds b) ≡ length (filter_map output ds)
+wires_count [] b = refl
+wires_count (Send n packet ∷ ds) b = ap suc (wires_count ds (after (Send n packet) b))
+wires_count (d ∷ ds) b = wires_count ds (after d b)
+
+-- so the one or the other may be told
+pub told_count : (limits : Limits) (choice : MemberChoice) (now : ℕ) (call : Call) (b : Broker) → let t = told limits choice now call b in
+    record { reports = t.reports; out = length t.wires } ≡ telling (deeds limits choice now call b)
+told_count limits choice now call b =
+    let ds = deeds limits choice now call b in
+    ap (λ (n : ℕ). record { reports = filter_map report ds; out = n }) (wires_count ds (at_moment now b))
 
 -- and it is out of numbers exactly if it is at the moment itself
 pub spent_capped : (limits : Limits) (choice : MemberChoice) (now : ℕ) (call : Call) (b : Broker) → is_step_spent limits choice (min now LAST_NUMBER) call b ≡ is_step_spent limits choice now call b
@@ -56,8 +75,8 @@ none_held keeps (x ∷ held) h = kept_none (keeps x) x (filter keeps held) h.0 (
 module _ {K : Type 0} (g : Ghosts K) (now : ℕ) (call : Call) (old new : Played K) (out : Outcome) where
   -- what the engine answered to a call is that call of the scene, if its ends are told of it
   pub called : (r : Result Telling Over) → IsPlayable g old → Served g (min now LAST_NUMBER) call old.engine (Ok out) new.engine
-      → ((answer : Answer) → Tells answer out → AreSpelled answer → OnOk r (new.ends ≡ ends_told new.engine.running.broker answer old.ends))
-      → ((answer : Answer) → Tells answer out → IfOk r (λ (t : Telling). t ≡ record { reports = answer.reports; out = length answer.outputs }))
+      → ((answer : Answer) → Tells answer out → AreSpelled answer → AllGoesAsMeant answer old.ends.publishers old.ends.receivers → OnOk r (new.ends ≡ ends_told new.engine.running.broker answer old.ends))
+      → ((answer : Answer) → Tells answer out → IfOk r (λ (t : Telling). t ≡ record { reports = answer.reports; out = length answer.wires }))
       → IfOk r (λ (t : Telling). Calls g now call old t new)
   called (Err fault) playable served ends tells = tt
   called (Ok t) playable served ends tells =
@@ -65,16 +84,17 @@ module _ {K : Type 0} (g : Ghosts K) (now : ℕ) (call : Call) (old new : Played
       let limits = old.engine.running.limits in
       let b = old.engine.running.broker in
       let choice = a.step.choice in
-      let answer_is : a.told ≡ told limits choice now call b = a.step.out_is ∙ ap (outcome_of call) (deeds_capped limits choice now call b) in
+      let answer_is : a.told ≡ told limits choice now call b = a.step.out_is ∙ told_capped limits choice now call b in
       let broker_is : new.engine.running.broker ≡ stepped limits choice now call b = a.step.new_is ∙ stepped_capped limits choice now call b in
       record {
         choice = choice;
         unspent = sym (spent_capped limits choice now call b) ∙ a.step.unspent;
         broker = broker_is;
-        ends = λ spelled.
-            let is = ends a.told a.tells (subst AreSpelled (sym answer_is) spelled) in
+        ends = λ spelled goes.
+            let is = ends a.told a.tells (subst AreSpelled (sym answer_is) spelled) (subst (λ (x : Answer). AllGoesAsMeant x old.ends.publishers old.ends.receivers) (sym answer_is) goes) in
             is ∙ ap (λ x. ends_told x a.told old.ends) broker_is ∙ ap (λ x. ends_told (stepped limits choice now call b) x old.ends) answer_is;
-        told_is = tells a.told a.tells ∙ ap (λ (x : Answer). record { reports = x.reports; out = length x.outputs }) answer_is;
+        told_is = tells a.told a.tells ∙ ap (λ (x : Answer). record { reports = x.reports; out = length x.wires }) answer_is
+            ∙ told_count limits choice now call b;
         limits = served.called.limits;
         sound = served.called.sound;
         playable = record {
@@ -87,8 +107,8 @@ module _ {K : Type 0} (g : Ghosts K) (now : ℕ) (call : Call) (old new : Played
 -- the same, as a call of the engine and the telling behind it say it
 pub answered : {K : Type 0} (g : Ghosts K) (now moment : ℕ) (call : Call) (old new : Played K) (mid : Serving K) (out : Outcome) (result : Result Outcome EngineError) (r : Result Telling Over)
     → IsPlayable g old → moment ≡ min now LAST_NUMBER → result ≡ Ok out → Served g moment call old.engine result mid → new.engine ≡ mid
-    → ((answer : Answer) → Tells answer out → AreSpelled answer → OnOk r (new.ends ≡ ends_told mid.running.broker answer old.ends))
-    → ((answer : Answer) → Tells answer out → IfOk r (λ (t : Telling). t ≡ record { reports = answer.reports; out = length answer.outputs }))
+    → ((answer : Answer) → Tells answer out → AreSpelled answer → AllGoesAsMeant answer old.ends.publishers old.ends.receivers → OnOk r (new.ends ≡ ends_told mid.running.broker answer old.ends))
+    → ((answer : Answer) → Tells answer out → IfOk r (λ (t : Telling). t ≡ record { reports = answer.reports; out = length answer.wires }))
     → IfOk r (λ (t : Telling). Calls g now call old t new)
 answered {K} g now moment call old new mid out result r playable moment_is is served same ends tells =
     let at : Served g (min now LAST_NUMBER) call old.engine (Ok out) new.engine =
@@ -96,15 +116,15 @@ answered {K} g now moment call old new mid out result r playable moment_is is se
     (subst (λ (x : Result Outcome EngineError). Served g (min now LAST_NUMBER) call old.engine x mid) is
     (subst (λ (n : ℕ). Served g n call old.engine result mid) moment_is served)) in
     called g now call old new out r playable at
-    (subst (λ (e : Serving K). (answer : Answer) → Tells answer out → AreSpelled answer → OnOk r (new.ends ≡ ends_told e.running.broker answer old.ends)) (sym same) ends)
+    (subst (λ (e : Serving K). (answer : Answer) → Tells answer out → AreSpelled answer → AllGoesAsMeant answer old.ends.publishers old.ends.receivers → OnOk r (new.ends ≡ ends_told e.running.broker answer old.ends)) (sym same) ends)
     tells
 
 -- and of a scene as it is seen
 pub answered_in : {K : Type 0} (g : Ghosts K) (now moment : ℕ) (call : Call) (old new : Played K) (engine mid : Serving K) (ends : Ends) (out : Outcome) (result : Result Outcome EngineError) (r : Result Telling Over)
     → old ≡ record { engine = engine; ends = ends }
     → IsPlayable g old → moment ≡ min now LAST_NUMBER → result ≡ Ok out → Served g moment call engine result mid → new.engine ≡ mid
-    → ((answer : Answer) → Tells answer out → AreSpelled answer → OnOk r (new.ends ≡ ends_told mid.running.broker answer ends))
-    → ((answer : Answer) → Tells answer out → IfOk r (λ (t : Telling). t ≡ record { reports = answer.reports; out = length answer.outputs }))
+    → ((answer : Answer) → Tells answer out → AreSpelled answer → AllGoesAsMeant answer ends.publishers ends.receivers → OnOk r (new.ends ≡ ends_told mid.running.broker answer ends))
+    → ((answer : Answer) → Tells answer out → IfOk r (λ (t : Telling). t ≡ record { reports = answer.reports; out = length answer.wires }))
     → IfOk r (λ (t : Telling). Calls g now call old t new)
 answered_in {K} g now moment call old new engine mid ends out result r view playable moment_is is served same reached tells =
     subst (λ (o : Played K). IfOk r (λ (t : Telling). Calls g now call o t new)) (sym view)

@@ -21,7 +21,7 @@ use Rattle.mqtt_broker_engine.specs.declared.outcome.Outcome.{Outcome}
 use Rattle.mqtt_broker.specs.Piece.{IsPieceAnswered, PieceCalled}
 use Rattle.mqtt_rules.specs.Piece.{Front, PieceStep, Pieced, begins_connect, bytes_taken, code_of, call_by, call_on, fed, first_call, held_on, is_spent_if, stepped_if, told_if, without_by, without_first}
 use Rattle.mqtt_rules.specs.State.{Broker, Env, Line, MemberChoice, line_at}
-use Rattle.mqtt_rules.specs.Step.{BadInput, Call, Input, at_moment, deeds, env_of, is_step_spent, nothing_told, on_fault, outcome_of, stepped, told, Outcome as Answer}
+use Rattle.mqtt_rules.specs.Step.{BadInput, Call, Input, at_moment, deeds, env_of, is_step_spent, nothing_told, on_fault, stepped, told, Outcome as Answer}
 use Rattle.mqtt_rules.specs.Deeds.{closing}
 use Rattle.mqtt_rules.specs.declared.Limits.{Limits}
 use Rattle.mqtt_broker_step.specs.declared.call.EngineError.{EngineError}
@@ -30,9 +30,10 @@ use Rattle.mqtt_broker.specs.Framers.{HeldLine, changed_at, framing_at, framing_
 use Rattle.mqtt_records_rows.specs.Order.{row_at}
 use Rattle.mqtt_world_scene.specs.declared.over.Over.{Over}
 use Rattle.mqtt_world_clients.specs.Ends.{Ends}
+use Rattle.mqtt_world_untold_laws.specs.Untold.{AllGoesAsMeant, GoesAsMeant, OnEachLine}
 use Rattle.mqtt_world_clients.specs.Telling.{AreSpelled, ends_told}
 use Rattle.mqtt_world_scene.specs.Scenes.{Calls, HoldNone, IsPlayable, Played}
-use Rattle.mqtt_world_scene.proofs.Answered.{deeds_capped, kept_none, none_held, spent_capped, stepped_capped}
+use Rattle.mqtt_world_scene.proofs.Answered.{kept_none, none_held, spent_capped, stepped_capped, told_capped, told_count}
 
 -- ---- what a line holds
 
@@ -108,6 +109,7 @@ module _ {K : Type 0} (g : Ghosts K) (now line : ℕ) (call : Call) (piece : Lis
     unspent : is_step_spent limits choice m call b ≡ false
     broker_is : broker ≡ stepped limits choice m call b
     outputs : answer.outputs ≡ (told limits choice m call b).outputs
+    wires : answer.wires ≡ (told limits choice m call b).wires
     closed : answer.closed ≡ (told limits choice m call b).closed
     reports : answer.reports ≡ (told limits choice m call b).reports
 
@@ -126,6 +128,7 @@ module _ {K : Type 0} (g : Ghosts K) (now line : ℕ) (call : Call) (piece : Lis
     unspent = sym (ap (λ (o : Option Call). is_spent_if limits s.choice m o b) asks) ∙ s.unspent;
     broker_is = ap (λ (x : Pieced). x.broker) s.is ∙ ap (λ (o : Option Call). stepped_if limits s.choice m o b) asks;
     outputs = ap (λ (x : Pieced). x.out.outputs) s.is ∙ ap (λ (o : Option Call). (told_if limits s.choice m o b).outputs) asks;
+    wires = ap (λ (x : Pieced). x.out.wires) s.is ∙ ap (λ (o : Option Call). (told_if limits s.choice m o b).wires) asks;
     closed = ap (λ (x : Pieced). x.out.closed) s.is ∙ ap (λ (o : Option Call). (told_if limits s.choice m o b).closed) asks;
     reports = ap (λ (x : Pieced). x.out.reports) s.is ∙ ap (λ (o : Option Call). (told_if limits s.choice m o b).reports) asks;
   }
@@ -142,6 +145,7 @@ module _ {K : Type 0} (g : Ghosts K) (now line : ℕ) (call : Call) (piece : Lis
             unspent = rw ds refl;
             broker_is = ap (λ (x : Pieced). x.broker) s.is ∙ ap (λ (o : Option Call). stepped_if limits s.choice m o b) quiet ∙ sym (rw ds refl);
             outputs = ap (λ (x : Pieced). x.out.outputs) s.is ∙ ap (λ (o : Option Call). (told_if limits s.choice m o b).outputs) quiet ∙ sym (rw ds refl);
+            wires = ap (λ (x : Pieced). x.out.wires) s.is ∙ ap (λ (o : Option Call). (told_if limits s.choice m o b).wires) quiet ∙ sym (rw ds refl);
             closed = ap (λ (x : Pieced). x.out.closed) s.is ∙ ap (λ (o : Option Call). (told_if limits s.choice m o b).closed) quiet ∙ sym (rw ds refl);
             reports = ap (λ (x : Pieced). x.out.reports) s.is ∙ ap (λ (o : Option Call). (told_if limits s.choice m o b).reports) quiet ∙ sym (rw ds refl);
           }
@@ -211,8 +215,8 @@ module _ {K : Type 0} (g : Ghosts K) (now line : ℕ) (call : Call) (piece : Lis
   -- bytes that are one call, given on a line that holds nothing, are that call of the scene
   pub given : (moment : ℕ) (mid : Serving K) (result : Result Outcome EngineError) (r : Result Telling Over) → IsPlayable g old → held_after piece ≡ [] → length piece ≤ PACKET_LIMIT → first_call line piece ≡ Some call
       → moment ≡ m → result ≡ Ok out → PieceCalled g moment line piece old.engine result mid → new.engine ≡ mid
-      → ((answer : Answer) → Tells answer out → AreSpelled answer → OnOk r (new.ends ≡ ends_told mid.running.broker answer old.ends))
-      → ((answer : Answer) → Tells answer out → IfOk r (λ (t : Telling). t ≡ record { reports = answer.reports; out = length answer.outputs }))
+      → ((answer : Answer) → Tells answer out → AreSpelled answer → AllGoesAsMeant answer old.ends.publishers old.ends.receivers → OnOk r (new.ends ≡ ends_told mid.running.broker answer old.ends))
+      → ((answer : Answer) → Tells answer out → IfOk r (λ (t : Telling). t ≡ record { reports = answer.reports; out = length answer.wires }))
       → IfOk r (λ (t : Telling). Calls g now call old t new)
   given moment mid result (Err fault) playable left within asks moment_is is called same ends tells = tt
   given moment mid result (Ok t) playable left within asks moment_is is called same ends tells =
@@ -222,8 +226,9 @@ module _ {K : Type 0} (g : Ghosts K) (now line : ℕ) (call : Call) (piece : Lis
       let a : IsPieceAnswered m line piece old.engine out mid = at.step in
       let choice = a.step.choice in
       let x : IsCallOf choice a.after.broker a.after.out = of_any a.after a.step playable.clear within asks in
-      let now_told : told limits choice m call b ≡ told limits choice now call b = ap (outcome_of call) (deeds_capped limits choice now call b) in
+      let now_told : told limits choice m call b ≡ told limits choice now call b = told_capped limits choice now call b in
       let outputs : a.after.out.outputs ≡ (told limits choice now call b).outputs = x.outputs ∙ ap (λ (y : Answer). y.outputs) now_told in
+      let wires : a.after.out.wires ≡ (told limits choice now call b).wires = x.wires ∙ ap (λ (y : Answer). y.wires) now_told in
       let closed : a.after.out.closed ≡ (told limits choice now call b).closed = x.closed ∙ ap (λ (y : Answer). y.closed) now_told in
       let reports : a.after.out.reports ≡ (told limits choice now call b).reports = x.reports ∙ ap (λ (y : Answer). y.reports) now_told in
       let mid_is : mid.running.broker ≡ stepped limits choice now call b = a.broker ∙ x.broker_is ∙ stepped_capped limits choice now call b in
@@ -232,14 +237,17 @@ module _ {K : Type 0} (g : Ghosts K) (now line : ℕ) (call : Call) (piece : Lis
         choice = choice;
         unspent = sym (spent_capped limits choice now call b) ∙ x.unspent;
         broker = ap (λ (e : Serving K). e.running.broker) same ∙ mid_is;
-        ends = λ spelled.
-            let first = ends a.after.out a.tells (subst (λ (os : List (ℕ × Packet)). AllByRecursion (λ (y : ℕ × Packet). HasSpelling y.1) os) (sym outputs) spelled) in
+        ends = λ spelled goes.
+            let first = ends a.after.out a.tells (subst (λ (os : List (ℕ × Packet)). AllByRecursion (λ (y : ℕ × Packet). HasSpelling y.1) os) (sym outputs) spelled)
+            (subst (λ (ws : List (ℕ × Packet)). OnEachLine (GoesAsMeant ws a.after.out.outputs) old.ends.publishers old.ends.receivers) (sym wires)
+            (subst (λ (os : List (ℕ × Packet)). OnEachLine (GoesAsMeant (told limits choice now call b).wires os) old.ends.publishers old.ends.receivers) (sym outputs) goes)) in
             first ∙ ap (λ (z : Broker). ends_told z a.after.out old.ends) mid_is
             ∙ ap (λ (os : List (ℕ × Packet)). with_told to old.ends os a.after.out.closed) outputs
             ∙ ap (λ (cs : List ℕ). with_told to old.ends (told limits choice now call b).outputs cs) closed;
         told_is = tells a.after.out a.tells
-            ∙ ap (λ (os : List (ℕ × Packet)). record { reports = a.after.out.reports; out = length os }) outputs
-            ∙ ap (λ rs. record { reports = rs; out = length (told limits choice now call b).outputs }) reports;
+            ∙ ap (λ (ws : List (ℕ × Packet)). record { reports = a.after.out.reports; out = length ws }) wires
+            ∙ ap (λ rs. record { reports = rs; out = length (told limits choice now call b).wires }) reports
+            ∙ told_count limits choice now call b;
         limits = ap (λ (e : Serving K). e.running.limits) same ∙ at.limits;
         sound = λ sound. at.sound (subst (λ (e : Serving K). g.is_sound e.running.keep) same sound);
         playable = record {
@@ -254,8 +262,8 @@ pub given_in : {K : Type 0} (g : Ghosts K) (now moment line : ℕ) (call : Call)
     → old ≡ record { engine = engine; ends = ends }
     → IsPlayable g old → held_after piece ≡ [] → length piece ≤ PACKET_LIMIT → first_call line piece ≡ Some call
     → moment ≡ min now LAST_NUMBER → result ≡ Ok out → PieceCalled g moment line piece engine result mid → new.engine ≡ mid
-    → ((answer : Answer) → Tells answer out → AreSpelled answer → OnOk r (new.ends ≡ ends_told mid.running.broker answer ends))
-    → ((answer : Answer) → Tells answer out → IfOk r (λ (t : Telling). t ≡ record { reports = answer.reports; out = length answer.outputs }))
+    → ((answer : Answer) → Tells answer out → AreSpelled answer → AllGoesAsMeant answer ends.publishers ends.receivers → OnOk r (new.ends ≡ ends_told mid.running.broker answer ends))
+    → ((answer : Answer) → Tells answer out → IfOk r (λ (t : Telling). t ≡ record { reports = answer.reports; out = length answer.wires }))
     → IfOk r (λ (t : Telling). Calls g now call old t new)
 given_in {K} g now moment line call piece old new engine mid ends out result r view playable left within asks moment_is is called same reached tells =
     subst (λ (o : Played K). IfOk r (λ (t : Telling). Calls g now call o t new)) (sym view)

@@ -9,13 +9,14 @@ use Rattle.mqtt_records.specs.declared.keep.Keep.{Ghosts}
 use Rattle.mqtt_broker.specs.Framers.{AreBytes}
 use Rattle.mqtt_broker.proofs.HeldBytes.{first_taken, nothing_asked}
 use Rattle.mqtt_world_model.specs.Tellings.{Telling, silent}
-use Rattle.mqtt_world_model.specs.World.{call_on, held_after, held_by}
+use Rattle.mqtt_world_model.specs.World.{World, call_on, held_after, held_by}
 use Rattle.mqtt_rules.specs.Piece.{Front, begins_connect, call_by, code_of, first_call}
 use Rattle.mqtt_rules.specs.Step.{BadInput, Call, Input}
 use Rattle.mqtt_rules.specs.declared.Report.{Report}
 use Rattle.mqtt_script_laws.specs.Turns.{both_tell}
+use Rattle.mqtt_world_untold_laws.specs.Untold.{TakesNoneOfEnds}
 use Rattle.mqtt_world_scene.specs.Events.{TakesPacket}
-use Rattle.mqtt_world_scene.specs.Hearing.{Asks, Hears}
+use Rattle.mqtt_world_scene.specs.Hearing.{Asks, Hears, TakesNoneIf}
 use Rattle.mqtt_world_scene.specs.Scenes.{Calls, IsPlayable, Played}
 use Rattle.mqtt_world_scene.proofs.Eventful.{any_choice, reached_after, world_called}
 
@@ -57,6 +58,11 @@ some_asked line bytes each left some = by (first_of bytes) refl
     by (Ok (Some x)) e = (Input line x.0, ap (call_by line bytes) e, first_taken bytes x.0 x.1 each e)
     by (Err fault) e = (BadInput line (begins_connect bytes) (code_of (answer_to fault)), ap (call_by line bytes) e, (fault, refl))
 
+-- what is asked brings no CONNECT of a client that takes aliases, if no call does that it may come to
+pub takes_if : (o : Option Call) (w : World) → ((call : Call) → o ≡ Some call → TakesNoneOfEnds call w) → TakesNoneIf o w
+takes_if None w h = tt
+takes_if (Some call) w h = h call refl
+
 module _ {K : Type 0} (g : Ghosts K) (now : ℕ) where
   -- if nothing is asked of the broker, nothing changes, and nothing is told
   pub asks_nothing : (s : Played K) → IsPlayable g s → Asks g now None s silent s
@@ -68,7 +74,7 @@ module _ {K : Type 0} (g : Ghosts K) (now : ℕ) where
     reached = λ reached. reached;
     unspent = λ ss. refl;
     told = λ ss. refl;
-    done = λ spells reached ss. refl;
+    done = λ spells reached ss untold none. refl;
   }
 
   asks_call : (call : Call) (old new : Played K) (t : Telling) → TakesPacket call → Calls g now call old t new → Asks g now (Some call) old t new
@@ -80,7 +86,7 @@ module _ {K : Type 0} (g : Ghosts K) (now : ℕ) where
     reached = reached_after g now call old new t takes c;
     unspent = λ ss. c.unspent;
     told = λ ss. c.told_is;
-    done = λ spells reached ss. world_called g now call old new t ss reached takes c spells;
+    done = λ spells reached ss untold none. world_called g now call old new t ss reached takes c spells untold none;
   }
 
   -- nothing came, or there is no line

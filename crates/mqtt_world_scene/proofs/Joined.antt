@@ -10,6 +10,7 @@ use Rattle.mqtt_world_clients.specs.Ends.{Become, Ends, joins}
 use Rattle.mqtt_script_laws.specs.Scripted.{Happens}
 use Rattle.mqtt_script_laws.specs.Turns.{by_choice}
 use Rattle.mqtt_script_laws.proofs.Single as single
+use Rattle.mqtt_world_untold_laws.proofs.Worlds.{new_line_takes}
 use Rattle.mqtt_world_scene.specs.Scenes.{Calls, IsPlayable, Played}
 use Rattle.mqtt_world_scene.specs.Events.{Does, played, world_of}
 use Rattle.mqtt_world_scene.proofs.Eventful.{any_setting, playable_still, reached_after, world_called}
@@ -44,13 +45,13 @@ module _ {K : Type 0} (g : Ghosts K) (now : ℕ) (client : List ℕ) (clean : Bo
         limits = c.limits;
         sound = c.sound;
         reached = reached_after g now NewLine s (played F P) silent tt c;
-        done = λ spells reached ss.
+        done = λ spells reached ss untold.
             let limits = s.engine.running.limits in
             let set = by_choice limits c.choice in
             let w = world_of now ss s in
             let v = world_of now ss (played F N) in
             let at : v ≡ links set (Some line) client clean w =
-            become (world_of now ss (played F P)) ∙ ap (joins line client clean) (world_called g now NewLine s (played F P) silent ss reached tt c spells) in
+            become (world_of now ss (played F P)) ∙ ap (joins line client clean) (world_called g now NewLine s (played F P) silent ss reached tt c spells untold (new_line_takes w)) in
             subst (λ (x : Telling). Happens limits (connect_end client clean) x w v) (sym told)
             (single.joins limits c.choice client clean w v
             (ap (λ (x : Played K). is_bad (connect_end client clean) (world_of now ss x)) (sym before) ∙ good ss)
@@ -65,7 +66,7 @@ module _ {K : Type 0} (g : Ghosts K) (now : ℕ) (client : List ℕ) (clean : Bo
     limits = refl;
     sound = λ sound. sound;
     reached = λ reached. reached;
-    done = λ spells reached ss.
+    done = λ spells reached ss untold.
         let limits = s.engine.running.limits in
         let choice = (any_setting limits).choice in
         let set = by_choice limits choice in

@@ -7,14 +7,14 @@ use Rattle.mqtt_world_model.specs.Lines.{Down, Line, told_by}
 use Rattle.mqtt_world_model.specs.Tellings.{silent}
 use Rattle.mqtt_world_model.specs.World.{publisher_told, receiver_told}
 use Rattle.mqtt_rules.specs.State.{Broker, MemberChoice}
-use Rattle.mqtt_rules.specs.Step.{BrokerStep, NewLine, at_moment, can_link, nothing_told, outcome_of, stepped, told, Outcome as Answer}
+use Rattle.mqtt_rules.specs.Step.{BrokerStep, NewLine, at_moment, can_link, nothing_told, stepped, told, Outcome as Answer}
 use Rattle.mqtt_rules.specs.declared.Limits.{Limits}
 use Rattle.mqtt_broker.specs.Serving.{Serving, with_linked}
 use Rattle.mqtt_broker.specs.Framers.{HeldLine, begun}
 use Rattle.mqtt_world_clients.specs.Ends.{Ends}
 use Rattle.mqtt_world_clients.specs.Telling.{ends_told}
 use Rattle.mqtt_world_scene.specs.Scenes.{Calls, HoldNone, IsPlayable, Played}
-use Rattle.mqtt_world_scene.proofs.Answered.{deeds_capped, spent_capped, stepped_capped}
+use Rattle.mqtt_world_scene.proofs.Answered.{spent_capped, stepped_capped, told_capped}
 
 -- ---- nothing told
 
@@ -81,15 +81,14 @@ linked {K} g now moment line old new playable moment_is step same held ends =
     let at : BrokerStep limits b (min now LAST_NUMBER) NewLine nothing_told new.engine.running.broker =
     subst (λ (n : ℕ). BrokerStep limits b n NewLine nothing_told new.engine.running.broker) moment_is step in
     let choice = at.choice in
-    let ds_is = deeds_capped limits choice now NewLine b in
     let broker_is : new.engine.running.broker ≡ stepped limits choice now NewLine b = at.new_is ∙ stepped_capped limits choice now NewLine b in
-    let answer_is : nothing_told ≡ told limits choice now NewLine b = at.out_is ∙ told_capped limits choice now b in
+    let answer_is : nothing_told ≡ told limits choice now NewLine b = at.out_is ∙ told_capped limits choice now NewLine b in
     let keep_is : new.engine.running.keep ≡ old.engine.running.keep = ap (λ r. r.keep) same in
     record {
       choice = choice;
       unspent = sym (spent_capped limits choice now NewLine b) ∙ at.unspent;
       broker = broker_is;
-      ends = λ spelled. ends ∙ sym (ends_untold (stepped limits choice now NewLine b) old.ends)
+      ends = λ spelled goes. ends ∙ sym (ends_untold (stepped limits choice now NewLine b) old.ends)
           ∙ ap (λ (x : Answer). ends_told (stepped limits choice now NewLine b) x old.ends) answer_is;
       told_is = ap (λ (x : Answer). record { reports = x.reports; out = length x.outputs }) answer_is;
       limits = ap (λ r. r.limits) same;
@@ -101,9 +100,6 @@ linked {K} g now moment line old new playable moment_is step same held ends =
         clear = subst HoldNone (sym held) (linked_none line old.engine.held playable.clear);
       };
     }
-  where
-    told_capped : (limits : Limits) (choice : MemberChoice) (now : ℕ) (b : Broker) → told limits choice (min now LAST_NUMBER) NewLine b ≡ told limits choice now NewLine b
-    told_capped limits choice now b = ap (outcome_of NewLine) (deeds_capped limits choice now NewLine b)
 
 -- and of a scene as it is seen
 pub linked_in : {K : Type 0} (g : Ghosts K) (now moment : ℕ) (line : Option ℕ) (old : Played K) (engine mid : Serving K) (ends : Ends)

@@ -1,15 +1,21 @@
 -- What is asked of a broker, if anything is, and what it tells (MQTT 5.0, 4.1).
-use Rattle.std.specs.Prelude.{◌≡◌, ℕ, false, List, Option}
+use Rattle.std.specs.Prelude.{◌≡◌, ⊤, ℕ, false, List, Option, Some, None}
 use Rattle.mqtt_records.specs.declared.keep.Keep.{Ghosts}
 use Rattle.mqtt_world_model.specs.Run.{read_if, the_deeds}
 use Rattle.mqtt_world_model.specs.Tellings.{Telling, telling}
-use Rattle.mqtt_world_model.specs.World.{Stranger, calls_if}
+use Rattle.mqtt_world_model.specs.World.{Stranger, World, calls_if}
 use Rattle.mqtt_rules.specs.State.{MemberChoice}
 use Rattle.mqtt_rules.specs.Step.{Call}
 use Rattle.mqtt_world_acceptance_laws.specs.Spending.{spending}
 use Rattle.mqtt_script_laws.specs.Turns.{both_tell, by_choice}
+use Rattle.mqtt_world_untold_laws.specs.Untold.{HasUntoldEnds, TakesNoneOfEnds}
 use Rattle.mqtt_world_scene.specs.Events.{IsReached, SpellsAll, world_of}
 use Rattle.mqtt_world_scene.specs.Scenes.{IsPlayable, Played, WasSound}
+
+-- the call, if there is one, brings no CONNECT on the line of an end that takes aliases
+abbrev pub TakesNoneIf : Option Call → World → Type 0
+TakesNoneIf None w = ⊤
+TakesNoneIf (Some call) w = TakesNoneOfEnds call w
 
 -- ---- the broker is asked for this, if for anything: for some choice of members that spends no number, whatever strangers
 -- there are
@@ -25,7 +31,8 @@ pub record Asks {K : Type 0} (g : Ghosts K) (now : ℕ) (call : Option Call) (ol
   pub told : (strangers : List Stranger)
       → t ≡ telling (read_if the_deeds (by_choice old.engine.running.limits choice) call (world_of now strangers old))
   pub done : SpellsAll old.engine.running.limits → IsReached old.engine.running.limits old.engine.running.broker
-      → (strangers : List Stranger)
+      → (strangers : List Stranger) → HasUntoldEnds (world_of now strangers old)
+      → TakesNoneIf call (world_of now strangers old)
       → world_of now strangers new ≡ calls_if (by_choice old.engine.running.limits choice) call (world_of now strangers old)
 
 -- and what it tells is told behind what was told before
