@@ -2,7 +2,7 @@
 
 use mqtt_base::{Blob, Qos, Text};
 use mqtt_broker_decisions::{
-    assigned_name, expiry_of, largest_of, refusal, takes_refusal, will_of, window_of,
+    aliases_of, assigned_name, expiry_of, largest_of, refusal, takes_refusal, will_of, window_of,
 };
 use mqtt_codec::{Connect, Will};
 use mqtt_props::{PropFault, PropList, PropName, PropRef, ValueRef};
@@ -104,6 +104,7 @@ fn packets_of_64_bytes_are_taken(rt: HostRuntime) -> Result<(), Fail> {
 fn what_is_absent_has_its_default(rt: HostRuntime) -> Result<(), Fail> {
     let plain = connect(rt.alloc(), "c", PropList::new(), None)?;
     assert_eq!(rt; window_of(&plain), 65_535);
+    assert_eq!(rt; aliases_of(&plain), 0);
     assert_eq!(rt; expiry_of(&plain), 0);
     drop(plain);
     Ok(())
@@ -178,5 +179,25 @@ fn a_refusal_has_five_bytes(rt: HostRuntime) -> Result<(), Fail> {
     let four = connect(alloc, "c", one(alloc, name, ValueRef::U32(4))?, None)?;
     assert!(rt; !takes_refusal(&four), "four are too few");
     drop(four);
+    Ok(())
+}
+
+/// How many topics a client is told by aliases that takes so many.
+fn told_at_most(alloc: Global, takes: u16) -> Result<u16, Fail> {
+    let list = one(alloc, PropName::TopicAliasMaximum, ValueRef::U16(takes))?;
+    let connect = connect(alloc, "c", list, None)?;
+    let most = aliases_of(&connect);
+    drop(connect);
+    Ok(most)
+}
+
+#[test]
+fn ten_aliases_are_told_at_most(rt: HostRuntime) -> Result<(), Fail> {
+    let alloc = rt.alloc();
+    assert_eq!(rt; told_at_most(alloc, 0)?, 0);
+    assert_eq!(rt; told_at_most(alloc, 1)?, 1);
+    assert_eq!(rt; told_at_most(alloc, 10)?, 10);
+    assert_eq!(rt; told_at_most(alloc, 11)?, 10);
+    assert_eq!(rt; told_at_most(alloc, 65_535)?, 10);
     Ok(())
 }

@@ -51,6 +51,7 @@ const SHORT: &str = "\
 -- the oldest copy that waits gives way in a queue that drops
 -- a retained message goes to who subscribes later, until an empty one comes
 -- a copy is sent again with its identifier after a restart
+-- a receiver that takes one alias is told one, and again on its next connection
 -- a copy that waits expires
 -- a copy that was sent in time does not expire
 ";

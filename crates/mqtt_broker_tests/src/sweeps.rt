@@ -53,6 +53,22 @@ fn change_at(frame: &mut [u8], at: usize, change: u8) {
     }
 }
 
+/// What a subscriber does that takes aliases and all messages: it has the first line, and gets what the frames bring.
+const SUBSCRIBER: &str = "\
+link -> 1
+on 1 1016 00044d515454 05 00 0000 08 11ffffffff 22000a 000173 -> *
+on 1 8207 0001 00 000123 00 -> 1:900400010000
+";
+
+/// The number of a line, if so many were linked for frames: behind a CONNECT the subscriber has the first.
+fn number_of(lines: u64, is_connected: bool) -> u64 {
+    if is_connected {
+        lines.wrapping_add(1)
+    } else {
+        lines
+    }
+}
+
 /// The frame with the byte at one place changed, in each way; how many lines there are then.
 fn tell_changes_at(
     script: &mut Telling,
@@ -66,7 +82,8 @@ fn tell_changes_at(
     for change in 1..=255u8 {
         lines = lines.wrapping_add(1);
         change_at(frame, at, change);
-        tell_line(script, alloc, lines, frame, is_connected);
+        let number = number_of(lines, is_connected);
+        tell_line(script, alloc, number, frame, is_connected);
         change_at(frame, at, change);
     }
     lines
@@ -126,6 +143,9 @@ fn judge_changed(
     is_connected: bool,
 ) -> u64 {
     script.clear();
+    if is_connected {
+        script.word(SUBSCRIBER);
+    }
     let count = tell_changes(script, alloc, bytes, is_connected);
     judge_script(wrong, alloc, hasher, script);
     count
