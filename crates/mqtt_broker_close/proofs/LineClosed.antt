@@ -1,25 +1,23 @@
 -- A line closes, its client leaves, or it is lost.
-use Rattle.std.proofs.Common.{◌≡◌, ℕ, Bool, true, false, cond, not, List, [], ◌∷◌, ◌++◌, nat_eq, refl, ap, sym, subst, ◌∙◌, inl, inr}
-use Rattle.std.specs.Prelude.{Option, Some, None, find}
-use Rattle.std.proofs.lemmas.Bool.{cases_Bool}
+use Rattle.std.proofs.Common.{◌≡◌, ℕ, Bool, true, false, not, [], ◌∷◌, ◌++◌, nat_eq, refl, ap, sym, subst, ◌∙◌, inl, inr}
+use Rattle.std.specs.Prelude.{Option, Some, None}
 use Rattle.mqtt_base.specs.Codes.{normal_disconnection, protocol_error}
 use Rattle.mqtt_records.specs.declared.session.Session.{Session}
 use Rattle.mqtt_records.specs.declared.records.Records.{Records}
 use Rattle.mqtt_records_rows.specs.Order.{row_at}
 use Rattle.mqtt_rules.specs.Closing.{close, close_connected, drop_line}
 use Rattle.mqtt_rules.specs.Contents.{IsWilled}
-use Rattle.mqtt_rules.specs.Deeds.{Act, Gone, Send, SetExpiry, after_all, always, series, then, with_line, with_session}
+use Rattle.mqtt_rules.specs.Deeds.{Act, Gone, Send, after_all, always, series, then, with_line, with_session}
 use Rattle.mqtt_rules.specs.Inbound.{is_late_expiry, leave_by, new_expiry, on_disconnect}
 use Rattle.mqtt_rules.specs.Packets.{disconnect}
-use Rattle.mqtt_rules.specs.State.{Broker, Env, Line, line_at, session_at}
+use Rattle.mqtt_rules.specs.State.{Broker, Env, Line, session_at}
 use Rattle.mqtt_rules.specs.Step.{deeds_of, Lost}
 use Rattle.mqtt_broker_step.specs.Lines.{line_number}
 use Rattle.mqtt_broker_step.specs.declared.fault.StepFault.{StepFault}
-use Rattle.mqtt_broker_step.specs.Stepping.{Stepping, did, Did, IsLeft, env_in, to_session}
+use Rattle.mqtt_broker_step.specs.Stepping.{Stepping, did, Did, IsLeft, env_in}
 use Rattle.mqtt_broker_step.proofs.Sendings.{line_found}
 use Rattle.mqtt_broker_step.proofs.Doing.{did_none}
 use Rattle.mqtt_broker_publish.specs.Choosing.{DoesSome, LeavesSome}
-use Rattle.mqtt_broker_step.proofs.Then.{same_act}
 use Rattle.mqtt_broker_publish.proofs.Some.{both, does_then, does_some, leaves_first, leaves_some, then_some, then_some_left, same_does, same_some, same_some_left, alone}
 use Rattle.mqtt_broker_close.specs.Settling.{closes, disconnects, leaves_by, sets_expiry}
 use Rattle.mqtt_broker_close.specs.Wills.{ChoosesOnce, will_at}

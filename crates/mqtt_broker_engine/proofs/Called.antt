@@ -1,5 +1,5 @@
 -- A step that did the deeds of a call is the broker's step of that call.
-use Rattle.std.proofs.Common.{◌≡◌, ℕ, Bool, false, ◌⊎◌, List, map, refl, ap, sym, subst, ◌∙◌, inl, inr}
+use Rattle.std.proofs.Common.{◌≡◌, ℕ, Bool, false, ◌⊎◌, List, refl, ap, sym, subst, ◌∙◌, inl, inr}
 use Rattle.mqtt_records.specs.declared.change.Change.{Change}
 use Rattle.mqtt_records.specs.declared.records.Records.{Records}
 use Rattle.mqtt_records.specs.Records.{FitAll}
@@ -15,7 +15,7 @@ use Rattle.mqtt_rules_sharing_laws.proofs.Steps as sharing
 use Rattle.mqtt_rules.proofs.contents.SayableRows.{step_said}
 use Rattle.mqtt_rules.proofs.contents.SpelledContents.{rows_are as row_sizes}
 use Rattle.mqtt_rules.proofs.numbers.Counters.{moment_stays, now_stays}
-use Rattle.mqtt_broker_step.specs.Stepping.{Stepping, spelled, with_stamp}
+use Rattle.mqtt_broker_step.specs.Stepping.{Stepping, with_stamp}
 use Rattle.mqtt_broker_step.specs.Undoing.{moment_of}
 use Rattle.mqtt_broker_index.specs.Following.{CanAllBeFollowed, CanBeIndexed}
 use Rattle.mqtt_broker_index.proofs.Followed.{indexed_of, step_followed}

@@ -1,7 +1,6 @@
 -- Turns that were looked up for a session are the ones that the rules have.
-use Rattle.std.proofs.Common.{◌≡◌, ℕ, zero, suc, Bool, true, false, ◌&&◌, List, [], ◌∷◌, ◌++◌, map, nat_eq, refl, ap, sym, subst, ◌∙◌, inl, inr}
-use Rattle.std.specs.Prelude.{Option, Some, find, flat_map}
-use Rattle.std.proofs.lemmas.Bool.{cases_Bool}
+use Rattle.std.proofs.Common.{◌≡◌, ℕ, zero, suc, Bool, true, false, ◌&&◌, List, [], ◌∷◌, ◌++◌, map, refl, ap, sym, subst, ◌∙◌}
+use Rattle.std.specs.Prelude.{Option, Some, flat_map}
 use Rattle.mqtt_base.specs.declared.session.Ending.TheVariants.{Dropped, Expired}
 use Rattle.mqtt_flow.specs.declared.entry.Entry.{Entry as FlowEntry}
 use Rattle.mqtt_flow.specs.declared.entry.Turn.{Turn}
@@ -9,7 +8,6 @@ use Rattle.mqtt_flow.specs.declared.entry.Turn.TheVariants as turns
 use Rattle.mqtt_flow.specs.declared.entry.Way.{Way}
 use Rattle.mqtt_flow.specs.Outbound.{pump, expired, expired_at, dropped, dropped_at, gives_way, is_waiting, is_late}
 use Rattle.mqtt_records_message.specs.Queue.{CopyRow}
-use Rattle.mqtt_records_rows.specs.Order.{row_at}
 use Rattle.mqtt_records.specs.declared.session.Session.{Session}
 use Rattle.mqtt_rules.specs.Deeds.{always, with_session, with_line}
 use Rattle.mqtt_rules.specs.Outbound.{turn_deeds, all_turn_deeds, leave_deeds, way_of}
@@ -18,7 +16,6 @@ use Rattle.mqtt_rules.specs.State.{Line, Broker, session_at, line_at, queue_on}
 use Rattle.mqtt_rules.specs.Step.{on_pump}
 use Rattle.mqtt_rules.specs.Tick.{lapse_deeds}
 use Rattle.mqtt_rules.proofs.fit.Turns.{Rises}
-use Rattle.mqtt_broker_step.specs.Lines.{line_number}
 use Rattle.mqtt_broker_queue.specs.Turning.{takes_turns, pumps, lapses_of}
 
 some_is : {X : Type 0} (x y : X) → Some x ≡ Some y → x ≡ y

@@ -26,8 +26,7 @@ use Rattle.mqtt_replay.specs.declared.ends.End.{End}
 use Rattle.mqtt_replay.specs.declared.ends.End.TheVariants.{Publisher, Receiver}
 use Rattle.mqtt_replay.specs.Playing.{Happened, Standing, end_line, last_lines, made_by, start}
 use Rattle.mqtt_replay.specs.Replaying.{IsBadLine, LinePlays, LinesPlay, Replays, ReplaysFront, Shows, ShowsFront, lines_of}
-use Rattle.mqtt_world_scene.specs.Events.{IsReached}
-use Rattle.mqtt_world.specs.Stages.{IsSoundAt, Staged, broker_of, world_at}
+use Rattle.mqtt_world.specs.Stages.{IsSoundAt, Staged, world_at}
 use Rattle.mqtt_world.specs.Worlds.{CantHappen, Happen, HasCome, Lasting, Starts, done_in, handed_in, publications_in, queue_in, seen_at, sent_in, sessions_in}
 use Rattle.mqtt_world_scene.specs.declared.over.Over.{Over}
 use Rattle.mqtt_world.proofs.Course.{come_on, happen_more, happen_none}

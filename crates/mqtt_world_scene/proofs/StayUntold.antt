@@ -3,8 +3,8 @@ use Rattle.std.specs.Prelude.{◌≡◌, ℕ, zero, suc, List, [], ◌∷◌, Op
 use Rattle.std.proofs.Common.{subst, sym}
 use Rattle.mqtt_rules.specs.declared.Limits.{Limits}
 use Rattle.mqtt_script.specs.declared.event.Event.{Event as ScriptEvent}
-use Rattle.mqtt_script_laws.specs.Drains.{DrainHappens, IsRound, MakesRounds, Repeats}
-use Rattle.mqtt_script_laws.specs.Scripted.{Happens, Passes, RunsTo, as_drain, as_event}
+use Rattle.mqtt_script_laws.specs.Drains.{IsRound, MakesRounds, Repeats}
+use Rattle.mqtt_script_laws.specs.Scripted.{Passes, RunsTo, as_drain, as_event}
 use Rattle.mqtt_script_laws.specs.Turns.{IsTurn, by_choice}
 use Rattle.mqtt_world_model.specs.Tellings.{Telling}
 use Rattle.mqtt_world_model.specs.World.{Event, World, receiver_named, to_broker, to_end, ask}

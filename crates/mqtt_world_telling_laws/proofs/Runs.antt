@@ -18,7 +18,7 @@ use Rattle.mqtt_world_model.specs.Run.{Turn, read_asked, read_at, read_first, re
 use Rattle.mqtt_world_model.specs.Run as meant_run
 use Rattle.mqtt_rules_telling_laws.specs.Meaning.{SendsItsTopic}
 use Rattle.mqtt_world_telling_laws.specs.Reading.{known_after, receiver_reads}
-use Rattle.mqtt_world_telling_laws.specs.AsSent.{AsSent, Most, answers_rest, asks, calls_if, changed_for, end_reads, first_step, happens, in_world, known_joined, receivers_read, restarted, run, start_as_sent, turned}
+use Rattle.mqtt_world_telling_laws.specs.AsSent.{AsSent, Most, answers_rest, asks, calls_if, changed_for, first_step, happens, in_world, known_joined, receivers_read, restarted, run, start_as_sent, turned}
 use Rattle.mqtt_world_telling_laws.specs.AsSent as sent
 use Rattle.mqtt_world_telling_laws.specs.Likewise.{AllPublishersAlike, AllReceiversAlike, AllSendTopics, AllUnderstand, Likewise, ReceiversAlike, WorldsAlike}
 use Rattle.mqtt_world_telling_laws.proofs.Downs.{DownsAlike}

@@ -32,7 +32,7 @@ use Rattle.mqtt_rules.proofs.acts.Leads.{Leads}
 use Rattle.mqtt_rules.proofs.lines.LineRows.{numbered}
 use Rattle.mqtt_rules.specs.Closing.{end_session}
 use Rattle.mqtt_rules.specs.Connect.{begin_named, expiry_of, greet, will_of}
-use Rattle.mqtt_rules.specs.Deeds.{At, Count, Deed, Finish, Forget, FromClient, Gone, Hear, Keep, Leave, LinePart, Link, Message, On, Open, Origin, Part, RefuseWill, Resume, Send, SetAlias, after, after_all, always, fresh_line, given_after, line_after, lines_after, lines_at, offer, on_line, rows_of_all, series, whose, with_session, without_place}
+use Rattle.mqtt_rules.specs.Deeds.{At, Count, Deed, Finish, Forget, FromClient, Gone, Hear, Leave, LinePart, Link, Message, On, Open, Origin, Part, RefuseWill, Resume, Send, SetAlias, after, after_all, always, fresh_line, given_after, line_after, lines_after, lines_at, offer, on_line, rows_of_all, series, whose, with_session, without_place}
 use Rattle.mqtt_rules.specs.Deeds as deeds_of_all
 use Rattle.mqtt_rules.specs.Inbound.{pump_deeds, pump_turns}
 use Rattle.mqtt_rules.specs.Outbound.{enter_deeds, leave_deeds, of_entry, turn_deeds}
