@@ -16,7 +16,7 @@ function finish() {
     process.exit(0);
 }
 
-const receiver = mqtt.connect(url, { ...options, properties: { topicAliasMaximum: 10 } });
+const receiver = mqtt.connect(url, { ...options, topicAliasMaximum: 10 });
 receiver.on("message", (topic, payload, packet) => {
     came.push({ text: `${topic} ${payload}`, packet });
     if (came.length === sent.length) setTimeout(finish, 500);
