@@ -1,0 +1,4 @@
+pub mod SamePumps
+pub mod WholeCopies
+pub mod Decided
+pub mod Offers
