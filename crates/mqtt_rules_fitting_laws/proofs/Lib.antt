@@ -1,4 +1,0 @@
-pub mod SamePumps
-pub mod WholeCopies
-pub mod Decided
-pub mod Offers
