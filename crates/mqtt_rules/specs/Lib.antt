@@ -16,4 +16,3 @@ pub mod Lines
 pub mod Numbers
 pub mod Contents
 pub mod Forms
-pub mod Fitting
