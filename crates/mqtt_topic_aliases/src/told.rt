@@ -7,7 +7,7 @@ use crate::form::Form;
 use crate::sizes::{OtherBytes, if_plain, or_plain};
 use mqtt_base::Text;
 use mqtt_topic::TopicFault;
-use std::alloc::Global;
+use std::alloc::{AllocError, Global};
 use std::marker::Model;
 
 /// How many aliases a client is told at most (ours).
@@ -117,6 +117,20 @@ impl OutAliases {
         }
     }
 
+    /// Another table of the same topics; they share their bytes.
+    pub fn copied(&self, alloc: Global) -> Result<OutAliases, TopicFault>
+        ensures ok { IfOk result (λ copy. copy ≡ self.now) }
+        ensures fault { IfErr result (λ fault. fault ≡ TopicFault.Memory) }
+    {
+        match same_texts(alloc, &self.topics) {
+            Ok(topics) => Ok(OutAliases {
+                max: self.max,
+                topics,
+            }),
+            Err(_) => Err(TopicFault::Memory),
+        }
+    }
+
     /// Forgets the topics behind the first so many. Takes no memory.
     pub fn shorten(&mut self, count: usize)
         ensures { self.new ≡ shortened count self.old }
@@ -161,6 +175,17 @@ impl OutAliases {
         }
         Ok(form)
     }
+}
+
+/// The same topics, in the same order; they share their bytes.
+fn same_texts(alloc: Global, topics: &[Text]) -> Result<Vec<Text>, AllocError>
+    ensures { IfOk result (λ copy. copy.items ≡ topics.now) }
+{
+    let mut copy = Vec::with_capacity(alloc, topics.len())?;
+    for topic in topics {
+        copy.push(topic.clone()?)?;
+    }
+    Ok(copy)
 }
 
 /// Where a topic stands among others, from 1; they are at most so many.
