@@ -85,10 +85,10 @@ pub(crate) fn is_late<V: QueueView>(now: u64, row: &V::Row) -> bool
 }
 
 /// Whether a copy is too large for a connection (3.1.2.11.4).
-pub(crate) fn is_large<V: QueueView>(way: Way, row: &V::Row) -> bool
-    ensures { (view : V) → result ≡ is_large way (V.entry view row.now).copy }
+pub(crate) fn is_large<V: QueueView>(way: Way, view: &V, row: &V::Row) -> bool
+    ensures { result ≡ is_large way (V.entry view.now row.now).copy }
 {
-    way.largest < V::size(row)
+    way.largest < view.size(row)
 }
 
 /// Whether a copy gives way in a full queue (ours).

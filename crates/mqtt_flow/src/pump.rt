@@ -60,10 +60,11 @@ fn first_time<V: QueueView>(
     alloc: Global,
     way: Way,
     pace: &Pace,
+    view: &V,
     row: &V::Row,
 ) -> Result<Step, FlowFault>
     requires { length pace.now.used < 65534 }
-    ensures step { (view : V) → IfOk result (λ step. step ≡ first_step way (V.entry view row.now) pace.now) }
+    ensures step { IfOk result (λ step. step ≡ first_step way (V.entry view.now row.now) pace.now) }
     ensures fault { IfErr result (λ fault. fault ≡ FlowFault.Memory) }
 {
     let place = V::place(row);
@@ -73,7 +74,7 @@ fn first_time<V: QueueView>(
             ending: Ending::Expired,
         }));
     }
-    if is_large::<V>(way, row) {
+    if is_large(way, view, row) {
         return Ok(Step::Take(Turn::Leave {
             place,
             ending: Ending::TooLarge,
@@ -94,7 +95,7 @@ fn once_more<V: QueueView>(way: Way, pace: &Pace, view: &V, row: &V::Row, identi
     if view.here(row) {
         return Step::GoOn;
     }
-    if !is_large::<V>(way, row) {
+    if !is_large(way, view, row) {
         return in_room(pace, Turn::Resend { place, identifier });
     }
     match V::qos(row) {
@@ -126,7 +127,7 @@ fn step_at<V: QueueView>(
         return Ok(Step::Stop);
     }
     match V::phase(row) {
-        Phase::Waiting => first_time::<V>(alloc, way, pace, row),
+        Phase::Waiting => first_time(alloc, way, pace, view, row),
         Phase::Sent { identifier } => Ok(once_more(way, pace, view, row, identifier)),
         Phase::Released { .. } | Phase::Oversize { .. } => Ok(Step::GoOn),
     }

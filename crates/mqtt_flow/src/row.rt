@@ -26,9 +26,9 @@ pub trait QueueView {
     fn qos(row: &Self::Row) -> Qos
         ensures { (view : Self) → result ≡ (entry view row.now).copy.qos };
 
-    /// Bytes of its PUBLISH, fixed header included (2.1.4). Takes no memory.
-    fn size(row: &Self::Row) -> u32
-        ensures { (view : Self) → result ≡ (entry view row.now).copy.size };
+    /// Bytes of its PUBLISH as it goes out on the session's connection, fixed header included (2.1.4). Takes no memory.
+    fn size(&self, row: &Self::Row) -> u32
+        ensures { result ≡ (entry self.now row.now).copy.size };
 
     /// When its publication was accepted, in milliseconds. Takes no memory.
     fn arrived(row: &Self::Row) -> u64
@@ -64,7 +64,7 @@ impl QueueView for Entries {
         row.copy.qos
     }
 
-    fn size(row: &Entry) -> u32 {
+    fn size(&self, row: &Entry) -> u32 {
         row.copy.size
     }
 

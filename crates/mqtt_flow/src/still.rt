@@ -44,7 +44,7 @@ pub(crate) fn is_idle<V: QueueView>(way: Way, view: &V, rows: &[V::Row]) -> bool
         let here = view.here(row);
         if stirs(V::phase(row), here) {
             let is_full = usize::from(way.window) <= window;
-            return is_full && !is_large::<V>(way, row) && !is_late::<V>(way.now, row);
+            return is_full && !is_large(way, view, row) && !is_late::<V>(way.now, row);
         }
         if here {
             window += 1;
