@@ -20,6 +20,7 @@ pub mod ExamplesSpent
 pub mod ExamplesTakeover
 pub mod ExamplesTick
 pub mod ExamplesTold
+pub mod ExamplesFitting
 pub mod ExamplesTopics
 pub mod ExamplesWindow
 pub mod Groups

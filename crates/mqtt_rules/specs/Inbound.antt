@@ -22,9 +22,10 @@ use Rattle.mqtt_flow.specs.Outbound as rules
 use Rattle.mqtt_records.specs.declared.session.Session.{Session}
 use Rattle.mqtt_rules.specs.Packets.{puback, pubrec, pubcomp}
 use Rattle.mqtt_records_message.specs.PassedOn.{number_at, passed_on}
-use Rattle.mqtt_rules.specs.State.{Line, Env, queue_on}
+use Rattle.mqtt_rules.specs.State.{Line, Broker, Env, queue_on}
 use Rattle.mqtt_rules.specs.Deeds.{whose, Message, FromClient, SetExpiry, Open, Release, SetAlias, Deed, At, On, Send, Act, always, series}
-use Rattle.mqtt_rules.specs.Outbound.{turn_deeds, all_turn_deeds, way_of}
+use Rattle.mqtt_rules.specs.Fitting.{pump_turns}
+use Rattle.mqtt_rules.specs.Outbound.{turn_deeds, all_turn_deeds}
 use Rattle.mqtt_rules.specs.Routing.{CopyTo, accepted_copies, publish, is_wanted}
 use Rattle.mqtt_rules.specs.Closing.{close, drop_line}
 
@@ -171,11 +172,8 @@ on_pubcomp env l s id b = on_answer (rules.pubcomp id (queue_on l.went s)) env l
 
 -- ---- pump (4.6, 4.9)
 
-abbrev pub pump_turns : Line → ℕ → Session → List Turn
-pump_turns l now s = pump (way_of l now) (queue_on l.went s)
-
-abbrev pub pump_deeds : Line → ℕ → Session → List Deed
-pump_deeds l now s = all_turn_deeds now l.number s (pump_turns l now s)
+abbrev pub pump_deeds : Line → Broker → Session → List Deed
+pump_deeds l b s = all_turn_deeds b.now l.number s (pump_turns l b s)
 
 -- ---- DISCONNECT (3.14)
 

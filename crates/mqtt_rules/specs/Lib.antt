@@ -16,3 +16,4 @@ pub mod Lines
 pub mod Numbers
 pub mod Contents
 pub mod Forms
+pub mod Fitting

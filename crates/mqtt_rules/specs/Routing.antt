@@ -18,9 +18,10 @@ use Rattle.mqtt_records.specs.declared.subscription.Subscription.{Subscription}
 use Rattle.mqtt_records.specs.declared.session.Session.{Session}
 use Rattle.mqtt_records.specs.declared.records.Records.{Records}
 use Rattle.mqtt_records.specs.Records.{kept_place}
-use Rattle.mqtt_rules.specs.Packets.{quality, publish_of}
+use Rattle.mqtt_rules.specs.Packets.{quality}
 use Rattle.mqtt_rules.specs.State.{Broker, Env, session_at, is_connected, line_of, next_of}
-use Rattle.mqtt_rules.specs.Deeds.{Message, Origin, Deed, Accept, Keep, Forget, Act, always, series, of_session, offer}
+use Rattle.mqtt_rules.specs.Deeds.{Message, Origin, Deed, Accept, Keep, Forget, Act, always, series, of_session}
+use Rattle.mqtt_rules.specs.Fitting.{offer_copy}
 use Rattle.mqtt_rules.specs.Outbound.{room_at, enter_deeds}
 
 -- ---- the state as routing sees it
@@ -125,7 +126,7 @@ is_queued d = is_queued_at d.copy.qos
 -- a copy of QoS 1 or 2 enters the queue, one of QoS 0 goes out at once, if its session is connected
 abbrev pub deliver_by : Bool → Env → CopyTo → Act
 deliver_by true env d b = of_session d.birth (λ s. always (enter_deeds env d.copy s)) b
-deliver_by false env d b = offer (line_of d.birth b) (publish_of b.now false 0 d.copy)
+deliver_by false env d b = offer_copy (line_of d.birth b) d.copy b
 
 abbrev pub deliver : Env → CopyTo → Act
 deliver env d b = deliver_by (is_queued d) env d b

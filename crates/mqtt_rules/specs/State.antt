@@ -1,5 +1,5 @@
 -- The state of a broker: what it stores, and the lines that clients have opened (MQTT 5.0, 4.1).
-use Rattle.std.specs.Prelude.{◌≡◌, ℕ, suc, ◌+◌, min, Bool, false, List, [], find, map, nat_eq, bytes_eq, Option, Some, None, is_none}
+use Rattle.std.specs.Prelude.{ℕ, suc, ◌+◌, min, Bool, false, List, find, map, nat_eq, bytes_eq, Option, Some, None, is_none}
 use Rattle.mqtt_flow.specs.declared.entry.Entry.{Entry as FlowEntry}
 use Rattle.mqtt_flow.specs.declared.entry.QueuedCopy.{QueuedCopy}
 use Rattle.mqtt_flow_inbound.specs.Identifiers.{is_among}

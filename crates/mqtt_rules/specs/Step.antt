@@ -75,7 +75,7 @@ on_fault env l is_connect code (Some birth) b = drop_line env (late_code code) l
 
 abbrev pub on_pump : Line → Option ℕ → Act
 on_pump l None b = []
-on_pump l (Some birth) b = of_session birth (λ s. always (pump_deeds l b.now s)) b
+on_pump l (Some birth) b = of_session birth (λ s. always (pump_deeds l b s)) b
 
 -- ---- the deeds of a call
 

@@ -23,8 +23,9 @@ use Rattle.mqtt_base.specs.declared.limits.TheConstants.{SUBSCRIPTION_LIMIT}
 use Rattle.mqtt_records.specs.declared.session.Session.{Session}
 use Rattle.mqtt_records.specs.declared.records.Records.{Records}
 use Rattle.mqtt_records_message.specs.PassedOn.{number_at}
-use Rattle.mqtt_rules.specs.Packets.{quality, is_expired, publish_of, suback, unsuback}
+use Rattle.mqtt_rules.specs.Packets.{quality, is_expired, suback, unsuback}
 use Rattle.mqtt_rules.specs.State.{Broker, Env, session_at, line_at}
+use Rattle.mqtt_rules.specs.Fitting.{offer_copy}
 use Rattle.mqtt_rules.specs.Deeds.{whose, Deed, Count, At, Act, after_all, always, series, offer}
 use Rattle.mqtt_rules.specs.Deeds as deeds
 use Rattle.mqtt_rules.specs.Outbound.{room}
@@ -173,15 +174,17 @@ filter_answers env birth identifier (a ∷ rest) b =
     let g = filter_answer_of env (wish_of identifier a) b (session_at birth b.records) in
     before g (filter_answers env birth identifier rest (after_all g.deeds b))
 
-abbrev pub late_sends : ℕ → ℕ → CopyTo → Broker → List Deed
-late_sends line now d b = offer (line_at line b) (publish_of now false 0 d.copy)
+-- a copy of QoS 0 of a retained message, on what the ones before it left
+abbrev pub late_send : ℕ → CopyTo → Act
+late_send line d b = offer_copy (line_at line b) d.copy b
 
 abbrev pub subscribe_by : Bool → Env → ℕ → Session → Subscribe → Act
 subscribe_by true env line s p b =
     offer (line_at line b) (suback p.identifier (map (λ a. identifier_in_use) p.subscriptions))
 subscribe_by false env line s p b =
     let a = filter_answers env s.birth (number_at SubscriptionIdentifier p.properties) p.subscriptions b in
-    a.deeds ++ offer (line_at line b) (suback p.identifier a.codes) ++ flat_map (λ d. late_sends line b.now d b) a.late
+    let told = a.deeds ++ offer (line_at line b) (suback p.identifier a.codes) in
+    told ++ series (map (late_send line) a.late) (after_all told b)
 
 -- an identifier that is open for a QoS 2 PUBLISH is in use (2.2.1)
 abbrev pub on_subscribe : Env → ℕ → Session → Subscribe → Act

@@ -32,6 +32,7 @@ use Rattle.mqtt_records_message.specs.declared.message.Will.{Will}
 use Rattle.mqtt_records.specs.declared.session.Session.{Session}
 use Rattle.mqtt_records.specs.declared.records.Records.{Records}
 use Rattle.mqtt_records.specs.Session.{birth_of}
+use Rattle.mqtt_rules.specs.Fitting.{has_form}
 use Rattle.mqtt_rules.specs.Packets.{puback, pubrec, pubcomp, pubrel, suback, unsuback, connack, disconnect, publish_of}
 use Rattle.mqtt_records_message.specs.PassedOn.{number_at}
 use Rattle.mqtt_rules.specs.State.{Line, Broker, Env, session_at, session_named, line_at, line_of, is_connected, queue_on}
@@ -44,7 +45,7 @@ use Rattle.mqtt_rules.specs.Inbound.{Meaning, Means, Wrong, meaning, sets_alias,
 use Rattle.mqtt_rules.specs.Subscribe as sub
 use Rattle.mqtt_rules.specs.Tick.{is_silent, silence, has_lapsed, lapse_deeds, is_stale, first_due, due, on_tick}
 use Rattle.mqtt_rules.specs.Step.{Call, NewLine, Input, BadInput, Lost, Pump, Tick, first_packet, next_packet, on_packet, on_fault, late_code, on_pump, can_link, deeds_of, close_if, opening}
-use Rattle.mqtt_rules.proofs.acts.Offers.{of_offer}
+use Rattle.mqtt_rules.proofs.acts.Offers.{of_offer, of_offer_if}
 use Rattle.mqtt_rules.proofs.flight.FlightRows.{found_key}
 use Rattle.mqtt_rules.proofs.numbers.Counters.{now_stays}
 use Rattle.mqtt_rules.specs.Laws.{IsAmong}
@@ -201,7 +202,7 @@ pub record Law (env : Env) (about : About) (Keep : Broker → Type 0) (Good : De
   pub grants : (w : sub.Wish) (s : Session) (b : Broker) → Keep b → about.session s.birth → IsAsked about w → IsGranted env w s b
       → Leads Keep Good (sub.granted_filter env (sub.next_number b.records) s w (brought_to w s b) b).deeds b
   -- queues
-  pub pumps : (l : Line) (s : Session) (b : Broker) → Keep b → about.line l → l.session ≡ Some s.birth → session_at s.birth b.records ≡ Some s → Leads Keep Good (pump_deeds l b.now s) b
+  pub pumps : (l : Line) (s : Session) (b : Broker) → Keep b → about.line l → l.session ≡ Some s.birth → session_at s.birth b.records ≡ Some s → Leads Keep Good (pump_deeds l b s) b
   pub turns : (a : Answer) (t : Turn) (l : Line) (s : Session) (b : Broker)
       → Keep b → about.line l → about.session s.birth → session_at s.birth b.records ≡ Some s → IsAnswer a l s → a ≡ Ok (Some t) → Leads Keep Good (turn_deeds b.now l.number s t) b
   pub lapses : (s : Session) (b : Broker) → Keep b → IsAmong s b.records.sessions → Leads Keep Good (lapse_deeds b.now s) b
@@ -629,17 +630,24 @@ module _ (env : Env) (about : About) (Keep : Broker → Type 0) (Good : Deed →
       (λ w e. (came.0, came.1, wished a.filter identifier (options_of a.options) w e ∙ came.2)) refl)
       (λ h. leads_all_granted birth identifier rest (after_all g.deeds b) h own came)
 
+  -- copies of retained messages that go out at once lead, one after the other
+  leads_late : (line : ℕ) (ds : List CopyTo) (b : Broker) → Keep b → about.number line → Led (series (map (sub.late_send line) ds) b) b
+  leads_late line ds b k its =
+      leads_series Keep Good (map (sub.late_send line) ds) (leads_map Keep Good (sub.late_send line) (λ d c g.
+      of_offer_if (λ (xs : List Deed). Led xs c) (has_form d.copy c) (line_at line c) (publish_of c.now false 0 d.copy) (tt, g)
+      (λ l there. law.sends l.number (publish_of c.now false 0 d.copy) c g (subst about.number (sym (found_number line l c.lines there)) its))) ds) b k
+
   -- a SUBSCRIBE leads, whether its identifier is in use or not
   pub leads_subscribe : (t : Bool) (line : ℕ) (s : Session) (p : Asking) (b : Broker) → Keep b → about.number line → about.session s.birth → about.packet (packets.Subscribe p) → Led (sub.subscribe_by t env line s p b) b
   leads_subscribe true line s p b k its own came = leads_offer line (suback p.identifier (map (λ a. identifier_in_use) p.subscriptions)) b b k its
   leads_subscribe false line s p b k its own came =
       let a = sub.filter_answers env s.birth (number_at SubscriptionIdentifier p.properties) p.subscriptions b in
       let told = offer (line_at line b) (suback p.identifier a.codes) in
-      leads_append Keep Good (a.deeds ++ told) (flat_map (λ d. sub.late_sends line b.now d b) a.late) b
+      leads_append Keep Good (a.deeds ++ told) (series (map (sub.late_send line) a.late) (after_all (a.deeds ++ told) b)) b
       (leads_append Keep Good a.deeds told b
       (leads_all_granted s.birth (number_at SubscriptionIdentifier p.properties) p.subscriptions b k own (p, came, refl))
       (λ h. leads_offer line (suback p.identifier a.codes) b (after_all a.deeds b) h its))
-      (λ h. leads_flat Keep Good (λ d. sub.late_sends line b.now d b) (λ d c g. leads_offer line (publish_of b.now false 0 d.copy) b c g its) a.late _ h)
+      (λ h. leads_late line a.late (after_all (a.deeds ++ told) b) h its)
 
   -- an UNSUBSCRIBE leads, whether its identifier is in use or not
   pub leads_unsubscribe : (t : Bool) (line : ℕ) (s : Session) (p : GivingUp) (b : Broker) → Keep b → about.number line → about.session s.birth → Led (sub.unsubscribe_by t line s p b) b
@@ -699,7 +707,7 @@ module _ (env : Env) (about : About) (Keep : Broker → Type 0) (Good : Deed →
   pub leads_pump : (l : Line) (session : Option ℕ) (b : Broker) → Keep b → about.line l → l.session ≡ session → Led (on_pump l session b) b
   leads_pump l None b k its is = (tt, k)
   leads_pump l (Some birth) b k its is =
-      of_its birth (λ s. always (pump_deeds l b.now s)) b k (law.finds.its_session l birth its is)
+      of_its birth (λ s. always (pump_deeds l b s)) b k (law.finds.its_session l birth its is)
       (λ s e own. law.pumps l s b k its (is ∙ ap Some (sym (found_key birth_of birth s b.records.sessions e))) (own_session birth s b e))
 
   -- ---- tick

@@ -30,11 +30,13 @@ use Rattle.mqtt_rules.specs.Outbound.{leave_deeds, turn_deeds, since, queue_limi
 use Rattle.mqtt_rules.specs.Routing.{CopyTo, is_queued, deliver_by, deliver, retained_of, forgets, finds_place, place_of_kept, kept_message, retain_by, next_publication, publish, accepted_copies, accepted_if}
 use Rattle.mqtt_rules.specs.Closing.{end_session}
 use Rattle.mqtt_rules.specs.Connect.{expiry_of, will_of, fresh_row, greet, begin, begin_named, connack_properties}
-use Rattle.mqtt_rules.specs.Inbound.{pump_turns, pump_deeds}
+use Rattle.mqtt_rules.specs.Fitting.{pump_turns}
+use Rattle.mqtt_rules.specs.Inbound.{pump_deeds}
 use Rattle.mqtt_rules.specs.Subscribe as sub
 use Rattle.mqtt_rules.specs.Step.{Call, deeds_of, opening}
 use Rattle.mqtt_rules.specs.Tick.{lapses, lapse_deeds}
-use Rattle.mqtt_rules.proofs.acts.Offers.{of_offer}
+use Rattle.mqtt_rules.specs.Fitting.{has_form}
+use Rattle.mqtt_rules.proofs.acts.Offers.{of_offer, of_offer_if}
 use Rattle.mqtt_rules.proofs.flight.FlightRows.{found_key}
 use Rattle.mqtt_rules.proofs.acts.Goods.{AreGood}
 use Rattle.mqtt_rules.proofs.acts.Leads.{Leads, leads_end, leads_append, leads_flat, leads_with_session, leads_of_entry}
@@ -90,7 +92,7 @@ MarkLaw Keeps Good = (who : Whose) (place : ℕ) (phase : Phase) (b : Broker) �
 
 -- what becomes of a queue by its turns
 pub record TurnLaw (about : About) (Keeps : Broker → Type 0) (Good : Deed → Broker → Type 0) : Type 0 where
-  pub pumps : (l : Line) (s : Session) (b : Broker) → Keeps b → about.line l → l.session ≡ Some s.birth → session_at s.birth b.records ≡ Some s → Leads Keeps Good (pump_deeds l b.now s) b
+  pub pumps : (l : Line) (s : Session) (b : Broker) → Keeps b → about.line l → l.session ≡ Some s.birth → session_at s.birth b.records ≡ Some s → Leads Keeps Good (pump_deeds l b s) b
   pub turns : (a : Answer) (t : Turn) (l : Line) (s : Session) (b : Broker)
       → Keeps b → about.line l → about.session s.birth → session_at s.birth b.records ≡ Some s → IsAnswer a l s → a ≡ Ok (Some t) → Leads Keeps Good (turn_deeds b.now l.number s t) b
 
@@ -171,7 +173,9 @@ module _ (env : Env) (about : About) (Keeps : Broker → Type 0) (Good : Deed �
   leads_deliver_by true d b k made =
       leads_with_session Keeps Good (session_at d.birth b.records) (λ s. always (enter_deeds env d.copy s)) b k
       (λ s e. leads_enter d.copy s b k (subst (λ (birth : ℕ). IsMade birth d.copy b) (sym (found_key birth_of d.birth s b.records.sessions e)) made))
-  leads_deliver_by false d b k made = leads_offer (line_of d.birth b) (publish_of b.now false 0 d.copy) b k
+  leads_deliver_by false d b k made =
+      let packet = publish_of b.now false 0 d.copy in
+      of_offer_if (λ (ds : List Deed). Led ds b) (has_form d.copy b) (line_of d.birth b) packet (nothing b k) (λ l there. one (Send l.number packet) b k (law.send l.number packet b k))
 
   -- copies that are handed over, one after the other, lead
   pub leads_deliveries : (ds : List CopyTo) (b : Broker) → Keeps b → AreMade ds b → Led (series (map (deliver env) ds) b) b
@@ -290,7 +294,7 @@ module _ (env : Env) (about : About) (Keeps : Broker → Type 0) (Good : Deed �
     -- if phases may be set, turns of a queue lead
     pub turn_law : TurnLaw about Keeps Good
     turn_law = record {
-      pumps = λ l s b k its is there. leads_flat Keeps Good (turn_deeds b.now l.number s) (leads_turn b.now l.number s) (pump_turns l b.now s) b k;
+      pumps = λ l s b k its is there. leads_flat Keeps Good (turn_deeds b.now l.number s) (leads_turn b.now l.number s) (pump_turns l b s) b k;
       turns = λ a t l s b k its own there is e. leads_turn b.now l.number s t b k;
     }
 

@@ -2,14 +2,10 @@
 use Rattle.std.proofs.Common.{◌≡◌, Bool, true, false, cond, List, [], ◌∷◌, Option, Some, None, refl, subst}
 use Rattle.std.specs.Prelude.{nat_le}
 use Rattle.mqtt_codec.specs.declared.packet.Packet.{Packet}
+use Rattle.mqtt_rules.specs.Fitting.{offer_if}
 use Rattle.mqtt_rules.specs.Deeds.{Deed, Send, offer}
 use Rattle.mqtt_rules.specs.Packets.{size_of}
 use Rattle.mqtt_rules.specs.State.{Line}
-
--- on a line that is there, if the test says so of it
-abbrev pub offer_if : (Line → Bool) → Option Line → Packet → List Deed
-offer_if may None packet = []
-offer_if may (Some l) packet = cond (may l) (Send l.number packet ∷ []) []
 
 -- an offer asks whether the packet as it is is within the client's Maximum Packet Size
 pub offer_is : (o : Option Line) (packet : Packet) → offer_if (λ l. nat_le (size_of packet) l.largest) o packet ≡ offer o packet

@@ -1,6 +1,7 @@
 -- Every step and opening keeps the contents of what is stored lawful.
 use Rattle.std.proofs.Common.{◌≡◌, refl, arith, sym, ℕ, Bool, true, false, List, [], ◌∷◌, ◌++◌, filter, map, Option, Some, None, subst, inl, inr}
-use Rattle.mqtt_rules.proofs.acts.Offers.{of_offer}
+use Rattle.mqtt_rules.specs.Fitting.{has_form}
+use Rattle.mqtt_rules.proofs.acts.Offers.{of_offer, of_offer_if}
 use Rattle.mqtt_rules.proofs.order.OrderedQueues.{length-mapped}
 use Rattle.std.specs.Prelude.{◌≤◌, length, suc, flat_map, option_map, not, ◌&&◌}
 use Rattle.std.specs.List.{AllByRecursion}
@@ -39,7 +40,8 @@ use Rattle.mqtt_rules.specs.Outbound.{leave_deeds, turn_deeds, since, queue_limi
 use Rattle.mqtt_rules.specs.Routing.{routed_subscription, subscriber_of, subscribers, publication_of, answers, CopyTo, copy_to, served_copies_to, copies_to, next_publication, routing_of, finds_place, accepted_if, accepted_copies, is_queued, deliver_by, deliver, retained_of, forgets, retain_by, publish}
 use Rattle.mqtt_rules.specs.Closing.{end_session}
 use Rattle.mqtt_rules.specs.Connect.{expiry_of, will_of, greet, begin_named}
-use Rattle.mqtt_rules.specs.Inbound.{pump_turns, pump_deeds}
+use Rattle.mqtt_rules.specs.Fitting.{pump_turns}
+use Rattle.mqtt_rules.specs.Inbound.{pump_deeds}
 use Rattle.mqtt_rules.specs.Subscribe as sub
 use Rattle.mqtt_rules.specs.Tick.{lapses, lapse_deeds}
 use Rattle.mqtt_rules.specs.Step.{Call, NewLine, Input, BadInput, Lost, Pump, Tick, deeds, at_moment, env_of, with_moment, rows_written, stepped, opening_deeds, unopened, opened}
@@ -164,7 +166,8 @@ module _ (sizes : Sizes) (are : AreSizes sizes) where
   deliver_brings : (t : Bool) (env : Env) (d : CopyTo) (b : Broker) → IsCopiedTo d → Brought (deliver_by t env d b) b
   deliver_brings true env d b q =
       good_with_session Brings (session_at d.birth b.records) (λ s. always (enter_deeds env d.copy s)) b (λ s e. enter_brings env d.copy s b q)
-  deliver_brings false env d b q = offer_brings (line_of d.birth b) (publish_of b.now false 0 d.copy) b
+  deliver_brings false env d b q =
+      of_offer_if (λ (ds : List Deed). Brought ds b) (has_form d.copy b) (line_of d.birth b) (publish_of b.now false 0 d.copy) tt (λ l there. (tt, tt))
 
   deliveries_bring : (env : Env) (ds : List CopyTo) (b : Broker) → AllByRecursion IsCopiedTo ds → Brought (series (map (deliver env) ds) b) b
   deliveries_bring env [] b h = tt
@@ -301,7 +304,7 @@ module _ (sizes : Sizes) (are : AreSizes sizes) where
         let copies = brought_copied (not (begins_share w.filter) && sub.wants_retained w.options.retain_handling (sub.has_filter w.filter s)) b.now number s w b.records.retained identified k.stored.retained in
         led (sub.granted_filter env number s w (brought_to w s b) b).deeds b k
         (tt, (record { filter = granted.valid; identifier = identified }, deliveries_bring env queued (after_all (Count number ∷ At (whose s) (told.Subscribe (sub.subscription number s w)) ∷ []) b) (each_filter IsCopiedTo is_queued (brought_to w s b) copies)));
-    pumps = λ l s b k its is there. led (pump_deeds l b.now s) b k (good_flat Brings (turn_deeds b.now l.number s) (turn_brings b.now l.number s) (pump_turns l b.now s) b);
+    pumps = λ l s b k its is there. led (pump_deeds l b s) b k (good_flat Brings (turn_deeds b.now l.number s) (turn_brings b.now l.number s) (pump_turns l b s) b);
     turns = λ a t l s b k its own there is e. led (turn_deeds b.now l.number s t) b k (turn_brings b.now l.number s t b);
     lapses = λ s b k among. led (lapse_deeds b.now s) b k (leaves_bring s (lapses b.now s) b);
     stale = λ x b k among. led (Forget x.place ∷ []) b k (tt, tt);

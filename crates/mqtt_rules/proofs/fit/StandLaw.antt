@@ -14,7 +14,8 @@ use Rattle.mqtt_records.specs.declared.session.Session.{Session}
 use Rattle.mqtt_records.specs.declared.records.Records.{Records}
 use Rattle.mqtt_records_rows.specs.Order.{IsAscending, row_at}
 use Rattle.mqtt_records.specs.Session.{birth_of, copy_place}
-use Rattle.mqtt_rules.specs.State.{Line, Broker, Env, session_at, line_of, queue_on}
+use Rattle.mqtt_rules.specs.Fitting.{fitted, has_form, size_at}
+use Rattle.mqtt_rules.specs.State.{Line, Broker, Env, session_at, line_of, told_on, queue_on}
 use Rattle.mqtt_rules.specs.Deeds.{Whose, whose, Message, Origin, FromClient, Part, Resume, Close, SetExpiry, DropWill, Open, Enter, Mark, Leave, Hear, SetAlias, Deed, Accept, Begin, Name, Count, At, Finish, Keep, Forget, RefuseWill, Link, On, Send, Gone, after, after_all, rows_of, series, always, with_session, offer}
 use Rattle.mqtt_rules.specs.Deeds as deeds
 use Rattle.mqtt_rules.specs.Outbound.{leave_deeds, turn_deeds, since, queue_limits, enter_deeds, way_of}
@@ -22,19 +23,20 @@ use Rattle.mqtt_rules.specs.Packets.{publish_of}
 use Rattle.mqtt_rules.specs.Routing.{CopyTo, is_queued, deliver_by, deliver, retained_of, forgets, retain_by, next_publication, publish}
 use Rattle.mqtt_rules.specs.Closing.{end_session}
 use Rattle.mqtt_rules.specs.Connect.{expiry_of, will_of, greet, begin_named}
-use Rattle.mqtt_rules.specs.Inbound.{pump_turns, pump_deeds}
+use Rattle.mqtt_rules.specs.Fitting.{pump_turns}
+use Rattle.mqtt_rules.specs.Inbound.{pump_deeds}
 use Rattle.mqtt_rules.specs.Subscribe as sub
 use Rattle.mqtt_rules.specs.Tick.{lapses, lapse_deeds}
 use Rattle.mqtt_rules.specs.Step.{Call, deeds_of, opening}
 use Rattle.mqtt_rules.specs.Laws.{IsAmong, HasTables, IsOrdered}
-use Rattle.mqtt_rules.proofs.acts.Offers.{of_offer}
+use Rattle.mqtt_rules.proofs.acts.Offers.{of_offer, of_offer_if}
 use Rattle.mqtt_rules.proofs.acts.Goods.{AreGood, good_append, good_with_session}
 use Rattle.mqtt_rules.proofs.acts.Leads.{Leads}
 use Rattle.mqtt_rules.proofs.acts.Acts.{anyone, call_of_anyone, finds_anyone, is_alone, closing_session, closing_on, closing, brought_to, Law, leads_call, leads_opening}
 use Rattle.mqtt_rules.proofs.flight.FlightRows.{found_key, all_at, all_found}
 use Rattle.mqtt_rules.proofs.order.Ordered.{changed_all-ordered}
 use Rattle.mqtt_rules.proofs.fit.Turns.{Stands, still_now, stands_turn, stands_turns, stands_leaves, stands_ended}
-use Rattle.mqtt_rules.proofs.fit.TurnLists.{answers_rise, pumps_rise, lapses_rise, drops_rise}
+use Rattle.mqtt_rules.proofs.fit.TurnLists.{answers_rise, sized_pumps_rise, lapses_rise, drops_rise}
 use Rattle.mqtt_rules.proofs.fit.FitLaw.{all_among}
 
 abbrev pub Orders : Broker → Type 0
@@ -72,7 +74,8 @@ stands_offer o packet b = of_offer (λ (ds : List Deed). AreGood Stands ds b) o 
 stands_deliver : (t : Bool) (env : Env) (d : CopyTo) (b : Broker) → Orders b → AreGood Stands (deliver_by t env d b) b
 stands_deliver true env d b h =
     good_with_session Stands (session_at d.birth b.records) (λ s. always (enter_deeds env d.copy s)) b (λ s e. stands_enter env d.copy s b h (own d.birth s b e))
-stands_deliver false env d b h = stands_offer (line_of d.birth b) (publish_of b.now false 0 d.copy) b
+stands_deliver false env d b h =
+    of_offer_if (λ (ds : List Deed). AreGood Stands ds b) (has_form d.copy b) (line_of d.birth b) (publish_of b.now false 0 d.copy) tt (λ l there. (tt, tt))
 
 stands_deliveries : (env : Env) (ds : List CopyTo) (b : Broker) → Orders b → AreGood Stands (series (map (deliver env) ds) b) b
 stands_deliveries env [] b h = tt
@@ -153,8 +156,8 @@ stand_law env = record {
   resumes = λ l c s b h its none came taken mine is prepared. led (At (whose s) (Resume (expiry_of c) (will_of c)) ∷ greet l c s.birth ∷ []) b h (tt, (tt, tt));
   begins = λ l c b h its none came taken name is room prepared. led (begin_named (is_empty c.client_identifier) l c b.records) b h (stands_begin (is_empty c.client_identifier) l c b);
   grants = λ w s b h its asked granted. led (sub.granted_filter env (sub.next_number b.records) s w (brought_to w s b) b).deeds b h (stands_grants env w s b h);
-  pumps = λ l s b h its is there. led (pump_deeds l b.now s) b h
-      (stands_turns b.now l.number s (pump_turns l b.now s) 0 b (still_now s b there) (pumps_rise (way_of l b.now) l.went s (rising s b h there)));
+  pumps = λ l s b h its is there. led (pump_deeds l b s) b h
+      (stands_turns b.now l.number s (pump_turns l b s) 0 b (still_now s b there) (sized_pumps_rise (size_at (fitted l b.now (told_on l.number b.tellings) s.queue)) (way_of l b.now) l.went s (rising s b h there)));
   turns = λ a t l s b h its mine there is e. led (turn_deeds b.now l.number s t) b h
       (stands_turn b.now l.number s t [] 0 b (still_now s b there) (answers_rise a t l s (rising s b h there) is e)).0;
   lapses = λ s b h among. let there = here s b h among in

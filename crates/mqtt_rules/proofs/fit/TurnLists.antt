@@ -23,7 +23,8 @@ use Rattle.mqtt_rules.specs.State.{Line, entry_on, queue_on}
 use Rattle.mqtt_rules.proofs.acts.Acts.{IsAnswer}
 use Rattle.mqtt_rules.proofs.flight.FlightRows.{all_found, all_more}
 use Rattle.mqtt_rules.proofs.fit.Turns.{Rises}
-use Rattle.mqtt_rules.proofs.flight.SizedRows.{own_size, sized}
+use Rattle.mqtt_rules.specs.Fitting.{sized}
+use Rattle.mqtt_rules.proofs.flight.SizedRows.{own_size}
 
 -- ---- the places of a queue, from n on
 

@@ -26,7 +26,8 @@ use Rattle.mqtt_records_rows.specs.Order.{IsAbove, IsAscending, row_at, remove_r
 use Rattle.mqtt_records.specs.Session.{copy_place, in_phase}
 use Rattle.mqtt_records_rows.proofs.OrderLemmas.{apart}
 use Rattle.mqtt_records_rows.proofs.LookUps.{row_at-remove_row}
-use Rattle.mqtt_rules.specs.State.{Broker, Line, session_at}
+use Rattle.mqtt_rules.specs.Fitting.{fitted, size_at, sized}
+use Rattle.mqtt_rules.specs.State.{Broker, Line, session_at, told_on}
 use Rattle.mqtt_rules.specs.Deeds.{whose, Mark, Leave, Went, At, On, Send, after, after_all}
 use Rattle.mqtt_rules.specs.Outbound.{of_entry, all_turn_deeds, way_of}
 use Rattle.mqtt_rules.specs.Packets.{publish_of, pubrel}
@@ -35,7 +36,6 @@ use Rattle.mqtt_rules.specs.Flight.{identifier_in, identifier_at, IsFlight, HasD
 use Rattle.mqtt_rules.proofs.flight.FlightRows.{all_found, change_row-other}
 use Rattle.mqtt_rules.proofs.flight.FlightQueue.{place-kept, identifier-removed, identifier-marked, flight-kept, flight-sent}
 use Rattle.mqtt_rules.proofs.flight.FlightRecords.{Sits, flight_of, sits-marked, sits-left}
-use Rattle.mqtt_rules.proofs.flight.SizedRows.{own_size, sized}
 
 -- ---- the identifiers in use
 
@@ -233,6 +233,6 @@ pub sized_pump_keeps : (size : CopyRow → ℕ) (l : Line) (now : ℕ) (s : Sess
 sized_pump_keeps size l now s b there h =
     pump_distinct size (way_of l now) now l.number s l.went b (record { session = s; there = there; its_queue = refl; distinct = h })
 
--- by those that rows remember
-pub pump_keeps : (l : Line) (now : ℕ) (s : Session) (b : Broker) → session_at s.birth b.records ≡ Some s → HasDistinctIdentifiers b.records → HasDistinctIdentifiers (after_all (pump_deeds l now s) b).records
-pump_keeps = sized_pump_keeps own_size
+-- by those of the forms in which they would go out
+pub pump_keeps : (l : Line) (s : Session) (b : Broker) → session_at s.birth b.records ≡ Some s → HasDistinctIdentifiers b.records → HasDistinctIdentifiers (after_all (pump_deeds l b s) b).records
+pump_keeps l s b = sized_pump_keeps (size_at (fitted l b.now (told_on l.number b.tellings) s.queue)) l b.now s b

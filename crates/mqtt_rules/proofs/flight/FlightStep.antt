@@ -208,7 +208,7 @@ answer_kept a l s b there h is = elim is [
 
 turns_keep : TurnLaw anyone Distinct (λ d b. ⊤)
 turns_keep = record {
-  pumps = λ l s b h its is there. leads_end Distinct (pump_deeds l b.now s) b (pump_keeps l b.now s b there h);
+  pumps = λ l s b h its is there. leads_end Distinct (pump_deeds l b s) b (pump_keeps l s b there h);
   turns = λ a t l s b h its own there is e. leads_end Distinct (turn_deeds b.now l.number s t) b
       (turn_keeps b.now l.number s t b (subst (KeptAnswer s) e (answer_kept a l s b there h is)) there h);
 }

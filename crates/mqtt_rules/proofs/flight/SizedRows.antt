@@ -2,19 +2,12 @@
 use Rattle.std.proofs.Common.{◌≡◌, ℕ, List, [], ◌∷◌, map, refl, ap}
 use Rattle.std.specs.Prelude.{max}
 use Rattle.mqtt_base.specs.Phases.{order_of}
-use Rattle.mqtt_flow.specs.declared.entry.Entry.{Entry as FlowEntry}
 use Rattle.mqtt_flow.specs.Queue.{greatest_order}
 use Rattle.mqtt_records_message.specs.Queue.{CopyRow}
+use Rattle.mqtt_rules.specs.Fitting.{sized}
 use Rattle.mqtt_rules.specs.State.{entry_on, queued_copy}
 
--- a row whose PUBLISH has so many bytes
-abbrev pub sized : (CopyRow → ℕ) → List ℕ → CopyRow → FlowEntry
-sized size went e =
-    let x = entry_on went e in
-    let copy = x.copy in
-    record { place = x.place; copy = record copy { size = size e }; phase = x.phase; here = x.here }
-
--- those that a row remembers
+-- the bytes that a row remembers
 abbrev pub own_size : CopyRow → ℕ
 own_size e = (queued_copy e.copy).size
 

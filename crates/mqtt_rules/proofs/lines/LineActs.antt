@@ -13,6 +13,7 @@ use Rattle.mqtt_records_message.specs.declared.message.Will.{Will}
 use Rattle.mqtt_records.specs.declared.session.Session.{Session}
 use Rattle.mqtt_records_rows.specs.Order.{row_at}
 use Rattle.mqtt_records.specs.Session.{copy_place}
+use Rattle.mqtt_rules.specs.Fitting.{has_form}
 use Rattle.mqtt_rules.specs.State.{Line, Broker, Env, session_at, line_of, queue_on}
 use Rattle.mqtt_rules.specs.Packets.{publish_of}
 use Rattle.mqtt_rules.specs.Deeds.{Whose, whose, Message, Origin, DropWill, Enter, Leave, Deed, Accept, Count, At, Finish, RefuseWill, after, after_all, Act, series, always, only_if, of_session, offer}
@@ -21,10 +22,11 @@ use Rattle.mqtt_rules.specs.Outbound.{leave_deeds, turn_deeds, since, queue_limi
 use Rattle.mqtt_rules.specs.Routing.{CopyTo, is_queued, deliver_by, deliver, retained_of, forgets, retain_by, next_publication, publish, accepted_copies}
 use Rattle.mqtt_rules.specs.Closing.{has_due_will, has_due_end, will_message, publish_or_refuse, will_deeds, publish_will, end_session, settle}
 use Rattle.mqtt_rules.specs.Connect.{of_client, clear}
-use Rattle.mqtt_rules.specs.Inbound.{pump_turns, pump_deeds}
+use Rattle.mqtt_rules.specs.Fitting.{pump_turns}
+use Rattle.mqtt_rules.specs.Inbound.{pump_deeds}
 use Rattle.mqtt_rules.specs.Subscribe as sub
 use Rattle.mqtt_rules.specs.Tick.{lapses, lapse_deeds}
-use Rattle.mqtt_rules.proofs.acts.Offers.{of_offer}
+use Rattle.mqtt_rules.proofs.acts.Offers.{of_offer, of_offer_if}
 use Rattle.mqtt_rules.proofs.acts.Goods.{AreGood, GoodAct, good_append, good_series, good_two, good_map, good_flat, good_acts, good_if, good_of_session, good_of_client, good_with_session, good_of_entry}
 use Rattle.mqtt_rules.proofs.acts.Acts.{brought_to}
 use Rattle.mqtt_rules.proofs.lines.LineRows.{IsStill, IsQuiet, still_quiet}
@@ -49,8 +51,8 @@ quiet_turn now line s (turns.Unknown id) b = (tt, tt)
 quiet_turn now line s (turns.Leave place ending) b = quiet_leave s (turns.Leave place ending) b
 
 -- a pump connects nobody to a line, and takes nobody off one
-pub quiet_pump : (l : Line) (now : ℕ) (s : Session) (b : Broker) → AreGood IsQuiet (pump_deeds l now s) b
-quiet_pump l now s b = good_flat IsQuiet (turn_deeds now l.number s) (quiet_turn now l.number s) (pump_turns l now s) b
+pub quiet_pump : (l : Line) (s : Session) (b : Broker) → AreGood IsQuiet (pump_deeds l b s) b
+quiet_pump l s b = good_flat IsQuiet (turn_deeds b.now l.number s) (quiet_turn b.now l.number s) (pump_turns l b s) b
 
 -- nor do the deeds by which copies expire
 pub quiet_lapses : (now : ℕ) (s : Session) (b : Broker) → AreGood IsQuiet (lapse_deeds now s) b
@@ -68,7 +70,8 @@ quiet_offer o packet b = of_offer (λ (ds : List Deed). AreGood IsQuiet ds b) o 
 
 quiet_deliver_by : (t : Bool) (env : Env) (d : CopyTo) (b : Broker) → AreGood IsQuiet (deliver_by t env d b) b
 quiet_deliver_by true env d b = good_with_session IsQuiet (session_at d.birth b.records) (λ s. always (enter_deeds env d.copy s)) b (λ s e. quiet_enter env d.copy s b)
-quiet_deliver_by false env d b = quiet_offer (line_of d.birth b) (publish_of b.now false 0 d.copy) b
+quiet_deliver_by false env d b =
+    of_offer_if (λ (ds : List Deed). AreGood IsQuiet ds b) (has_form d.copy b) (line_of d.birth b) (publish_of b.now false 0 d.copy) tt (λ l there. (tt, tt))
 
 quiet_deliver : (env : Env) (d : CopyTo) → GoodAct IsQuiet (deliver env d)
 quiet_deliver env d b = quiet_deliver_by (is_queued d) env d b

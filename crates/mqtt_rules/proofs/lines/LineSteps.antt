@@ -141,7 +141,7 @@ module _ (env : Env) (within : AreWithin env.limits) where
         unique_resumed l c s b (named_stands c.client_identifier s b k.0.0 is) both.1 (both.0 s.birth client) u);
     begins = λ l c b k its none came taken name is room x. begins (is_empty c.client_identifier) l c b k (fit.begins l c b k.0 its none came taken name is room (was_prepared l c b x)) none x;
     grants = λ w s b k its asked granted. quiet (sub.granted_filter env (sub.next_number b.records) s w (brought_to w s b) b).deeds b k (fit.grants w s b k.0 its asked granted) (quiet_grants env w s b);
-    pumps = λ l s b k its is there. quiet (pump_deeds l b.now s) b k (fit.pumps l s b k.0 its is there) (quiet_pump l b.now s b);
+    pumps = λ l s b k its is there. quiet (pump_deeds l b s) b k (fit.pumps l s b k.0 its is there) (quiet_pump l s b);
     turns = λ a t l s b k its own there is e. quiet (turn_deeds b.now l.number s t) b k (fit.turns a t l s b k.0 its own there is e) (quiet_turn b.now l.number s t b);
     lapses = λ s b k among. quiet (lapse_deeds b.now s) b k (fit.lapses s b k.0 among) (quiet_lapses b.now s b);
     stale = λ x b k among. quiet (Forget x.place ∷ []) b k (fit.stale x b k.0 among) (tt, tt);

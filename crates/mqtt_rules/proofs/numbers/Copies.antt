@@ -27,7 +27,8 @@ use Rattle.mqtt_rules.specs.Deeds.{Whose, whose, Message, Part, Resume, Open, Re
 use Rattle.mqtt_rules.specs.Outbound.{leave_deeds, since, queue_limits, enter_deeds}
 use Rattle.mqtt_rules.specs.Routing.{CopyTo, copy_to, served_copies_to, copies_to, next_publication, routing_of, finds_place, accepted_if, accepted_copies, is_queued, deliver_by, deliver}
 use Rattle.mqtt_rules.specs.Subscribe.{Wish, has_filter, wants_retained, kept_of, message_in, is_brought, retained_copy, retained_copy_to, brought_if, brought}
-use Rattle.mqtt_rules.proofs.acts.Offers.{of_offer}
+use Rattle.mqtt_rules.specs.Fitting.{has_form}
+use Rattle.mqtt_rules.proofs.acts.Offers.{of_offer, of_offer_if}
 use Rattle.mqtt_rules.proofs.acts.Goods.{AreGood, good_append, good_flat, good_of_entry, good_with_session}
 
 -- ---- lists
@@ -224,7 +225,8 @@ beside_offer o packet b = of_offer (λ (ds : List Deed). AreGood IsBeside ds b) 
 beside_deliver_by : (t : Bool) (env : Env) (d : CopyTo) (b : Broker) → AreGood IsBeside (deliver_by t env d b) b
 beside_deliver_by true env d b =
     good_with_session IsBeside (session_at d.birth b.records) (λ s. always (enter_deeds env d.copy s)) b (λ s e. beside_enter env d.copy s b)
-beside_deliver_by false env d b = beside_offer (line_of d.birth b) (publish_of b.now false 0 d.copy) b
+beside_deliver_by false env d b =
+    of_offer_if (λ (ds : List Deed). AreGood IsBeside ds b) (has_form d.copy b) (line_of d.birth b) (publish_of b.now false 0 d.copy) tt (λ l there. (tt, tt))
 
 -- a delivery accepts nothing
 pub beside_deliver : (env : Env) (d : CopyTo) (b : Broker) → AreGood IsBeside (deliver env d b) b

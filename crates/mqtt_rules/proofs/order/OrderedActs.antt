@@ -24,7 +24,8 @@ use Rattle.mqtt_rules.specs.Outbound.{of_entry, leave_deeds, turn_deeds, all_tur
 use Rattle.mqtt_rules.specs.Routing.{CopyTo, accepted_copies, publish, is_queued}
 use Rattle.mqtt_rules.specs.Closing.{end_session}
 use Rattle.mqtt_rules.specs.Connect.{greet, expiry_of, will_of, connack_properties, fresh_row, begin, begin_named}
-use Rattle.mqtt_rules.specs.Inbound.{pump_turns, pump_deeds}
+use Rattle.mqtt_rules.specs.Fitting.{pump_turns}
+use Rattle.mqtt_rules.specs.Inbound.{pump_deeds}
 use Rattle.mqtt_rules.specs.Subscribe as sub
 use Rattle.mqtt_rules.proofs.acts.Offers.{of_offer}
 use Rattle.mqtt_rules.proofs.acts.Goods.{after_append, AreGood}
@@ -235,7 +236,7 @@ module _ (env : Env) (P : Records → Type 0) (Good : Deed → Broker → Type 0
     resumes = λ l c s b p its none came taken own is prepared. led (At (whose s) (Resume (expiry_of c) (will_of c)) ∷ greet l c s.birth ∷ []) b (tt, (tt, tt)) p;
     begins = λ l c b p its none came taken name is room prepared. begins_named (is_empty c.client_identifier) l c b p (ltb-true (length b.records.sessions) env.limits.sessions room);
     grants = λ w s b p its asked granted. k.grants w s b granted.session granted.has_room p;
-    pumps = λ l s b p its is there. led (pump_deeds l b.now s) b (plain_turns b.now l.number s (pump_turns l b.now s)) p;
+    pumps = λ l s b p its is there. led (pump_deeds l b s) b (plain_turns b.now l.number s (pump_turns l b s)) p;
     turns = λ a t l s b p its own there is e. led (turn_deeds b.now l.number s t) b (plain_turn b.now l.number s t) p;
     lapses = λ s b p among. led (lapse_deeds b.now s) b (plain_flat (leave_deeds s) (plain_leave s) (lapses b.now s)) p;
     stale = λ x b p among. led (Forget x.place ∷ []) b (tt, tt) p;

@@ -16,6 +16,7 @@ use Rattle.mqtt_records.specs.declared.change.Change.TheVariants.{SetCounter}
 use Rattle.mqtt_records_rows.specs.Order.{IsAscending, row_at, change_row}
 use Rattle.mqtt_records.specs.Session.{birth_of, with_subscription}
 use Rattle.mqtt_records.specs.Records.{changed_all}
+use Rattle.mqtt_rules.specs.Fitting.{has_form}
 use Rattle.mqtt_rules.specs.declared.Limits.{Limits}
 use Rattle.mqtt_rules.specs.Packets.{publish_of}
 use Rattle.mqtt_rules.specs.State.{Line, Broker, Env, stored, session_at, line_of, MemberChoice}
@@ -26,7 +27,7 @@ use Rattle.mqtt_rules.specs.Routing.{CopyTo, retained_of, next_publication, acce
 use Rattle.mqtt_rules.specs.Subscribe as sub
 use Rattle.mqtt_rules.specs.Step.{Call, stepped, env_of, unopened, opened}
 use Rattle.mqtt_rules.specs.Laws.{HasTables, IsOrdered}
-use Rattle.mqtt_rules.proofs.acts.Offers.{of_offer}
+use Rattle.mqtt_rules.proofs.acts.Offers.{of_offer, of_offer_if}
 use Rattle.mqtt_rules.proofs.order.Ordered.{length-filter_le, all-filter, changed-ordered}
 use Rattle.mqtt_rules.proofs.order.OrderedActs.{IsPlain, both, Keeping, birth_found}
 use Rattle.mqtt_rules.proofs.acts.Goods.{AreGood, good_append}
@@ -102,8 +103,8 @@ deliver_good : (limit : ℕ) (t : Bool) (env : Env) (d : CopyTo) (ds : List Copy
     → Good limit env ds (after_all (deliver_by t env d b) b) × AreGood RoomToEnter (deliver_by t env d b) b
 deliver_good limit true env d ds b le small is good = delivered limit env d ds b (session_at d.birth b.records) le small is refl good
 deliver_good limit false env d ds b le small is good = (
-  subst (λ (r : Records). ShortQueues limit r × Fits env ds r.sessions) (sym (offered (line_of d.birth b) (publish_of b.now false 0 d.copy) b)) (good.0, fewer_fit env d ds b.records.sessions good.1),
-  offer_room (line_of d.birth b) (publish_of b.now false 0 d.copy) b,
+  subst (λ (r : Records). ShortQueues limit r × Fits env ds r.sessions) (sym (of_offer_if (λ (ds : List Deed). stored (after_all ds b) ≡ stored b) (has_form d.copy b) (line_of d.birth b) (publish_of b.now false 0 d.copy) refl (λ l there. refl))) (good.0, fewer_fit env d ds b.records.sessions good.1),
+  of_offer_if (λ (ds : List Deed). AreGood RoomToEnter ds b) (has_form d.copy b) (line_of d.birth b) (publish_of b.now false 0 d.copy) tt (λ l there. (tt, tt)),
 )
 
 abbrev Short : ℕ → Broker → Type 0

@@ -20,6 +20,8 @@ use Rattle.mqtt_records_rows.specs.Order.{row_at, has_row, insert_row, put_row, 
 use Rattle.mqtt_records.specs.Session.{birth_of, fresh, with_columns, with_will, with_subscription, without_subscription, with_open, without_open, with_copy, with_phase, without_copy}
 use Rattle.mqtt_records.specs.Records.{kept_place, with_counter, put_session, changed, changed_all}
 use Rattle.mqtt_records_rows.proofs.OrderLemmas.{put-ascending}
+use Rattle.mqtt_rules.proofs.acts.Offers.{of_offer_if}
+use Rattle.mqtt_rules.specs.Fitting.{has_form, offer_copy}
 use Rattle.mqtt_rules.specs.State.{Broker, Env, stored, session_at, line_of}
 use Rattle.mqtt_rules.specs.Deeds.{Whose, whose, Message, Origin, Part, Resume, Close, SetExpiry, DropWill, Open, Release, Enter, Mark, Leave, Deed, Accept, Begin, Name, Count, At, Finish, Keep, Forget, RefuseWill, Link, On, Send, Gone, Act, after, after_all, part_rows, part_rows_of, will_row, new_entry, stored_after, then, always, series, of_session, offer}
 use Rattle.mqtt_rules.specs.Deeds as deed
@@ -30,7 +32,7 @@ use Rattle.mqtt_rules.specs.Subscribe as sub
 use Rattle.mqtt_rules.specs.State.{queue_on}
 use Rattle.mqtt_records_rows.specs.Order.{IsTable}
 use Rattle.mqtt_rules.proofs.order.Ordered.{length-filter_le, length-change_row, length-insert_row, length-insert_found, filter-table, either}
-use Rattle.mqtt_rules.proofs.order.OrderedActs.{IsPlain, ArePlain, plain_leave, plain_flat, plain_offer, Keeps, both, follows, keeps_series, keeps_map, keeps_of, Keeping, birth_found}
+use Rattle.mqtt_rules.proofs.order.OrderedActs.{IsPlain, ArePlain, plain_leave, plain_flat, Keeps, both, follows, keeps_series, keeps_map, keeps_of, Keeping, birth_found}
 use Rattle.mqtt_rules.proofs.acts.Leads.{leads_end}
 use Rattle.mqtt_rules.proofs.acts.Acts.{brought_to}
 
@@ -98,7 +100,8 @@ module _ (env : Env) (P : Records → Type 0) (k : Roomy env P) where
   delivers_by true d b p = keeps_of P d.birth (λ s. always (enter_deeds env d.copy s)) (λ s. steady_always (enter_deeds env d.copy s) (enters d.copy s)) b p
   delivers_by false d b p =
       let packet = publish_of b.now false 0 d.copy in
-      steadies (offer (line_of d.birth b) packet) b (steady_plain (offer (line_of d.birth b) packet) (plain_offer (line_of d.birth b) packet)) p
+      let ds = offer_copy (line_of d.birth b) d.copy b in
+      steadies ds b (steady_plain ds (of_offer_if (λ (ds : List Deed). ArePlain ds) (has_form d.copy b) (line_of d.birth b) packet tt (λ l there. (tt, tt)))) p
 
   delivers : (d : CopyTo) → Keeps P (deliver env d)
   delivers d b p = delivers_by (is_queued d) d b p
