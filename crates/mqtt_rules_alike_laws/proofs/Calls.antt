@@ -18,7 +18,7 @@ use Rattle.mqtt_rules.specs.Inbound.{release_by, pump_deeds}
 use Rattle.mqtt_rules.specs.Outbound.{leave_deeds}
 use Rattle.mqtt_records_message.specs.PassedOn.{number_at}
 use Rattle.mqtt_rules.specs.Packets.{connack}
-use Rattle.mqtt_rules.specs.State.{Line, Broker, Env, line_at, is_connected, Telling}
+use Rattle.mqtt_rules.specs.State.{Line, Broker, Env, line_at, is_connected}
 use Rattle.mqtt_rules.specs.Deeds.{whose, Close, Hear, Forget, On, Send, At, Act, always, series}
 use Rattle.mqtt_rules.specs.Tick.{is_silent, silence, lapses, are_some, has_lapsed, lapse_deeds, is_stale, first_due, due, on_tick}
 use Rattle.mqtt_rules.specs.Step.{Call, NewLine, Input, BadInput, Lost, Pump, Tick, first_packet, next_packet, on_packet, late_code, on_fault, on_pump, deeds_of, close_if, opening}
@@ -61,7 +61,7 @@ module _ (P : Type 0) where
   first_alike (Some f ∷ os) (Some g ∷ ps) h = h.0
 
   on_tick_alike : (o p : Option Act) → Both (AlikeActs P) o p → AlikeActs P (on_tick o) (on_tick p)
-  on_tick_alike None None h = record { does = λ b ts ss k. tt }
+  on_tick_alike None None h = record { does = λ b ss k. tt }
   on_tick_alike None (Some g) h = absurd h
   on_tick_alike (Some f) None h = absurd h
   on_tick_alike (Some f) (Some g) h = record { does = h.does }
@@ -71,9 +71,9 @@ module _ (P : Type 0) where
   forgets_alike (Some k) = always_same P (Forget k.place ∷ [])
 
   on_pump_alike : P → (l : Line) (o : Option ℕ) → AlikeActs P (on_pump l o) (on_pump l o)
-  on_pump_alike p l None = record { does = λ b ts ss h. tt }
+  on_pump_alike p l None = record { does = λ b ss h. tt }
   on_pump_alike p l (Some birth) = record {
-    does = λ b ts ss h. (of_session_alike P (λ s. always (pump_deeds l b.now s)) (λ s. always (pump_deeds l b.now s)) (λ s q k. always_alike P (pump_alike P p l b.now s q k)) birth).does b ts ss h;
+    does = λ b ss h. (of_session_alike P (λ s. always (pump_deeds l b s)) (λ s. always (pump_deeds l b s)) (λ s q k. always_alike P (pump_alike P p l b s q k)) birth).does b ss h;
   }
 
   -- a pump may send what copies say
@@ -100,8 +100,8 @@ module _ (P : Type 0) where
         → Both (AlikeActs P) (option_map f (find test ss)) (option_map g (find test ts))
     session_due test same f g k ss ts h = both_map AlikeSessions (AlikeActs P) f g (on_session P f g k) (find test ss) (find test ts) (both_found AlikeSessions test test (rest_same test same) ss ts h)
 
-    due_alike : (b : Broker) (ts : List Telling) (ss : List Session) → Each AlikeSessions b.records.sessions ss → Both (AlikeActs P) (due env b) (due (beside env old) (like ts ss b))
-    due_alike b ts ss h = first_alike
+    due_alike : (b : Broker) (ss : List Session) → Each AlikeSessions b.records.sessions ss → Both (AlikeActs P) (due env b) (due (beside env old) (like ss b))
+    due_alike b ss h = first_alike
         (option_map (λ l. silence env l.session l) (find (λ l. is_silent b.now l.session l) b.lines)
         ∷ option_map (publish_will env) (find (has_due_will b.now) b.records.sessions)
         ∷ option_map (λ s. always (end_session s)) (find (has_due_end b.now) b.records.sessions)
@@ -140,11 +140,11 @@ module _ (P : Type 0) where
     next_packet_alike l (packets.Publish p) s q h = record { does = (on_publish_alike P env old l s q h p).does }
     next_packet_alike l (packets.Puback a) s q h = record { does = (on_puback_alike P env old l s q h a.identifier a.reason.0).does }
     next_packet_alike l (packets.Pubrec a) s q h = record { does = (on_pubrec_alike P env old l s q h a.identifier a.reason.0).does }
-    next_packet_alike l (packets.Pubrel a) s q h = record { does = λ b ts ss k. release_alike (answer_to_release a.identifier s.inbound) l s q a.identifier }
+    next_packet_alike l (packets.Pubrel a) s q h = record { does = λ b ss k. release_alike (answer_to_release a.identifier s.inbound) l s q a.identifier }
     next_packet_alike l (packets.Pubcomp a) s q h = record { does = (on_pubcomp_alike P env old l s q h a.identifier).does }
     next_packet_alike l (packets.Subscribe p) s q h = record { does = (on_subscribe_alike P env old l.number s q p).does }
     next_packet_alike l (packets.Unsubscribe p) s q h = record { does = (on_unsubscribe_alike P l.number s q p).does }
-    next_packet_alike l packets.Pingreq s q h = record { does = λ b ts ss k. same_deeds P (Send l.number packets.Pingresp ∷ []) }
+    next_packet_alike l packets.Pingreq s q h = record { does = λ b ss k. same_deeds P (Send l.number packets.Pingresp ∷ []) }
     next_packet_alike l (packets.Disconnect n) s q h = record { does = (on_disconnect_alike P env old l s q h n.reason.0 (number_at SessionExpiryInterval n.properties)).does }
     next_packet_alike l packet s q h = record { does = (drop_alike P env old protocol_error l).does }
 
@@ -162,24 +162,24 @@ module _ (P : Type 0) where
 
     -- a call does alike, if it may send what copies say
     pub call_alike : (call : Call) → MayCall call → AlikeActs P (deeds_of env call) (deeds_of (beside env old) call)
-    call_alike NewLine m = record { does = λ b ts ss h. same_deeds P (deeds_of env NewLine b) }
+    call_alike NewLine m = record { does = λ b ss h. same_deeds P (deeds_of env NewLine b) }
     call_alike (Input n packet) m = record {
-      does = λ b ts ss h. (with_line_alike P (line_at n b) (λ l. series (always (On n Hear ∷ []) ∷ on_packet env l packet l.session ∷ [])) (λ l. series (always (On n Hear ∷ []) ∷ on_packet (beside env old) l packet l.session ∷ []))
-          (λ l. two_alike P (always_same P (On n Hear ∷ [])) (on_packet_alike l packet l.session))).does b ts ss h;
+      does = λ b ss h. (with_line_alike P (line_at n b) (λ l. series (always (On n Hear ∷ []) ∷ on_packet env l packet l.session ∷ [])) (λ l. series (always (On n Hear ∷ []) ∷ on_packet (beside env old) l packet l.session ∷ []))
+          (λ l. two_alike P (always_same P (On n Hear ∷ [])) (on_packet_alike l packet l.session))).does b ss h;
     }
     call_alike (BadInput n is_connect code) m = record {
-      does = λ b ts ss h. (with_line_alike P (line_at n b) (λ l. on_fault env l is_connect code l.session) (λ l. on_fault (beside env old) l is_connect code l.session)
-          (λ l. on_fault_alike l is_connect code l.session)).does b ts ss h;
+      does = λ b ss h. (with_line_alike P (line_at n b) (λ l. on_fault env l is_connect code l.session) (λ l. on_fault (beside env old) l is_connect code l.session)
+          (λ l. on_fault_alike l is_connect code l.session)).does b ss h;
     }
-    call_alike (Lost n) m = record { does = λ b ts ss h. (with_line_alike P (line_at n b) (close env true) (close (beside env old) true) (close_alike P env old true)).does b ts ss h }
-    call_alike (Pump n) m = record { does = λ b ts ss h. (with_line_alike P (line_at n b) (λ l. on_pump l l.session) (λ l. on_pump l l.session) (λ l. on_pump_alike m l l.session)).does b ts ss h }
-    call_alike Tick m = record { does = λ b ts ss h. (on_tick_alike (due env b) (due (beside env old) (like ts ss b)) (due_alike b ts ss h)).does b ts ss h }
+    call_alike (Lost n) m = record { does = λ b ss h. (with_line_alike P (line_at n b) (close env true) (close (beside env old) true) (close_alike P env old true)).does b ss h }
+    call_alike (Pump n) m = record { does = λ b ss h. (with_line_alike P (line_at n b) (λ l. on_pump l l.session) (λ l. on_pump l l.session) (λ l. on_pump_alike m l l.session)).does b ss h }
+    call_alike Tick m = record { does = λ b ss h. (on_tick_alike (due env b) (due (beside env old) (like ss b)) (due_alike b ss h)).does b ss h }
 
     -- ---- an opening
 
     close_if_alike : (t : Bool) (s : Session) (q : List CopyRow) → AlikeActs P (close_if t env s) (close_if t (beside env old) (with_queue q s))
-    close_if_alike false s q = record { does = λ b ts ss h. tt }
-    close_if_alike true s q = record { does = λ b ts ss h. (two_alike P (always_same P (At (whose s) (Close b.now) ∷ [])) (settle_alike P env old s.birth)).does b ts ss h }
+    close_if_alike false s q = record { does = λ b ss h. tt }
+    close_if_alike true s q = record { does = λ b ss h. (two_alike P (always_same P (At (whose s) (Close b.now) ∷ [])) (settle_alike P env old s.birth)).does b ss h }
 
     closes_alike : (ss ts : List Session) → Each AlikeSessions ss ts → Each (AlikeActs P) (map (λ s. close_if (is_connected s) env s) ss) (map (λ s. close_if (is_connected s) (beside env old) s) ts)
     closes_alike [] [] h = tt
@@ -191,5 +191,5 @@ module _ (P : Type 0) where
     -- an opening does alike
     pub opening_alike : AlikeActs P (opening env) (opening (beside env old))
     opening_alike = record {
-      does = λ b ts ss h. (series_alike P (map (λ s. close_if (is_connected s) env s) b.records.sessions) (map (λ s. close_if (is_connected s) (beside env old) s) ss) (closes_alike b.records.sessions ss h)).does b ts ss h;
+      does = λ b ss h. (series_alike P (map (λ s. close_if (is_connected s) env s) b.records.sessions) (map (λ s. close_if (is_connected s) (beside env old) s) ss) (closes_alike b.records.sessions ss h)).does b ss h;
     }

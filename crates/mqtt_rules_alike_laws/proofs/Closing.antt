@@ -4,14 +4,13 @@ use Rattle.mqtt_records_message.specs.declared.message.Will.{Will}
 use Rattle.mqtt_records_message.specs.Queue.{CopyRow}
 use Rattle.mqtt_records.specs.declared.session.Session.{Session}
 use Rattle.mqtt_records.specs.declared.records.Records.{Records}
-use Rattle.mqtt_routes.specs.Intended.{Answers}
 use Rattle.mqtt_routes.specs.Intended as intended
 use Rattle.mqtt_routes.specs.Acceptance.{Routed}
 use Rattle.mqtt_routes.specs.Acceptance as acceptance
 use Rattle.mqtt_topic.specs.Names.{is_empty}
 use Rattle.std.specs.Prelude.{option_map}
 use Rattle.mqtt_rules.specs.Packets.{disconnect}
-use Rattle.mqtt_rules.specs.State.{Line, Broker, Env, session_at, is_connected, Telling}
+use Rattle.mqtt_rules.specs.State.{Line, Broker, Env, session_at, is_connected}
 use Rattle.mqtt_rules.specs.Deeds.{Whose, whose, Message, Origin, FromWill, Close, DropWill, Accept, At, RefuseWill, Send, Gone, Act, always, series, only_if}
 use Rattle.mqtt_rules.specs.Outbound.{room, room_at, enter_deeds}
 use Rattle.mqtt_rules.specs.Routing.{CopyTo, is_queued, deliver, deliver_by, retain_by, publish, subscriber_of, subscribers, publication_of, is_there, answers, finds_place, copies_to, next_publication, accepted_if, routing_of, accepted_copies, is_wanted}
@@ -56,8 +55,8 @@ module _ (env : Env) (old : List Session) where
     wanted_same m = ap₂ (λ a us. intended.is_wanted a (publication_of m) us) answers_same subscribers_same
 
   -- in which copies a message is accepted is the same of both
-  pub accepted_same : (m : Message) (b : Broker) (ts : List Telling) (ss : List Session) → Each AlikeSessions b.records.sessions ss → accepted_copies env m b ≡ accepted_copies (beside env old) m (like ts ss b)
-  accepted_same m b ts ss h = ap (λ (o : Option Routed). accepted_if (finds_place env m b.records) (option_map (copies_to (next_publication b.records) b.now m) o)) (routing_same b.records ss h m)
+  pub accepted_same : (m : Message) (b : Broker) (ss : List Session) → Each AlikeSessions b.records.sessions ss → accepted_copies env m b ≡ accepted_copies (beside env old) m (like ss b)
+  accepted_same m b ss h = ap (λ (o : Option Routed). accepted_if (finds_place env m b.records) (option_map (copies_to (next_publication b.records) b.now m) o)) (routing_same b.records ss h m)
 
 module _ (P : Type 0) (env : Env) (old : List Session) where
   -- ---- a publication
@@ -67,7 +66,7 @@ module _ (P : Type 0) (env : Env) (old : List Session) where
     does = (of_session_alike P (λ s. always (enter_deeds env d.copy s)) (λ s. always (enter_deeds (beside env old) d.copy s))
         (λ s q h. always_alike P (enter_alike P env old d.copy s q h)) d.birth).does;
   }
-  deliver_by_alike false d = record { does = λ b ts ss h. same_deeds P (deliver_by false env d b) }
+  deliver_by_alike false d = record { does = λ b ss h. same_deeds P (deliver_by false env d b) }
 
   -- a copy that is handed over does alike
   pub deliver_alike : (d : CopyTo) → AlikeActs P (deliver env d) (deliver (beside env old) d)
@@ -79,24 +78,24 @@ module _ (P : Type 0) (env : Env) (old : List Session) where
   deliver_all_alike (d ∷ ds) = (deliver_alike d, deliver_all_alike ds)
 
   retain_alike : (r e : Bool) (number : ℕ) (m : Message) → AlikeActs P (retain_by r e number m) (retain_by r e number m)
-  retain_alike false e number m = record { does = λ b ts ss h. tt }
-  retain_alike true true number m = record { does = λ b ts ss h. same_deeds P (retain_by true true number m b) }
-  retain_alike true false number m = record { does = λ b ts ss h. same_deeds P (retain_by true false number m b) }
+  retain_alike false e number m = record { does = λ b ss h. tt }
+  retain_alike true true number m = record { does = λ b ss h. same_deeds P (retain_by true true number m b) }
+  retain_alike true false number m = record { does = λ b ss h. same_deeds P (retain_by true false number m b) }
 
   -- a publication does alike
   pub publish_alike : (origin : Origin) (m : Message) (ds : List CopyTo) → AlikeActs P (publish env origin m ds) (publish (beside env old) origin m ds)
   publish_alike origin m ds = record {
-    does = λ b ts ss h.
+    does = λ b ss h.
         let number = next_publication b.records in
         (series_alike P (always (Accept number origin m ∷ []) ∷ retain_by m.retain (is_empty m.payload) number m ∷ map (deliver env) ds)
         (always (Accept number origin m ∷ []) ∷ retain_by m.retain (is_empty m.payload) number m ∷ map (deliver (beside env old)) ds)
-        (always_same P (Accept number origin m ∷ []), (retain_alike m.retain (is_empty m.payload) number m, deliver_all_alike ds))).does b ts ss h;
+        (always_same P (Accept number origin m ∷ []), (retain_alike m.retain (is_empty m.payload) number m, deliver_all_alike ds))).does b ss h;
   }
 
   -- ---- Wills
 
   refuse_alike : (who : Whose) (m : Message) (o : Option (List CopyTo)) → AlikeActs P (publish_or_refuse env who m o) (publish_or_refuse (beside env old) who m o)
-  refuse_alike who m None = record { does = λ b ts ss h. same_deeds P (RefuseWill who ∷ []) }
+  refuse_alike who m None = record { does = λ b ss h. same_deeds P (RefuseWill who ∷ []) }
   refuse_alike who m (Some ds) = record { does = (publish_alike FromWill m ds).does }
 
   will_acts : Env → Whose → Message → Option (List CopyTo) → Act
@@ -104,15 +103,15 @@ module _ (P : Type 0) (env : Env) (old : List Session) where
 
   -- a Will does alike
   pub will_alike : (who : Whose) (o : Option Will) → AlikeActs P (will_deeds env who o) (will_deeds (beside env old) who o)
-  will_alike who None = record { does = λ b ts ss h. tt }
+  will_alike who None = record { does = λ b ss h. tt }
   will_alike who (Some w) = record {
-    does = λ b ts ss h.
+    does = λ b ss h.
         let m = will_message who.client w in
         let ds = accepted_copies env m b in
         subst (λ (o : Option (List CopyTo)). Each (AlikeDeeds P) (will_deeds env who (Some w) b)
-        (series (publish_or_refuse (beside env old) who (will_message who.client w) o ∷ always (At who DropWill ∷ []) ∷ []) (like ts ss b)))
-        (accepted_same env old m b ts ss h)
-        ((two_alike P (refuse_alike who m ds) (always_same P (At who DropWill ∷ []))).does b ts ss h);
+        (series (publish_or_refuse (beside env old) who (will_message who.client w) o ∷ always (At who DropWill ∷ []) ∷ []) (like ss b)))
+        (accepted_same env old m b ss h)
+        ((two_alike P (refuse_alike who m ds) (always_same P (At who DropWill ∷ []))).does b ss h);
   }
 
   -- a session's Will that is published does alike
@@ -124,20 +123,20 @@ module _ (P : Type 0) (env : Env) (old : List Session) where
   -- what is due of a session does alike
   pub settle_alike : (birth : ℕ) → AlikeActs P (settle env birth) (settle (beside env old) birth)
   settle_alike birth = record {
-    does = λ b ts ss h. ((two_alike P)
+    does = λ b ss h. ((two_alike P)
         (of_session_alike P (λ s. only_if (has_due_will b.now s) (publish_will env s)) (λ s. only_if (has_due_will b.now s) (publish_will (beside env old) s))
         (λ s q k. only_if_alike P (has_due_will b.now s) (publish_will_alike s q)) birth)
         (of_session_alike P (λ s. only_if (has_due_end b.now s) (always (end_session s))) (λ s. only_if (has_due_end b.now s) (always (end_session s)))
-        (λ s q k. only_if_alike P (has_due_end b.now s) (always_alike P (end_alike P s q k))) birth)).does b ts ss h;
+        (λ s q k. only_if_alike P (has_due_end b.now s) (always_alike P (end_alike P s q k))) birth)).does b ss h;
   }
 
   close_session_alike : (keeps : Bool) (s : Session) (q : List CopyRow) → Each AlikeRows s.queue q → AlikeActs P (close_session env keeps s) (close_session (beside env old) keeps (with_queue q s))
   close_session_alike keeps s q k = record {
-    does = λ b ts ss h. (three_alike P (only_if_alike P (not keeps) (always_same P (At (whose s) DropWill ∷ []))) (always_same P (At (whose s) (Close b.now) ∷ [])) (settle_alike s.birth)).does b ts ss h;
+    does = λ b ss h. (three_alike P (only_if_alike P (not keeps) (always_same P (At (whose s) DropWill ∷ []))) (always_same P (At (whose s) (Close b.now) ∷ [])) (settle_alike s.birth)).does b ss h;
   }
 
   connected_alike : (keeps : Bool) (o : Option ℕ) → AlikeActs P (close_connected env keeps o) (close_connected (beside env old) keeps o)
-  connected_alike keeps None = record { does = λ b ts ss h. tt }
+  connected_alike keeps None = record { does = λ b ss h. tt }
   connected_alike keeps (Some birth) = record { does = (of_session_alike P (close_session env keeps) (close_session (beside env old) keeps) (close_session_alike keeps) birth).does }
 
   -- the closing of a line does alike

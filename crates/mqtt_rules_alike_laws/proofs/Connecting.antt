@@ -64,7 +64,7 @@ module _ (P : Type 0) where
   module _ (env : Env) (old : List Session) where
     take_over_alike : (s : Session) (q : List CopyRow) → AlikeActs P (take_over env s) (take_over (beside env old) (with_queue q s))
     take_over_alike s q = record {
-      does = λ b ts ss h. (with_line_alike P (line_of s.birth b) (drop_line env session_taken_over) (drop_line (beside env old) session_taken_over) (drop_alike P env old session_taken_over)).does b ts ss h;
+      does = λ b ss h. (with_line_alike P (line_of s.birth b) (drop_line env session_taken_over) (drop_line (beside env old) session_taken_over) (drop_alike P env old session_taken_over)).does b ss h;
     }
 
     clear_alike : (s : Session) (q : List CopyRow) → AlikeActs P (clear env s) (clear (beside env old) (with_queue q s))
@@ -106,19 +106,19 @@ module _ (P : Type 0) where
           (λ ss i. joins_alike r ss i (session_named c.client_identifier r) (session_named c.client_identifier (with_sessions ss r)) (named_found c.client_identifier r ss i)) o h
 
     connect_by_alike : (o : Option ℕ) (l : Line) (c : Connect) → AlikeActs P (connect_by o env l c) (connect_by o (beside env old) l c)
-    connect_by_alike (Some code) l c = record { does = λ b ts ss h. same_deeds P (refused l c code) }
+    connect_by_alike (Some code) l c = record { does = λ b ss h. same_deeds P (refused l c code) }
     connect_by_alike None l c = record {
-      does = λ b ts ss h.
+      does = λ b ss h.
           let ds = prepare env c b in
-          let es = prepare (beside env old) c (like ts ss b) in
-          let k : Each (AlikeDeeds P) ds es = (prepare_alike c).does b ts ss h in
-          let a : AlikeBrokers (after_all ds b) (after_all es (like ts ss b)) = all_after_alike P ds es k b (like ts ss b) (broker_put b ts ss h) in
-          joins_after_alike l c b.now ds es k (after_all ds b).records (after_all es (like ts ss b)).records a.records;
+          let es = prepare (beside env old) c (like ss b) in
+          let k : Each (AlikeDeeds P) ds es = (prepare_alike c).does b ss h in
+          let a : AlikeBrokers (after_all ds b) (after_all es (like ss b)) = all_after_alike P ds es k b (like ss b) (broker_put b ss h) in
+          joins_after_alike l c b.now ds es k (after_all ds b).records (after_all es (like ss b)).records a.records;
     }
 
     -- a CONNECT does alike
     pub on_connect_alike : (l : Line) (c : Connect) → AlikeActs P (on_connect env l c) (on_connect (beside env old) l c)
     on_connect_alike l c = record {
-      does = λ b ts ss h. subst (λ (o : Option ℕ). Each (AlikeDeeds P) (on_connect env l c b) (connect_by o (beside env old) l c (like ts ss b))) (refusal_same c b.records ss h)
-          ((connect_by_alike (refusal c b.records) l c).does b ts ss h);
+      does = λ b ss h. subst (λ (o : Option ℕ). Each (AlikeDeeds P) (on_connect env l c b) (connect_by o (beside env old) l c (like ss b))) (refusal_same c b.records ss h)
+          ((connect_by_alike (refusal c b.records) l c).does b ss h);
     }

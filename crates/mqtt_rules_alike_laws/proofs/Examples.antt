@@ -1,17 +1,25 @@
 -- Worked states: two brokers for which a message waits that says something else, and others that are not alike (MQTT 5.0,
 -- 3.3, 4.6).
-use Rattle.std.proofs.Common.{◌≡◌, ℕ, arith, Bool, true, false, List, [], ◌∷◌, ◌++◌, refl, ap}
+use Rattle.std.proofs.Common.{◌≡◌, ℕ, suc, arith, true, false, List, [], ◌∷◌, ◌++◌, length, refl, ap}
 use Rattle.std.specs.Prelude.{codes}
 use Rattle.mqtt_base.specs.Values.{varint}
 use Rattle.mqtt_base.specs.declared.session.Qos.TheVariants.{ExactlyOnce}
+use Rattle.mqtt_props.specs.declared.table.PropName.TheVariants.{PayloadFormatIndicator}
+use Rattle.mqtt_props.specs.Properties.{Prop, Byte}
+use Rattle.mqtt_topic_aliases.specs.declared.form.Form.TheVariants.{Short}
+use Rattle.mqtt_topic_aliases.specs.declared.sizes.OtherBytes.{OtherBytes}
+use Rattle.mqtt_topic_aliases.specs.Told.{none_told, with_told}
 use Rattle.mqtt_codec.specs.declared.publish.Delivery.TheVariants as delivery
 use Rattle.mqtt_flow.specs.declared.entry.QueuedCopy.{QueuedCopy}
 use Rattle.mqtt_records_message.specs.declared.message.MessageCopy.{MessageCopy}
-use Rattle.mqtt_rules.specs.State.{Broker}
+use Rattle.mqtt_records_message.specs.PassedOn.{property}
+use Rattle.mqtt_rules.specs.Forms.{form_size}
+use Rattle.mqtt_rules.specs.State.{Broker, queued_copy, told_on}
 use Rattle.mqtt_rules.specs.Step.{Input, Pump}
 use Rattle.mqtt_rules.proofs.examples.Play.{blank, at, runs, tells, topic, direct}
 use Rattle.mqtt_rules.proofs.examples.WorkedCopies.{subscribed_at, publishes}
 use Rattle.mqtt_rules_alike_laws.specs.Alike.{AlikeCopies, AlikeBrokers}
+use Rattle.mqtt_rules_alike_laws.specs.Slim.{zeros}
 
 -- r1 is subscribed at QoS 2, and p1 publishes this
 abbrev waits : List ℕ → Broker
@@ -24,7 +32,7 @@ other_words_are_alike = record {
   rest = refl;
   records = record {
     rest = refl;
-    sessions = (record { rest = refl; queue = (record { place = refl; phase = refl; copy = record { seen = refl; retain = refl } }, tt) }, (record { rest = refl; queue = tt }, tt));
+    sessions = (record { rest = refl; queue = (record { place = refl; phase = refl; copy = record { seen = refl; retain = refl; topic = refl; others = refl } }, tt) }, (record { rest = refl; queue = tt }, tt));
   };
 }
 
@@ -38,27 +46,68 @@ pub the_other_says_its_own : (tells (at 0 (Pump 1)) (waits (codes "ho"))).output
 unfolding varint
 the_other_says_its_own = refl
 
--- ---- copies that are not alike
+-- ---- copies that are alike, and such as are not
 
-abbrev says : Bool → List ℕ → List ℕ → MessageCopy
-says retain name payload = record {
+abbrev says : List ℕ → List ℕ → List Prop → List ℕ → MessageCopy
+says name identifiers properties payload = record {
   id = direct 1 1;
   qos = ExactlyOnce;
-  retain = retain;
-  identifiers = [];
-  content = record { topic = name; properties = []; payload = payload; arrived = 0 };
+  retain = false;
+  identifiers = identifiers;
+  content = record { topic = name; properties = properties; payload = payload; arrived = 0 };
 }
 
--- what is said may be moved from the topic to the payload
-pub any_split_is_alike : AlikeCopies (says false (codes "a/b") (codes "hi")) (says false (codes "a") (codes "four"))
+abbrev retained : MessageCopy → MessageCopy
+retained copy = record copy { retain = true }
+
+-- other properties of as many bytes are alike, and a Subscription Identifier is one of them
+pub other_properties_are_alike : AlikeCopies (says topic (1 ∷ []) [] (codes "hi")) (says topic [] (property PayloadFormatIndicator (Byte 1) ∷ []) (codes "ho"))
 unfolding varint
-any_split_is_alike = record { seen = refl; retain = refl }
+other_properties_are_alike = record { seen = refl; retain = refl; topic = refl; others = refl }
 
 -- a copy of another size is not alike
-pub a_longer_copy_is_not_alike : AlikeCopies (says false topic (codes "hi")) (says false topic (codes "hello")) → ⊥
+pub a_longer_copy_is_not_alike : AlikeCopies (says topic [] [] (codes "hi")) (says topic [] [] (codes "hello")) → ⊥
 unfolding varint
 a_longer_copy_is_not_alike h = let e : 12 ≡ 15 = ap (λ (c : QueuedCopy). c.size) h.seen in omega (arith, e)
 
 -- nor is one with another RETAIN
-pub a_retained_copy_is_not_alike : AlikeCopies (says false topic (codes "hi")) (says true topic (codes "hi")) → ⊥
+pub a_retained_copy_is_not_alike : AlikeCopies (says topic [] [] (codes "hi")) (retained (says topic [] [] (codes "hi"))) → ⊥
 a_retained_copy_is_not_alike h = let e : false ≡ true = h.retain in absurd cc
+
+-- nor one with another topic, though it be as large
+pub another_topic_is_not_alike : AlikeCopies (says (codes "a/b") [] [] (codes "hi")) (says (codes "a") [] [] (codes "four")) → ⊥
+another_topic_is_not_alike h = let e : 3 ≡ 1 = ap (λ (name : List ℕ). length name) h.topic in omega (arith, e)
+
+-- two copies that are as large, and have their bytes elsewhere
+abbrev in_properties : MessageCopy
+in_properties = says topic (zeros 63) [] []
+
+abbrev in_payload : MessageCopy
+in_payload = says topic [] [] (zeros 126)
+
+-- a queue sees no difference
+pub both_are_seen_the_same : queued_copy in_properties ≡ queued_copy in_payload
+unfolding varint
+both_are_seen_the_same = refl
+
+-- they are not alike
+pub bytes_elsewhere_are_not_alike : AlikeCopies in_properties in_payload → ⊥
+unfolding varint
+bytes_elsewhere_are_not_alike h = let e : 126 ≡ 0 = ap (λ (o : OtherBytes). o.properties) h.others in omega (arith, e)
+
+-- for with an alias the first is larger: the length of its properties takes two bytes
+pub an_alias_makes_it_larger : form_size (Short 1) in_properties ≡ suc (form_size (Short 1) in_payload)
+unfolding varint
+an_alias_makes_it_larger = refl
+
+-- ---- brokers that are not alike
+
+abbrev told_nothing : Broker
+told_nothing = record blank { tellings = record { line = 1; topics = none_told 4 } ∷ [] }
+
+abbrev told_a_topic : Broker
+told_a_topic = record blank { tellings = record { line = 1; topics = with_told topic (none_told 4) } ∷ [] }
+
+-- a client that was told a topic is another than one that was told nothing
+pub other_tellings_are_not_alike : AlikeBrokers told_nothing told_a_topic → ⊥
+other_tellings_are_not_alike h = let e : 0 ≡ 1 = ap (λ (b : Broker). length (told_on 1 b.tellings).topics) h.rest in omega (arith, e)

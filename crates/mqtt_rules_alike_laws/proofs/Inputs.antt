@@ -1,5 +1,5 @@
 -- What connected clients send, to brokers that are alike.
-use Rattle.std.proofs.Common.{◌≡◌, ℕ, Bool, true, false, not, List, [], ◌∷◌, Option, Some, None, nat_eq, ap, subst}
+use Rattle.std.proofs.Common.{◌≡◌, ℕ, Bool, true, false, not, List, [], ◌∷◌, map, Option, Some, None, nat_eq, ap, subst, ◌∙◌}
 use Rattle.mqtt_base.specs.declared.session.Phase.{Phase}
 use Rattle.mqtt_base.specs.declared.session.Phase.TheVariants.{Waiting, Sent, Released, Oversize}
 use Rattle.mqtt_base.specs.declared.session.Qos.{Qos}
@@ -18,30 +18,36 @@ use Rattle.mqtt_flow_inbound.specs.declared.inflow.Published.{Published}
 use Rattle.mqtt_flow_inbound.specs.declared.inflow.Published.TheVariants.{New, Again, Over}
 use Rattle.mqtt_records_message.specs.Queue.{CopyRow}
 use Rattle.mqtt_records.specs.declared.session.Session.{Session}
-use Rattle.mqtt_rules.specs.Inbound.{Meaning, Means, Wrong, meaning, sets_alias, standing, answer, opens, code_accepted, publish_new, publish_by, message_of, publish_meant, on_publish, on_answer, on_puback, on_pubrec, on_pubcomp, pump_turns, pump_deeds, is_late_expiry, new_expiry, leave_by, on_disconnect}
+use Rattle.mqtt_rules.specs.Fitting.{fitted, size_at, sized, pump_turns}
+use Rattle.mqtt_rules.specs.Inbound.{Meaning, Means, Wrong, meaning, sets_alias, standing, answer, opens, code_accepted, publish_new, publish_by, message_of, publish_meant, on_publish, on_answer, on_puback, on_pubrec, on_pubcomp, pump_deeds, is_late_expiry, new_expiry, leave_by, on_disconnect}
 use Rattle.mqtt_records_message.specs.PassedOn.{number_at}
-use Rattle.mqtt_rules.specs.State.{Line, Env, queue_on}
+use Rattle.mqtt_rules.specs.State.{Line, Broker, Env, queue_on, told_on}
 use Rattle.mqtt_rules.specs.Deeds.{Message, FromClient, always, series}
 use Rattle.mqtt_rules.specs.Outbound.{all_turn_deeds, way_of}
 use Rattle.mqtt_rules.specs.Routing.{CopyTo, accepted_copies, publish, is_wanted}
 use Rattle.mqtt_rules_alike_laws.specs.Alike.{Each, AlikeRows, AlikeDeeds, with_queue}
+use Rattle.mqtt_rules_alike_laws.proofs.Pairs.{map_same}
 use Rattle.mqtt_rules_alike_laws.proofs.States.{like}
 use Rattle.mqtt_rules_alike_laws.proofs.Acts.{AlikeActs, same_deeds, two_alike, three_alike, always_same}
-use Rattle.mqtt_rules_alike_laws.proofs.Queues.{MaySay, all_may_say, beside, queue_same, turn_alike, turns_alike}
+use Rattle.mqtt_rules_alike_laws.proofs.Queues.{MaySay, all_may_say, beside, queue_same, fitted_same, sized_same, turn_alike, turns_alike}
 use Rattle.mqtt_rules_alike_laws.proofs.Closing.{accepted_same, wanted_same, publish_alike, close_alike, drop_alike}
 
 -- ---- a pump has the same turns
 
 -- a pump of an alike queue takes the same turns
-pub pump_same : (l : Line) (now : ℕ) (s : Session) (q : List CopyRow) → Each AlikeRows s.queue q → pump_turns l now s ≡ pump_turns l now (with_queue q s)
-pump_same l now s q h = ap (pump (way_of l now)) (queue_same l.went s q h)
+pub pump_same : (l : Line) (b : Broker) (s : Session) (q : List CopyRow) → Each AlikeRows s.queue q → pump_turns l b s ≡ pump_turns l b (with_queue q s)
+pump_same l b s q h =
+    let told = told_on l.number b.tellings in
+    ap (pump (way_of l b.now))
+    (ap (λ (xs : List (ℕ × ℕ)). map (sized (size_at xs) l.went) s.queue) (fitted_same l b.now told s.queue q h)
+    ∙ map_same AlikeRows (sized (size_at (fitted l b.now told q)) l.went) (sized (size_at (fitted l b.now told q)) l.went) (sized_same (fitted l b.now told q) l.went) s.queue q h)
 
 module _ (P : Type 0) where
   -- a pump does alike, if it may send what copies say
-  pub pump_alike : P → (l : Line) (now : ℕ) (s : Session) (q : List CopyRow) → Each AlikeRows s.queue q → Each (AlikeDeeds P) (pump_deeds l now s) (pump_deeds l now (with_queue q s))
-  pump_alike p l now s q h =
-      subst (λ (ts : List Turn). Each (AlikeDeeds P) (pump_deeds l now s) (all_turn_deeds now l.number (with_queue q s) ts)) (pump_same l now s q h)
-      (turns_alike P now l.number s q h (pump_turns l now s) (all_may_say P p (pump_turns l now s)))
+  pub pump_alike : P → (l : Line) (b : Broker) (s : Session) (q : List CopyRow) → Each AlikeRows s.queue q → Each (AlikeDeeds P) (pump_deeds l b s) (pump_deeds l b (with_queue q s))
+  pump_alike p l b s q h =
+      subst (λ (ts : List Turn). Each (AlikeDeeds P) (pump_deeds l b s) (all_turn_deeds b.now l.number (with_queue q s) ts)) (pump_same l b s q h)
+      (turns_alike P b.now l.number s q h (pump_turns l b s) (all_may_say P p (pump_turns l b s)))
 
   -- ---- an answer sends nothing that a copy says
 
@@ -92,23 +98,23 @@ module _ (P : Type 0) where
     -- ---- PUBLISH
 
     new_alike : (p : Publish) (m : Message) (o : Option (List CopyTo)) → AlikeActs P (publish_new env l s p m o) (publish_new (beside env old) l (with_queue q s) p m o)
-    new_alike p m None = record { does = λ b ts ss k. same_deeds P (publish_new env l s p m None b) }
+    new_alike p m None = record { does = λ b ss k. same_deeds P (publish_new env l s p m None b) }
     new_alike p m (Some ds) = record {
-      does = λ b ts ss k.
+      does = λ b ss k.
           subst (λ (t : Bool). Each (AlikeDeeds P) (publish_new env l s p m (Some ds) b)
-          (series (publish (beside env old) FromClient m ds ∷ always (opens s p.delivery) ∷ always (answer l.number p.delivery (code_accepted t)) ∷ []) (like ts ss b)))
+          (series (publish (beside env old) FromClient m ds ∷ always (opens s p.delivery) ∷ always (answer l.number p.delivery (code_accepted t)) ∷ []) (like ss b)))
           (wanted_same env old b.records ss k m)
-          ((three_alike P (publish_alike P env old FromClient m ds) (always_same P (opens s p.delivery)) (always_same P (answer l.number p.delivery (code_accepted (is_wanted env m b.records))))).does b ts ss k);
+          ((three_alike P (publish_alike P env old FromClient m ds) (always_same P (opens s p.delivery)) (always_same P (answer l.number p.delivery (code_accepted (is_wanted env m b.records))))).does b ss k);
     }
 
     by_alike : (x : Published) (p : Publish) (m : Message) → AlikeActs P (publish_by x env l s p m) (publish_by x (beside env old) l (with_queue q s) p m)
-    by_alike Again p m = record { does = λ b ts ss k. same_deeds P (publish_by Again env l s p m b) }
+    by_alike Again p m = record { does = λ b ss k. same_deeds P (publish_by Again env l s p m b) }
     by_alike Over p m = record { does = (drop_alike P env old receive_maximum_exceeded l).does }
     by_alike New p m = record {
-      does = λ b ts ss k.
-          subst (λ (o : Option (List CopyTo)). Each (AlikeDeeds P) (publish_by New env l s p m b) (publish_new (beside env old) l (with_queue q s) p m o (like ts ss b)))
-          (accepted_same env old m b ts ss k)
-          ((new_alike p m (accepted_copies env m b)).does b ts ss k);
+      does = λ b ss k.
+          subst (λ (o : Option (List CopyTo)). Each (AlikeDeeds P) (publish_by New env l s p m b) (publish_new (beside env old) l (with_queue q s) p m o (like ss b)))
+          (accepted_same env old m b ss k)
+          ((new_alike p m (accepted_copies env m b)).does b ss k);
     }
 
     meant_alike : (x : Meaning) (p : Publish) → AlikeActs P (publish_meant x env l s p) (publish_meant x (beside env old) l (with_queue q s) p)
@@ -125,8 +131,8 @@ module _ (P : Type 0) where
     -- ---- a receiver's answers
 
     turned_alike : (a : Answer) → MayAnswer a → AlikeActs P (on_answer a env l s) (on_answer a (beside env old) l (with_queue q s))
-    turned_alike (Ok None) m = record { does = λ b ts ss k. tt }
-    turned_alike (Ok (Some t)) m = record { does = λ b ts ss k. turn_alike P b.now l.number s q h t m }
+    turned_alike (Ok None) m = record { does = λ b ss k. tt }
+    turned_alike (Ok (Some t)) m = record { does = λ b ss k. turn_alike P b.now l.number s q h t m }
     turned_alike (Err fault) m = record { does = (drop_alike P env old protocol_error l).does }
 
     answer_alike : (a : List FlowEntry → Answer) → ((es : List FlowEntry) → MayAnswer (a es))

@@ -1,6 +1,8 @@
 -- Deeds, acts and steps of brokers that are alike.
 pub mod Pairs
+pub mod SameForms
 pub mod States
+pub mod Wires
 pub mod Acts
 pub mod Queues
 pub mod Closing

@@ -1,12 +1,15 @@
 -- Queues that are alike: what is read of them, and what turns make of them.
-use Rattle.std.proofs.Common.{◌≡◌, ℕ, suc, ◌-◌, Bool, true, false, ◌||◌, List, [], ◌∷◌, ◌++◌, map, Option, Some, None, nat_lt, refl, ap, ap₂, subst}
+use Rattle.std.proofs.Common.{◌≡◌, ℕ, suc, ◌-◌, Bool, true, false, cond, ◌||◌, List, [], ◌∷◌, ◌++◌, map, Option, Some, None, nat_eq, nat_lt, refl, ap, ap₂, subst, ◌∙◌}
 use Rattle.std.specs.Prelude.{⊤, find, flat_map}
 use Rattle.mqtt_base.specs.declared.session.Phase.TheVariants.{Sent}
 use Rattle.mqtt_base.specs.declared.session.Ending.TheVariants.{SessionEnded}
+use Rattle.mqtt_topic_aliases.specs.declared.form.Form.{Form}
+use Rattle.mqtt_topic_aliases.specs.Told.{ToldTopics}
+use Rattle.mqtt_flow.specs.declared.entry.Entry.{Entry as FlowEntry}
 use Rattle.mqtt_flow.specs.declared.entry.QueuedCopy.{QueuedCopy}
 use Rattle.mqtt_flow.specs.declared.entry.Turn.{Turn}
 use Rattle.mqtt_flow.specs.declared.entry.Turn.TheVariants as turns
-use Rattle.mqtt_flow.specs.Outbound.{staying, way_made}
+use Rattle.mqtt_flow.specs.Outbound.{staying, way_made, is_late}
 use Rattle.mqtt_flow_inbound.specs.Identifiers.{is_among}
 use Rattle.mqtt_records_message.specs.Queue.{CopyRow}
 use Rattle.mqtt_records_message.specs.declared.message.MessageCopy.{MessageCopy}
@@ -19,9 +22,11 @@ use Rattle.mqtt_rules.specs.Closing.{end_session}
 use Rattle.mqtt_rules.specs.Deeds.{whose, Leave, Enter, Deed, At, Finish}
 use Rattle.mqtt_rules.specs.Deeds as deeds
 use Rattle.mqtt_rules.specs.Outbound.{of_entry, leave_deeds, turn_deeds, all_turn_deeds, is_new, is_new_cause, first_given, since, queue_limits, room, enter_deeds}
+use Rattle.mqtt_rules.specs.Fitting.{form_of, fitted_size, due_by, is_due, told_behind, fitted, size_at, sized}
 use Rattle.mqtt_rules.specs.Packets.{publish_of}
-use Rattle.mqtt_rules.specs.State.{Env, entry_on, queue_on}
+use Rattle.mqtt_rules.specs.State.{Line, Env, entry_on, queue_on}
 use Rattle.mqtt_rules_alike_laws.specs.Alike.{Each, AlikeRows, AlikeDeeds, leaves, sends, with_queue, with_sessions}
+use Rattle.mqtt_rules_alike_laws.proofs.SameForms.{form_of_same, fitted_size_same}
 use Rattle.mqtt_rules_alike_laws.proofs.Pairs.{Both, each_append, each_map, map_same, both_at, both_found}
 use Rattle.mqtt_rules_alike_laws.proofs.States.{deed_alike, place_same, places_same}
 use Rattle.mqtt_rules_alike_laws.proofs.Acts.{same_deeds, flat_alike}
@@ -31,9 +36,44 @@ use Rattle.mqtt_rules_alike_laws.proofs.Acts.{same_deeds, flat_alike}
 entry_same : (went : List ℕ) (x y : CopyRow) → AlikeRows x y → entry_on went x ≡ entry_on went y
 entry_same went x y h = λ i. record { place = h.place i; copy = h.copy.seen i; phase = h.phase i; here = is_among (h.place i) went }
 
+size_same : (xs : List (ℕ × ℕ)) (x y : CopyRow) → AlikeRows x y → size_at xs x ≡ size_at xs y
+size_same [] x y h = ap (λ (c : QueuedCopy). c.size) h.copy.seen
+size_same (z ∷ zs) x y h = ap₂ (λ (place n : ℕ). cond (nat_eq z.0 place) z.1 n) h.place (size_same zs x y h)
+
 -- the session rules see the same of alike queues
 pub queue_same : (went : List ℕ) (s : Session) (q : List CopyRow) → Each AlikeRows s.queue q → queue_on went s ≡ queue_on went (with_queue q s)
 queue_same went s q h = map_same AlikeRows (entry_on went) (entry_on went) (entry_same went) s.queue q h
+
+-- a pump sees rows in the same sizes
+pub sized_same : (xs : List (ℕ × ℕ)) (went : List ℕ) (x y : CopyRow) → AlikeRows x y → sized (size_at xs) went x ≡ sized (size_at xs) went y
+sized_same xs went x y h = λ i. record {
+  place = h.place i;
+  copy = record (h.copy.seen i) { size = size_same xs x y h i };
+  phase = h.phase i;
+  here = is_among (h.place i) went;
+}
+
+-- and finds both rows due, or none
+due_same : (now : ℕ) (went : List ℕ) (x y : CopyRow) → AlikeRows x y → is_due now went x ≡ is_due now went y
+due_same now went x y h = ap (λ (e : FlowEntry). due_by (is_late now e.copy) e.here e.phase) (entry_same went x y h)
+
+-- so alike rows have the same sizes, one by one, since each tells the same to those behind it
+pub fitted_same : (l : Line) (now : ℕ) (told : ToldTopics) (q r : List CopyRow) → Each AlikeRows q r → fitted l now told q ≡ fitted l now told r
+fitted_same l now told [] [] h = refl
+fitted_same l now told [] (y ∷ ys) h = absurd h
+fitted_same l now told (x ∷ xs) [] h = absurd h
+fitted_same l now told (x ∷ xs) (y ∷ ys) h =
+    let first = h.0 in
+    let forms : form_of l.largest told x.copy ≡ form_of l.largest told y.copy = form_of_same l.largest told x.copy y.copy first.copy in
+    let size : fitted_size (form_of l.largest told x.copy) x.copy ≡ fitted_size (form_of l.largest told y.copy) y.copy =
+    fitted_size_same (form_of l.largest told x.copy) x.copy y.copy first.copy ∙ ap (λ (o : Option Form). fitted_size o y.copy) forms
+    in
+    let behind : told_behind (is_due now l.went x) (form_of l.largest told x.copy) x.copy.content.topic told ≡ told_behind (is_due now l.went y) (form_of l.largest told y.copy) y.copy.content.topic told =
+    λ i. told_behind (due_same now l.went x y first i) (forms i) (first.copy.topic i) told
+    in
+    ap₂ (λ (z : ℕ × ℕ) (zs : List (ℕ × ℕ)). z ∷ zs) (ap₂ (λ (place n : ℕ). (place, n)) first.place size)
+    (fitted_same l now (told_behind (is_due now l.went x) (form_of l.largest told x.copy) x.copy.content.topic told) xs ys h.1
+    ∙ ap (λ (t : ToldTopics). fitted l now t ys) behind)
 
 new_same : (start : Records) (x y : CopyRow) → AlikeRows x y → is_new start x.copy ≡ is_new start y.copy
 new_same start x y h = ap (λ (c : QueuedCopy). nat_lt start.publications c.id.publication || is_new_cause start c.id.cause) h.copy.seen

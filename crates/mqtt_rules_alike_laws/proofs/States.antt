@@ -1,9 +1,13 @@
 -- What changes and deeds make of brokers that are alike.
-use Rattle.std.proofs.Common.{◌≡◌, ℕ, suc, List, [], ◌∷◌, map, Option, Some, None, refl, sym, ap, ap₂, subst, subst₂, ◌∙◌}
+use Rattle.std.proofs.Common.{◌≡◌, ℕ, suc, Bool, List, [], ◌∷◌, map, Option, Some, None, nat_eq, refl, sym, ap, subst, subst₂, ◌∙◌}
+use Rattle.std.specs.Prelude.{find}
 use Rattle.mqtt_base.specs.declared.limits.TheConstants.{SESSION_LIMIT, QUEUE_LIMIT}
 use Rattle.mqtt_base.specs.declared.session.Ending.{Ending}
 use Rattle.mqtt_base.specs.declared.session.Phase.{Phase}
 use Rattle.mqtt_base.specs.declared.session.Phase.TheVariants.{Waiting}
+use Rattle.mqtt_topic_aliases.specs.Told.{ToldTopics, after_send}
+use Rattle.mqtt_codec.specs.declared.packet.Packet.{Packet}
+use Rattle.mqtt_records_message.specs.declared.message.MessageCopy.{MessageCopy}
 use Rattle.mqtt_records_message.specs.Queue.{CopyRow}
 use Rattle.mqtt_records.specs.declared.change.Counter.TheVariants.{Births, Publications, Subscribes, Autos, Moment}
 use Rattle.mqtt_records.specs.declared.change.Change.{Change}
@@ -15,16 +19,18 @@ use Rattle.mqtt_records.specs.Records.{changed, changed_all, in_session, put_ses
 use Rattle.mqtt_records.specs.Session.{birth_of, copy_place, fresh, in_phase, with_columns, with_will, with_subscription, without_subscription, with_open, without_open, with_copy, with_phase, without_copy}
 use Rattle.mqtt_records_rows.specs.Order.{has_row, put_row, change_row}
 use Rattle.mqtt_routes.specs.Intended.{greatest}
-use Rattle.mqtt_rules.specs.State.{Line, Broker, session_at, Telling}
-use Rattle.mqtt_rules.specs.Deeds.{Whose, Part, Resume, Close, SetExpiry, DropWill, Subscribe, Unsubscribe, Open, Release, Enter, Mark, Leave, Deed, Accept, Begin, Name, Count, At, Finish, Keep, Forget, RefuseWill, Link, On, Send, Gone, after, after_all, rows_of, part_rows, part_rows_of, lines_after, given_after, tellings_after, without_place}
-use Rattle.mqtt_rules_alike_laws.specs.Alike.{Each, AlikeRows, AlikeSessions, AlikeRecords, AlikeBrokers, AlikeDeeds, same, leaves, sends, with_queue, with_sessions, with_parts}
+use Rattle.mqtt_rules.specs.Packets.{publish_of}
+use Rattle.mqtt_rules.specs.State.{Line, Telling, Broker, session_at, told_line}
+use Rattle.mqtt_rules.specs.Deeds.{Whose, Part, Resume, Close, SetExpiry, DropWill, Subscribe, Unsubscribe, Open, Release, Enter, Mark, Leave, Deed, Accept, Begin, Name, Count, At, Finish, Keep, Forget, RefuseWill, Link, On, Send, Gone, after, after_all, rows_of, part_rows, part_rows_of, lines_after, given_after, tells, tellings_after, without_place}
+use Rattle.mqtt_rules_alike_laws.specs.Alike.{Each, AlikeCopies, AlikeRows, AlikeSessions, AlikeRecords, AlikeBrokers, AlikeDeeds, AlikePublishes, same, leaves, sends, with_queue, with_sessions, with_records}
+use Rattle.mqtt_rules_alike_laws.proofs.SameForms.{form_same}
 use Rattle.mqtt_rules_alike_laws.proofs.Pairs.{Both, by_cond, each_refl, map_same, both_at, each_changed, each_removed, each_put, has_same}
 
 -- ---- what is alike to itself
 
 -- a row is like itself
 pub row_alike : (e : CopyRow) → AlikeRows e e
-row_alike e = record { place = refl; phase = refl; copy = record { seen = refl; retain = refl } }
+row_alike e = record { place = refl; phase = refl; copy = record { seen = refl; retain = refl; topic = refl; others = refl } }
 
 -- so is a session
 pub session_alike : (s : Session) → AlikeSessions s s
@@ -34,7 +40,7 @@ session_alike s = record { rest = refl; queue = each_refl AlikeRows row_alike s.
 pub deed_alike : (P : Type 0) (d : Deed) → AlikeDeeds P d d
 deed_alike P d = same refl
 
--- ---- what is alike to a session, to records, to a broker: the same with other rows, and with other tellings
+-- ---- what is alike to a session, to records, to a broker: the same with other rows
 
 -- a session with an alike queue is alike
 pub queue_put : (s : Session) (q : List CopyRow) → Each AlikeRows s.queue q → AlikeSessions s (with_queue q s)
@@ -56,20 +62,20 @@ records_put r ss h = record { rest = refl; sessions = h }
 pub by_sessions : (P : Records → Type 0) (r : Records) → ((ss : List Session) → Each AlikeSessions r.sessions ss → P (with_sessions ss r)) → (o : Records) → AlikeRecords r o → P o
 by_sessions P r k o h = subst P (ap (with_sessions o.sessions) h.rest) (k o.sessions h.sessions)
 
-abbrev pub like : List Telling → List Session → Broker → Broker
-like ts ss b = with_parts (with_sessions ss b.records) ts b
+abbrev pub like : List Session → Broker → Broker
+like ss b = with_records (with_sessions ss b.records) b
 
 -- a broker with alike sessions is alike
-pub broker_put : (b : Broker) (ts : List Telling) (ss : List Session) → Each AlikeSessions b.records.sessions ss → AlikeBrokers b (like ts ss b)
-broker_put b ts ss h = record { rest = refl; records = records_put b.records ss h }
+pub broker_put : (b : Broker) (ss : List Session) → Each AlikeSessions b.records.sessions ss → AlikeBrokers b (like ss b)
+broker_put b ss h = record { rest = refl; records = records_put b.records ss h }
 
 -- and an alike broker is one with alike sessions
-pub broker_is : (b c : Broker) → AlikeBrokers b c → like c.tellings c.records.sessions b ≡ c
-broker_is b c h = ap (λ (r : Records). with_parts r c.tellings b) (ap (with_sessions c.records.sessions) h.records.rest) ∙ h.rest
+pub broker_is : (b c : Broker) → AlikeBrokers b c → like c.records.sessions b ≡ c
+broker_is b c h = ap (λ (r : Records). with_records r b) (ap (with_sessions c.records.sessions) h.records.rest) ∙ h.rest
 
 -- what holds of a broker with alike sessions holds of alike brokers
-pub by_broker : (P : Broker → Type 0) (b : Broker) → ((ts : List Telling) (ss : List Session) → Each AlikeSessions b.records.sessions ss → P (like ts ss b)) → (c : Broker) → AlikeBrokers b c → P c
-by_broker P b k c h = subst P (broker_is b c h) (k c.tellings c.records.sessions h.records.sessions)
+pub by_broker : (P : Broker → Type 0) (b : Broker) → ((ss : List Session) → Each AlikeSessions b.records.sessions ss → P (like ss b)) → (c : Broker) → AlikeBrokers b c → P c
+by_broker P b k c h = subst P (broker_is b c h) (k c.records.sessions h.records.sessions)
 
 -- ---- what is found
 
@@ -194,31 +200,51 @@ leave_rows who x y ending (Some s) e = ap (λ (n : ℕ). change.RemoveCopy s.bir
 
 -- two alike deeds do the same to one state
 abbrev DoSame : Deed → Deed → Type 0
-DoSame d e = (r : Records) (now : ℕ) (ls : List Line) (given : ℕ) → (rows_of d r ≡ rows_of e r) × (lines_after now d ls ≡ lines_after now e ls) × (given_after d given ≡ given_after e given)
+DoSame d e = (r : Records) (now : ℕ) (ls : List Line) (given : ℕ) (ts : List Telling)
+    → (rows_of d r ≡ rows_of e r) × (lines_after now d ls ≡ lines_after now e ls) × (given_after d given ≡ given_after e given) × (tellings_after d ls ts ≡ tellings_after e ls ts)
 
 leave_does : (who : Whose) (x y : CopyRow) (ending : Ending) → x.place ≡ y.place → DoSame (At who (Leave x ending)) (At who (Leave y ending))
-leave_does who x y ending e r now ls given = (leave_rows who x y ending (session_at who.birth r) e, ap (λ (n : ℕ). map (without_place who.birth n) ls) e, refl)
+leave_does who x y ending e r now ls given ts = (leave_rows who x y ending (session_at who.birth r) e, ap (λ (n : ℕ). map (without_place who.birth n) ls) e, refl, refl)
+
+-- the PUBLISH of one of two alike copies is told in the same form, and tells the same (3.3.2.3.4)
+tells_same : (o : Option Line) (now id : ℕ) (dup : Bool) (x y : MessageCopy) → AlikeCopies x y → (told : ToldTopics)
+    → tells o (publish_of now dup id x) told ≡ tells o (publish_of now dup id y) told
+tells_same None now id dup x y h told = refl
+tells_same (Some l) now id dup x y h told = λ i. after_send (form_same l.largest told now id dup x y h i) (h.topic i) told
+
+publish_tells : (n : ℕ) (p q : Packet) → AlikePublishes p q → (ls : List Line) (ts : List Telling) → tellings_after (Send n p) ls ts ≡ tellings_after (Send n q) ls ts
+publish_tells n p q l ls ts =
+    subst₂ (λ (x y : Packet). tellings_after (Send n x) ls ts ≡ tellings_after (Send n y) ls ts) (sym l.first) (sym l.second)
+    (λ i. change_row told_line n (λ t. record t { topics = tells_same (find (λ l. nat_eq l.number n) ls) l.now l.id l.dup l.copy l.other_copy l.copies t.topics i }) ts)
+
+sends_do : (n : ℕ) (p q : Packet) → AlikePublishes p q → DoSame (Send n p) (Send n q)
+sends_do n p q l r now ls given ts = (refl, refl, refl, publish_tells n p q l ls ts)
 
 module _ (P : Type 0) where
   deeds_do : (d e : Deed) → AlikeDeeds P d e → DoSame d e
-  deeds_do d e (same p) = λ r now ls given. (ap (λ (x : Deed). rows_of x r) p, ap (λ (x : Deed). lines_after now x ls) p, ap (λ (x : Deed). given_after x given) p)
+  deeds_do d e (same p) = λ r now ls given ts. (
+    ap (λ (x : Deed). rows_of x r) p,
+    ap (λ (x : Deed). lines_after now x ls) p,
+    ap (λ (x : Deed). given_after x given) p,
+    ap (λ (x : Deed). tellings_after x ls ts) p,
+  )
   deeds_do d e (leaves l) = subst₂ DoSame (sym l.first) (sym l.second) (leave_does l.who l.row l.other_row l.ending l.rows.place)
-  deeds_do d e (sends m l) = subst₂ DoSame (sym l.first) (sym l.second) (λ r now ls given. (refl, refl, refl))
+  deeds_do d e (sends m l) = subst₂ DoSame (sym l.first) (sym l.second) (sends_do l.line l.packet l.other_packet l.publishes)
 
   -- alike deeds write the same rows
   pub rows_alike : (d e : Deed) → AlikeDeeds P d e → (r : Records) (ss : List Session) → Each AlikeSessions r.sessions ss → rows_of d r ≡ rows_of e (with_sessions ss r)
-  rows_alike d e k r ss h = rows_same d r ss h ∙ (deeds_do d e k (with_sessions ss r) 0 [] 0).0
+  rows_alike d e k r ss h = rows_same d r ss h ∙ (deeds_do d e k (with_sessions ss r) 0 [] 0 []).0
 
   abbrev with_all : Records → List Line → ℕ → ℕ → List Telling → Broker
   with_all r ls given now ts = record { records = r; lines = ls; given = given; now = now; tellings = ts }
 
   -- an alike deed leaves alike brokers alike
-  pub after_alike : (d e : Deed) → AlikeDeeds P d e → (b : Broker) (ts : List Telling) (ss : List Session) → Each AlikeSessions b.records.sessions ss → AlikeBrokers (after d b) (after e (like ts ss b))
-  after_alike d e k b ts ss h =
-      let does = deeds_do d e k b.records b.now b.lines b.given in
+  pub after_alike : (d e : Deed) → AlikeDeeds P d e → (b : Broker) (ss : List Session) → Each AlikeSessions b.records.sessions ss → AlikeBrokers (after d b) (after e (like ss b))
+  after_alike d e k b ss h =
+      let does = deeds_do d e k b.records b.now b.lines b.given b.tellings in
       let o = with_sessions ss b.records in
       record {
-        rest = ap₂ (λ ls n. with_all (changed_all (rows_of e o) o) ls n b.now (tellings_after e b.lines ts)) does.1 does.2;
+        rest = λ i. with_all (changed_all (rows_of e o) o) (does.1 i) (does.2 i) b.now (does.3 i);
         records = subst (λ (rows : List Change). AlikeRecords (changed_all (rows_of d b.records) b.records) (changed_all rows o)) (rows_alike d e k b.records ss h)
             (changed_all_alike (rows_of d b.records) b.records o (records_put b.records ss h));
       }

@@ -3,6 +3,7 @@ use Rattle.std.proofs.Common.{◌≡◌, ℕ, Bool, true, false, cond, List, [],
 use Rattle.mqtt_base.specs.declared.limits.TheConstants.{PUMP_LIMIT}
 use Rattle.mqtt_codec.specs.declared.packet.Packet.{Packet}
 use Rattle.mqtt_flow.specs.declared.entry.QueuedCopy.{QueuedCopy}
+use Rattle.mqtt_flow.specs.declared.entry.Turn.{Turn}
 use Rattle.mqtt_records.specs.declared.change.Change.{Change}
 use Rattle.mqtt_records.specs.declared.records.Records.{Records}
 use Rattle.mqtt_records.specs.declared.session.Session.{Session}
@@ -10,15 +11,17 @@ use Rattle.mqtt_records.specs.Records.{changed_all}
 use Rattle.mqtt_rules.specs.declared.Limits.{Limits}
 use Rattle.mqtt_rules.specs.declared.Report.TheVariants as reports
 use Rattle.mqtt_rules.specs.Deeds.{Deed, Send, after_all, rows_of, rows_of_all, stored_after, output, closing, report}
-use Rattle.mqtt_rules.specs.Inbound.{pump_turns, pump_deeds}
+use Rattle.mqtt_rules.specs.Fitting.{pump_turns}
+use Rattle.mqtt_rules.specs.Inbound.{pump_deeds}
 use Rattle.mqtt_rules.specs.Laws.{Event, Asked, Reopened, after_event, after_events}
 use Rattle.mqtt_rules.specs.Outbound.{all_turn_deeds}
-use Rattle.mqtt_rules.specs.State.{Line, Broker, MemberChoice, Telling}
+use Rattle.mqtt_rules.specs.State.{Line, Broker, MemberChoice}
 use Rattle.mqtt_rules.specs.Step.{Call, NewLine, Input, BadInput, Lost, Pump, Tick, publish_out, is_none_done, is_again, outcome_of, told, deeds, at_moment, env_of, stamped, rows_written, with_moment, done, stepped, is_spent, is_step_spent, unopened, opening_deeds, opened}
 use Rattle.mqtt_rules_alike_laws.specs.Alike.{IsPump, Each, AlikeSessions, AlikeRecords, AlikeBrokers, AlikeDeeds, AlikePublishes, same, leaves, sends, AlikeOutputs, AlikeOutcomes, with_sessions}
 use Rattle.mqtt_rules_alike_laws.proofs.Pairs.{Both, each_picked, picked_same}
 use Rattle.mqtt_rules_alike_laws.proofs.States.{by_queue, by_sessions, by_broker, like, broker_put, records_put, rows_alike, changed_all_alike, all_after_alike}
 use Rattle.mqtt_rules_alike_laws.proofs.Inputs.{pump_same}
+use Rattle.mqtt_rules_alike_laws.proofs.Wires.{wires_alike}
 use Rattle.mqtt_rules_alike_laws.proofs.Calls.{MayCall, call_alike, opening_alike}
 
 module _ (P : Type 0) where
@@ -42,13 +45,13 @@ module _ (P : Type 0) where
   moment_alike : (rows : List Change) (b c : Broker) → AlikeBrokers b c → AlikeBrokers (with_moment rows b) (with_moment rows c)
   moment_alike [] b c h = h
   moment_alike (row ∷ rows) b c h = by_broker (λ (x : Broker). AlikeBrokers (with_moment (row ∷ rows) b) (with_moment (row ∷ rows) x)) b
-      (λ ts ss k. record { rest = refl; records = record { rest = refl; sessions = k } }) c h
+      (λ ss k. record { rest = refl; records = record { rest = refl; sessions = k } }) c h
 
-  done_alike : (ds es : List Deed) → Each (AlikeDeeds P) ds es → (b : Broker) (ts : List Telling) (ss : List Session) → Each AlikeSessions b.records.sessions ss → AlikeBrokers (done ds b) (done es (like ts ss b))
-  done_alike ds es k b ts ss h =
-      let c = like ts ss b in
-      subst (λ (rows : List Change). AlikeBrokers (done ds b) (with_moment rows (after_all es (like ts ss b)))) (all_rows_same ds es k b.records c.records (records_put b.records ss h))
-      (moment_alike (rows_of_all ds b.records) (after_all ds b) (after_all es c) (all_after_alike P ds es k b c (broker_put b ts ss h)))
+  done_alike : (ds es : List Deed) → Each (AlikeDeeds P) ds es → (b : Broker) (ss : List Session) → Each AlikeSessions b.records.sessions ss → AlikeBrokers (done ds b) (done es (like ss b))
+  done_alike ds es k b ss h =
+      let c = like ss b in
+      subst (λ (rows : List Change). AlikeBrokers (done ds b) (with_moment rows (after_all es (like ss b)))) (all_rows_same ds es k b.records c.records (records_put b.records ss h))
+      (moment_alike (rows_of_all ds b.records) (after_all ds b) (after_all es c) (all_after_alike P ds es k b c (broker_put b ss h)))
 
   -- ---- what is told
 
@@ -95,9 +98,10 @@ module _ (P : Type 0) where
   again_same Tick ds es k = ap (λ (t : Bool). cond t false true) (none_same ds es k)
 
   -- alike deeds tell alike
-  pub outcome_alike : (call : Call) (ds es : List Deed) (b c : Broker) → Each (AlikeDeeds P) ds es → AlikeOutcomes P (outcome_of call ds b) (outcome_of call es c)
-  outcome_alike call ds es b c k = record {
+  pub outcome_alike : (call : Call) (ds es : List Deed) (b c : Broker) → Each (AlikeDeeds P) ds es → AlikeBrokers b c → AlikeOutcomes P (outcome_of call ds b) (outcome_of call es c)
+  outcome_alike call ds es b c k h = record {
     outputs = each_picked (AlikeDeeds P) (AlikeOutputs P) output output_alike ds es k;
+    wires = wires_alike P ds es k b c h;
     closed = picked_same (AlikeDeeds P) closing closing_same ds es k;
     reports = picked_same (AlikeDeeds P) report report_same ds es k;
     taken = refl;
@@ -115,8 +119,8 @@ may_call (Pump n) = tt
 may_call Tick = tt
 
 module _ (limits : Limits) (choice : MemberChoice) (now : ℕ) where
-  put_deeds : (call : Call) (b : Broker) (ts : List Telling) (ss : List Session) → Each AlikeSessions b.records.sessions ss → Each (AlikeDeeds (IsPump call)) (deeds limits choice now call b) (deeds limits choice now call (like ts ss b))
-  put_deeds call b ts ss h = (call_alike (IsPump call) (env_of limits choice b) ss call (may_call call)).does (at_moment now b) ts ss h
+  put_deeds : (call : Call) (b : Broker) (ss : List Session) → Each AlikeSessions b.records.sessions ss → Each (AlikeDeeds (IsPump call)) (deeds limits choice now call b) (deeds limits choice now call (like ss b))
+  put_deeds call b ss h = (call_alike (IsPump call) (env_of limits choice b) ss call (may_call call)).does (at_moment now b) ss h
 
   -- a call does alike deeds on brokers that are alike
   pub deeds_alike : (call : Call) (b c : Broker) → AlikeBrokers b c → Each (AlikeDeeds (IsPump call)) (deeds limits choice now call b) (deeds limits choice now call c)
@@ -125,17 +129,18 @@ module _ (limits : Limits) (choice : MemberChoice) (now : ℕ) where
   -- a step leaves alike brokers alike
   pub step_alike : (call : Call) (b c : Broker) → AlikeBrokers b c → AlikeBrokers (stepped limits choice now call b) (stepped limits choice now call c)
   step_alike call b c h = by_broker (λ (x : Broker). AlikeBrokers (stepped limits choice now call b) (stepped limits choice now call x)) b
-      (λ ts ss k. done_alike (IsPump call) (deeds limits choice now call b) (deeds limits choice now call (like ts ss b)) (put_deeds call b ts ss k) (at_moment now b) ts ss k) c h
+      (λ ss k. done_alike (IsPump call) (deeds limits choice now call b) (deeds limits choice now call (like ss b)) (put_deeds call b ss k) (at_moment now b) ss k) c h
 
   -- a step on alike brokers tells alike
   pub told_alike : (call : Call) (b c : Broker) → AlikeBrokers b c → AlikeOutcomes (IsPump call) (told limits choice now call b) (told limits choice now call c)
-  told_alike call b c h = outcome_alike (IsPump call) call (deeds limits choice now call b) (deeds limits choice now call c) (at_moment now b) (at_moment now c) (deeds_alike call b c h)
+  told_alike call b c h = by_broker (λ (x : Broker). AlikeOutcomes (IsPump call) (told limits choice now call b) (told limits choice now call x)) b
+      (λ ss k. outcome_alike (IsPump call) call (deeds limits choice now call b) (deeds limits choice now call (like ss b)) (at_moment now b) (at_moment now (like ss b)) (put_deeds call b ss k) (broker_put (at_moment now b) ss k)) c h
 
   -- a step on alike brokers writes the same
   pub written_same : (call : Call) (b c : Broker) → AlikeBrokers b c
       → rows_written (deeds limits choice now call b) (at_moment now b) ≡ rows_written (deeds limits choice now call c) (at_moment now c)
   written_same call b c h = by_broker (λ (x : Broker). rows_written (deeds limits choice now call b) (at_moment now b) ≡ rows_written (deeds limits choice now call x) (at_moment now x)) b
-      (λ ts ss k. ap (stamped (at_moment now b).now b.records.moment) (all_rows_same (IsPump call) (deeds limits choice now call b) (deeds limits choice now call (like ts ss b)) (put_deeds call b ts ss k) b.records (with_sessions ss b.records) (records_put b.records ss k))) c h
+      (λ ss k. ap (stamped (at_moment now b).now b.records.moment) (all_rows_same (IsPump call) (deeds limits choice now call b) (deeds limits choice now call (like ss b)) (put_deeds call b ss k) b.records (with_sessions ss b.records) (records_put b.records ss k))) c h
 
   -- a step is spent on both or on none
   pub spent_same : (call : Call) (b c : Broker) → AlikeBrokers b c → is_step_spent limits choice now call b ≡ is_step_spent limits choice now call c
@@ -147,7 +152,7 @@ module _ (limits : Limits) (choice : MemberChoice) (now : ℕ) where
   pub opened_alike : (r o : Records) → AlikeRecords r o → AlikeBrokers (opened limits choice now r) (opened limits choice now o)
   opened_alike r o h = by_sessions (λ (x : Records). AlikeBrokers (opened limits choice now r) (opened limits choice now x)) r
       (λ ss k. done_alike ⊥ (opening_deeds limits choice now r) (opening_deeds limits choice now (with_sessions ss r))
-      ((opening_alike ⊥ (env_of limits choice (unopened now r)) ss).does (unopened now r) [] ss k) (unopened now r) [] ss k) o h
+      ((opening_alike ⊥ (env_of limits choice (unopened now r)) ss).does (unopened now r) ss k) (unopened now r) ss k) o h
 
 -- ---- runs
 
@@ -163,9 +168,12 @@ run_alike (e ∷ es) b c h = run_alike es (after_event e b) (after_event e c) (e
 -- ---- pumps
 
 -- a pump takes the same turns in both
-pub turns_same : (l : Line) (now : ℕ) (s t : Session) → AlikeSessions s t → pump_turns l now s ≡ pump_turns l now t
-turns_same l now s t h = by_queue (λ (x : Session). pump_turns l now s ≡ pump_turns l now x) s (pump_same l now s) t h
+pub turns_same : (l : Line) (b c : Broker) (s t : Session) → AlikeBrokers b c → AlikeSessions s t → pump_turns l b s ≡ pump_turns l c t
+turns_same l b c s t h k =
+    by_broker (λ (x : Broker). pump_turns l b s ≡ pump_turns l x t) b
+    (λ ss i. by_queue (λ (x : Session). pump_turns l b s ≡ pump_turns l b x) s (pump_same l b s) t k) c h
 
 -- and each does them with its own contents
-pub own_turns : (l : Line) (now : ℕ) (s t : Session) → AlikeSessions s t → pump_deeds l now t ≡ all_turn_deeds now l.number t (pump_turns l now s)
-own_turns l now s t h = ap (all_turn_deeds now l.number t) (sym (turns_same l now s t h))
+pub own_turns : (l : Line) (b c : Broker) (s t : Session) → AlikeBrokers b c → AlikeSessions s t → pump_deeds l c t ≡ all_turn_deeds b.now l.number t (pump_turns l b s)
+own_turns l b c s t h k =
+    ap₂ (λ (now : ℕ) (ts : List Turn). all_turn_deeds now l.number t ts) (sym (ap (λ (x : Broker). x.now) h.rest)) (sym (turns_same l b c s t h k))

@@ -1,13 +1,16 @@
 -- Brokers that are the same but for what their waiting copies say (MQTT 5.0, 3.3, 4.6).
 use Rattle.std.specs.Prelude.{◌≡◌, ◌⊎◌, ⊤, ℕ, Bool, List, [], ◌∷◌}
 use Rattle.mqtt_base.specs.declared.session.Ending.{Ending}
+use Rattle.mqtt_topic_aliases.specs.declared.form.Form.{Form}
 use Rattle.mqtt_codec.specs.declared.packet.Packet.{Packet}
+use Rattle.mqtt_codec.specs.declared.packet.Packet.TheVariants.{Publish}
 use Rattle.mqtt_records_message.specs.declared.message.MessageCopy.{MessageCopy}
 use Rattle.mqtt_records_message.specs.Queue.{CopyRow}
 use Rattle.mqtt_records.specs.declared.session.Session.{Session}
 use Rattle.mqtt_records.specs.declared.records.Records.{Records}
 use Rattle.mqtt_rules.specs.Packets.{publish_of}
-use Rattle.mqtt_rules.specs.State.{Telling, Broker, queued_copy}
+use Rattle.mqtt_rules.specs.Forms.{in_form, other_bytes, published_of}
+use Rattle.mqtt_rules.specs.State.{Broker, queued_copy}
 use Rattle.mqtt_rules.specs.Deeds.{Whose, Leave, Deed, At, Send}
 use Rattle.mqtt_rules.specs.Step.{Call, NewLine, Input, BadInput, Lost, Pump, Tick, Outcome}
 
@@ -18,11 +21,14 @@ Each R [] (y ∷ ys) = ⊥
 Each R (x ∷ xs) [] = ⊥
 Each R (x ∷ xs) (y ∷ ys) = R x y × Each R xs ys
 
--- two copies with the same identity, QoS, RETAIN, size, arrival and expiry: topic, Subscription Identifiers, other
--- properties and payload may be any
+-- two copies with the same identity, QoS, RETAIN, topic, arrival and expiry, and as many bytes of properties and of
+-- payload: what these bytes are may be any. In a form with a Topic Alias (3.3.2.3.4) the length of the properties may take
+-- a byte more, so that the size alone doesn't say which forms are within
 pub record AlikeCopies (one other : MessageCopy) : Type 0 where
   pub seen : queued_copy one ≡ queued_copy other
   pub retain : one.retain ≡ other.retain
+  pub topic : one.content.topic ≡ other.content.topic
+  pub others : other_bytes one ≡ other_bytes other
 
 -- they stand at the same place, in the same phase
 pub record AlikeRows (one other : CopyRow) : Type 0 where
@@ -49,12 +55,9 @@ pub record AlikeRecords (one other : Records) : Type 0 where
 abbrev pub with_records : Records → Broker → Broker
 with_records r b = record b { records = r }
 
-abbrev pub with_parts : Records → List Telling → Broker → Broker
-with_parts r ts b = record b { records = r; tellings = ts }
-
--- the same lines, and alike in what is stored; what clients were told of topics may be any
+-- the same lines, whose clients were told the same topics, and alike in what is stored
 pub record AlikeBrokers (one other : Broker) : Type 0 where
-  pub rest : with_parts other.records other.tellings one ≡ other
+  pub rest : with_records other.records one ≡ other
   pub records : AlikeRecords one.records other.records
 
 -- ---- what they do
@@ -112,9 +115,26 @@ AlikePackets Says one other = (one ≡ other) ⊎ (Says × AlikePublishes one ot
 abbrev pub AlikeOutputs : Type 0 → ℕ × Packet → ℕ × Packet → Type 0
 AlikeOutputs Says one other = (one.0 ≡ other.0) × AlikePackets Says one.1 other.1
 
--- the same, packet by packet as it is meant alike
+-- the PUBLISH of one of two alike copies, in the same form
+pub record AlikeForms (one other : Packet) : Type 0 where
+  pub form : Form
+  pub now : ℕ
+  pub dup : Bool
+  pub id : ℕ
+  pub copy : MessageCopy
+  pub other_copy : MessageCopy
+  pub copies : AlikeCopies copy other_copy
+  pub first : one ≡ Publish (in_form form (published_of now dup id copy))
+  pub second : other ≡ Publish (in_form form (published_of now dup id other_copy))
+
+-- as it goes out
+abbrev pub AlikeWires : Type 0 → ℕ × Packet → ℕ × Packet → Type 0
+AlikeWires Says one other = (one.0 ≡ other.0) × ((one.1 ≡ other.1) ⊎ (Says × AlikeForms one.1 other.1))
+
+-- the same, packet by packet as it is meant and as it goes out alike
 pub record AlikeOutcomes (Says : Type 0) (one other : Outcome) : Type 0 where
   pub outputs : Each (AlikeOutputs Says) one.outputs other.outputs
+  pub wires : Each (AlikeWires Says) one.wires other.wires
   pub closed : one.closed ≡ other.closed
   pub reports : one.reports ≡ other.reports
   pub taken : one.taken ≡ other.taken

@@ -5,7 +5,8 @@ ghost use Rattle.mqtt_records.specs.declared.records.Records.{Records};
 ghost use Rattle.mqtt_records.specs.declared.session.Session.{Session};
 ghost use Rattle.mqtt_rules.specs.declared.Limits.{Limits};
 ghost use Rattle.mqtt_rules.specs.State.{Line, Broker, MemberChoice};
-ghost use Rattle.mqtt_rules.specs.Inbound.{pump_turns, pump_deeds};
+ghost use Rattle.mqtt_rules.specs.Fitting.{pump_turns};
+ghost use Rattle.mqtt_rules.specs.Inbound.{pump_deeds};
 ghost use Rattle.mqtt_rules.specs.Laws.{Event, after_events};
 ghost use Rattle.mqtt_rules.specs.Outbound.{all_turn_deeds};
 ghost use Rattle.mqtt_rules.specs.Step.{Call, at_moment, deeds, stepped, told, rows_written, is_step_spent, opened};
@@ -13,10 +14,10 @@ ghost use Rattle.mqtt_rules_alike_laws.specs.Alike.{Each, AlikeRows, AlikeSessio
 ghost use Rattle.mqtt_rules_alike_laws.specs.Slim.{slim, slim_broker};
 
 /// Brokers that are alike but for what their waiting copies say do alike: by each call they come to brokers that are alike
-/// again, with alike deeds, the same reports and closed lines, and the same packets, but that each one's pump says what its
-/// own copies say; they write the same rows, and refuse the same calls for a spent number. So they do if what they
-/// stored is opened again, and in every run of calls and openings. What their clients were told of topics may be any
-/// on either side (3.3, 4.6).
+/// again, with alike deeds, the same reports and closed lines, and the same packets in the same forms, but that each one's
+/// pump says what its own copies say; they write the same rows, and refuse the same calls for a spent number. So they do if
+/// what they stored is opened again, and in every run of calls and openings. Their clients are told the same of topics (3.3,
+/// 4.6).
 pub fn alike_steps()
     ensures states { (limits : Limits) (choice : MemberChoice) (now : ℕ) (call : Call) (b c : Broker) → AlikeBrokers b c
         → AlikeBrokers (stepped limits choice now call b) (stepped limits choice now call c) }
@@ -35,17 +36,18 @@ pub fn alike_steps()
         → AlikeBrokers (after_events events b) (after_events events c) }
 {}
 
-/// A pump of alike sessions has the same turns, so it sends the same copies, each with the content that its own queue has
-/// for it (4.3, 4.6).
+/// A pump of alike sessions has the same turns on alike brokers, since each copy has the same forms there. So it sends the
+/// same copies, each with the content that its own queue has for it (4.3, 4.6).
 pub fn alike_pumps()
-    ensures turns { (l : Line) (now : ℕ) (s t : Session) → AlikeSessions s t → pump_turns l now s ≡ pump_turns l now t }
-    ensures sends { (l : Line) (now : ℕ) (s t : Session) → AlikeSessions s t
-        → pump_deeds l now t ≡ all_turn_deeds now l.number t (pump_turns l now s) }
+    ensures turns { (l : Line) (b c : Broker) (s t : Session) → AlikeBrokers b c → AlikeSessions s t
+        → pump_turns l b s ≡ pump_turns l c t }
+    ensures sends { (l : Line) (b c : Broker) (s t : Session) → AlikeBrokers b c → AlikeSessions s t
+        → pump_deeds l c t ≡ all_turn_deeds b.now l.number t (pump_turns l b s) }
 {}
 
-/// Each row has a slim one that is alike to it: no topic, no Subscription Identifiers, of its properties Message Expiry
-/// Interval alone, and a payload of zeros of the length that keeps its size. So each broker has one that is alike to it and
-/// whose copies say nothing (3.3).
+/// Each row has a slim one that is alike to it: its topic, no Subscription Identifiers, of its properties Message Expiry
+/// Interval alone, a filler of the bytes that the others have, and as many zeros as its payload has bytes. So each broker
+/// has one that is alike to it and whose copies say nothing but their topic (3.3).
 pub fn slim_rows_are_alike()
     ensures row { (e : CopyRow) → AlikeRows e (slim e) }
     ensures broker { (b : Broker) → AlikeBrokers b (slim_broker b) }

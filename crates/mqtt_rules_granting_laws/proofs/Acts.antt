@@ -40,7 +40,8 @@ use Rattle.mqtt_rules.specs.Closing.{close, close_connected, close_session, drop
 use Rattle.mqtt_rules.specs.Connect.{Case, begin_named, case, clear, connect_by, first_case, has_bad_topic, is_unassigned, joins, largest_of, least_packet_size, of_client, prepare, refusal, refusal_size, refused, resume, take_over, will_kept, will_of}
 use Rattle.mqtt_rules.specs.Deeds as deeds
 use Rattle.mqtt_rules.specs.Deeds.{Act, At, Close, Count, Deed, DropWill, Finish, Forget, FromClient, FromWill, Gone, Hear, Leave, Link, Message, On, Send, Whose, after_all, always, of_session, offer, only_if, series, whose, with_line, with_session}
-use Rattle.mqtt_rules.specs.Inbound.{Meaning, Means, Wrong, answer, code_accepted, code_again, leave_by, meaning, message_of, new_expiry, on_answer, opens, publish_by, publish_meant, publish_new, pump_deeds, pump_turns, release_by, sets_alias, standing}
+use Rattle.mqtt_rules.specs.Fitting.{pump_turns}
+use Rattle.mqtt_rules.specs.Inbound.{Meaning, Means, Wrong, answer, code_accepted, code_again, leave_by, meaning, message_of, new_expiry, on_answer, opens, publish_by, publish_meant, publish_new, pump_deeds, release_by, sets_alias, standing}
 use Rattle.mqtt_rules.specs.Outbound.{turn_deeds}
 use Rattle.mqtt_rules.specs.Packets.{connack, disconnect, suback, unsuback}
 use Rattle.mqtt_rules.specs.Routing.{CopyTo, accepted_copies, is_queued, is_wanted, publish}
@@ -346,21 +347,23 @@ module _ (env : Env) where
       let more = filters_named birth identifier rest c (kept_all g.deeds b h one.0) in
       (each_append Names g.deeds all.deeds one.0 more.0, each_append IsNamedTo g.late all.late one.1 more.1)
 
-  all_late : (line now : ℕ) (b : Broker) (ds : List CopyTo) → AllByRecursion IsNamedTo ds → AllName (flat_map (λ d. sub.late_sends line now d b) ds)
-  all_late line now b [] h = tt
-  all_late line now b (d ∷ ds) h =
-      each_append Names (sub.late_sends line now d b) (flat_map (λ d. sub.late_sends line now d b) ds) (late_names (line_at line b) now d h.0) (all_late line now b ds h.1)
+  all_late : (line : ℕ) (ds : List CopyTo) (b : Broker) → AllByRecursion IsNamedTo ds → AllName (series (map (sub.late_send line) ds) b)
+  all_late line [] b h = tt
+  all_late line (d ∷ ds) b h =
+      let first = sub.late_send line d b in
+      let c = after_all first b in
+      each_append Names first (series (map (sub.late_send line) ds) c) (late_names (line_at line b) d b h.0) (all_late line ds c h.1)
 
   subscribing : (t : Bool) (line : ℕ) (s : Session) (p : Asking) (b : Broker) → Naming (sub.subscribe_by t env line s p b) b
   subscribing true line s p b h = offer_names (line_at line b) (suback p.identifier (map (λ a. identifier_in_use) p.subscriptions)) tt
   subscribing false line s p b h =
       let a = sub.filter_answers env s.birth (number_at SubscriptionIdentifier p.properties) p.subscriptions b in
       let told = offer (line_at line b) (suback p.identifier a.codes) in
-      let late = flat_map (λ d. sub.late_sends line b.now d b) a.late in
+      let c = after_all (a.deeds ++ told) b in
       let all = filters_named s.birth (number_at SubscriptionIdentifier p.properties) p.subscriptions b h in
-      each_append Names (a.deeds ++ told) late
+      each_append Names (a.deeds ++ told) (series (map (sub.late_send line) a.late) c)
       (each_append Names a.deeds told all.0 (offer_names (line_at line b) (suback p.identifier a.codes) tt))
-      (all_late line b.now b a.late all.1)
+      (all_late line a.late c all.1)
 
   -- ---- tick
 
@@ -442,7 +445,7 @@ module _ (env : Env) where
 
   pumping : (l : Line) (o : Option ℕ) → NamesAct (on_pump l o)
   pumping l None b = naming [] b tt
-  pumping l (Some birth) b = on_birth birth (λ s. always (pump_deeds l b.now s)) (λ s h. always_names (pump_deeds l b.now s) (turns_name b.now l.number s (pump_turns l b.now s) h)) b
+  pumping l (Some birth) b = on_birth birth (λ s. always (pump_deeds l b s)) (λ s h. always_names (pump_deeds l b s) (turns_name b.now l.number s (pump_turns l b s) h)) b
 
   -- a call names the topic of each PUBLISH that it sends
   pub call_names : (call : Call) → NamesAct (deeds_of env call)

@@ -16,9 +16,11 @@ use Rattle.mqtt_routes.specs.Acceptance.{Routed, Served, copies_in}
 use Rattle.mqtt_routes.specs.Intended.{Copy}
 use Rattle.mqtt_routes.specs.Retained.{kept_for}
 use Rattle.mqtt_routes.specs.declared.retained.Kept.{Kept}
+use Rattle.mqtt_rules.proofs.acts.Offers.{of_offer_if}
 use Rattle.mqtt_rules.proofs.flight.FlightRows.{all_at}
 use Rattle.mqtt_rules.proofs.numbers.Copies.{each_append, each_filter, each_flat, each_map}
 use Rattle.mqtt_rules.specs.Deeds.{Accept, At, Deed, Enter, Leave, Mark, Message, On, Origin, Send, Went, after, after_all, always, offer, series, whose, with_session}
+use Rattle.mqtt_rules.specs.Fitting.{has_form, offer_copy}
 use Rattle.mqtt_rules.specs.Outbound.{all_turn_deeds, enter_deeds, leave_deeds, of_entry, queue_limits, since, turn_deeds}
 use Rattle.mqtt_rules.specs.Packets.{properties_sent, publish_of, seconds_waited}
 use Rattle.mqtt_rules.specs.Routing.{CopyTo, accepted_copies, accepted_if, copies_to, copy_to, deliver, deliver_by, finds_place, forgets, is_queued, next_publication, publish, retain_by, retained_of, routing_of, served_copies_to}
@@ -98,8 +100,8 @@ offer_names (Some l) packet q = by _
     by false = tt
 
 -- so does that of a copy
-pub late_names : (o : Option Line) (now : ℕ) (d : CopyTo) → IsNamedTo d → AllName (offer o (publish_of now false 0 d.copy))
-late_names o now d h = offer_names o (publish_of now false 0 d.copy) (publish_named now false 0 d.copy h)
+pub late_names : (o : Option Line) (d : CopyTo) (b : Broker) → IsNamedTo d → AllName (offer_copy o d.copy b)
+late_names o d b h = of_offer_if AllName (has_form d.copy b) o (publish_of b.now false 0 d.copy) tt (λ l there. (publish_named b.now false 0 d.copy h, tt))
 
 entry_names : (o : Option CopyRow) (f : CopyRow → List Deed) → ((e : CopyRow) → AllName (f e)) → AllName (of_entry o f)
 entry_names None f h = tt
@@ -130,7 +132,7 @@ deliver_names true env d b h = by (session_at d.birth b.records)
     by : (o : Option Session) → AllName (with_session o (λ s. always (enter_deeds env d.copy s)) b)
     by None = tt
     by (Some s) = enter_names env d.copy s h
-deliver_names false env d b h = late_names (line_of d.birth b) b.now d h
+deliver_names false env d b h = late_names (line_of d.birth b) d b h
 
 -- deliveries name the topics of their copies
 pub deliveries_name : (env : Env) (ds : List CopyTo) (b : Broker) → AllByRecursion IsNamedTo ds → AllName (series (map (deliver env) ds) b)

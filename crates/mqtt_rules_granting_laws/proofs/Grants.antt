@@ -18,17 +18,18 @@ use Rattle.mqtt_records_rows.specs.Order.{row_at}
 use Rattle.mqtt_records.specs.Session.{copy_place}
 use Rattle.mqtt_rules.specs.Packets.{publish_of}
 use Rattle.mqtt_rules.specs.State.{Line, Broker, Env, is_of, line_of, queue_on, session_at}
-use Rattle.mqtt_rules.specs.Deeds.{whose, Message, Origin, FromClient, Resume, Close, Open, Enter, Leave, Hear, Greet, SetAlias, Deed, Accept, Count, At, Finish, Forget, RefuseWill, Link, On, Send, Gone, after, after_all, always, offer, series}
+use Rattle.mqtt_rules.specs.Deeds.{whose, Message, Origin, FromClient, Resume, Close, Open, Enter, Leave, Hear, Greet, SetAlias, Deed, Accept, Count, At, Finish, Forget, RefuseWill, Link, On, Send, Gone, after, after_all, always, series}
 use Rattle.mqtt_rules.specs.Deeds as deeds
 use Rattle.mqtt_rules.specs.Outbound.{leave_deeds, turn_deeds, since, queue_limits, enter_deeds}
 use Rattle.mqtt_rules.specs.Routing.{CopyTo, next_publication, is_queued, deliver_by, deliver, retained_of, forgets, retain_by, publish}
 use Rattle.mqtt_rules.specs.Closing.{end_session}
 use Rattle.mqtt_rules.specs.Connect.{aliases_of, expiry_of, will_of, greet, begin_named}
-use Rattle.mqtt_rules.specs.Inbound.{pump_turns, pump_deeds}
+use Rattle.mqtt_rules.specs.Fitting.{has_form, pump_turns}
+use Rattle.mqtt_rules.specs.Inbound.{pump_deeds}
 use Rattle.mqtt_rules.specs.Subscribe as sub
 use Rattle.mqtt_rules.specs.Tick.{lapses, lapse_deeds}
 use Rattle.mqtt_rules.specs.Step.{Call, NewLine, Input, BadInput, Lost, Pump, Tick, deeds_of, opening}
-use Rattle.mqtt_rules.proofs.acts.Offers.{of_offer}
+use Rattle.mqtt_rules.proofs.acts.Offers.{of_offer_if}
 use Rattle.mqtt_rules.proofs.acts.Goods.{AreGood, good_append, good_flat, good_of_entry, good_with_session}
 use Rattle.mqtt_rules.proofs.acts.Leads.{Leads, found_passes}
 use Rattle.mqtt_rules.proofs.acts.Acts.{About, Finds, anyone, closing_session, closing_on, closing, brought_to, found_number, Law, leads_call, leads_opening}
@@ -82,13 +83,11 @@ module _ (n most : ℕ) where
       let ts = way_made (queue_limits env) (since env s) (queue_on [] s) in
       good_append Grant (flat_map (leave_deeds s) ts) (At (whose s) (Enter copy) ∷ []) b (leaves_within s ts b) (tt, tt)
 
-  offer_within : (o : Option Line) (packet : Packet) (b : Broker) → Within (offer o packet) b
-  offer_within o packet b = of_offer (λ (ds : List Deed). Within ds b) o packet tt (λ l there. (tt, tt))
-
   deliver_within : (t : Bool) (env : Env) (d : CopyTo) (b : Broker) → Within (deliver_by t env d b) b
   deliver_within true env d b =
       good_with_session Grant (session_at d.birth b.records) (λ s. always (enter_deeds env d.copy s)) b (λ s e. enter_within env d.copy s b)
-  deliver_within false env d b = offer_within (line_of d.birth b) (publish_of b.now false 0 d.copy) b
+  deliver_within false env d b =
+      of_offer_if (λ (ds : List Deed). Within ds b) (has_form d.copy b) (line_of d.birth b) (publish_of b.now false 0 d.copy) tt (λ l there. (tt, tt))
 
   deliveries_within : (env : Env) (ds : List CopyTo) (b : Broker) → Within (series (map (deliver env) ds) b) b
   deliveries_within env [] b = tt
@@ -169,7 +168,7 @@ module _ (n most : ℕ) where
       resumes = λ l c s b k its none came taken own is prepared. led (At (whose s) (Resume (expiry_of c) (will_of c)) ∷ greet l c s.birth ∷ []) b (tt, (takes l c its none came, tt));
       begins = λ l c b k its none came taken name is room prepared. led (begin_named (is_empty c.client_identifier) l c b.records) b (begin_within (is_empty c.client_identifier) l c b.records b (takes l c its none came));
       grants = λ w s b k its asked granted. led (sub.granted_filter env (sub.next_number b.records) s w (brought_to w s b) b).deeds b (grants_within env w s b);
-      pumps = λ l s b k its is there. led (pump_deeds l b.now s) b (good_flat Grant (turn_deeds b.now l.number s) (turn_within b.now l.number s) (pump_turns l b.now s) b);
+      pumps = λ l s b k its is there. led (pump_deeds l b s) b (good_flat Grant (turn_deeds b.now l.number s) (turn_within b.now l.number s) (pump_turns l b s) b);
       turns = λ a t l s b k its own there is e. led (turn_deeds b.now l.number s t) b (turn_within b.now l.number s t b);
       lapses = λ s b k among. led (lapse_deeds b.now s) b (leaves_within s (lapses b.now s) b);
       stale = λ x b k among. led (Forget x.place ∷ []) b (tt, tt);

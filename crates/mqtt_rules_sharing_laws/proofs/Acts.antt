@@ -6,7 +6,6 @@ use Rattle.std.specs.List.{AllByRecursion}
 use Rattle.mqtt_base.specs.declared.session.Cause.{Cause}
 use Rattle.mqtt_base.specs.declared.session.Cause.TheVariants.{Direct, Share}
 use Rattle.mqtt_base.specs.declared.session.Ending.TheVariants.{SessionEnded}
-use Rattle.mqtt_codec.specs.declared.packet.Packet.{Packet}
 use Rattle.mqtt_topic.specs.Names.{is_empty}
 use Rattle.mqtt_topic.specs.Filters.{begins_share}
 use Rattle.mqtt_flow.specs.declared.entry.Turn.{Turn}
@@ -28,17 +27,18 @@ use Rattle.mqtt_records.specs.Contents.{StoredMessage, retained_message, IsMessa
 use Rattle.mqtt_rules.specs.Packets.{publish_of}
 use Rattle.mqtt_codec_connect.specs.declared.connect.Connect.{Connect as Greeting}
 use Rattle.mqtt_rules.specs.State.{Line, Broker, Env, session_at, line_of, queue_on}
-use Rattle.mqtt_rules.specs.Deeds.{Whose, whose, Message, Origin, FromClient, Part, Resume, Close, Open, Enter, Leave, Hear, SetAlias, Deed, Accept, Count, At, Finish, Forget, RefuseWill, Link, On, Send, Gone, after, after_all, series, always, offer}
+use Rattle.mqtt_rules.specs.Deeds.{Whose, whose, Message, Origin, FromClient, Part, Resume, Close, Open, Enter, Leave, Hear, SetAlias, Deed, Accept, Count, At, Finish, Forget, RefuseWill, Link, On, Send, Gone, after, after_all, series, always}
 use Rattle.mqtt_rules.specs.Deeds as told
 use Rattle.mqtt_rules.specs.Outbound.{leave_deeds, turn_deeds, since, queue_limits, enter_deeds}
 use Rattle.mqtt_rules.specs.Routing.{CopyTo, copy_to, served_copies_to, copies_to, next_publication, routing_of, finds_place, accepted_if, accepted_copies, is_queued, deliver_by, deliver, retained_of, forgets, retain_by, publish}
 use Rattle.mqtt_rules.specs.Closing.{end_session}
 use Rattle.mqtt_rules.specs.Connect.{expiry_of, will_of, greet, begin_named}
-use Rattle.mqtt_rules.specs.Inbound.{pump_turns, pump_deeds}
+use Rattle.mqtt_rules.specs.Fitting.{has_form, pump_turns}
+use Rattle.mqtt_rules.specs.Inbound.{pump_deeds}
 use Rattle.mqtt_rules.specs.Subscribe as sub
 use Rattle.mqtt_rules.specs.Tick.{lapses, lapse_deeds}
 use Rattle.mqtt_rules.specs.Step.{Call, deeds_of, opening}
-use Rattle.mqtt_rules.proofs.acts.Offers.{of_offer}
+use Rattle.mqtt_rules.proofs.acts.Offers.{of_offer_if}
 use Rattle.mqtt_rules.proofs.acts.Goods.{AreGood, good_append, good_flat, good_of_entry, good_with_session}
 use Rattle.mqtt_rules.proofs.acts.Leads.{Leads}
 use Rattle.mqtt_rules.proofs.acts.Acts.{anyone, finds_anyone, call_of_anyone, closing_session, closing_on, closing, is_alone, brought_to, Law, leads_call, leads_opening}
@@ -79,13 +79,11 @@ module _ (May : StoredMessage → Type 0) where
       let ts = way_made (queue_limits env) (since env s) (queue_on [] s) in
       good_append (MaySay May) (flat_map (leave_deeds s) ts) (At (whose s) (Enter copy) ∷ []) b (leaves_say s ts b) (may, tt)
 
-  offer_says : (o : Option Line) (packet : Packet) (b : Broker) → Say (offer o packet) b
-  offer_says o packet b = of_offer (λ (ds : List Deed). Say ds b) o packet tt (λ l there. (tt, tt))
-
   deliver_says : (t : Bool) (env : Env) (d : CopyTo) (b : Broker) → May (message_to d) → Say (deliver_by t env d b) b
   deliver_says true env d b may =
       good_with_session (MaySay May) (session_at d.birth b.records) (λ s. always (enter_deeds env d.copy s)) b (λ s e. enter_says env d.copy s b may)
-  deliver_says false env d b may = offer_says (line_of d.birth b) (publish_of b.now false 0 d.copy) b
+  deliver_says false env d b may =
+      of_offer_if (λ (ds : List Deed). Say ds b) (has_form d.copy b) (line_of d.birth b) (publish_of b.now false 0 d.copy) tt (λ l there. (tt, tt))
 
   -- copies that are handed over say what may be said, if each does
   deliveries_say : (env : Env) (ds : List CopyTo) (b : Broker) → AreSaid ds → Say (series (map (deliver env) ds) b) b
@@ -275,7 +273,7 @@ law env = record {
   resumes = λ l c s b k its none came taken own is prepared. plain (At (whose s) (Resume (expiry_of c) (will_of c)) ∷ greet l c s.birth ∷ []) b k (tt, (tt, tt));
   begins = λ l c b k its none came taken name is room prepared. plain (begin_named (is_empty c.client_identifier) l c b.records) b k (begin_says nothing_more (is_empty c.client_identifier) l c b.records b);
   grants = λ w s b k its asked granted. grant_leads env w s b k;
-  pumps = λ l s b k its is there. plain (pump_deeds l b.now s) b k (good_flat (MaySay nothing_more) (turn_deeds b.now l.number s) (turn_says nothing_more b.now l.number s) (pump_turns l b.now s) b);
+  pumps = λ l s b k its is there. plain (pump_deeds l b s) b k (good_flat (MaySay nothing_more) (turn_deeds b.now l.number s) (turn_says nothing_more b.now l.number s) (pump_turns l b s) b);
   turns = λ a t l s b k its own there is e. plain (turn_deeds b.now l.number s t) b k (turn_says nothing_more b.now l.number s t b);
   lapses = λ s b k among. plain (lapse_deeds b.now s) b k (leaves_say nothing_more s (lapses b.now s) b);
   stale = λ x b k among. plain (Forget x.place ∷ []) b k (tt, tt);

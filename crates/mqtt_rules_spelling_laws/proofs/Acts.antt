@@ -59,12 +59,13 @@ use Rattle.mqtt_rules.specs.Connect.{Case, begin_named, case, clear, connect_by,
 use Rattle.mqtt_rules.specs.Contents.{HasContentsOf, HasTopics, IsTaken, IsWilledOf, TakesLawful, of_rows}
 use Rattle.mqtt_rules.specs.Deeds.{Whose, whose, Message, Origin, FromClient, FromWill, Resume, Close, DropWill, SetExpiry, Release, Leave, Hear, Count, Name, Deed, At, Finish, Forget, RefuseWill, Link, On, Send, Gone, Act, after, after_all, always, of_session, offer, only_if, series, with_line, with_session}
 use Rattle.mqtt_rules.specs.Deeds as deeds
-use Rattle.mqtt_rules.specs.Inbound.{Meaning, Means, Wrong, answer, code_accepted, code_again, is_in_range, known, leave_by, meaning, message_of, named, named_by, new_expiry, on_answer, opens, publish_by, publish_meant, publish_new, pump_deeds, pump_turns, release_by, resolved, sets_alias, standing}
+use Rattle.mqtt_rules.specs.Fitting.{fitted, pump_turns, size_at}
+use Rattle.mqtt_rules.specs.Inbound.{Meaning, Means, Wrong, answer, code_accepted, code_again, is_in_range, known, leave_by, meaning, message_of, named, named_by, new_expiry, on_answer, opens, publish_by, publish_meant, publish_new, pump_deeds, release_by, resolved, sets_alias, standing}
 use Rattle.mqtt_rules.specs.Outbound.{turn_deeds, way_of}
 use Rattle.mqtt_rules.specs.Packets.{connack, disconnect, suback, unsuback}
 use Rattle.mqtt_records_message.specs.PassedOn.{number_at}
 use Rattle.mqtt_rules.specs.Routing.{CopyTo, accepted_copies, is_queued, is_wanted, publish}
-use Rattle.mqtt_rules.specs.State.{Broker, Env, Line, is_connected, line_at, line_of, queue_on, session_at, session_named}
+use Rattle.mqtt_rules.specs.State.{Broker, Env, Line, is_connected, line_at, line_of, queue_on, session_at, session_named, told_on}
 use Rattle.mqtt_rules.specs.Laws.{HasTables, IsOrdered}
 use Rattle.mqtt_rules.specs.Piece.{code_of}
 use Rattle.mqtt_rules.specs.Step.{Call, NewLine, Input, BadInput, Lost, Pump, Tick, can_link, close_if, deeds_of, first_packet, late_code, next_packet, on_fault, on_packet, on_pump, opening}
@@ -506,10 +507,12 @@ module _ (env : Env) where
       let more = filters_told birth identifier rest c q (fine_all g.deeds b h parts.0 one.0) parts.1 in
       (each_append IsSaid g.deeds all.deeds one.0 more.0, each_append IsLate g.late all.late one.1 more.1, and_both (is_code kinds.Suback g.code) (are_codes kinds.Suback all.codes) one.2 more.2, ap suc more.3)
 
-  all_late : (line now : ℕ) (b : Broker) (ds : List CopyTo) → AllByRecursion IsLate ds → AreSaid (flat_map (λ d. sub.late_sends line now d b) ds)
-  all_late line now b [] h = tt
-  all_late line now b (d ∷ ds) h =
-      each_append IsSaid (sub.late_sends line now d b) (flat_map (λ d. sub.late_sends line now d b) ds) (said_late (line_at line b) now d h.0) (all_late line now b ds h.1)
+  all_late : (line : ℕ) (ds : List CopyTo) (b : Broker) → AllByRecursion IsLate ds → AreSaid (series (map (sub.late_send line) ds) b)
+  all_late line [] b h = tt
+  all_late line (d ∷ ds) b h =
+      let first = sub.late_send line d b in
+      let c = after_all first b in
+      each_append IsSaid first (series (map (sub.late_send line) ds) c) (said_late (line_at line b) d b h.0) (all_late line ds c h.1)
 
   subscribing : (t : Bool) (line : ℕ) (s : Session) (p : Asking) (b : Broker) → IsTaken (packets.Subscribe p) → Says (sub.subscribe_by t env line s p b) b
   subscribing true line s p b taken h rows =
@@ -522,7 +525,8 @@ module _ (env : Env) where
   subscribing false line s p b taken h rows =
       let a = sub.filter_answers env s.birth (number_at SubscriptionIdentifier p.properties) p.subscriptions b in
       let told = offer (line_at line b) (suback p.identifier a.codes) in
-      let late = flat_map (λ d. sub.late_sends line b.now d b) a.late in
+      let c = after_all (a.deeds ++ told) b in
+      let late = series (map (sub.late_send line) a.late) c in
       let its = asking_taken p taken in
       let parts = writes_split (a.deeds ++ told) late b rows in
       let first = writes_split a.deeds told b parts.0 in
@@ -532,7 +536,7 @@ module _ (env : Env) where
       each_append IsSaid (a.deeds ++ told) late
       (each_append IsSaid a.deeds told all.0
       (said_offer (line_at line b) (suback p.identifier a.codes) (suback_spelled p.identifier a.codes its.0 all.2 (list_codes p.subscriptions a.codes same its.1) (omega (arith, same, few)))))
-      (all_late line b.now b a.late all.1)
+      (all_late line a.late c all.1)
 
   -- ---- tick
 
@@ -625,10 +629,11 @@ module _ (env : Env) where
   pumping : (l : Line) (o : Option ℕ) (b : Broker) → IsOrdered b.records → Says (on_pump l o b) b
   pumping l None b ordered h rows = tt
   pumping l (Some birth) b ordered h rows =
-      on_session (session_at birth b.records) (λ s. always (pump_deeds l b.now s)) b
+      on_session (session_at birth b.records) (λ s. always (pump_deeds l b s)) b
       (λ s e. let well = well_at birth s b.records h e in
-      saying (pump_deeds l b.now s) b
-      (said_turns b.now l.number s (pump_turns l b.now s) well.0 (pumped_turns (way_of l b.now) l.went s well.1 (all_at birth_of HasTables birth s b.records.sessions ordered.each e).queue.within))) h rows
+      let size = size_at (fitted l b.now (told_on l.number b.tellings) s.queue) in
+      let few = (all_at birth_of HasTables birth s b.records.sessions ordered.each e).queue.within in
+      saying (pump_deeds l b s) b (said_turns b.now l.number s (pump_turns l b s) well.0 (pumped_turns (way_of l b.now) size l.went s well.1 few))) h rows
 
   on_its_line : (o : Option Line) (f : Line → Act) (b : Broker) → ((l : Line) → o ≡ Some l → Says (f l b) b) → Says (with_line o f b) b
   on_its_line None f b q = saying [] b tt

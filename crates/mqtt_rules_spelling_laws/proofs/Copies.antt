@@ -31,11 +31,13 @@ use Rattle.mqtt_records_rows.specs.Order.{row_at}
 use Rattle.mqtt_topic.specs.Names.{is_empty}
 use Rattle.mqtt_rules.specs.Contents.{AreIdentifiersOf, HasContentsOf, HasLawfulContentsOf, IsAskedFor, IsContentOf, IsCopiedOf, IsPublishedOf, of_rows}
 use Rattle.mqtt_rules.specs.Deeds.{whose, Message, Origin, Enter, Leave, Deed, Accept, At, Send, after, after_all, always, offer, series, with_session}
+use Rattle.mqtt_rules.specs.Fitting.{has_form, offer_copy}
 use Rattle.mqtt_rules.specs.Outbound.{enter_deeds, leave_deeds, of_entry, queue_limits, since}
 use Rattle.mqtt_rules.specs.Packets.{publish_of}
 use Rattle.mqtt_rules.specs.Routing.{CopyTo, accepted_copies, accepted_if, answers, copies_to, copy_to, deliver, deliver_by, finds_place, forgets, is_queued, is_queued_at, next_publication, publication_of, publish, retain_by, retained_of, routed_subscription, routing_of, served_copies_to, subscriber_of, subscribers}
 use Rattle.mqtt_rules.specs.State.{Broker, Env, Line, line_of, queue_on, session_at}
 use Rattle.mqtt_rules.specs.Subscribe as sub
+use Rattle.mqtt_rules.proofs.acts.Offers.{of_offer_if}
 use Rattle.mqtt_rules.proofs.contents.ContentCopies.{AreNumbered, IsIdentified, IsRoutedWell, routed_identified}
 use Rattle.mqtt_rules.proofs.numbers.Copies.{each_append, each_filter, each_flat, each_map, each_more}
 use Rattle.mqtt_rules.proofs.order.OrderedQueues.{length-mapped}
@@ -150,8 +152,9 @@ said_offer (Some l) packet q = by _
     by false = tt
 
 -- so does that of a copy behind the SUBACK
-pub said_late : (o : Option Line) (now : ℕ) (d : CopyTo) → IsLate d → AreSaid (offer o (publish_of now false 0 d.copy))
-said_late o now d h = said_offer o (publish_of now false 0 d.copy) (publish_spelled now false 0 d.copy h.0 (at_once d.copy.qos 0 h.1))
+pub said_late : (o : Option Line) (d : CopyTo) (b : Broker) → IsLate d → AreSaid (offer_copy o d.copy b)
+said_late o d b h =
+    of_offer_if AreSaid (has_form d.copy b) o (publish_of b.now false 0 d.copy) tt (λ l there. (publish_spelled b.now false 0 d.copy h.0 (at_once d.copy.qos 0 h.1), tt))
 
 said_entry : (o : Option CopyRow) (f : CopyRow → List Deed) → ((e : CopyRow) → AreSaid (f e)) → AreSaid (of_entry o f)
 said_entry None f h = tt
@@ -182,7 +185,7 @@ said_deliver true env d b is q = by (session_at d.birth b.records)
     by : (o : Option Session) → AreSaid (with_session o (λ s. always (enter_deeds env d.copy s)) b)
     by None = tt
     by (Some s) = said_enter env d.copy s
-said_deliver false env d b is q = said_late (line_of d.birth b) b.now d (q, is)
+said_deliver false env d b is q = said_late (line_of d.birth b) d b (q, is)
 
 -- deliveries say packets with a spelling
 pub said_deliveries : (env : Env) (ds : List CopyTo) (b : Broker) → AllByRecursion IsCopiedTo ds → AreSaid (series (map (deliver env) ds) b)

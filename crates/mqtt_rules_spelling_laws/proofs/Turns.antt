@@ -26,6 +26,7 @@ use Rattle.mqtt_records.specs.declared.session.Session.{Session}
 use Rattle.mqtt_records_rows.specs.Order.{row_at}
 use Rattle.mqtt_rules.specs.Contents.{HasContentsOf, IsCopiedOf, of_rows}
 use Rattle.mqtt_rules.specs.Deeds.{whose, Mark, Went, Deed, At, On, Send}
+use Rattle.mqtt_rules.specs.Fitting.{sized}
 use Rattle.mqtt_rules.specs.Outbound.{all_turn_deeds, of_entry, turn_deeds}
 use Rattle.mqtt_rules.specs.Packets.{publish_of}
 use Rattle.mqtt_rules.specs.State.{entry_on, queue_on}
@@ -278,10 +279,10 @@ used_few (e ∷ es) = let rest = used_few es in by (identifier_of e.phase) rest
     by None le = omega (arith, le)
     by (Some i) le = omega (arith, le)
 
--- and those of a pump
-pub pumped_turns : (way : Way) (went : List ℕ) (s : Session) → HasSentPhases s → length s.queue ≤ QUEUE_LIMIT → AllByRecursion IsTurn (pump way (queue_on went s))
-pumped_turns way went s h few =
-    let queue = queue_on went s in
+-- and those of a pump, whatever bytes it finds the rows to have
+pub pumped_turns : (way : Way) (size : CopyRow → ℕ) (went : List ℕ) (s : Session) → HasSentPhases s → length s.queue ≤ QUEUE_LIMIT → AllByRecursion IsTurn (pump way (map (sized size went) s.queue))
+pumped_turns way size went s h few =
+    let queue = map (sized size went) s.queue in
     let used = used_few queue in
-    let same = length-mapped (entry_on went) s.queue in
-    pumped_from way queue (entries went s h) (pace way queue) (omega (arith, used, same, few))
+    let same = length-mapped (sized size went) s.queue in
+    pumped_from way queue (each_map IsEntry (sized size went) s.queue h) (pace way queue) (omega (arith, used, same, few))
