@@ -31,18 +31,20 @@ use Rattle.mqtt_records.specs.Session.{copy_place}
 use Rattle.mqtt_records_rows.specs.Order.{row_at}
 use Rattle.mqtt_topic.specs.Names.{is_empty}
 use Rattle.mqtt_records_message.specs.PassedOn.{number_at}
-use Rattle.mqtt_rules.specs.Packets.{suback, unsuback, connack, disconnect}
+use Rattle.mqtt_rules.specs.Packets.{publish_of, suback, unsuback, connack, disconnect}
 use Rattle.mqtt_rules.specs.State.{Line, Broker, Env, session_at, session_named, line_at, line_of, is_connected, queue_on}
 use Rattle.mqtt_rules.specs.Deeds.{Whose, whose, Message, Origin, FromClient, FromWill, Resume, Close, DropWill, Enter, Leave, Hear, Deed, Accept, Begin, Name, Count, At, Finish, Forget, RefuseWill, Link, On, Send, Gone, Act, after_all, always, series, only_if, of_session, with_line, offer}
 use Rattle.mqtt_rules.specs.Deeds as deeds
+use Rattle.mqtt_rules.specs.Fitting.{has_form, offer_copy, pump_turns}
 use Rattle.mqtt_rules.specs.Outbound.{leave_deeds, turn_deeds, all_turn_deeds, enter_deeds, queue_limits, since}
 use Rattle.mqtt_rules.specs.Routing.{CopyTo, accepted_copies, is_queued, deliver_by, deliver, retained_of, forgets, retain_by, next_publication, publish, is_wanted}
 use Rattle.mqtt_rules.specs.Closing.{has_due_will, has_due_end, will_message, publish_or_refuse, will_deeds, publish_will, end_session, settle, close_session, close_connected, close, drop_line}
 use Rattle.mqtt_rules.specs.Connect.{largest_of, refusal, refusal_size, refused, of_client, take_over, clear, prepare, resume, begin_named, joins, connect_by}
-use Rattle.mqtt_rules.specs.Inbound.{Meaning, Means, Wrong, meaning, sets_alias, standing, answer, opens, code_again, code_accepted, publish_new, publish_by, message_of, publish_meant, release_by, on_answer, pump_turns, new_expiry, is_late_expiry, leave_by}
+use Rattle.mqtt_rules.specs.Inbound.{Meaning, Means, Wrong, meaning, sets_alias, standing, answer, opens, code_again, code_accepted, publish_new, publish_by, message_of, publish_meant, release_by, on_answer, new_expiry, is_late_expiry, leave_by}
 use Rattle.mqtt_rules.specs.Subscribe as sub
 use Rattle.mqtt_rules.specs.Tick.{is_silent, silence, lapses, has_lapsed, lapse_deeds, is_stale, first_due, due, on_tick}
 use Rattle.mqtt_rules.specs.Step.{Call, NewLine, Input, BadInput, Lost, Pump, Tick, first_packet, next_packet, on_packet, on_fault, late_code, on_pump, deeds_of, close_if, opening}
+use Rattle.mqtt_rules.proofs.acts.Offers.{of_offer_if}
 use Rattle.mqtt_rules.proofs.acts.Goods.{AreGood, GoodAct, good_append, good_series, good_map, good_flat, good_acts, good_cond, good_if, good_of_session, good_of_client, good_with_line, good_of_entry}
 
 -- a deed links no line
@@ -61,6 +63,9 @@ Does = GoodAct IsUnlinked
 un_offer : (o : Option Line) (packet : Packet) (b : Broker) → Has (offer o packet) b
 un_offer None packet b = tt
 un_offer (Some l) packet b = good_cond IsUnlinked _ (Send l.number packet ∷ []) [] b (tt, tt) tt
+
+un_copy : (o : Option Line) (copy : MessageCopy) → Does (offer_copy o copy)
+un_copy o copy b = of_offer_if (λ (ds : List Deed). Has ds b) (has_form copy b) o (publish_of b.now false 0 copy) tt (λ l there. (tt, tt))
 
 un_leave : (s : Session) (t : Turn) (b : Broker) → Has (leave_deeds s t) b
 un_leave s (turns.Leave place ending) b = good_of_entry IsUnlinked (row_at copy_place place s.queue) (λ e. At (whose s) (Leave e ending) ∷ []) b (λ e. (tt, tt))
@@ -95,7 +100,7 @@ un_enter env copy s b =
 
 un_deliver : (env : Env) (t : Bool) (d : CopyTo) → Does (deliver_by t env d)
 un_deliver env true d b = good_of_session IsUnlinked d.birth (λ s. always (enter_deeds env d.copy s)) (λ s c. un_enter env d.copy s c) b
-un_deliver env false d b = un_offer (line_of d.birth b) _ b
+un_deliver env false d b = un_copy (line_of d.birth b) d.copy b
 
 un_deliveries : (env : Env) (ds : List CopyTo) → Does (series (map (deliver env) ds))
 un_deliveries env ds = good_series IsUnlinked (map (deliver env) ds) (good_acts IsUnlinked (deliver env) (λ d. un_deliver env (is_queued d) d) ds)
@@ -305,10 +310,9 @@ un_subscribe env line s p true b = un_offer (line_at line b) _ b
 un_subscribe env line s p false b =
     let a = sub.filter_answers env s.birth (number_at SubscriptionIdentifier p.properties) p.subscriptions b in
     let told = offer (line_at line b) (suback p.identifier a.codes) in
-    let late = flat_map (λ d. sub.late_sends line b.now d b) a.late in
-    good_append IsUnlinked (a.deeds ++ told) late b
+    good_append IsUnlinked (a.deeds ++ told) (series (map (sub.late_send line) a.late) (after_all (a.deeds ++ told) b)) b
     (good_append IsUnlinked a.deeds told b (un_filters env s.birth (number_at SubscriptionIdentifier p.properties) p.subscriptions b) (un_offer (line_at line b) _ _))
-    (good_flat IsUnlinked (λ d. sub.late_sends line b.now d b) (λ d c. un_offer (line_at line b) _ c) a.late _)
+    (good_series IsUnlinked (map (sub.late_send line) a.late) (good_acts IsUnlinked (sub.late_send line) (λ d c. un_copy (line_at line c) d.copy c) a.late) _)
 
 un_unsubscribe : (line : ℕ) (s : Session) (p : GivingUp) (t : Bool) → Does (sub.unsubscribe_by t line s p)
 un_unsubscribe line s p true b = un_offer (line_at line b) _ b
@@ -350,7 +354,7 @@ un_fault env l false code (Some birth) b = un_drop env (late_code code) l b
 
 un_pump : (l : Line) (o : Option ℕ) → Does (on_pump l o)
 un_pump l None b = tt
-un_pump l (Some birth) b = good_of_session IsUnlinked birth _ (λ s c. un_turns b.now l.number s (pump_turns l b.now s) c) b
+un_pump l (Some birth) b = good_of_session IsUnlinked birth _ (λ s c. un_turns b.now l.number s (pump_turns l b s) c) b
 
 -- ---- a turn of the clock
 

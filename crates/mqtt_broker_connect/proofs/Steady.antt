@@ -6,7 +6,6 @@ use Rattle.std.proofs.lemmas.Bool.{cases_Bool, eqb-true}
 use Rattle.std.proofs.lemmas.Cmp.{nat_eq_equiv}
 use Rattle.mqtt_base.specs.declared.session.Ending.TheVariants.{SessionEnded}
 use Rattle.mqtt_base.specs.Codes.{session_taken_over}
-use Rattle.mqtt_codec.specs.declared.packet.Packet.{Packet}
 use Rattle.mqtt_flow.specs.declared.entry.Turn.{Turn}
 use Rattle.mqtt_flow.specs.declared.entry.Turn.TheVariants as turns
 use Rattle.mqtt_flow.specs.Outbound.{way_made}
@@ -22,13 +21,14 @@ use Rattle.mqtt_records_rows.specs.Order.{row_at, change_row, remove_row}
 use Rattle.mqtt_records_rows.proofs.LookUps.{row_at-remove_row}
 use Rattle.mqtt_topic.specs.Names.{is_empty}
 use Rattle.mqtt_rules.specs.Closing.{has_due_will, has_due_end, will_message, publish_or_refuse, will_deeds, publish_will, end_session, settle, close, close_session, close_connected, drop_line}
-use Rattle.mqtt_rules.specs.Deeds.{Whose, whose, Message, Origin, DropWill, Enter, Leave, Part, Deed, Accept, At, Finish, after, after_all, Act, series, always, only_if, of_session, with_line, offer, part_rows, part_rows_of, new_entry}
+use Rattle.mqtt_rules.specs.Deeds.{Whose, whose, Message, Origin, DropWill, Enter, Leave, Part, Deed, Accept, At, Finish, after, after_all, Act, series, always, only_if, of_session, with_line, part_rows, part_rows_of, new_entry}
 use Rattle.mqtt_rules.specs.Deeds as deeds
+use Rattle.mqtt_rules.specs.Fitting.{has_form}
 use Rattle.mqtt_rules.specs.Outbound.{leave_deeds, since, queue_limits, enter_deeds}
 use Rattle.mqtt_rules.specs.Packets.{disconnect, publish_of}
 use Rattle.mqtt_rules.specs.Routing.{CopyTo, is_queued, deliver_by, deliver, retained_of, forgets, retain_by, next_publication, publish, accepted_copies, subscriber_of}
 use Rattle.mqtt_rules.specs.State.{Line, Broker, Env, is_of, line_of, queue_on, session_at}
-use Rattle.mqtt_rules.proofs.acts.Offers.{of_offer}
+use Rattle.mqtt_rules.proofs.acts.Offers.{of_offer_if}
 use Rattle.mqtt_rules.proofs.acts.Goods.{AreGood, GoodAct, good_append, good_then, good_series, good_two, good_map, good_flat, good_acts, good_if, good_with_session, good_with_line, good_of_entry}
 use Rattle.mqtt_rules.proofs.acts.Leads.{found_passes}
 use Rattle.mqtt_rules.proofs.acts.LookedUp.{row_at-change_row}
@@ -233,12 +233,10 @@ module _ (birth : ℕ) where
       let ts = way_made (queue_limits env) (since env s) (queue_on [] s) in
       good_append Good (flat_map (leave_deeds s) ts) (At (whose s) (Enter copy) ∷ []) b (good_flat Good (leave_deeds s) (steady_leave s) ts b) (tt, tt)
 
-  steady_offer : (o : Option Line) (packet : Packet) (b : Broker) → AreGood Good (offer o packet) b
-  steady_offer o packet b = of_offer (λ (ds : List Deed). AreGood Good ds b) o packet tt (λ l there. (tt, tt))
-
   steady_deliver_by : (t : Bool) (env : Env) (d : CopyTo) (b : Broker) → AreGood Good (deliver_by t env d b) b
   steady_deliver_by true env d b = good_with_session Good (session_at d.birth b.records) (λ s. always (enter_deeds env d.copy s)) b (λ s e. steady_enter env d.copy s b)
-  steady_deliver_by false env d b = steady_offer (line_of d.birth b) (publish_of b.now false 0 d.copy) b
+  steady_deliver_by false env d b =
+      of_offer_if (λ (ds : List Deed). AreGood Good ds b) (has_form d.copy b) (line_of d.birth b) (publish_of b.now false 0 d.copy) tt (λ l there. (tt, tt))
 
   steady_deliver : (env : Env) (d : CopyTo) → GoodAct Good (deliver env d)
   steady_deliver env d b = steady_deliver_by (is_queued d) env d b

@@ -13,15 +13,16 @@ use Rattle.mqtt_records_message.specs.Queue.{CopyRow}
 use Rattle.mqtt_records.specs.declared.session.Session.{Session}
 use Rattle.mqtt_records.specs.Session.{birth_of, copy_place}
 use Rattle.mqtt_records_rows.specs.Order.{row_at}
-use Rattle.mqtt_codec.specs.declared.packet.Packet.{Packet}
 use Rattle.mqtt_rules.specs.Closing.{end_session, has_due_end, has_due_will, publish_or_refuse, publish_will, settle, will_deeds, will_message}
-use Rattle.mqtt_rules.specs.Deeds.{Whose, whose, Message, Origin, FromWill, Part, Close, DropWill, Enter, Leave, Deed, Accept, Begin, Name, Count, At, Finish, Keep, Forget, RefuseWill, Link, On, Send, Gone, Act, after, after_all, always, offer, of_session, only_if, series}
+use Rattle.mqtt_rules.specs.Deeds.{Whose, whose, Message, Origin, FromWill, Part, Close, DropWill, Enter, Leave, Deed, Accept, Begin, Name, Count, At, Finish, Keep, Forget, RefuseWill, Link, On, Send, Gone, Act, after, after_all, always, of_session, only_if, series}
+use Rattle.mqtt_rules.specs.Fitting.{has_form}
 use Rattle.mqtt_rules.specs.Outbound.{enter_deeds, leave_deeds, queue_limits, since}
 use Rattle.mqtt_rules.specs.Packets.{publish_of}
 use Rattle.mqtt_rules.specs.Routing.{CopyTo, accepted_copies, deliver, deliver_by, forgets, is_queued, next_publication, publish, retain_by, retained_of}
-use Rattle.mqtt_rules.specs.State.{Line, Broker, Env, line_of, queue_on, session_at}
+use Rattle.mqtt_rules.specs.State.{Broker, Env, line_of, queue_on, session_at}
+use Rattle.mqtt_rules.proofs.acts.Offers.{of_offer_if}
 use Rattle.mqtt_rules.proofs.flight.FlightRows.{found_key}
-use Rattle.mqtt_rules.proofs.acts.Goods.{AreGood, good_append, good_cond, good_flat, good_of_entry, good_two, good_with_session}
+use Rattle.mqtt_rules.proofs.acts.Goods.{AreGood, good_append, good_flat, good_of_entry, good_two, good_with_session}
 use Rattle.mqtt_broker_engine.specs.Sessions.{closes}
 
 -- a copy enters a queue, or leaves it
@@ -68,14 +69,11 @@ module _ (k : ℕ) where
       let ts = way_made (queue_limits env) (since env s) (queue_on [] s) in
       good_append (IsOwn k) (flat_map (leave_deeds s) ts) (At (whose s) (Enter copy) ∷ []) b (good_flat (IsOwn k) (leave_deeds s) (leave_own s) ts b) (inl tt, tt)
 
-  offer_own : (l : Option Line) (packet : Packet) (b : Broker) → AreOwn (offer l packet) b
-  offer_own None packet b = tt
-  offer_own (Some l) packet b = good_cond (IsOwn k) _ (Send l.number packet ∷ []) [] b (tt, tt) tt
-
   deliver_own : (t : Bool) (env : Env) (d : CopyTo) (b : Broker) → AreOwn (deliver_by t env d b) b
   deliver_own true env d b =
       good_with_session (IsOwn k) (session_at d.birth b.records) (λ s. always (enter_deeds env d.copy s)) b (λ s e. enter_own env d.copy s b)
-  deliver_own false env d b = offer_own (line_of d.birth b) (publish_of b.now false 0 d.copy) b
+  deliver_own false env d b =
+      of_offer_if (λ (ds : List Deed). AreOwn ds b) (has_form d.copy b) (line_of d.birth b) (publish_of b.now false 0 d.copy) tt (λ l there. (tt, tt))
 
   deliveries_own : (env : Env) (ds : List CopyTo) (b : Broker) → AreOwn (series (map (deliver env) ds) b) b
   deliveries_own env [] b = tt

@@ -5,7 +5,6 @@ use Rattle.std.specs.List.{AllByRecursion}
 use Rattle.mqtt_base.specs.declared.limits.TheConstants.{SUBSCRIPTION_LIMIT}
 use Rattle.mqtt_base.specs.declared.session.Ending.TheVariants.{SessionEnded}
 use Rattle.mqtt_codec_connect.specs.declared.connect.Connect.{Connect as Greeting}
-use Rattle.mqtt_codec.specs.declared.packet.Packet.{Packet}
 use Rattle.mqtt_topic.specs.Names.{is_empty}
 use Rattle.mqtt_flow.specs.declared.entry.Turn.{Turn}
 use Rattle.mqtt_flow.specs.declared.entry.Turn.TheVariants as turns
@@ -21,25 +20,27 @@ use Rattle.mqtt_records.specs.Session.{birth_of, place_of, copy_place, without_f
 use Rattle.mqtt_records_rows.specs.Order.{IsBelow, row_at}
 use Rattle.mqtt_rules.specs.Packets.{publish_of}
 use Rattle.mqtt_rules.specs.State.{Line, Broker, Env, session_at, line_of, queue_on}
-use Rattle.mqtt_rules.specs.Deeds.{Whose, whose, Message, Origin, FromClient, Part, Resume, Close, Open, Enter, Leave, LinePart, Hear, SetAlias, Deed, Accept, Count, At, Finish, Forget, RefuseWill, Link, On, Send, after, after_all, series, always, offer}
+use Rattle.mqtt_rules.specs.Deeds.{Whose, whose, Message, Origin, FromClient, Part, Resume, Close, Open, Enter, Leave, LinePart, Hear, SetAlias, Deed, Accept, Count, At, Finish, Forget, RefuseWill, Link, On, Send, after, after_all, series, always}
 use Rattle.mqtt_rules.specs.Deeds as told
 use Rattle.mqtt_rules.specs.Outbound.{leave_deeds, turn_deeds, since, queue_limits, enter_deeds}
 use Rattle.mqtt_rules.specs.Routing.{CopyTo, is_queued, deliver_by, deliver, retained_of, forgets, retain_by, next_publication, publish}
 use Rattle.mqtt_rules.specs.Closing.{end_session}
 use Rattle.mqtt_rules.specs.Connect.{expiry_of, will_of, greet, begin_named}
 use Rattle.mqtt_rules.specs.Contents.{IsAskedFor, IsTaken, TakesLawful}
-use Rattle.mqtt_rules.specs.Inbound.{pump_turns, pump_deeds}
+use Rattle.mqtt_rules.specs.Fitting.{has_form, pump_turns}
+use Rattle.mqtt_rules.specs.Inbound.{pump_deeds}
 use Rattle.mqtt_rules.specs.Laws.{AreWithin, IsCoherentSession}
 use Rattle.mqtt_rules.specs.Step.{Call, NewLine, Input, BadInput, Lost, Pump, Tick, deeds_of, opening}
 use Rattle.mqtt_rules.specs.Subscribe as sub
 use Rattle.mqtt_rules.specs.Tick.{lapses, lapse_deeds}
 use Rattle.mqtt_rules.proofs.acts.Acts.{About, closing_session, closing_on, closing, is_alone, brought_to, Finds, Law, IsCallOf, leads_call, leads_opening}
 use Rattle.mqtt_rules.proofs.acts.ByDeeds.{by_deeds, turn_law, by_deeds_shuts}
+use Rattle.mqtt_rules.proofs.acts.Offers.{of_offer_if}
 use Rattle.mqtt_rules.proofs.fit.Coherent.{IsFit}
 use Rattle.mqtt_rules.proofs.contents.ContentPackets.{asked_identifier}
 use Rattle.mqtt_rules.proofs.fit.FitLaw.{Keeps, naming, fit_law, fit_mark}
 use Rattle.mqtt_rules.proofs.flight.FlightRows.{all_at}
-use Rattle.mqtt_rules.proofs.acts.Goods.{AreGood, good_append, good_cond, good_flat, good_of_entry, good_with_session}
+use Rattle.mqtt_rules.proofs.acts.Goods.{AreGood, good_append, good_flat, good_of_entry, good_with_session}
 use Rattle.mqtt_rules.proofs.acts.Leads.{Leads}
 use Rattle.mqtt_rules.proofs.numbers.NumberPlaces.{grants_place}
 use Rattle.mqtt_broker_index.specs.Following.{IsGranted}
@@ -76,14 +77,11 @@ enter_well env copy s b =
     let ts = way_made (queue_limits env) (since env s) (queue_on [] s) in
     good_append IsWell (flat_map (leave_deeds s) ts) (At (whose s) (Enter copy) ∷ []) b (leaves_well s ts b) (tt, tt)
 
-offer_well : (l : Option Line) (packet : Packet) (b : Broker) → AreWell (offer l packet) b
-offer_well None packet b = tt
-offer_well (Some l) packet b = good_cond IsWell _ (Send l.number packet ∷ []) [] b (tt, tt) tt
-
 deliver_well : (t : Bool) (env : Env) (d : CopyTo) (b : Broker) → AreWell (deliver_by t env d b) b
 deliver_well true env d b =
     good_with_session IsWell (session_at d.birth b.records) (λ s. always (enter_deeds env d.copy s)) b (λ s e. enter_well env d.copy s b)
-deliver_well false env d b = offer_well (line_of d.birth b) (publish_of b.now false 0 d.copy) b
+deliver_well false env d b =
+    of_offer_if (λ (ds : List Deed). AreWell ds b) (has_form d.copy b) (line_of d.birth b) (publish_of b.now false 0 d.copy) tt (λ l there. (tt, tt))
 
 deliveries_well : (env : Env) (ds : List CopyTo) (b : Broker) → AreWell (series (map (deliver env) ds) b) b
 deliveries_well env [] b = tt
@@ -225,7 +223,7 @@ module _ (env : Env) (within : AreWithin env.limits) where
         let led = base.grants w s b k its (asked.0, tt, asked.2) granted in
         joined (sub.granted_filter env (sub.next_number b.records) s w (brought_to w s b) b).deeds b led
         (grant_well env w s b k granted.session (record { filter = granted.valid; identifier = subst IsIdentifier (sym asked.2) (asked_identifier asked.0 asked.1) }) led.0);
-    pumps = λ l s b k its is there. joined (pump_deeds l b.now s) b (base.pumps l s b k its is there) (good_flat IsWell (turn_deeds b.now l.number s) (turn_well b.now l.number s) (pump_turns l b.now s) b);
+    pumps = λ l s b k its is there. joined (pump_deeds l b s) b (base.pumps l s b k its is there) (good_flat IsWell (turn_deeds b.now l.number s) (turn_well b.now l.number s) (pump_turns l b s) b);
     turns = λ a t l s b k its own there is e. joined (turn_deeds b.now l.number s t) b (base.turns a t l s b k its own there is e) (turn_well b.now l.number s t b);
     lapses = λ s b k among. joined (lapse_deeds b.now s) b (base.lapses s b k among) (leaves_well s (lapses b.now s) b);
     stale = λ x b k among. joined (Forget x.place ∷ []) b (base.stale x b k among) (tt, tt);

@@ -4,13 +4,13 @@ use Rattle.std.specs.Prelude.{Option, Some, None, option_map}
 use Rattle.std.specs.List.{AllByRecursion}
 use Rattle.std.proofs.lemmas.Bool.{eqb-true, cases_Bool}
 use Rattle.std.proofs.lemmas.Cmp.{nat_eq_equiv}
-use Rattle.mqtt_codec.specs.declared.packet.Packet.{Packet}
 use Rattle.mqtt_records_message.specs.declared.message.MessageCopy.{MessageCopy}
 use Rattle.mqtt_records_message.specs.Queue.{IsSpelled}
 use Rattle.mqtt_records.specs.declared.session.Session.{Session}
 use Rattle.mqtt_records.specs.declared.records.Records.{Records}
 use Rattle.mqtt_rules.specs.State.{Line, Broker, Env, MemberChoice, session_at, line_of}
-use Rattle.mqtt_rules.specs.Deeds.{whose, Deed, offer, of_session, with_session, always}
+use Rattle.mqtt_rules.specs.Deeds.{whose, Deed, of_session, with_session, always}
+use Rattle.mqtt_rules.specs.Fitting.{has_form, offer_copy}
 use Rattle.mqtt_rules.specs.Laws.{HasEntered, client_at, is_entering}
 use Rattle.mqtt_rules.specs.Outbound.{room, room_at, enter_deeds}
 use Rattle.mqtt_rules.specs.Routing.{CopyTo, is_queued, deliver, deliver_by}
@@ -26,7 +26,7 @@ use Rattle.mqtt_broker_publish.specs.declared.copies.Addressee.{Addressee}
 use Rattle.mqtt_broker_publish.specs.Copies.{InCommon, copies_for}
 use Rattle.mqtt_broker_publish.specs.Delivering.{addressed, addressed_all, offers, delivers_all, HasRoom, HasRoomIn, whose_at, SameSessions}
 use Rattle.mqtt_broker_publish.proofs.Leading.{LeadsOn, leads_first, leads_next, leads_left, leads_last, same_env}
-use Rattle.mqtt_rules.proofs.acts.Offers.{of_offer}
+use Rattle.mqtt_rules.proofs.acts.Offers.{of_offer_if}
 
 some_is : {X : Type 0} (x y : X) → Some x ≡ Some y → x ≡ y
 some_is x y e = cc
@@ -76,17 +76,19 @@ count_less birth d ds = elim (cases_Bool (is_entering birth d)) [ inl so ↦ rw 
 
 -- ---- what a delivery makes of what is stored
 
--- a packet that goes out changes nothing that is stored
-offer_stays : (o : Option Line) (packet : Packet) (s : Stepping) → (did (offer o packet) s).broker.records ≡ s.broker.records
-offer_stays o packet s = of_offer (λ (ds : List Deed). (did ds s).broker.records ≡ s.broker.records) o packet refl (λ l there. refl)
+-- a copy that goes out changes nothing that is stored
+offer_stays : (o : Option Line) (copy : MessageCopy) (s : Stepping) → (did (offer_copy o copy s.broker) s).broker.records ≡ s.broker.records
+offer_stays o copy s =
+    of_offer_if (λ (ds : List Deed). (did ds s).broker.records ≡ s.broker.records) (has_form copy s.broker) o (publish_of s.broker.now false 0 copy) refl (λ l there. refl)
 
 -- nor any line
-offer_lines : (o : Option Line) (packet : Packet) (s : Stepping) → (did (offer o packet) s).broker.lines ≡ s.broker.lines
-offer_lines o packet s = of_offer (λ (ds : List Deed). (did ds s).broker.lines ≡ s.broker.lines) o packet refl (λ l there. refl)
+offer_lines : (o : Option Line) (copy : MessageCopy) (s : Stepping) → (did (offer_copy o copy s.broker) s).broker.lines ≡ s.broker.lines
+offer_lines o copy s =
+    of_offer_if (λ (ds : List Deed). (did ds s).broker.lines ≡ s.broker.lines) (has_form copy s.broker) o (publish_of s.broker.now false 0 copy) refl (λ l there. refl)
 
 -- a copy that goes out at once leaves the lines as they are
 pub offered_lines : (birth : ℕ) (copy : MessageCopy) (s s2 : Stepping) → Did (offers birth copy) s s2 → s2.broker.lines ≡ s.broker.lines
-offered_lines birth copy s s2 done = ap (λ (t : Stepping). t.broker.lines) done.is ∙ offer_lines (line_of birth s.broker) (publish_of s.broker.now false 0 copy) s
+offered_lines birth copy s s2 done = ap (λ (t : Stepping). t.broker.lines) done.is ∙ offer_lines (line_of birth s.broker) copy s
 
 -- a copy that is to enter finds a session
 room_needs : (env : Env) (d : CopyTo) (ds : List CopyTo) (r : Records) → is_queued d ≡ true → HasRoom env (d ∷ ds) r → 0 < room_at env (session_at d.birth r)
@@ -141,7 +143,7 @@ offered_same : (env : Env) (d : CopyTo) (s s2 : Stepping) → is_queued d ≡ fa
 offered_same env d s s2 queued is =
     ap (λ (t : Stepping). t.broker.records) is
     ∙ (ap (λ t. (did (deliver_by t env d s.broker) s).broker.records) queued
-    ∙ offer_stays (line_of d.birth s.broker) (publish_of s.broker.now false 0 d.copy) s)
+    ∙ offer_stays (line_of d.birth s.broker) d.copy s)
 
 delivered_room : (env : Env) (d : CopyTo) (ds : List CopyTo) (s s2 : Stepping) → s2 ≡ did (deliver env d s.broker) s → Enters env d s.broker.records s2.broker.records
     → HasRoom env (d ∷ ds) s.broker.records → HasRoom env ds s2.broker.records

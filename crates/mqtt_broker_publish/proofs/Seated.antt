@@ -4,7 +4,13 @@ use Rattle.std.specs.Prelude.{Option, Some, None, find, get_or, slice_set}
 use Rattle.std.proofs.lemmas.Bool.{cases_Bool, eqb-true}
 use Rattle.std.proofs.lemmas.Cmp.{nat_eq_equiv}
 use Rattle.std.proofs.lemmas.List.{get_or-set_same, get_or-set_other, drop_all}
+use Rattle.mqtt_records_rows.specs.Order.{IsAscending, row_at}
 use Rattle.mqtt_rules.specs.State.{Line, is_of}
+use Rattle.mqtt_rules.proofs.acts.Leads.{found_among}
+use Rattle.mqtt_rules.proofs.fit.FitLaw.{all_among}
+use Rattle.mqtt_rules.proofs.flight.FlightRows.{all_found}
+use Rattle.mqtt_broker_step.specs.Lines.{line_number}
+use Rattle.mqtt_broker_step.proofs.Sendings.{line_found}
 use Rattle.mqtt_broker_publish.specs.Seats.{AreSeatsOf, seat_of, seated}
 
 -- ---- what is sought behind a place
@@ -32,6 +38,12 @@ one_more_by test (suc more) less x xs other_one is none =
 -- one more in front, where it isn't
 one_more : {X : Type 0} (test : X → Bool) (n at : ℕ) (x : X) (xs : List X) → test x ≡ false → find test (take (n - suc at) xs) ≡ None → find test (take (n - at) (x ∷ xs)) ≡ None
 one_more test n at x xs other_one none = one_more_by test (n - at) (n - suc at) x xs other_one (omega arith) none
+
+-- a line that a search finds is found by its number, since lines are in the order of their numbers
+pub found_number : (test : Line → Bool) (l : Line) (lines : List Line) → IsAscending line_number lines → find test lines ≡ Some l → find (λ k. nat_eq k.number l.number) lines ≡ Some l
+found_number test l lines up found =
+    sym (line_found l.number lines)
+    ∙ all_among (λ (k : Line). row_at line_number k.number lines ≡ Some k) l lines (all_found line_number lines up) (found_among test l lines found)
 
 -- ---- seats
 

@@ -1,10 +1,10 @@
 -- Copies that are handed over, one after the other, and the room for them (MQTT 5.0, 3.3.4, 4.3, 4.8).
-use Rattle.std.specs.Prelude.{◌≡◌, ℕ, ◌≤◌, false, List, length, filter, map, Option, option_map}
+use Rattle.std.specs.Prelude.{◌≡◌, ℕ, ◌≤◌, List, length, filter, map, Option, option_map}
 use Rattle.mqtt_records_message.specs.declared.message.MessageCopy.{MessageCopy}
 use Rattle.mqtt_records.specs.declared.records.Records.{Records}
-use Rattle.mqtt_rules.specs.Packets.{publish_of}
 use Rattle.mqtt_rules.specs.State.{Env, MemberChoice, session_at, line_of}
-use Rattle.mqtt_rules.specs.Deeds.{Act, Whose, whose, offer, series}
+use Rattle.mqtt_rules.specs.Deeds.{Act, Whose, whose, series}
+use Rattle.mqtt_rules.specs.Fitting.{offer_copy}
 use Rattle.mqtt_rules.specs.Laws.{is_entering}
 use Rattle.mqtt_rules.specs.Outbound.{room_at}
 use Rattle.mqtt_rules.specs.Routing.{CopyTo, deliver}
@@ -19,7 +19,7 @@ addressed_all copies = map addressed copies
 
 -- a copy goes out at once on the line of its session
 abbrev pub offers : ℕ → MessageCopy → Act
-offers birth copy b = offer (line_of birth b) (publish_of b.now false 0 copy)
+offers birth copy b = offer_copy (line_of birth b) copy b
 
 -- copies are handed over, one after the other
 abbrev pub delivers_all : List CopyTo → Env → Act

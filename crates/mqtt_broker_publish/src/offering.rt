@@ -1,17 +1,16 @@
 //! A copy of QoS 0 goes out at once (MQTT 5.0, 3.1.2.11.4, 4.3.1).
-ghost use Rattle.std.specs.Prelude.{◌≡◌, Some, false, OnOk, IfErr};
+ghost use Rattle.std.specs.Prelude.{◌≡◌, Some, OnOk, IfErr};
 ghost use Rattle.mqtt_codec.specs.declared.packet.Packet.{Packet};
 ghost use Rattle.mqtt_codec.specs.declared.packet.Packet.TheVariants as packets;
 ghost use Rattle.mqtt_codec.specs.declared.publish.Publish.{Publish};
 ghost use Rattle.mqtt_codec.specs.Packets.{shortest_of};
 ghost use Rattle.mqtt_records_message.specs.Queue.{IsSpelled};
 ghost use Rattle.mqtt_rules.specs.Deeds.{always, offer};
-ghost use Rattle.mqtt_rules.specs.Packets.{publish_of};
 ghost use Rattle.mqtt_rules.specs.State.{Line};
 ghost use Rattle.mqtt_topic_aliases.specs.declared.form.Form.TheVariants.{Plain};
 ghost use Rattle.mqtt_broker_step.specs.Stepping.{Did, IsLeft};
 ghost use Rattle.mqtt_broker_step.specs.Tellings.{form_on};
-ghost use Rattle.mqtt_broker_step.specs.Undoing.{moment_of};
+ghost use Rattle.mqtt_broker_queue.specs.Fitting.{offers as offers_on};
 ghost use Rattle.mqtt_broker_publish.specs.Copies.{copy_for};
 ghost use Rattle.mqtt_broker_publish.specs.Delivering.{offers};
 ghost use Rattle.mqtt_broker_publish.specs.Seats.{AreSeats};
@@ -40,35 +39,30 @@ fn send_within(step: &mut Step, line: u64, largest: u32, bytes: Bytes) -> Result
     step.send_publish(line, Outgoing { told: None, bytes })
 }
 
-/// The copy for a session goes out in its form on the line of a client that takes aliases, unless it is larger with its
-/// whole topic than the client takes.
+/// The copy for a session goes out in its form on the line of a client that takes aliases, unless no form of it is
+/// within what the client takes.
 fn offer_told<T: Addressed>(
     alloc: Global,
     step: &mut Step,
     line: u64,
-    largest: u32,
     common: &Common,
     to: &T,
 ) -> Result<(), StepFault>
     requires { IsSpelled (copy_for common.now (T.addressee to.now)) }
-    ensures ok { (l : Line) → l.number ≡ line → l.largest ≡ largest
-        → OnOk result (Did (always (offer (Some l) (publish_of (moment_of step.old.broker) false 0
-        (copy_for common.now (T.addressee to.now))))) step.old step.new) }
-    ensures left { (l : Line) → l.number ≡ line → l.largest ≡ largest
-        → IfErr result (λ fault. IsLeft (always (offer (Some l)
-        (publish_of (moment_of step.old.broker) false 0 (copy_for common.now (T.addressee to.now)))))
-        fault step.old step.new) }
+    ensures ok { OnOk result (Did (offers_on line (copy_for common.now (T.addressee to.now)))
+        step.old step.new) }
+    ensures left { IfErr result (λ fault. IsLeft
+        (offers_on line (copy_for common.now (T.addressee to.now))) fault step.old step.new) }
 {
     let copy = common.copy(alloc, to)?;
-    let moment = step.moment();
-    let offered = offer_publish(alloc, step, line, largest, moment, &copy);
+    let offered = offer_publish(alloc, step, line, &copy);
     drop(copy);
     offered
 }
 
 /// The copy of QoS 0 for a session, whose PUBLISH has a spelling, goes out at once, if the session is connected; it is
-/// left out if it is larger than the client takes (3.1.2.11.4, 4.3.1). It shares the bytes that were encoded last if they
-/// are the same.
+/// left out if no form of it is within what the client takes (3.1.2.11.4, 4.3.1). To a client that takes no aliases it
+/// shares the bytes that were encoded last if they are the same.
 pub(crate) fn offer_copy<T: Addressed>(
     alloc: Global,
     step: &mut Step,
@@ -90,7 +84,7 @@ pub(crate) fn offer_copy<T: Addressed>(
     let number = line.number();
     let largest = line.largest();
     if step.takes_aliases(number) {
-        return offer_told(alloc, step, number, largest, common, to);
+        return offer_told(alloc, step, number, common, to);
     }
     match common.encoding(alloc, step.moment(), to) {
         Ok(bytes) => send_within(step, number, largest, bytes),

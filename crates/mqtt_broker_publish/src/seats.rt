@@ -1,7 +1,7 @@
 //! On which line a session is connected, without a look at those before it (ours).
-ghost use Rattle.std.specs.Prelude.{◌≡◌, ◌≤◌, ◌<◌, List, length, find, drop, None, option_copied};
+ghost use Rattle.std.specs.Prelude.{◌≡◌, ◌≤◌, ◌<◌, List, length, find, drop, Some, None, option_copied};
 ghost use Rattle.mqtt_base.specs.declared.limits.TheConstants.{LINE_LIMIT as line_limit};
-ghost use Rattle.mqtt_rules.specs.State.{Line, is_of, line_of};
+ghost use Rattle.mqtt_rules.specs.State.{Line, is_of, line_at, line_of};
 ghost use Rattle.mqtt_broker_publish.specs.Seats.{AreSeats, AreSeatsOf, IsNoneBefore, seat_of, seated};
 
 use mqtt_broker_step::{LineState, Step};
@@ -103,10 +103,12 @@ impl Seats {
         }
     }
 
-    /// The line that a session is connected on.
+    /// The line that a session is connected on, which is that with its number.
     pub(crate) fn line_of<'a>(&self, step: &'a Step, birth: u64) -> Option<&'a LineState>
         requires { AreSeats self.now step.now.broker.lines }
-        ensures { option_copied result ≡ line_of birth step.now.broker }
+        ensures line { option_copied result ≡ line_of birth step.now.broker }
+        ensures own { (l : Line) → line_of birth step.now.broker ≡ Some l
+            → line_at l.number step.now.broker ≡ Some l }
     {
         line_from(step.lines(), self.seat(birth), birth)
     }

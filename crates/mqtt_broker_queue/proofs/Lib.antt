@@ -7,3 +7,4 @@ pub mod Stayings
 pub mod Entered
 pub mod Sending
 pub mod Forms
+pub mod Listed

@@ -6,11 +6,12 @@ use Rattle.mqtt_flow.specs.declared.entry.Entry.{Entry as FlowEntry}
 use Rattle.mqtt_flow.specs.declared.entry.Turn.{Turn}
 use Rattle.mqtt_flow.specs.declared.entry.Turn.TheVariants as turns
 use Rattle.mqtt_flow.specs.declared.entry.Way.{Way}
-use Rattle.mqtt_flow.specs.Outbound.{pump, expired, expired_at, dropped, dropped_at, gives_way, is_waiting, is_late}
+use Rattle.mqtt_flow.specs.Outbound.{expired, expired_at, dropped, dropped_at, gives_way, is_waiting, is_late}
 use Rattle.mqtt_records_message.specs.Queue.{CopyRow}
 use Rattle.mqtt_records.specs.declared.session.Session.{Session}
 use Rattle.mqtt_rules.specs.Deeds.{always, with_session, with_line}
-use Rattle.mqtt_rules.specs.Outbound.{turn_deeds, all_turn_deeds, leave_deeds, way_of}
+use Rattle.mqtt_rules.specs.Fitting.{pump_turns}
+use Rattle.mqtt_rules.specs.Outbound.{turn_deeds, all_turn_deeds, leave_deeds}
 use Rattle.mqtt_rules.specs.Inbound.{pump_deeds}
 use Rattle.mqtt_rules.specs.State.{Line, Broker, session_at, line_at, queue_on}
 use Rattle.mqtt_rules.specs.Step.{on_pump}
@@ -62,7 +63,7 @@ expired_leave moment line s (e ∷ es) = by (is_waiting e.phase && is_late momen
 three : {A B C R : Type 0} (mk : A → B → C → R) {a1 a2 : A} {b1 b2 : B} {c1 c2 : C} → a1 ≡ a2 → b1 ≡ b2 → c1 ≡ c2 → mk a1 b1 c1 ≡ mk a2 b2 c2
 three mk p q r = cc
 
-abbrev way_with : ℕ → ℕ → ℕ → Way
+abbrev pub way_with : ℕ → ℕ → ℕ → Way
 way_with window largest moment = record { window = window; largest = largest; now = moment }
 
 -- a way of sending is told by window, largest packet and moment
@@ -75,12 +76,12 @@ taken_of line birth ts x b found = ap (λ (o : Option Session). with_session o (
 
 -- turns that were found to be the pump of a session, as it stands on its line, are the rules' turn of sending
 pub pumps_is : (line birth : ℕ) (ts : List Turn) (l : Line) (x : Session) (b : Broker) → line_at line b ≡ Some l → l.number ≡ line → l.session ≡ Some birth
-    → session_at birth b.records ≡ Some x → ts ≡ pump (way_of l b.now) (queue_on l.went x) → takes_turns line birth ts b ≡ pumps line b
+    → session_at birth b.records ≡ Some x → ts ≡ pump_turns l b x → takes_turns line birth ts b ≡ pumps line b
 pumps_is line birth ts l x b there number connected found is =
     ap (λ (o : Option Session). with_session o (λ s. always (all_turn_deeds b.now line s ts)) b) found
     ∙ (ap (λ n. all_turn_deeds b.now n x ts) (sym number)
     ∙ (ap (λ rs. all_turn_deeds b.now l.number x rs) is
-    ∙ (sym (ap (λ (o : Option Session). with_session o (λ s. always (pump_deeds l b.now s)) b) found)
+    ∙ (sym (ap (λ (o : Option Session). with_session o (λ s. always (pump_deeds l b s)) b) found)
     ∙ (ap (λ (o : Option ℕ). on_pump l o b) (sym connected)
     ∙ ap (λ (o : Option Line). with_line o (λ k. on_pump k k.session) b) (sym there)))))
 

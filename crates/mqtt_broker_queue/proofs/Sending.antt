@@ -18,10 +18,9 @@ use Rattle.mqtt_records.specs.Session.{copy_place}
 use Rattle.mqtt_rules.specs.Deeds.{Deed, At, Mark, Leave, On, Went, Send, whose}
 use Rattle.mqtt_rules.specs.Outbound.{of_entry, turn_deeds, all_turn_deeds}
 use Rattle.mqtt_rules.specs.Packets.{publish_of}
-use Rattle.mqtt_rules.specs.State.{queue_on}
 use Rattle.mqtt_rules.specs.Step.{publish_out}
 use Rattle.mqtt_rules.proofs.flight.FlightRows.{all_found}
-use Rattle.mqtt_rules.proofs.flight.SizedRows.{own_size, sized}
+use Rattle.mqtt_rules.proofs.flight.SizedRows.{sized}
 use Rattle.mqtt_broker_queue.specs.Turning.{is_sending}
 
 -- a PUBLISH goes out of a copy that stands
@@ -93,8 +92,3 @@ pub sized_pump_sends : (size : CopyRow → ℕ) (way : Way) (went : List ℕ) (m
 sized_pump_sends size way went moment line s up =
     let rows = map (sized size went) s.queue in
     sends_are moment line s (pump way rows) (stands_pump size way s.queue went s.queue (pace way rows) (all_found copy_place s.queue up))
-
--- by those that rows remember
-pub pump_sends : (way : Way) (went : List ℕ) (moment line : ℕ) (s : Session) → IsAscending copy_place s.queue
-    → length (filter_map publish_out (all_turn_deeds moment line s (pump way (queue_on went s)))) ≡ count_by is_sending (pump way (queue_on went s))
-pump_sends = sized_pump_sends own_size

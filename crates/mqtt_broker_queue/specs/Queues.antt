@@ -1,10 +1,19 @@
--- What is asked of the orders of release in a queue (MQTT 5.0, 4.6).
-use Rattle.std.specs.Prelude.{◌≡◌, ℕ, ◌≤◌, [], Some}
+-- What a line knows of its session's queue, and what is asked of its orders of release (MQTT 5.0, 4.6).
+use Rattle.std.specs.Prelude.{◌≡◌, ℕ, ◌≤◌, List, [], Some}
 use Rattle.mqtt_base.specs.declared.limits.TheConstants.{LAST_NUMBER}
 use Rattle.mqtt_flow.specs.Queue.{greatest_order}
 use Rattle.mqtt_records.specs.declared.session.Session.{Session}
 use Rattle.mqtt_records.specs.declared.records.Records.{Records}
 use Rattle.mqtt_rules.specs.State.{queue_on, session_at}
+
+-- the places of the copies whose PUBLISH went out on it, and the bytes of those that go out in a shorter form, by place
+pub record LineView : Type 0 where
+  pub went : List ℕ
+  pub sizes : List (ℕ × ℕ)
+
+-- each copy has the bytes of its whole topic
+abbrev pub whole_view : List ℕ → LineView
+whole_view went = record { went = went; sizes = [] }
 
 -- no order of release in the queue of the session is above the last number
 abbrev pub HasKeptOrders : ℕ → Records → Type 0

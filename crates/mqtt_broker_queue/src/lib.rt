@@ -4,6 +4,7 @@
 
 mod answering;
 mod entering;
+mod fitting;
 mod lapsing;
 mod outgoing;
 mod pumping;

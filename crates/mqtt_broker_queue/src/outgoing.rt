@@ -1,16 +1,17 @@
 //! A copy's PUBLISH as it goes out on a line (MQTT 5.0, 3.1.2.11.4, 3.3, 3.3.2.3.4).
-ghost use Rattle.std.specs.Prelude.{◌≡◌, ℕ, Bool, Some, false, IfErr, IfOk, OnOk};
+ghost use Rattle.std.specs.Prelude.{◌≡◌, ℕ, Bool, IfErr, IfOk, OnOk};
 ghost use Rattle.mqtt_records_message.specs.Queue.{IsSpelled};
-ghost use Rattle.mqtt_rules.specs.Deeds.{always, offer};
+ghost use Rattle.mqtt_rules.specs.Fitting.{form_of};
 ghost use Rattle.mqtt_rules.specs.Forms.{published_of};
-ghost use Rattle.mqtt_rules.specs.Packets.{publish_of};
-ghost use Rattle.mqtt_rules.specs.State.{Line};
+ghost use Rattle.mqtt_rules.specs.State.{told_on};
+ghost use Rattle.mqtt_broker_packets.specs.Frames.{IsSpelledIn};
 ghost use Rattle.mqtt_broker_step.specs.Stepping.{Did, IsLeft};
 ghost use Rattle.mqtt_broker_step.specs.Tellings.{IsOutgoing, form_on, told_by};
 ghost use Rattle.mqtt_broker_step.specs.Undoing.{moment_of};
+ghost use Rattle.mqtt_broker_queue.specs.Fitting.{IsOutgoingIn, offers};
 
 use mqtt_base::Text;
-use mqtt_broker_packets::{other_bytes, publish_in, publish_len};
+use mqtt_broker_packets::{other_bytes, publish_in};
 use mqtt_broker_step::{Outgoing, Step, StepFault};
 use mqtt_records_message::{CopyRow, MessageCopy};
 use mqtt_topic_aliases::Form;
@@ -42,22 +43,31 @@ fn form_on(step: &Step, line: u64, copy: &MessageCopy) -> Form
     step.form_of(line, &copy.content.topic, other)
 }
 
-/// The PUBLISH of a copy, which has a spelling, as it goes out on a line at a moment in milliseconds, with its DUP flag
-/// and its packet identifier; at QoS 0 it has neither (3.3).
-pub(crate) fn outgoing(
+/// The form in which the PUBLISH of a copy, which has a spelling, goes out on a line whose client takes so many bytes;
+/// none if it is too large in each (3.1.2.11.4). Takes no memory.
+fn form_within(step: &Step, line: u64, largest: u32, copy: &MessageCopy) -> Option<Form>
+    requires { IsSpelled copy.now }
+    ensures { result ≡ form_of largest (told_on line step.now.broker.tellings) copy.now }
+{
+    let Some(other) = other_bytes(copy) else {
+        unreachable!();
+    };
+    step.form_within(line, largest, &copy.content.topic, other)
+}
+
+/// A copy's PUBLISH in a form, in which it has a spelling, at a moment in milliseconds, with its DUP flag and its packet
+/// identifier; at QoS 0 it has neither (3.3).
+fn outgoing(
     alloc: Global,
-    step: &Step,
-    line: u64,
     moment: u64,
     dup: bool,
     identifier: u16,
+    form: Form,
     copy: &MessageCopy,
 ) -> Result<Outgoing, AllocError>
-    requires { IsSpelled copy.now }
-    ensures { IfOk result (IsOutgoing line
-        (published_of moment dup identifier copy.now) step.now.broker) }
+    requires { IsSpelledIn form copy.now }
+    ensures { IfOk result (IsOutgoingIn form (published_of moment dup identifier copy.now)) }
 {
-    let form = form_on(step, line, copy);
     let bytes = publish_in(alloc, moment, dup, identifier, form, copy)?;
     Ok(Outgoing {
         told: told_by(form, &copy.content.topic)?,
@@ -65,7 +75,7 @@ pub(crate) fn outgoing(
     })
 }
 
-/// The same of a copy in a queue, at the moment of the step.
+/// The PUBLISH of a copy in a queue as it goes out on a line at the moment of the step.
 pub(crate) fn outgoing_row(
     alloc: Global,
     step: &Step,
@@ -79,37 +89,28 @@ pub(crate) fn outgoing_row(
 {
     // This shows that the copy's PUBLISH has a spelling.
     let _spelled = row.size();
-    outgoing(
-        alloc,
-        step,
-        line,
-        step.moment(),
-        dup,
-        identifier,
-        row.copy(),
-    )
+    let form = form_on(step, line, row.copy());
+    outgoing(alloc, step.moment(), dup, identifier, form, row.copy())
 }
 
-/// A copy of QoS 0, whose PUBLISH has a spelling, goes out at a moment on a line whose client takes so many bytes; it is
-/// left out if it is larger with its whole topic (3.1.2.11.4, 4.3.1).
+/// A copy of QoS 0, whose PUBLISH has a spelling, goes out on a line in the first of its forms that is within what the
+/// client takes; it is left out if none is (3.1.2.11.4, 4.3.1).
 pub fn offer_publish(
     alloc: Global,
     step: &mut Step,
     line: u64,
-    largest: u32,
-    moment: u64,
     copy: &MessageCopy,
 ) -> Result<(), StepFault>
     requires { IsSpelled copy.now }
-    ensures ok { (l : Line) → l.number ≡ line → l.largest ≡ largest → OnOk result
-        (Did (always (offer (Some l) (publish_of moment false 0 copy.now))) step.old step.new) }
-    ensures left { (l : Line) → l.number ≡ line → l.largest ≡ largest → IfErr result (λ fault.
-        IsLeft (always (offer (Some l) (publish_of moment false 0 copy.now))) fault
-        step.old step.new) }
+    ensures ok { OnOk result (Did (offers line copy.now) step.old step.new) }
+    ensures left { IfErr result (λ fault. IsLeft (offers line copy.now) fault step.old step.new) }
 {
-    if publish_len(copy) > largest as usize {
+    let Some(state) = step.line(line) else {
         return Ok(());
-    }
-    let out = outgoing(alloc, step, line, moment, false, 0, copy)?;
+    };
+    let Some(form) = form_within(step, line, state.largest(), copy) else {
+        return Ok(());
+    };
+    let out = outgoing(alloc, step.moment(), false, 0, form, copy)?;
     step.send_publish(line, out)
 }

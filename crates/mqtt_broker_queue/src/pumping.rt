@@ -1,8 +1,8 @@
 //! A turn of sending: what a line lets through of its session's queue (MQTT 5.0, 4.6, 4.9).
 ghost use Rattle.std.specs.Prelude.{◌≡◌, ◌≤◌, ℕ, [], length, count_by, filter_map, IfOk, OnOk, IfErr};
-ghost use Rattle.mqtt_flow.specs.Outbound.{pump};
 ghost use Rattle.mqtt_flow.specs.Queue.{greatest_order};
 ghost use Rattle.mqtt_rules.proofs.fit.Turns.{Rises};
+ghost use Rattle.mqtt_rules.specs.Fitting.{pump_turns};
 ghost use Rattle.mqtt_rules.specs.Outbound.{all_turn_deeds};
 ghost use Rattle.mqtt_rules.specs.State.{queue_on};
 ghost use Rattle.mqtt_rules.specs.Step.{Pump, is_again, publish_out};
@@ -10,10 +10,11 @@ ghost use Rattle.mqtt_broker_step.specs.Stepping.{Did, IsLeft};
 ghost use Rattle.mqtt_broker_queue.specs.Queues.{HasKeptOrders};
 ghost use Rattle.mqtt_broker_queue.specs.Turning.{is_sending, pumps};
 
+use crate::fitting::fitting_sizes;
 use crate::queue::OnLine;
 use crate::turns::take_turns;
 use mqtt_base::{LAST_NUMBER, PUMP_LIMIT};
-use mqtt_broker_step::{Places, Step, StepFault};
+use mqtt_broker_step::{LineState, Step, StepFault};
 use mqtt_flow::{Turn, Way, look_pump};
 use mqtt_records::Session;
 use std::alloc::Global;
@@ -45,21 +46,33 @@ fn sendings(turns: &[Turn]) -> usize
     count
 }
 
-/// The turns of one pump of a session.
+/// The turns of one pump of a session that is connected on a line.
 fn pump_turns(
     alloc: Global,
+    step: &Step,
+    state: &LineState,
     session: &Session,
-    way: Way,
-    went: &Places,
 ) -> Result<Vec<Turn>, StepFault>
     requires { greatest_order (queue_on [] session.now) ≤ LAST_NUMBER }
-    ensures turns { IfOk result (λ turns. turns.items ≡ pump way (queue_on went.now session.now)) }
+    ensures turns { IfOk result (λ turns. turns.items
+        ≡ pump_turns state.now step.now.broker session.now) }
     ensures rise { IfOk result (λ turns. Rises session.now.queue 0 turns.items) }
     ensures sent { (moment line : ℕ) → IfOk result (λ turns. length (filter_map publish_out
         (all_turn_deeds moment line session.now turns.items)) ≡ count_by is_sending turns.items) }
     ensures fault { IfErr result (λ fault. fault ≡ StepFault.Memory) }
 {
-    match look_pump(alloc, way, &OnLine { went }, session.queue.as_slice()) {
+    let rows = session.queue.as_slice();
+    let way = Way {
+        window: state.window(),
+        largest: state.largest(),
+        now: step.moment(),
+    };
+    let sizes = fitting_sizes(alloc, step, state, rows)?;
+    let view = OnLine {
+        went: state.went(),
+        sizes: &sizes,
+    };
+    match look_pump(alloc, way, &view, rows) {
         Ok(turns) => Ok(turns),
         Err(_) => Err(StepFault::Memory),
     }
@@ -84,12 +97,7 @@ pub fn pump(alloc: Global, step: &mut Step, line: u64) -> Result<bool, StepFault
     let Some(session) = step.session(birth) else {
         return Ok(false);
     };
-    let way = Way {
-        window: state.window(),
-        largest: state.largest(),
-        now: step.moment(),
-    };
-    let turns = pump_turns(alloc, session, way, state.went())?;
+    let turns = pump_turns(alloc, step, state, session)?;
     let again = sendings(&turns) == usize::from(PUMP_LIMIT);
     take_turns(alloc, step, line, birth, turns)?;
     Ok(again)

@@ -24,7 +24,8 @@ use Rattle.mqtt_records_rows.specs.Order.{row_at}
 use Rattle.mqtt_topic.specs.Filters.{begins_share}
 use Rattle.mqtt_topic.specs.Names.{is_empty}
 use Rattle.mqtt_rules.specs.declared.Limits.{Limits}
-use Rattle.mqtt_rules.specs.Deeds.{whose, Message, Origin, Resume, Close, SetExpiry, DropWill, Subscribe, Unsubscribe, Open, Release, Enter, Mark, Leave, Deed, Accept, Begin, Name, Count, At, Finish, Keep, Forget, RefuseWill, Link, On, Send, Gone, after, after_all, always, offer, rows_of_all, series}
+use Rattle.mqtt_rules.specs.Deeds.{whose, Message, Origin, Resume, Close, SetExpiry, DropWill, Subscribe, Unsubscribe, Open, Release, Enter, Mark, Leave, Deed, Accept, Begin, Name, Count, At, Finish, Keep, Forget, RefuseWill, Link, On, Send, Gone, after, after_all, always, rows_of_all, series}
+use Rattle.mqtt_rules.specs.Fitting.{has_form, offer_copy}
 use Rattle.mqtt_rules.specs.Laws.{IsAmong, IsOrdered}
 use Rattle.mqtt_rules.specs.Outbound.{enter_deeds, leave_deeds, queue_limits, since}
 use Rattle.mqtt_rules.specs.Packets.{publish_of}
@@ -32,7 +33,7 @@ use Rattle.mqtt_rules.specs.Routing.{CopyTo, accepted_copies, accepted_if, answe
 use Rattle.mqtt_rules.specs.State.{Broker, Env, Line, MemberChoice, line_of, queue_on, session_at, stored}
 use Rattle.mqtt_rules.specs.Step.{Call, at_moment, deeds, deeds_of, env_of, opened, opening, stepped, unopened, with_moment}
 use Rattle.mqtt_rules.specs.Subscribe as sub
-use Rattle.mqtt_rules.proofs.acts.Offers.{of_offer}
+use Rattle.mqtt_rules.proofs.acts.Offers.{of_offer_if}
 use Rattle.mqtt_rules.proofs.acts.Acts.{brought_to}
 use Rattle.mqtt_rules.proofs.numbers.Copies.{IsNumbered, Kinds, kinds_at, each_filter, each_map, each_more, routed_numbered}
 use Rattle.mqtt_rules.proofs.acts.Goods.{AreGood}
@@ -83,10 +84,10 @@ leads_enter env d s b queued k new =
     (λ h. one (At (whose s) (Enter d.copy)) (after_all first b) h
     (new_copy none d b.records (after_all first b).records queued (λ i no. absurd no) (quiet_deeds none first b (quiet_leaves none s ts b)) new))
 
-leads_offer : (o : Option Line) (d : CopyTo) (b : Broker) → Keeps b → Led (offer o (publish_of b.now false 0 d.copy)) b
+leads_offer : (o : Option Line) (d : CopyTo) (b : Broker) → Keeps b → Led (offer_copy o d.copy b) b
 leads_offer o d b k =
     let packet = publish_of b.now false 0 d.copy in
-    of_offer (λ (ds : List Deed). Led ds b) o packet (tt, k) (λ l there. one (Send l.number packet) b k tt)
+    of_offer_if (λ (ds : List Deed). Led ds b) (has_form d.copy b) o packet (tt, k) (λ l there. one (Send l.number packet) b k tt)
 
 leads_by : (t : Bool) (env : Env) (d : CopyTo) (b : Broker) → is_queued d ≡ t → Keeps b → IsNewTo b.records d → Led (deliver_by t env d b) b
 leads_by true env d b queued k new =

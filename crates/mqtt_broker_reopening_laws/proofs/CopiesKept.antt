@@ -7,7 +7,6 @@ use Rattle.mqtt_base.specs.declared.limits.TheConstants.{QUEUE_LIMIT, RETAINED_L
 use Rattle.mqtt_base.specs.declared.session.Cause.{Cause}
 use Rattle.mqtt_base.specs.declared.session.Cause.TheVariants.{Direct, Share, Retained}
 use Rattle.mqtt_base.specs.declared.session.CopyId.{CopyId}
-use Rattle.mqtt_codec.specs.declared.packet.Packet.{Packet}
 use Rattle.mqtt_flow.specs.Outbound.{way_made}
 use Rattle.mqtt_flow.specs.declared.entry.Turn.{Turn}
 use Rattle.mqtt_flow.specs.declared.entry.Turn.TheVariants as turns
@@ -22,13 +21,14 @@ use Rattle.mqtt_records.specs.declared.session.Session.{Session}
 use Rattle.mqtt_records_rows.specs.Distinct.{AllDiffer}
 use Rattle.mqtt_records_rows.specs.Order.{change_row, row_at}
 use Rattle.mqtt_topic.specs.Filters.{begins_share, group_of}
-use Rattle.mqtt_rules.specs.Deeds.{Whose, whose, Part, Resume, Close, SetExpiry, DropWill, Subscribe, Unsubscribe, Open, Release, Enter, Mark, Leave, Deed, Accept, Begin, Name, Count, At, Finish, Keep, Forget, RefuseWill, Link, On, Send, Gone, after, after_all, always, new_entry, offer, part_rows_of, rows_of}
+use Rattle.mqtt_rules.specs.Deeds.{Whose, whose, Part, Resume, Close, SetExpiry, DropWill, Subscribe, Unsubscribe, Open, Release, Enter, Mark, Leave, Deed, Accept, Begin, Name, Count, At, Finish, Keep, Forget, RefuseWill, Link, On, Send, Gone, after, after_all, always, new_entry, part_rows_of, rows_of}
+use Rattle.mqtt_rules.specs.Fitting.{has_form}
 use Rattle.mqtt_rules.specs.Laws.{IsAmong}
 use Rattle.mqtt_rules.specs.Outbound.{enter_deeds, leave_deeds, queue_limits, since}
 use Rattle.mqtt_rules.specs.Packets.{publish_of}
 use Rattle.mqtt_rules.specs.Routing.{CopyTo, deliver, deliver_by, is_queued}
-use Rattle.mqtt_rules.specs.State.{Broker, Env, Line, line_of, queue_on, session_at}
-use Rattle.mqtt_rules.proofs.acts.Offers.{of_offer}
+use Rattle.mqtt_rules.specs.State.{Broker, Env, line_of, queue_on, session_at}
+use Rattle.mqtt_rules.proofs.acts.Offers.{of_offer_if}
 use Rattle.mqtt_rules.proofs.numbers.Copies.{Kinds, each_filter, each_more, kinds_at}
 use Rattle.mqtt_rules.proofs.acts.Goods.{AreGood, good_append, good_flat, good_of_entry, good_with_session}
 use Rattle.mqtt_rules.proofs.acts.Leads.{Leads, leads_append}
@@ -363,12 +363,10 @@ quiet_enter Q env copy s b q =
     let ts = way_made (queue_limits env) (since env s) (queue_on [] s) in
     good_append (IsQuiet Q) (flat_map (leave_deeds s) ts) (At (whose s) (Enter copy) ∷ []) b (quiet_leaves Q s ts b) (q, tt)
 
-quiet_offer : (Q : CopyId → Type 0) (o : Option Line) (packet : Packet) (b : Broker) → AreGood (IsQuiet Q) (offer o packet) b
-quiet_offer Q o packet b = of_offer (λ (ds : List Deed). AreGood (IsQuiet Q) ds b) o packet tt (λ l there. (tt, tt))
-
 quiet_by : (Q : CopyId → Type 0) (t : Bool) (env : Env) (d : CopyTo) (b : Broker) → Q d.copy.id → AreGood (IsQuiet Q) (deliver_by t env d b) b
 quiet_by Q true env d b q = good_with_session (IsQuiet Q) (session_at d.birth b.records) (λ s. always (enter_deeds env d.copy s)) b (λ s e. quiet_enter Q env d.copy s b q)
-quiet_by Q false env d b q = quiet_offer Q (line_of d.birth b) (publish_of b.now false 0 d.copy) b
+quiet_by Q false env d b q =
+    of_offer_if (λ (ds : List Deed). AreGood (IsQuiet Q) ds b) (has_form d.copy b) (line_of d.birth b) (publish_of b.now false 0 d.copy) tt (λ l there. (tt, tt))
 
 -- so is the delivery of a copy that is asked for
 pub quiet_deliver : (Q : CopyId → Type 0) (env : Env) (d : CopyTo) (b : Broker) → Q d.copy.id → AreGood (IsQuiet Q) (deliver env d b) b

@@ -19,6 +19,7 @@ use Rattle.mqtt_topic.specs.Names.{is_empty}
 use Rattle.mqtt_rules.specs.Connect.{begin_named}
 use Rattle.mqtt_rules.specs.Contents.{IsTaken, TakesLawful}
 use Rattle.mqtt_rules.specs.Deeds.{whose, Message, Origin, Subscribe, Open, Enter, Deed, Accept, Begin, Count, At, after, after_all, always, series, with_session}
+use Rattle.mqtt_rules.specs.Fitting.{has_form}
 use Rattle.mqtt_rules.specs.Inbound.{opens}
 use Rattle.mqtt_rules.specs.Outbound.{enter_deeds, leave_deeds, queue_limits, since}
 use Rattle.mqtt_rules.specs.Packets.{publish_of}
@@ -27,10 +28,11 @@ use Rattle.mqtt_rules.specs.State.{Broker, Env, Line, line_of, queue_on, session
 use Rattle.mqtt_rules.specs.Step.{Call, deeds_of, opening}
 use Rattle.mqtt_rules.specs.Subscribe as sub
 use Rattle.mqtt_rules.proofs.acts.Acts.{brought_to}
+use Rattle.mqtt_rules.proofs.acts.Offers.{of_offer_if}
 use Rattle.mqtt_rules.proofs.numbers.Copies.{each_append, each_more}
 use Rattle.mqtt_rules.proofs.acts.Goods.{AreGood}
 use Rattle.mqtt_world_acceptance_laws.proofs.copies.EachAct.{Came, Says, call_says, opening_says}
-use Rattle.mqtt_world_acceptance_laws.proofs.copies.Entering.{AreCalm, IsCalm, calm_forgets, calm_leaves, calm_offer}
+use Rattle.mqtt_world_acceptance_laws.proofs.copies.Entering.{AreCalm, IsCalm, calm_forgets, calm_leaves}
 
 -- what is opened, what is subscribed, and who begins
 abbrev pub IsFrom : Deed → Type 0
@@ -74,8 +76,7 @@ from_deliver true env d b = by (session_at d.birth b.records)
     by None = tt
     by (Some s) = from_enter env d.copy s
 from_deliver false env d b =
-    let packet = publish_of b.now false 0 d.copy in
-    calm _ (calm_offer (line_of d.birth b) packet)
+    of_offer_if (λ (ds : List Deed). From ds) (has_form d.copy b) (line_of d.birth b) (publish_of b.now false 0 d.copy) tt (λ l there. (tt, tt))
 
 from_deliveries : (env : Env) (ds : List CopyTo) (b : Broker) → From (series (map (deliver env) ds) b)
 from_deliveries env [] b = tt

@@ -31,19 +31,20 @@ use Rattle.mqtt_records_rows.specs.Order.{IsAscending, change_row, remove_row, r
 use Rattle.mqtt_records_rows.proofs.LookUps.{row_at-here, row_at-remove_row}
 use Rattle.mqtt_rules.specs.declared.Limits.{Limits}
 use Rattle.mqtt_rules.specs.Deeds.{Whose, whose, FromClient, Part, Resume, Close, SetExpiry, DropWill, Subscribe, Unsubscribe, Open, Release, Enter, Mark, Leave, Went, Deed, Accept, Begin, Name, Count, At, Finish, Keep, Forget, RefuseWill, Link, On, Send, Gone, after, after_all, new_entry, part_rows, part_rows_of, rows_of, rows_of_all}
+use Rattle.mqtt_rules.specs.Fitting.{fitted, size_at}
 use Rattle.mqtt_rules.specs.Inbound.{pump_deeds}
 use Rattle.mqtt_rules.specs.Laws.{IsOrdered}
 use Rattle.mqtt_rules.specs.Outbound.{all_turn_deeds, of_entry, turn_deeds, way_of}
 use Rattle.mqtt_rules.specs.Packets.{publish_of}
 use Rattle.mqtt_rules.specs.Routing.{publish}
-use Rattle.mqtt_rules.specs.State.{Broker, Env, Line, MemberChoice, entry_on, queue_on, session_at, stored}
+use Rattle.mqtt_rules.specs.State.{Broker, Env, Line, MemberChoice, entry_on, queue_on, session_at, stored, told_on}
 use Rattle.mqtt_rules.specs.Step.{Call, at_moment, deeds, env_of, opened, opening, stepped, unopened, with_moment}
 use Rattle.mqtt_rules.specs.Subscribe.{next_number, subscription}
 use Rattle.mqtt_rules.proofs.acts.Acts.{IsAnswer, Law, anyone, call_of_anyone, finds_anyone, is_alone, leads_call, leads_opening}
 use Rattle.mqtt_rules.proofs.acts.ByDeeds.{DeedLaw, TurnLaw, by_ends}
 use Rattle.mqtt_rules.proofs.numbers.Copies.{each_filter, each_more}
 use Rattle.mqtt_rules.proofs.flight.FlightRows.{all_at, all_changed_at, all_found, change_row-here, change_row-other, found_behind, found_key, all_put}
-use Rattle.mqtt_rules.proofs.flight.SizedRows.{orders_sized, own_size, sized}
+use Rattle.mqtt_rules.proofs.flight.SizedRows.{orders_sized, sized}
 use Rattle.mqtt_rules.proofs.acts.Goods.{after_append}
 use Rattle.mqtt_rules.proofs.acts.Leads.{leads_end}
 use Rattle.mqtt_rules.proofs.order.Ordered.{changed_all-ordered}
@@ -534,9 +535,9 @@ sized_pump_kept size l s b there h =
       turns_walk b.now l.number s ts (greatest_order rows) b (pump_turns_good size (way_of l b.now) l.went s.queue (up_at s b there h) its.each) first,
     )
 
--- by those that rows remember
-pump_kept : (l : Line) (s : Session) (b : Broker) → session_at s.birth b.records ≡ Some s → Kept b → Kept (after_all (pump_deeds l b.now s) b)
-pump_kept = sized_pump_kept own_size
+-- by those of the forms in which they would go out
+pump_kept : (l : Line) (s : Session) (b : Broker) → session_at s.birth b.records ≡ Some s → Kept b → Kept (after_all (pump_deeds l b s) b)
+pump_kept l s b = sized_pump_kept (size_at (fitted l b.now (told_on l.number b.tellings) s.queue)) l s b
 
 turn_kept : (a : Answer) (t : Turn) (l : Line) (s : Session) (b : Broker) → session_at s.birth b.records ≡ Some s → IsAnswer a l s → a ≡ Ok (Some t) → Kept b → Kept (after_all (turn_deeds b.now l.number s t) b)
 turn_kept a t l s b there is e h =
@@ -548,7 +549,7 @@ turn_kept a t l s b there is e h =
 
 turns_kept : TurnLaw anyone Kept (λ d b. ⊤)
 turns_kept = record {
-  pumps = λ l s b h its is there. leads_end Kept (pump_deeds l b.now s) b (pump_kept l s b there h);
+  pumps = λ l s b h its is there. leads_end Kept (pump_deeds l b s) b (pump_kept l s b there h);
   turns = λ a t l s b h its own there is e. leads_end Kept (turn_deeds b.now l.number s t) b (turn_kept a t l s b there is e h);
 }
 

@@ -8,6 +8,9 @@ ghost use Rattle.mqtt_rules.specs.Deeds.{Send, RefuseWill, Whose, always};
 ghost use Rattle.mqtt_broker_step.specs.Stepping.{Did, IsLeft, with_broker};
 ghost use Rattle.mqtt_broker_step.specs.Tellings.{IsFoundBy, IsNoPublish, IsOutgoing, form_on, takes_aliases, told_also};
 ghost use Rattle.mqtt_broker_step.specs.Undoing.{with_tellings};
+ghost use Rattle.mqtt_rules.specs.Forms.{form_for};
+ghost use Rattle.mqtt_rules.specs.State.{told_on};
+ghost use Rattle.mqtt_topic_aliases.specs.Told.{none_told};
 
 use crate::fault::StepFault;
 use crate::step::Step;
@@ -15,7 +18,7 @@ use bytes::Bytes;
 use mqtt_base::Text;
 use mqtt_codec::{Packet, encode};
 use mqtt_rules::Report;
-use mqtt_topic_aliases::{Form, OtherBytes};
+use mqtt_topic_aliases::{Form, OtherBytes, OutAliases};
 use std::alloc::Global;
 
 /// A PUBLISH as it goes out on a line.
@@ -68,8 +71,42 @@ impl Step {
     pub fn takes_aliases(&self, line: u64) -> bool
         ensures exact { result ≡ takes_aliases line self.now.broker }
         ensures plain { IsFalse result → (p : Publish) → form_on line p self.now.broker ≡ Form.Plain }
+        ensures untold { IsFalse result → told_on line self.now.broker.tellings ≡ none_told 0 }
     {
         self.tables.telling(line).is_some()
+    }
+
+    /// What the client on a line was told of topics, in a table of its own; nothing, nor may it be told any, if it takes
+    /// no aliases (3.3.2.3.4).
+    pub fn told_topics(&self, line: u64) -> Result<OutAliases, StepFault>
+        ensures ok { IfOk result (λ told. told ≡ told_on line self.now.broker.tellings) }
+        ensures fault { IfErr result (λ fault. fault ≡ StepFault.Memory) }
+    {
+        let Some(telling) = self.tables.telling(line) else {
+            return Ok(OutAliases::new(self.alloc, 0));
+        };
+        match telling.topics().copied(self.alloc) {
+            Ok(told) => Ok(told),
+            Err(_) => Err(StepFault::Memory),
+        }
+    }
+
+    /// The form in which a PUBLISH goes out on a line to a client that takes so many bytes, by its topic and its other
+    /// bytes: the first that is within; none if it is too large in each (3.1.2.11.4, 3.3.2.3.4). Takes no memory.
+    pub fn form_within(
+        &self,
+        line: u64,
+        largest: u32,
+        topic: &Text,
+        other: OtherBytes,
+    ) -> Option<Form>
+        ensures { (p : Publish) → p.topic ≡ topic.now → IsFoundBy other p
+            → result ≡ form_for largest (told_on line self.now.broker.tellings) p }
+    {
+        match self.tables.telling(line) {
+            Some(telling) => telling.topics().form_for(largest, topic, other),
+            None => OutAliases::new(self.alloc, 0).form_for(largest, topic, other),
+        }
     }
 
     /// The form in which a PUBLISH goes out on a line, by its topic and its other bytes: the first that is within

@@ -1,7 +1,6 @@
 -- The deeds of a filter's answer change no retained message.
 use Rattle.std.proofs.Common.{◌≡◌, ℕ, Bool, true, false, List, [], ◌∷◌, filter, map, Option, Some, None, refl, ◌∙◌}
 use Rattle.std.specs.Prelude.{flat_map}
-use Rattle.mqtt_codec.specs.declared.packet.Packet.{Packet}
 use Rattle.mqtt_flow.specs.declared.entry.Turn.{Turn}
 use Rattle.mqtt_flow.specs.declared.entry.Turn.TheVariants.{Send as SendTurn, Resend, Release, Outgrow, Repeat, Unknown, Leave as LeaveTurn}
 use Rattle.mqtt_flow.specs.Outbound.{way_made}
@@ -9,13 +8,14 @@ use Rattle.mqtt_records_message.specs.declared.message.MessageCopy.{MessageCopy}
 use Rattle.mqtt_records.specs.declared.session.Session.{Session}
 use Rattle.mqtt_records.specs.Session.{copy_place}
 use Rattle.mqtt_records_rows.specs.Order.{row_at}
-use Rattle.mqtt_rules.specs.State.{Line, Broker, Env, session_at, line_of, queue_on}
-use Rattle.mqtt_rules.specs.Deeds.{Act, Deed, Whose, whose, Part, At, Count, Subscribe, Enter, Leave, after, after_all, stored_after, always, offer}
+use Rattle.mqtt_rules.specs.State.{Broker, Env, session_at, line_of, queue_on}
+use Rattle.mqtt_rules.specs.Deeds.{Act, Deed, Whose, whose, Part, At, Count, Subscribe, Enter, Leave, after, after_all, stored_after, always}
+use Rattle.mqtt_rules.specs.Fitting.{has_form}
 use Rattle.mqtt_rules.specs.Outbound.{leave_deeds, enter_deeds, queue_limits, since}
 use Rattle.mqtt_rules.specs.Packets.{publish_of}
 use Rattle.mqtt_rules.specs.Routing.{CopyTo, is_queued, deliver, deliver_by}
 use Rattle.mqtt_rules.specs.Subscribe.{Wish, answer_by, subscription, filter_answer_of}
-use Rattle.mqtt_rules.proofs.acts.Offers.{of_offer}
+use Rattle.mqtt_rules.proofs.acts.Offers.{of_offer_if}
 use Rattle.mqtt_rules.proofs.acts.Goods.{AreGood, GoodAct, good_append, good_flat, good_series, good_acts, good_of_session, good_of_entry}
 use Rattle.mqtt_rules.proofs.order.OrderedRoom.{at_retained}
 
@@ -49,15 +49,12 @@ enter_keeps env copy s b =
     (good_flat Keeps (leave_deeds s) (leave_keeps s) ts b)
     (at_keeps (whose s) (Enter copy) (after_all (flat_map (leave_deeds s) ts) b), tt)
 
-offer_keeps : (o : Option Line) (packet : Packet) (b : Broker) → AreGood Keeps (offer o packet) b
-offer_keeps o packet b = of_offer (λ (ds : List Deed). AreGood Keeps ds b) o packet tt (λ l there. (record { same = refl }, tt))
-
 deliver_keeps : (env : Env) (d : CopyTo) → GoodAct Keeps (deliver env d)
 deliver_keeps env d b = by (is_queued d)
   where
     by : (t : Bool) → AreGood Keeps (deliver_by t env d b) b
     by true = good_of_session Keeps d.birth (λ s. always (enter_deeds env d.copy s)) (λ s c. enter_keeps env d.copy s c) b
-    by false = offer_keeps (line_of d.birth b) (publish_of b.now false 0 d.copy) b
+    by false = of_offer_if (λ (ds : List Deed). AreGood Keeps ds b) (has_form d.copy b) (line_of d.birth b) (publish_of b.now false 0 d.copy) tt (λ l there. (record { same = refl }, tt))
 
 -- ---- an answer
 

@@ -1,5 +1,5 @@
 -- SUBSCRIBE: what the packet holds, its deeds, and where it is refused.
-use Rattle.std.proofs.Common.{◌≡◌, ℕ, ◌+◌, ◌<◌, ◌≤◌, ◌^◌, Bool, true, false, List, [], ◌∷◌, ◌++◌, length, Option, Some, refl, ap, sym, subst, ◌∙◌, append_assoc, arith}
+use Rattle.std.proofs.Common.{◌≡◌, ℕ, ◌+◌, ◌<◌, ◌≤◌, ◌^◌, Bool, true, false, List, [], ◌∷◌, ◌++◌, length, Option, Some, ap, sym, subst, ◌∙◌, append_assoc, arith}
 use Rattle.std.specs.Prelude.{map}
 use Rattle.std.specs.List.{flat_map, AllByRecursion}
 use Rattle.std.proofs.lemmas.List.{length-append}
@@ -16,19 +16,19 @@ use Rattle.mqtt_records_message.specs.declared.message.MessageCopy.{MessageCopy}
 use Rattle.mqtt_records.specs.declared.session.Session.{Session}
 use Rattle.mqtt_rules.specs.Contents.{IsTaken}
 use Rattle.mqtt_rules.specs.State.{Broker, Env, MemberChoice, session_at, line_at}
-use Rattle.mqtt_rules.specs.Deeds.{Act, Deed, always, of_session, offer}
+use Rattle.mqtt_rules.specs.Deeds.{Act, Deed, after_all, always, of_session, offer, series, then}
 use Rattle.mqtt_records_message.specs.PassedOn.{number_at}
-use Rattle.mqtt_rules.specs.Packets.{publish_of, suback}
+use Rattle.mqtt_rules.specs.Packets.{suback}
 use Rattle.mqtt_rules.specs.Routing.{CopyTo}
-use Rattle.mqtt_rules.specs.Subscribe.{FilterAnswers, late_sends, subscribe_by, on_subscribe}
+use Rattle.mqtt_rules.specs.Subscribe.{FilterAnswers, late_send, subscribe_by, on_subscribe}
+use Rattle.mqtt_rules.proofs.acts.Goods.{after_append}
 use Rattle.mqtt_broker_step.specs.declared.fault.StepFault.{StepFault}
 use Rattle.mqtt_broker_step.specs.Stepping.{Stepping, Did, Does, IsLeft, Leaves, env_in}
-use Rattle.mqtt_broker_step.specs.Undoing.{moment_of}
 use Rattle.mqtt_broker_step.proofs.Doing.{found_birth}
 use Rattle.mqtt_broker_step.proofs.Then.{same_act, same_left, did_then, left_first, left_then}
-use Rattle.mqtt_broker_publish.specs.Delivering.{addressed, addressed_all}
+use Rattle.mqtt_broker_publish.specs.Delivering.{addressed_all}
 use Rattle.mqtt_broker_subscribe.specs.Offering.{largest_on, offer_within}
-use Rattle.mqtt_broker_subscribe.specs.Bringing.{late_within}
+use Rattle.mqtt_broker_subscribe.specs.Bringing.{late_sends}
 use Rattle.mqtt_broker_subscribe.specs.Answering.{all_answers, answers_all, tells}
 use Rattle.mqtt_broker_subscribe.proofs.Lines.{offer_is}
 use Rattle.mqtt_broker_subscribe.proofs.Unsubscribed.{with_found}
@@ -83,95 +83,92 @@ refused_left line x p largest codes fault s new is told left = λ choice.
 -- ---- what is told
 
 -- the SUBACK, and the copies behind it: that is what is told
-pub told_ok : (line : ℕ) (largest : Option ℕ) (now identifier : ℕ) (codes : List ℕ) (late : List MessageCopy) (s s1 s2 : Stepping) → Did (always (offer_within line largest (suback identifier codes))) s s1
-    → Did (always (late_within line largest now late)) s1 s2 → Did (always (tells line largest now identifier codes late)) s s2
-told_ok line largest now identifier codes late s s1 s2 first second =
-    did_then (always (offer_within line largest (suback identifier codes))) (always (late_within line largest now late)) s s1 s2 first second
+pub told_ok : (line : ℕ) (largest : Option ℕ) (identifier : ℕ) (codes : List ℕ) (late : List MessageCopy) (s s1 s2 : Stepping) → Did (always (offer_within line largest (suback identifier codes))) s s1
+    → Did (late_sends line late) s1 s2 → Did (tells line largest identifier codes late) s s2
+told_ok line largest identifier codes late s s1 s2 first second =
+    did_then (always (offer_within line largest (suback identifier codes))) (late_sends line late) s s1 s2 first second
 
 -- telling may be refused at the SUBACK
-pub told_first : (line : ℕ) (largest : Option ℕ) (now identifier : ℕ) (codes : List ℕ) (late : List MessageCopy) (fault : StepFault) (s new : Stepping)
-    → IsLeft (always (offer_within line largest (suback identifier codes))) fault s new → IsLeft (always (tells line largest now identifier codes late)) fault s new
-told_first line largest now identifier codes late fault s new left =
-    left_first (always (offer_within line largest (suback identifier codes))) (always (late_within line largest now late)) fault s new left
+pub told_first : (line : ℕ) (largest : Option ℕ) (identifier : ℕ) (codes : List ℕ) (late : List MessageCopy) (fault : StepFault) (s new : Stepping)
+    → IsLeft (always (offer_within line largest (suback identifier codes))) fault s new → IsLeft (tells line largest identifier codes late) fault s new
+told_first line largest identifier codes late fault s new left =
+    left_first (always (offer_within line largest (suback identifier codes))) (late_sends line late) fault s new left
 
 -- or at the copies
-pub told_then : (line : ℕ) (largest : Option ℕ) (now identifier : ℕ) (codes : List ℕ) (late : List MessageCopy) (fault : StepFault) (s s1 new : Stepping) → Did (always (offer_within line largest (suback identifier codes))) s s1
-    → IsLeft (always (late_within line largest now late)) fault s1 new → IsLeft (always (tells line largest now identifier codes late)) fault s new
-told_then line largest now identifier codes late fault s s1 new first left =
-    left_then (always (offer_within line largest (suback identifier codes))) (always (late_within line largest now late)) fault s s1 new first left
-
-late_is : (line now : ℕ) (late : List MessageCopy) (b : Broker) → late_within line (largest_on line b) now late ≡ flat_map (λ d. late_sends line now d b) (addressed_all late)
-late_is line now [] b = refl
-late_is line now (copy ∷ rest) b =
-    ap (λ ds. ds ++ late_within line (largest_on line b) now rest) (offer_is line (publish_of now false 0 copy) b)
-    ∙ ap (λ ds. late_sends line now (addressed copy) b ++ ds) (late_is line now rest b)
+pub told_then : (line : ℕ) (largest : Option ℕ) (identifier : ℕ) (codes : List ℕ) (late : List MessageCopy) (fault : StepFault) (s s1 new : Stepping) → Did (always (offer_within line largest (suback identifier codes))) s s1
+    → IsLeft (late_sends line late) fault s1 new → IsLeft (tells line largest identifier codes late) fault s new
+told_then line largest identifier codes late fault s s1 new first left =
+    left_then (always (offer_within line largest (suback identifier codes))) (late_sends line late) fault s s1 new first left
 
 -- ---- answered
 
 -- what was found, and what the filters came to
-pub record Answered (line birth : ℕ) (identifier : Option ℕ) (x : Session) (p : Subscribe) (largest : Option ℕ) (now : ℕ) (codes : List ℕ) (late : List MessageCopy) (s : Stepping) : Type 0 where
+pub record Answered (line birth : ℕ) (identifier : Option ℕ) (x : Session) (p : Subscribe) (largest : Option ℕ) (codes : List ℕ) (late : List MessageCopy) (s : Stepping) : Type 0 where
   pub found : session_at birth s.broker.records ≡ Some x
   pub number : identifier ≡ number_at SubscriptionIdentifier p.properties
   pub on : largest ≡ largest_on line s.broker
-  pub at : now ≡ moment_of s.broker
   pub coded : (choice : MemberChoice) → codes ≡ (all_answers birth identifier p.subscriptions (env_in choice s) s.broker).codes
   pub sent : (choice : MemberChoice) → addressed_all late ≡ (all_answers birth identifier p.subscriptions (env_in choice s) s.broker).late
 
--- SUBACK and the late copies, by the rules
-abbrev told_by : ℕ → Subscribe → FilterAnswers → Broker → List Deed
-told_by line p a b = offer (line_at line b) (suback p.identifier a.codes) ++ flat_map (λ d. late_sends line b.now d b) a.late
+-- SUBACK by the state before the filters were answered, and the late copies, by the rules
+abbrev told_by : ℕ → Subscribe → FilterAnswers → Broker → Act
+told_by line p a b = then (offer (line_at line b) (suback p.identifier a.codes)) (series (map (late_send line) a.late))
 
-told_is : (line birth : ℕ) (identifier : Option ℕ) (x : Session) (p : Subscribe) (largest : Option ℕ) (now : ℕ) (codes : List ℕ) (late : List MessageCopy) (s : Stepping) (choice : MemberChoice)
-    → Answered line birth identifier x p largest now codes late s
-    → tells line largest now p.identifier codes late ≡ told_by line p (all_answers birth identifier p.subscriptions (env_in choice s) s.broker) s.broker
-told_is line birth identifier x p largest now codes late s choice w =
+told_is : (line birth : ℕ) (identifier : Option ℕ) (x : Session) (p : Subscribe) (largest : Option ℕ) (codes : List ℕ) (late : List MessageCopy) (s : Stepping) (choice : MemberChoice) (c : Broker)
+    → Answered line birth identifier x p largest codes late s
+    → tells line largest p.identifier codes late c ≡ told_by line p (all_answers birth identifier p.subscriptions (env_in choice s) s.broker) s.broker c
+told_is line birth identifier x p largest codes late s choice c w =
     let b : Broker = s.broker in
     let a : FilterAnswers = all_answers birth identifier p.subscriptions (env_in choice s) b in
-    let most : Option ℕ = largest_on line b in
-    ap (λ l. tells line l now p.identifier codes late) w.on
-    ∙ (ap (λ n. tells line most n p.identifier codes late) w.at
-    ∙ (ap (λ cs. tells line most b.now p.identifier cs late) (w.coded choice)
-    ∙ (ap (λ ds. ds ++ late_within line most b.now late) (offer_is line (suback p.identifier a.codes) b)
-    ∙ ap (λ ds. offer (line_at line b) (suback p.identifier a.codes) ++ ds)
-    (late_is line b.now late b ∙ ap (λ (cs : List CopyTo). flat_map (λ d. late_sends line b.now d b) cs) (w.sent choice)))))
+    ap (λ l. tells line l p.identifier codes late c) w.on
+    ∙ (ap (λ cs. tells line (largest_on line b) p.identifier cs late c) (w.coded choice)
+    ∙ (ap (λ ds. then ds (late_sends line late) c) (offer_is line (suback p.identifier a.codes) b)
+    ∙ ap (λ (ds : List CopyTo). then (offer (line_at line b) (suback p.identifier a.codes)) (series (map (late_send line) ds)) c) (w.sent choice)))
 
 by_rules : (line : ℕ) (x : Session) (p : Subscribe) (env : Env) (b : Broker)
-    → answers_all x.birth (number_at SubscriptionIdentifier p.properties) p.subscriptions env b ++ told_by line p (all_answers x.birth (number_at SubscriptionIdentifier p.properties) p.subscriptions env b) b
+    → then (answers_all x.birth (number_at SubscriptionIdentifier p.properties) p.subscriptions env b)
+    (told_by line p (all_answers x.birth (number_at SubscriptionIdentifier p.properties) p.subscriptions env b) b) b
     ≡ subscribe_by false env line x p b
 by_rules line x p env b =
     let a : FilterAnswers = all_answers x.birth (number_at SubscriptionIdentifier p.properties) p.subscriptions env b in
-    sym (append_assoc a.deeds (offer (line_at line b) (suback p.identifier a.codes)) (flat_map (λ d. late_sends line b.now d b) a.late))
+    let told : List Deed = offer (line_at line b) (suback p.identifier a.codes) in
+    let lates : Act = series (map (late_send line) a.late) in
+    ap (λ c. a.deeds ++ (told ++ lates c)) (sym (after_append a.deeds told b))
+    ∙ sym (append_assoc a.deeds told (lates (after_all (a.deeds ++ told) b)))
 
-packet_is : (line birth : ℕ) (identifier : Option ℕ) (x : Session) (p : Subscribe) (largest : Option ℕ) (now : ℕ) (codes : List ℕ) (late : List MessageCopy) (s : Stepping) (choice : MemberChoice)
-    → Answered line birth identifier x p largest now codes late s
-    → answers_all birth identifier p.subscriptions (env_in choice s) s.broker ++ tells line largest now p.identifier codes late ≡ subscribe_by false (env_in choice s) line x p s.broker
-packet_is line birth identifier x p largest now codes late s choice w =
+packet_is : (line birth : ℕ) (identifier : Option ℕ) (x : Session) (p : Subscribe) (largest : Option ℕ) (codes : List ℕ) (late : List MessageCopy) (s : Stepping) (choice : MemberChoice)
+    → Answered line birth identifier x p largest codes late s
+    → then (answers_all birth identifier p.subscriptions (env_in choice s) s.broker) (tells line largest p.identifier codes late) s.broker ≡ subscribe_by false (env_in choice s) line x p s.broker
+packet_is line birth identifier x p largest codes late s choice w =
     let own : x.birth ≡ birth = found_birth birth s.broker.records.sessions x w.found in
     let by : ℕ → Option ℕ → FilterAnswers = λ n i. all_answers n i p.subscriptions (env_in choice s) s.broker in
-    ap (λ ds. (by birth identifier).deeds ++ ds) (told_is line birth identifier x p largest now codes late s choice w)
-    ∙ (ap (λ n. (by n identifier).deeds ++ told_by line p (by n identifier) s.broker) (sym own)
-    ∙ (ap (λ i. (by x.birth i).deeds ++ told_by line p (by x.birth i) s.broker) w.number
+    let first : List Deed = (by birth identifier).deeds in
+    ap (λ ds. first ++ ds) (told_is line birth identifier x p largest codes late s choice (after_all first s.broker) w)
+    ∙ (ap (λ n. then (by n identifier).deeds (told_by line p (by n identifier) s.broker) s.broker) (sym own)
+    ∙ (ap (λ i. then (by x.birth i).deeds (told_by line p (by x.birth i) s.broker) s.broker) w.number
     ∙ by_rules line x p (env_in choice s) s.broker))
 
 -- answers to all filters, and what is told: that is the SUBSCRIBE
-pub packet_ok : (line birth : ℕ) (identifier : Option ℕ) (x : Session) (p : Subscribe) (largest : Option ℕ) (now : ℕ) (codes : List ℕ) (late : List MessageCopy) (s s1 s2 : Stepping)
-    → Answered line birth identifier x p largest now codes late s → Does (answers_all birth identifier p.subscriptions) s s1
-    → Did (always (tells line largest now p.identifier codes late)) s1 s2 → Does (λ env. subscribe_by false env line x p) s s2
-packet_ok line birth identifier x p largest now codes late s s1 s2 w first second = λ choice.
+pub packet_ok : (line birth : ℕ) (identifier : Option ℕ) (x : Session) (p : Subscribe) (largest : Option ℕ) (codes : List ℕ) (late : List MessageCopy) (s s1 s2 : Stepping)
+    → Answered line birth identifier x p largest codes late s → Does (answers_all birth identifier p.subscriptions) s s1
+    → Did (tells line largest p.identifier codes late) s1 s2 → Does (λ env. subscribe_by false env line x p) s s2
+packet_ok line birth identifier x p largest codes late s s1 s2 w first second = λ choice.
     let act : Act = answers_all birth identifier p.subscriptions (env_in choice s) in
-    same_act (λ b. act b ++ tells line largest now p.identifier codes late) (subscribe_by false (env_in choice s) line x p) s s2
-    (packet_is line birth identifier x p largest now codes late s choice w)
-    (did_then act (always (tells line largest now p.identifier codes late)) s s1 s2 (first choice) second)
+    let more : Act = tells line largest p.identifier codes late in
+    same_act (λ b. then (act b) more b) (subscribe_by false (env_in choice s) line x p) s s2
+    (packet_is line birth identifier x p largest codes late s choice w)
+    (did_then act more s s1 s2 (first choice) second)
 
 -- it may be refused at what is told
-pub told_left : (line birth : ℕ) (identifier : Option ℕ) (x : Session) (p : Subscribe) (largest : Option ℕ) (now : ℕ) (codes : List ℕ) (late : List MessageCopy) (fault : StepFault) (s s1 new : Stepping)
-    → Answered line birth identifier x p largest now codes late s → Does (answers_all birth identifier p.subscriptions) s s1
-    → IsLeft (always (tells line largest now p.identifier codes late)) fault s1 new → Leaves (λ env. subscribe_by false env line x p) fault s new
-told_left line birth identifier x p largest now codes late fault s s1 new w first left = λ choice.
+pub told_left : (line birth : ℕ) (identifier : Option ℕ) (x : Session) (p : Subscribe) (largest : Option ℕ) (codes : List ℕ) (late : List MessageCopy) (fault : StepFault) (s s1 new : Stepping)
+    → Answered line birth identifier x p largest codes late s → Does (answers_all birth identifier p.subscriptions) s s1
+    → IsLeft (tells line largest p.identifier codes late) fault s1 new → Leaves (λ env. subscribe_by false env line x p) fault s new
+told_left line birth identifier x p largest codes late fault s s1 new w first left = λ choice.
     let act : Act = answers_all birth identifier p.subscriptions (env_in choice s) in
-    same_left (λ b. act b ++ tells line largest now p.identifier codes late) (subscribe_by false (env_in choice s) line x p) fault s new
-    (packet_is line birth identifier x p largest now codes late s choice w)
-    (left_then act (always (tells line largest now p.identifier codes late)) fault s s1 new (first choice) left)
+    let more : Act = tells line largest p.identifier codes late in
+    same_left (λ b. then (act b) more b) (subscribe_by false (env_in choice s) line x p) fault s new
+    (packet_is line birth identifier x p largest codes late s choice w)
+    (left_then act more fault s s1 new (first choice) left)
 
 -- a filter is refused, whatever would be told
 pub filters_left : (line birth : ℕ) (identifier : Option ℕ) (x : Session) (p : Subscribe) (fault : StepFault) (s new : Stepping) → session_at birth s.broker.records ≡ Some x
@@ -180,9 +177,9 @@ filters_left line birth identifier x p fault s new found number left = λ choice
     let own : x.birth ≡ birth = found_birth birth s.broker.records.sessions x found in
     let by : ℕ → Option ℕ → Act = λ n i. answers_all n i p.subscriptions (env_in choice s) in
     let asked : Option ℕ = number_at SubscriptionIdentifier p.properties in
-    let more : List Deed = told_by line p (all_answers x.birth asked p.subscriptions (env_in choice s) s.broker) s.broker in
-    same_left (λ b. by x.birth asked b ++ more) (subscribe_by false (env_in choice s) line x p) fault s new (by_rules line x p (env_in choice s) s.broker)
-    (left_first (by x.birth asked) (always more) fault s new
+    let more : Act = told_by line p (all_answers x.birth asked p.subscriptions (env_in choice s) s.broker) s.broker in
+    same_left (λ b. then (by x.birth asked b) more b) (subscribe_by false (env_in choice s) line x p) fault s new (by_rules line x p (env_in choice s) s.broker)
+    (left_first (by x.birth asked) more fault s new
     (subst (λ i. IsLeft (by x.birth i) fault s new) number (subst (λ n. IsLeft (by n identifier) fault s new) (sym own) (left choice))))
 
 -- ---- the packet

@@ -1,12 +1,12 @@
 -- The filters of a SUBSCRIBE, one after the other, and what goes out when all are answered (MQTT 5.0, 3.8.4, 3.9).
-use Rattle.std.specs.Prelude.{ℕ, List, ◌++◌, Option}
+use Rattle.std.specs.Prelude.{ℕ, List, Option}
 use Rattle.mqtt_records_message.specs.declared.message.MessageCopy.{MessageCopy}
 use Rattle.mqtt_codec_subscribe.specs.Subscriptions.{Subscription as Asked}
 use Rattle.mqtt_rules.specs.State.{Broker, Env, session_at}
-use Rattle.mqtt_rules.specs.Deeds.{Act, Deed}
+use Rattle.mqtt_rules.specs.Deeds.{Act, then}
 use Rattle.mqtt_rules.specs.Packets.{suback}
 use Rattle.mqtt_rules.specs.Subscribe.{FilterAnswer, FilterAnswers, wish_of, filter_answer_of, filter_answers}
-use Rattle.mqtt_broker_subscribe.specs.Bringing.{late_within}
+use Rattle.mqtt_broker_subscribe.specs.Bringing.{late_sends}
 use Rattle.mqtt_broker_subscribe.specs.Offering.{offer_within}
 
 -- a filter with its options byte
@@ -27,7 +27,6 @@ all_answers birth identifier filters env b = filter_answers env birth identifier
 abbrev pub answers_all : ℕ → Option ℕ → List Asked → Env → Act
 answers_all birth identifier filters env b = (all_answers birth identifier filters env b).deeds
 
--- SUBACK, and the late copies behind it, on a line whose client takes so many bytes
-abbrev pub tells : ℕ → Option ℕ → ℕ → ℕ → List ℕ → List MessageCopy → List Deed
-tells line largest now identifier codes late =
-    offer_within line largest (suback identifier codes) ++ late_within line largest now late
+-- SUBACK, if the client on the line takes so many bytes, and the late copies behind it
+abbrev pub tells : ℕ → Option ℕ → ℕ → List ℕ → List MessageCopy → Act
+tells line largest identifier codes late = then (offer_within line largest (suback identifier codes)) (late_sends line late)

@@ -8,7 +8,7 @@ ghost use Rattle.mqtt_records_message.specs.Queue.{IsSpelled};
 ghost use Rattle.mqtt_records_message.specs.declared.message.RetainedMessage.{RetainedMessage as Retained};
 ghost use Rattle.mqtt_records.specs.declared.session.Session.{Session as TheSession};
 ghost use Rattle.mqtt_rules.specs.Contents.{IsPublished, IsTaken};
-ghost use Rattle.mqtt_rules.specs.Deeds.{always, of_session};
+ghost use Rattle.mqtt_rules.specs.Deeds.{of_session};
 ghost use Rattle.mqtt_rules.specs.State.{session_at};
 ghost use Rattle.mqtt_rules.specs.Subscribe.{on_subscribe, subscribe_by};
 ghost use Rattle.mqtt_broker_step.specs.Stepping.{Did, Does, IsLeft, Leaves};
@@ -65,21 +65,19 @@ fn tell(
     step: &mut Step,
     line: u64,
     largest: Option<u32>,
-    moment: u64,
     identifier: u16,
     codes: &[u8],
     late: Vec<MessageCopy>,
 ) -> Result<(), StepFault>
     requires few { length codes.now + 3 < 2 ^ 28 }
     requires spelled { AllByRecursion IsSpelled late.items }
-    ensures ok { OnOk result (Did
-        (always (tells line largest moment identifier codes.now late.items)) step.old step.new) }
+    ensures ok { OnOk result (Did (tells line largest identifier codes.now late.items)
+        step.old step.new) }
     ensures left { IfErr result (λ fault. IsLeft
-        (always (tells line largest moment identifier codes.now late.items))
-        fault step.old step.new) }
+        (tells line largest identifier codes.now late.items) fault step.old step.new) }
 {
     match offer_suback(alloc, step, line, largest, identifier, codes) {
-        Ok(()) => send_late(alloc, step, line, largest, moment, late),
+        Ok(()) => send_late(alloc, step, line, late),
         Err(fault) => {
             drop(late);
             Err(fault)
@@ -107,7 +105,6 @@ fn answer_packet(
         (λ env. subscribe_by false env line s packet.now) fault step.old step.new) }
 {
     let largest = largest_on(step, line);
-    let moment = step.moment();
     let identifier = number_at(&packet.properties.lend(), PropName::SubscriptionIdentifier);
     let filters = &packet.subscriptions;
     let mut codes = Vec::new(alloc);
@@ -117,7 +114,7 @@ fn answer_packet(
     ) {
         Ok(()) => {
             let id = packet.identifier;
-            let told = tell(alloc, step, line, largest, moment, id, &codes, late);
+            let told = tell(alloc, step, line, largest, id, &codes, late);
             drop(codes);
             told
         }

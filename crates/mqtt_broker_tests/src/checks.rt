@@ -52,6 +52,7 @@ const SHORT: &str = "\
 -- a retained message goes to who subscribes later, until an empty one comes
 -- a copy is sent again with its identifier after a restart
 -- a receiver that takes one alias is told one, and again on its next connection
+-- in a pump what goes out tells its topic to the copies behind it, and on a line where nothing was told they are too large
 -- a copy that waits expires
 -- a copy that was sent in time does not expire
 ";

@@ -5,6 +5,7 @@ use Rattle.mqtt_rules.proofs.fit.Turns.{Rises}
 use Rattle.mqtt_rules.specs.Outbound.{queue_limits, since}
 use Rattle.mqtt_rules.specs.State.{MemberChoice, entry_on, queue_on}
 use Rattle.mqtt_broker_step.specs.Stepping.{env_in}
+use Rattle.mqtt_broker_queue.specs.Queues.{whole_view}
 use Rattle.mqtt_broker_queue.proofs.Entered.{kept_memory, limits_of, none_made, room_found}
 use Rattle.mqtt_broker_queue.proofs.entering.way_turns.Goals as goal
 
@@ -16,14 +17,14 @@ of_memory-requires c =
     kept_memory (has_room (limits_of l) c.in-Some.since (map (entry_on []) c.as_slice-queue.result.now)) c.in-Err.fault
     (room_found l env c.args.session.now c.in-Some.since (map (entry_on []) c.as_slice-queue.result.now) c.limits-sizes.ensures (c.in-Some.ensures env c.beginning.ensures)
     (ap (map (entry_on [])) c.as_slice-queue.ensures.rows) (c.requires choice))
-    (c.in-Err.ensures.fault [])
+    (c.in-Err.ensures.fault (whole_view []))
 
 pub returns-in-Ok-clause-turns : goal.returns-in-Ok-clause-turns
 returns-in-Ok-clause-turns c = λ choice.
     let env = env_in choice c.args.step.now in
     let l = c.limits-sizes.result in
     let queue = queue_on [] c.args.session.now in
-    c.in-Ok.ensures.turns []
+    c.in-Ok.ensures.turns (whole_view [])
     ∙ (ap (λ rows. way_made (limits_of l) c.in-Some.since (map (entry_on []) rows)) c.as_slice-queue.ensures.rows
     ∙ (ap (λ place. way_made (limits_of l) place queue) (c.in-Some.ensures env c.beginning.ensures)
     ∙ ap (λ k. way_made (limits_of k) (since env c.args.session.now) queue) c.limits-sizes.ensures))
@@ -33,7 +34,7 @@ returns-in-Ok-clause-rise c =
     let l = c.limits-sizes.result in
     let queue = queue_on [] c.args.session.now in
     let is : c.in-Ok.turns.items ≡ way_made (limits_of l) c.in-Some.since queue =
-    c.in-Ok.ensures.turns [] ∙ ap (λ rows. way_made (limits_of l) c.in-Some.since (map (entry_on []) rows)) c.as_slice-queue.ensures.rows in
+    c.in-Ok.ensures.turns (whole_view []) ∙ ap (λ rows. way_made (limits_of l) c.in-Some.since (map (entry_on []) rows)) c.as_slice-queue.ensures.rows in
     subst (λ ts. Rises c.args.session.now.queue 0 ts) (sym is)
     (drops_rise (length queue + 1 - l.queue) c.in-Some.since c.args.session.now c.as_slice-queue.ensures.order)
 

@@ -3,10 +3,11 @@ use Rattle.mqtt_flow.specs.Outbound.{expired}
 use Rattle.mqtt_rules.specs.State.{entry_on}
 use Rattle.mqtt_rules.proofs.fit.Turns.{Rises}
 use Rattle.mqtt_rules.proofs.fit.TurnLists.{lapses_rise}
+use Rattle.mqtt_broker_queue.specs.Queues.{whole_view}
 use Rattle.mqtt_broker_queue.proofs.lapsing.lapse_turns.Goals as goal
 
 abbrev looked-up : goal.returns-in-Ok-clause-turns
-looked-up c = c.in-Ok.ensures.turns [] ∙ ap (λ rows. expired c.args.now (map (entry_on []) rows)) c.as_slice.ensures.rows
+looked-up c = c.in-Ok.ensures.turns (whole_view []) ∙ ap (λ rows. expired c.args.now (map (entry_on []) rows)) c.as_slice.ensures.rows
 
 pub returns-in-Ok-clause-turns : goal.returns-in-Ok-clause-turns
 returns-in-Ok-clause-turns c = looked-up c

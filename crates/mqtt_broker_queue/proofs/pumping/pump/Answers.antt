@@ -1,15 +1,12 @@
 use Rattle.std.proofs.Common.{◌≡◌, rules, nat_eq, length, ap, sym, ◌∙◌}
 use Rattle.std.specs.Prelude.{count_by, filter_map}
-use Rattle.mqtt_flow.specs.Outbound.{pump}
-use Rattle.mqtt_rules.specs.Outbound.{way_of}
-use Rattle.mqtt_rules.specs.State.{queue_on}
 use Rattle.mqtt_rules.specs.Step.{publish_out}
 use Rattle.mqtt_broker_step.specs.Lines.{line_number}
 use Rattle.mqtt_broker_step.specs.Stepping.{IsLeft}
 use Rattle.mqtt_broker_step.proofs.Inverse.{row_key}
 use Rattle.mqtt_broker_queue.specs.Turning.{is_sending, takes_turns, pumps}
 use Rattle.mqtt_broker_step.proofs.Sendings.{line_found}
-use Rattle.mqtt_broker_queue.proofs.Pumped.{same_way, pumps_is, taken_of}
+use Rattle.mqtt_broker_queue.proofs.Pumped.{pumps_is, taken_of}
 use Rattle.mqtt_broker_step.proofs.Then.{same_act, same_left}
 use Rattle.mqtt_broker_queue.proofs.pumping.pump.Goals as goal
 
@@ -21,12 +18,9 @@ returns-clause-ok c =
     let birth = c.in-Some-session.birth in
     let ts = c.in_ok-turns.turns.items in
     let there = sym c.in-Some.ensures in
-    let way = same_way c.window.ensures c.largest.ensures c.moment.ensures in
-    let turns : ts ≡ pump (way_of l b.now) (queue_on l.went x) =
-    c.in_ok-turns.ensures.turns ∙ (ap (λ w. pump w (queue_on c.went.result.now x)) way ∙ ap (λ went. pump (way_of l b.now) (queue_on went x)) c.went.ensures) in
     same_act (takes_turns c.args.line birth ts) (pumps c.args.line) c.args.step.now c.take_turns.new.step
     (pumps_is c.args.line birth ts l x b (sym (line_found c.args.line b.lines) ∙ there) (row_key line_number c.args.line b.lines l there)
-    (sym c.in-Some-session.ensures) (sym c.in-Some-session-2.ensures) turns) c.in_ok-take_turns.ensures.ok
+    (sym c.in-Some-session.ensures) (sym c.in-Some-session-2.ensures) c.in_ok-turns.ensures.turns) c.in_ok-take_turns.ensures.ok
 
 pub returns-in_err-take_turns-clause-left : goal.returns-in_err-take_turns-clause-left
 returns-in_err-take_turns-clause-left c =
@@ -36,13 +30,10 @@ returns-in_err-take_turns-clause-left c =
     let birth = c.in-Some-session.birth in
     let ts = c.in_ok-turns.turns.items in
     let there = sym c.in-Some.ensures in
-    let way = same_way c.window.ensures c.largest.ensures c.moment.ensures in
-    let turns : ts ≡ pump (way_of l b.now) (queue_on l.went x) =
-    c.in_ok-turns.ensures.turns ∙ (ap (λ w. pump w (queue_on c.went.result.now x)) way ∙ ap (λ went. pump (way_of l b.now) (queue_on went x)) c.went.ensures) in
     let left : IsLeft (pumps c.args.line) c.in_err-take_turns.field-0.0 c.args.step.now c.take_turns.new.step =
     same_left (takes_turns c.args.line birth ts) (pumps c.args.line) c.in_err-take_turns.field-0.0 c.args.step.now c.take_turns.new.step
     (pumps_is c.args.line birth ts l x b (sym (line_found c.args.line b.lines) ∙ there) (row_key line_number c.args.line b.lines l there)
-    (sym c.in-Some-session.ensures) (sym c.in-Some-session-2.ensures) turns) c.in_err-take_turns.ensures.left in
+    (sym c.in-Some-session.ensures) (sym c.in-Some-session-2.ensures) c.in_ok-turns.ensures.turns) c.in_err-take_turns.ensures.left in
     search (rules, left)
 
 pub returns-clause-again : goal.returns-clause-again
@@ -53,11 +44,8 @@ returns-clause-again c =
     let birth = c.in-Some-session.birth in
     let ts = c.in_ok-turns.turns.items in
     let there = sym c.in-Some.ensures in
-    let way = same_way c.window.ensures c.largest.ensures c.moment.ensures in
-    let turns : ts ≡ pump (way_of l b.now) (queue_on l.went x) =
-    c.in_ok-turns.ensures.turns ∙ (ap (λ w. pump w (queue_on c.went.result.now x)) way ∙ ap (λ went. pump (way_of l b.now) (queue_on went x)) c.went.ensures) in
     let act = pumps_is c.args.line birth ts l x b (sym (line_found c.args.line b.lines) ∙ there) (row_key line_number c.args.line b.lines l there)
-    (sym c.in-Some-session.ensures) (sym c.in-Some-session-2.ensures) turns in
+    (sym c.in-Some-session.ensures) (sym c.in-Some-session-2.ensures) c.in_ok-turns.ensures.turns in
     let sent : count_by is_sending ts ≡ length (filter_map publish_out (pumps c.args.line b)) =
     sym (c.in_ok-turns.ensures.sent b.now c.args.line)
     ∙ ap (λ ds. length (filter_map publish_out ds)) (sym (taken_of c.args.line birth ts x b (sym c.in-Some-session-2.ensures)) ∙ act) in

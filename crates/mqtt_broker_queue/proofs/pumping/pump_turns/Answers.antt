@@ -1,35 +1,55 @@
 use Rattle.std.proofs.Common.{◌≡◌, ◌≤◌, [], length, map, ap, sym, subst, ◌∙◌}
 use Rattle.std.specs.Prelude.{count_by, filter_map}
 use Rattle.mqtt_base.specs.declared.limits.TheConstants.{LAST_NUMBER}
-use Rattle.mqtt_flow.specs.Outbound.{pump}
 use Rattle.mqtt_flow.specs.Queue.{greatest_order}
-use Rattle.mqtt_rules.specs.Outbound.{all_turn_deeds}
-use Rattle.mqtt_rules.specs.State.{entry_on, queue_on}
+use Rattle.mqtt_rules.specs.Fitting.{fitted, size_at, sized}
+use Rattle.mqtt_rules.specs.Outbound.{all_turn_deeds, way_of}
+use Rattle.mqtt_rules.specs.State.{queue_on, told_on}
 use Rattle.mqtt_rules.specs.Step.{publish_out}
-use Rattle.mqtt_broker_queue.specs.Turning.{is_sending}
-use Rattle.mqtt_broker_queue.proofs.Sending.{pump_sends}
 use Rattle.mqtt_rules.proofs.fit.Turns.{Rises}
-use Rattle.mqtt_rules.proofs.fit.TurnLists.{pumps_rise}
+use Rattle.mqtt_rules.proofs.fit.TurnLists.{sized_pumps_rise}
+use Rattle.mqtt_rules.proofs.flight.SizedRows.{orders_sized}
+use Rattle.mqtt_broker_queue.specs.Turning.{is_sending}
 use Rattle.mqtt_broker_queue.proofs.Asked.{orders_alike}
+use Rattle.mqtt_broker_queue.proofs.Listed.{pumped}
+use Rattle.mqtt_broker_queue.proofs.Pumped.{same_way, way_with}
+use Rattle.mqtt_broker_queue.proofs.Sending.{sized_pump_sends}
 use Rattle.mqtt_broker_queue.proofs.pumping.pump_turns.Goals as goal
 
 pub look_pump-requires-clause-orders : goal.look_pump-requires-clause-orders
 look_pump-requires-clause-orders c =
-    let same : greatest_order (map (entry_on c.args.went.now) c.as_slice.result.now) ≡ greatest_order (queue_on [] c.args.session.now) =
-    ap (λ rows. greatest_order (map (entry_on c.args.went.now) rows)) c.as_slice.ensures.rows ∙ orders_alike c.args.went.now c.args.session.now.queue in
+    let rows = c.as_slice-rows.result.now in
+    let size = size_at c.deref.result.now in
+    let same : greatest_order (map (sized size c.went.result.now) rows) ≡ greatest_order (queue_on [] c.args.session.now) =
+    ap (λ q. greatest_order (map (sized size c.went.result.now) q)) c.as_slice-rows.ensures.rows
+    ∙ (orders_sized size c.went.result.now c.args.session.now.queue ∙ orders_alike c.went.result.now c.args.session.now.queue) in
     subst (λ n. n ≤ LAST_NUMBER) (sym same) c.requires
 
 abbrev pumped-is : goal.returns-in-Ok-clause-turns
-pumped-is c = c.in-Ok.ensures.turns ∙ ap (λ rows. pump c.args.way (map (entry_on c.args.went.now) rows)) c.as_slice.ensures.rows
+pumped-is c =
+    let l = c.args.state.now in
+    let b = c.args.step.now.broker in
+    let rows = c.as_slice-rows.ensures.rows in
+    c.in-Ok.ensures.turns
+    ∙ pumped l b c.args.session.now (way_with c.window.result c.largest.result c.moment.result) c.went.result.now c.deref.result.now c.as_slice-rows.result.now
+    (same_way c.window.ensures c.largest.ensures c.moment.ensures) c.went.ensures
+    (c.deref.ensures.value ∙ c.in_ok-sizes.ensures.sizes) rows c.as_slice-rows.ensures.order
 
 pub returns-in-Ok-clause-turns : goal.returns-in-Ok-clause-turns
 returns-in-Ok-clause-turns c = pumped-is c
 
 pub returns-in-Ok-clause-rise : goal.returns-in-Ok-clause-rise
 returns-in-Ok-clause-rise c =
-    subst (λ ts. Rises c.args.session.now.queue 0 ts) (sym (pumped-is c)) (pumps_rise c.args.way c.args.went.now c.args.session.now c.as_slice.ensures.order)
+    let l = c.args.state.now in
+    let b = c.args.step.now.broker in
+    let x = c.args.session.now in
+    subst (λ ts. Rises x.queue 0 ts) (sym (pumped-is c))
+    (sized_pumps_rise (size_at (fitted l b.now (told_on l.number b.tellings) x.queue)) (way_of l b.now) l.went x c.as_slice-rows.ensures.order)
 
 pub returns-in-Ok-clause-sent : goal.returns-in-Ok-clause-sent
 returns-in-Ok-clause-sent c = λ moment line.
-    subst (λ ts. length (filter_map publish_out (all_turn_deeds moment line c.args.session.now ts)) ≡ count_by is_sending ts) (sym (pumped-is c))
-    (pump_sends c.args.way c.args.went.now moment line c.args.session.now c.as_slice.ensures.order)
+    let l = c.args.state.now in
+    let b = c.args.step.now.broker in
+    let x = c.args.session.now in
+    subst (λ ts. length (filter_map publish_out (all_turn_deeds moment line x ts)) ≡ count_by is_sending ts) (sym (pumped-is c))
+    (sized_pump_sends (size_at (fitted l b.now (told_on l.number b.tellings) x.queue)) (way_of l b.now) l.went moment line x c.as_slice-rows.ensures.order)

@@ -29,12 +29,11 @@ pub returns-in-Ok-clause-ok : goal.returns-in-Ok-clause-ok
 returns-in-Ok-clause-ok c = λ s found.
     let number : c.number_at-identifier.result ≡ number_at SubscriptionIdentifier c.args.packet.now.properties = search rules in
     on_ok c.tell-told.result
-    (packet_ok c.args.line c.args.birth c.number_at-identifier.result s c.args.packet.now c.largest_on-largest.result c.moment-moment.result c.deref.result.now c.answer_all.new.late.items c.args.step.now c.answer_all.new.step c.tell-told.new.step
+    (packet_ok c.args.line c.args.birth c.number_at-identifier.result s c.args.packet.now c.largest_on-largest.result c.deref.result.now c.answer_all.new.late.items c.args.step.now c.answer_all.new.step c.tell-told.new.step
     (record {
       found = found;
       number = number;
       on = c.largest_on-largest.ensures;
-      at = c.moment-moment.ensures;
       coded = λ choice. c.deref.ensures.value ∙ c.in-Ok.ensures.codes choice;
       sent = c.in-Ok.ensures.late;
     })
@@ -45,12 +44,11 @@ pub returns-in-Ok-clause-left : goal.returns-in-Ok-clause-left
 returns-in-Ok-clause-left c = λ s found.
     let number : c.number_at-identifier.result ≡ number_at SubscriptionIdentifier c.args.packet.now.properties = search rules in
     if_err c.tell-told.result
-    (λ fault. told_left c.args.line c.args.birth c.number_at-identifier.result s c.args.packet.now c.largest_on-largest.result c.moment-moment.result c.deref.result.now c.answer_all.new.late.items fault c.args.step.now c.answer_all.new.step c.tell-told.new.step
+    (λ fault. told_left c.args.line c.args.birth c.number_at-identifier.result s c.args.packet.now c.largest_on-largest.result c.deref.result.now c.answer_all.new.late.items fault c.args.step.now c.answer_all.new.step c.tell-told.new.step
     (record {
       found = found;
       number = number;
       on = c.largest_on-largest.ensures;
-      at = c.moment-moment.ensures;
       coded = λ choice. c.deref.ensures.value ∙ c.in-Ok.ensures.codes choice;
       sent = c.in-Ok.ensures.late;
     })

@@ -5,15 +5,15 @@ use Rattle.mqtt_broker_subscribe.proofs.subscribing.tell.Goals as goal
 pub returns-in-Ok-clause-ok : goal.returns-in-Ok-clause-ok
 returns-in-Ok-clause-ok c =
     on_ok c.send_late.result
-    (told_ok c.args.line c.args.largest c.args.moment c.args.identifier c.args.codes.now c.args.late.items c.args.step.now c.offer_suback.new.step c.send_late.new.step c.in-Ok.ensures.ok)
+    (told_ok c.args.line c.args.largest c.args.identifier c.args.codes.now c.args.late.items c.args.step.now c.offer_suback.new.step c.send_late.new.step c.in-Ok.ensures.ok)
     c.send_late.ensures.ok
 
 pub returns-in-Ok-clause-left : goal.returns-in-Ok-clause-left
 returns-in-Ok-clause-left c =
     if_err c.send_late.result
-    (λ fault. told_then c.args.line c.args.largest c.args.moment c.args.identifier c.args.codes.now c.args.late.items fault c.args.step.now c.offer_suback.new.step c.send_late.new.step c.in-Ok.ensures.ok)
+    (λ fault. told_then c.args.line c.args.largest c.args.identifier c.args.codes.now c.args.late.items fault c.args.step.now c.offer_suback.new.step c.send_late.new.step c.in-Ok.ensures.ok)
     c.send_late.ensures.left
 
 pub returns-in-Err-clause-left : goal.returns-in-Err-clause-left
 returns-in-Err-clause-left c =
-    told_first c.args.line c.args.largest c.args.moment c.args.identifier c.args.codes.now c.args.late.items c.in-Err.fault c.args.step.now c.offer_suback.new.step c.in-Err.ensures.left
+    told_first c.args.line c.args.largest c.args.identifier c.args.codes.now c.args.late.items c.in-Err.fault c.args.step.now c.offer_suback.new.step c.in-Err.ensures.left

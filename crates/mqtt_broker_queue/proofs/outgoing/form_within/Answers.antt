@@ -1,0 +1,10 @@
+use Rattle.std.proofs.Common.{false, refl}
+use Rattle.mqtt_rules.specs.Forms.{published_of}
+use Rattle.mqtt_broker_queue.proofs.Forms.{found_by}
+use Rattle.mqtt_broker_queue.proofs.outgoing.form_within.Goals as goal
+
+pub returns : goal.returns
+returns c =
+    let copy = c.args.copy.now in
+    c.form_within.ensures (published_of copy.content.arrived false 1 copy) refl
+    (found_by c.in-Some.other copy c.in-Some.ensures.exact copy.content.arrived 1 false)
