@@ -1,7 +1,7 @@
 -- No choice of members is asked for by what a receiver sends: it publishes nothing, and its session has no Will (MQTT 5.0,
 -- 3.1.2.5, 4.3, 4.4).
 use Rattle.std.proofs.Common.{◌≡◌, ℕ, suc, Bool, true, false, ◌&&◌, ◌||◌, List, [], ◌∷◌, ◌++◌, map, length, Option, Some, None, nat_eq, nat_lt, nat_le, refl, sym, ap, subst, ◌∙◌, arith, inl, inr}
-use Rattle.std.specs.Prelude.{Ok, Err, filter, flat_map}
+use Rattle.std.specs.Prelude.{Ok, Err, filter}
 use Rattle.std.proofs.lemmas.Bool.{cases_Bool, eqb-true}
 use Rattle.mqtt_base.specs.Codes.{protocol_error}
 use Rattle.mqtt_base.specs.declared.session.CopyId.{CopyId}
@@ -36,7 +36,7 @@ use Rattle.mqtt_rules.specs.Packets.{suback}
 use Rattle.mqtt_rules.specs.Routing.{CopyTo, deliver, deliver_by, is_queued}
 use Rattle.mqtt_rules.specs.State.{Line as BrokerLine, Broker, Env, MemberChoice, is_of, line_at, line_of, queue_on, session_at, session_named}
 use Rattle.mqtt_rules.specs.Step.{Input, deeds, env_of, next_packet}
-use Rattle.mqtt_rules.specs.Subscribe.{FilterAnswer, FilterAnswers, Wish, answer_by, before, brought, filter_answer_of, filter_answers, granted_filter, has_filter, late_sends, next_number, subscribe_by, subscription, wish_of}
+use Rattle.mqtt_rules.specs.Subscribe.{FilterAnswer, FilterAnswers, Wish, answer_by, before, brought, filter_answer_of, filter_answers, granted_filter, has_filter, late_send, next_number, subscribe_by, subscription, wish_of}
 use Rattle.mqtt_rules.specs.declared.Limits.{Limits}
 use Rattle.mqtt_codec_subscribe.specs.declared.subscribe.Subscribe.{Subscribe}
 use Rattle.mqtt_world_receiver_laws.proofs.queue.Pumps.{its_session}
@@ -93,7 +93,7 @@ module _ (d : MemberChoice) (env : Env) where
   subscribed : (t : Bool) (line : ℕ) (s : Session) (p : Subscribe) (b : Broker) → subscribe_by t env line s p b ≡ subscribe_by t (chosen d env) line s p b
   subscribed true line s p b = refl
   subscribed false line s p b =
-      ap (λ (a : FilterAnswers). a.deeds ++ offer (line_at line b) (suback p.identifier a.codes) ++ flat_map (λ x. late_sends line b.now x b) a.late)
+      ap (λ (a : FilterAnswers). let told = a.deeds ++ offer (line_at line b) (suback p.identifier a.codes) in told ++ series (map (late_send line) a.late) (after_all told b))
       (filters_answered s.birth (number_at SubscriptionIdentifier p.properties) p.subscriptions b)
 
 -- ---- on a line on which its session is connected

@@ -1,11 +1,13 @@
 -- Copies of QoS 0 wait in no queue: each goes out at once, and is under way on its receiver's line, or a stop keeps it
 -- back (MQTT 5.0, 3.1.2.11.4, 3.3.4, 4.3.1).
-use Rattle.std.specs.Prelude.{◌≡◌, ◌⊎◌, ℕ, ⊤, true, false, Bool, cond, List, [], ◌∷◌, ◌++◌, map, filter, flat_map, filter_map, nat_eq, nat_le, Option, Some, None}
+use Rattle.std.specs.Prelude.{◌≡◌, ◌⊎◌, ℕ, ⊤, true, false, Bool, cond, List, [], ◌∷◌, ◌++◌, map, filter, flat_map, filter_map, nat_eq, Option, Some, None}
 use Rattle.std.specs.List.{AllByRecursion}
 use Rattle.mqtt_codec.specs.declared.packet.Packet.{Packet}
+use Rattle.mqtt_records_message.specs.declared.message.MessageCopy.{MessageCopy}
 use Rattle.mqtt_rules.specs.declared.Limits.{Limits}
-use Rattle.mqtt_rules.specs.Deeds.{Deed, Accept, output}
-use Rattle.mqtt_rules.specs.Packets.{publish_of, size_of}
+use Rattle.mqtt_rules.specs.Deeds.{Deed, Accept, Send, after, output}
+use Rattle.mqtt_rules.specs.Fitting.{has_form}
+use Rattle.mqtt_rules.specs.Packets.{publish_of}
 use Rattle.mqtt_rules.specs.Routing.{CopyTo, is_queued, accepted_copies}
 use Rattle.mqtt_rules.specs.State.{Broker, Env, Line, line_of}
 use Rattle.mqtt_rules.specs.Step.{Call, deeds}
@@ -16,22 +18,29 @@ use Rattle.mqtt_world_model.specs.Run.{Turn}
 use Rattle.mqtt_world_acceptance_laws.specs.Entries.{Moment, moments_of}
 use Rattle.mqtt_world_acceptance_laws.specs.Steps.{Step, steps_over}
 
--- a packet on a session's line: none without a line, nor if it is larger than the client takes (3.1.2.11.4)
-abbrev pub put_on : Option Line → Packet → List (ℕ × Packet)
-put_on None packet = []
-put_on (Some l) packet = cond (nat_le (size_of packet) l.largest) ((l.number, packet) ∷ []) []
+-- a copy's PUBLISH on a session's line: none without a line, nor if no form of it is within what the client takes (3.1.2.11.4)
+abbrev pub put_on : Option Line → MessageCopy → Broker → List (ℕ × Packet)
+put_on None copy b = []
+put_on (Some l) copy b = cond (has_form copy b l) ((l.number, publish_of b.now false 0 copy) ∷ []) []
 
 -- what is due at once for a copy: of QoS 0 its PUBLISH, on the line of its session; of QoS 1 and 2 nothing
 abbrev pub due_by : Bool → CopyTo → Broker → List (ℕ × Packet)
 due_by true d b = []
-due_by false d b = put_on (line_of d.birth b) (publish_of b.now false 0 d.copy)
+due_by false d b = put_on (line_of d.birth b) d.copy b
 
-abbrev pub due_for : Broker → CopyTo → List (ℕ × Packet)
-due_for b d = due_by (is_queued d) d b
+-- behind packets that went out: what they told is told
+abbrev pub behind : List (ℕ × Packet) → Broker → Broker
+behind [] b = b
+behind (x ∷ xs) b = behind xs (after (Send x.0 x.1) b)
+
+-- for each of these copies, by what those before it told
+abbrev pub due_for : List CopyTo → Broker → List (ℕ × Packet)
+due_for [] b = []
+due_for (d ∷ ds) b = let first = due_by (is_queued d) d b in first ++ due_for ds (behind first b)
 
 abbrev pub due_if : Option (List CopyTo) → Broker → List (ℕ × Packet)
 due_if None b = []
-due_if (Some ds) b = flat_map (due_for b) ds
+due_if (Some ds) b = due_for ds b
 
 -- for a publication that is accepted: for each copy of its routing
 abbrev pub due : Env → Deed → Broker → List (ℕ × Packet)

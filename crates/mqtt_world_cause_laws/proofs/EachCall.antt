@@ -37,6 +37,7 @@ use Rattle.mqtt_topic.specs.Names.{is_empty}
 use Rattle.mqtt_rules.specs.Closing.{close, close_connected, close_session, drop_line, end_session, has_due_end, has_due_will, publish_or_refuse, publish_will, settle, will_deeds, will_message}
 use Rattle.mqtt_rules.specs.Connect.{begin_named, clear, connect_by, joins, largest_of, of_client, prepare, refusal, refusal_size, refused, resume, take_over}
 use Rattle.mqtt_rules.specs.Deeds.{Whose, whose, Message, FromClient, FromWill, Close, DropWill, Hear, Deed, At, Forget, RefuseWill, Link, On, Send, Gone, Act, after_all, always, of_session, offer, only_if, series, with_line, with_session}
+use Rattle.mqtt_rules.specs.Fitting.{has_form}
 use Rattle.mqtt_rules.specs.Inbound.{Meaning, Means, Wrong, answer, code_accepted, code_again, leave_by, meaning, message_of, new_expiry, on_answer, opens, publish_by, publish_meant, publish_new, pump_deeds, release_by, sets_alias, standing}
 use Rattle.mqtt_rules.specs.Laws.{IsAmong}
 use Rattle.mqtt_rules.specs.Outbound.{all_turn_deeds, room}
@@ -47,7 +48,8 @@ use Rattle.mqtt_rules.specs.State.{Broker, Env, Line, is_connected, line_at, lin
 use Rattle.mqtt_rules.specs.Step.{Call, NewLine, Input, BadInput, Lost, Pump, Tick, can_link, close_if, deeds_of, first_packet, late_code, next_packet, on_fault, on_packet, on_pump, opening}
 use Rattle.mqtt_rules.specs.Subscribe as sub
 use Rattle.mqtt_rules.specs.Tick.{due, first_due, has_lapsed, is_silent, is_stale, lapse_deeds, on_tick, silence}
-use Rattle.mqtt_rules.proofs.acts.Acts.{brought_to}
+use Rattle.mqtt_rules.proofs.acts.Acts.{brought_to, found_number}
+use Rattle.mqtt_rules.proofs.acts.Offers.{of_offer_if}
 use Rattle.mqtt_rules.proofs.numbers.Copies.{each_append, each_flat}
 use Rattle.mqtt_rules.proofs.fit.FitLaw.{all_among}
 use Rattle.mqtt_rules.proofs.flight.FlightRows.{all_found, found_key}
@@ -57,7 +59,8 @@ use Rattle.mqtt_rules.proofs.fit.StandLaw.{Orders, ordered_all, rising}
 use Rattle.mqtt_world_cause_laws.specs.Endings.{Asked}
 use Rattle.mqtt_world_cause_laws.proofs.Caused.{Caused, IsQuiet, AreQuiet, quietly, caused_next}
 use Rattle.mqtt_world_cause_laws.proofs.Queues.{same_now}
-use Rattle.mqtt_world_cause_laws.proofs.Turning.{lapse_caused, pump_caused, turn_caused}
+use Rattle.mqtt_world_cause_laws.proofs.Pumping.{pump_caused}
+use Rattle.mqtt_world_cause_laws.proofs.Turning.{lapse_caused, turn_caused}
 use Rattle.mqtt_world_cause_laws.proofs.Answering.{Reads, IsFineAnswer, puback_fine, pubrec_fine, pubcomp_fine}
 use Rattle.mqtt_world_cause_laws.proofs.Entering.{Clears, end_caused}
 use Rattle.mqtt_world_cause_laws.proofs.Publishing.{publish_caused, grant_caused}
@@ -78,6 +81,14 @@ module _ (m : Asked) where
   quiet_offer : (o : Option Line) (packet : Packet) → Quiet (offer o packet)
   quiet_offer None packet = tt
   quiet_offer (Some l) packet = quiet_cond (nat_le (size_of packet) l.largest) (Send l.number packet ∷ []) [] (tt, tt) tt
+
+  quiet_late : (line : ℕ) (ds : List CopyTo) (b : Broker) → Quiet (series (map (sub.late_send line) ds) b)
+  quiet_late line [] b = tt
+  quiet_late line (d ∷ ds) b =
+      let first = sub.late_send line d b in
+      let c = after_all first b in
+      each_append (IsQuiet m) first (series (map (sub.late_send line) ds) c)
+      (of_offer_if Quiet (has_form d.copy b) (line_at line b) (publish_of b.now false 0 d.copy) tt (λ l there. (tt, tt))) (quiet_late line ds c)
 
   quiet_repeats : {X : Type 0} (now line : ℕ) (s : Session) (id : X → ℕ) (xs : List X) → Quiet (all_turn_deeds now line s (map (λ x. turns.Repeat (id x)) xs))
   quiet_repeats now line s id [] = tt
@@ -321,8 +332,9 @@ module _ (m : Asked) where
   subscribing false line s p b h =
       let a = sub.filter_answers env s.birth (number_at SubscriptionIdentifier p.properties) p.subscriptions b in
       let told = offer (line_at line b) (suback p.identifier a.codes) in
-      let late = flat_map (λ d. sub.late_sends line b.now d b) a.late in
-      let calm = each_append (IsQuiet m) told late (quiet_offer (line_at line b) (suback p.identifier a.codes)) (each_flat (IsQuiet m) (λ d. sub.late_sends line b.now d b) (λ d. quiet_offer (line_at line b) (publish_of b.now false 0 d.copy)) a.late) in
+      let c = after_all (a.deeds ++ told) b in
+      let late = series (map (sub.late_send line) a.late) c in
+      let calm = each_append (IsQuiet m) told late (quiet_offer (line_at line b) (suback p.identifier a.codes)) (quiet_late line a.late c) in
       subst (λ (ds : List Deed). Caused m ds b) (sym (append_assoc a.deeds told late))
       (caused_next m a.deeds (told ++ late) b (filters_caused s.birth (number_at SubscriptionIdentifier p.properties) p.subscriptions b h) (quietly m (told ++ late) (after_all a.deeds b) calm))
 
@@ -427,12 +439,13 @@ module _ (m : Asked) where
   at_fault l true code (Some birth) b h = dropping (late_code code) l b h
   at_fault l false code (Some birth) b h = dropping (late_code code) l b h
 
-  pumping : (n : ℕ) (l : Line) (o : Option ℕ) (b : Broker) → Orders b → m.call ≡ Some (Pump n) → line_at n m.step.broker ≡ Some l → l.session ≡ o → Caused m (on_pump l o b) b
-  pumping n l None b h asked found its = nothing b
-  pumping n l (Some birth) b h asked found its =
-      on_session (session_at birth b.records) (λ s. always (pump_deeds l b.now s)) b
+  pumping : (n : ℕ) (l : Line) (o : Option ℕ) (b : Broker) → Orders b → m.call ≡ Some (Pump n) → line_at n m.step.broker ≡ Some l → line_at n b ≡ Some l → l.session ≡ o → Caused m (on_pump l o b) b
+  pumping n l None b h asked found stands its = nothing b
+  pumping n l (Some birth) b h asked found stands its =
+      on_session (session_at birth b.records) (λ s. always (pump_deeds l b s)) b
       (λ s there. let mine = own birth s b there in
-      pump_caused m l s b (record { number = n; asked = asked; found = found; its = its ∙ ap (λ (k : ℕ). Some k) (sym (found_key birth_of birth s b.records.sessions there)) }) (rising s b h mine) (same_now s b.records mine))
+      pump_caused m l s b (record { number = n; asked = asked; found = found; its = its ∙ ap (λ (k : ℕ). Some k) (sym (found_key birth_of birth s b.records.sessions there)) })
+      (subst (λ (k : ℕ). line_at k b ≡ Some l) (sym (found_number n l b.lines stands)) stands) (rising s b h mine) (same_now s b.records mine))
 
   -- ---- calls, each on the state in which it comes, and openings
 
@@ -445,7 +458,7 @@ module _ (m : Asked) where
       (λ l there. two (always (On n Hear ∷ [])) (on_packet env l packet l.session) b h (quietly m (On n Hear ∷ []) b (tt, tt)) (λ c k moment. reading n l packet l.session c k asked there refl))
   call_caused (BadInput n is_connect code) asked h = let b = m.step.broker in on_a_line (line_at n b) (λ l. on_fault env l is_connect code l.session) b (λ l there. at_fault l is_connect code l.session b h)
   call_caused (Lost n) asked h = let b = m.step.broker in on_a_line (line_at n b) (close env true) b (λ l there. closing true l b h)
-  call_caused (Pump n) asked h = let b = m.step.broker in on_a_line (line_at n b) (λ l. on_pump l l.session) b (λ l there. pumping n l l.session b h asked there refl)
+  call_caused (Pump n) asked h = let b = m.step.broker in on_a_line (line_at n b) (λ l. on_pump l l.session) b (λ l there. pumping n l l.session b h asked there there refl)
   call_caused Tick asked h = let b = m.step.broker in ticking (due env b) b (due_caused b h asked)
 
   closed_if : (t : Bool) (s : Session) → CausedAct (close_if t env s)

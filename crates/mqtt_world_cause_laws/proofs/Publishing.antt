@@ -1,9 +1,7 @@
 -- Publications and granted filters: if a full queue refuses, their copies enter only if there is room.
-use Rattle.std.proofs.Common.{◌≡◌, ℕ, suc, ◌-◌, ◌≤◌, ◌<◌, Bool, true, false, cond, not, ◌&&◌, List, [], ◌∷◌, ◌++◌, length, filter, map, Option, Some, None, nat_eq, refl, sym, ap, subst, ◌∙◌, ◌⊎◌, inl, inr, arith}
-use Rattle.std.specs.Prelude.{nat_le}
+use Rattle.std.proofs.Common.{◌≡◌, ℕ, suc, ◌-◌, ◌≤◌, ◌<◌, Bool, true, false, not, ◌&&◌, List, [], ◌∷◌, ◌++◌, length, filter, map, Option, Some, None, nat_eq, refl, sym, ap, subst, ◌∙◌, ◌⊎◌, inl, inr, arith}
 use Rattle.std.proofs.lemmas.Bool.{cases_Bool, eqb-true}
 use Rattle.std.proofs.lemmas.Cmp.{nat_eq_equiv}
-use Rattle.mqtt_codec.specs.declared.packet.Packet.{Packet}
 use Rattle.mqtt_base.specs.declared.limits.TheConstants.{QUEUE_LIMIT}
 use Rattle.mqtt_flow.specs.declared.entry.Full.{Full}
 use Rattle.mqtt_flow.specs.declared.entry.Full.TheVariants.{Drop, Refuse}
@@ -19,13 +17,15 @@ use Rattle.mqtt_routes.specs.Retained.{kept_for}
 use Rattle.mqtt_records_rows.specs.Order.{row_at, change_row}
 use Rattle.mqtt_topic.specs.Filters.{begins_share}
 use Rattle.mqtt_topic.specs.Names.{is_empty}
-use Rattle.mqtt_rules.specs.Deeds.{whose, Message, Origin, Subscribe, Enter, Deed, Accept, Count, At, Send, part_rows_of, new_entry, after, after_all, always, series, with_session, offer}
+use Rattle.mqtt_rules.specs.Deeds.{whose, Message, Origin, Subscribe, Enter, Deed, Accept, Count, At, Send, part_rows_of, new_entry, after, after_all, always, series, with_session}
+use Rattle.mqtt_rules.specs.Fitting.{has_form}
 use Rattle.mqtt_rules.specs.Outbound.{enter_deeds, room, room_at, since}
-use Rattle.mqtt_rules.specs.Packets.{publish_of, size_of}
+use Rattle.mqtt_rules.specs.Packets.{publish_of}
 use Rattle.mqtt_rules.specs.Routing.{CopyTo, accepted_copies, deliver, deliver_by, forgets, is_queued, next_publication, publish, retain_by, retained_of}
-use Rattle.mqtt_rules.specs.State.{Broker, Line, entry_on, line_of, queue_on, session_at}
+use Rattle.mqtt_rules.specs.State.{Broker, entry_on, line_of, queue_on, session_at}
 use Rattle.mqtt_rules.specs.Subscribe as sub
 use Rattle.mqtt_rules.proofs.acts.Acts.{brought_to}
+use Rattle.mqtt_rules.proofs.acts.Offers.{of_offer_if}
 use Rattle.mqtt_rules.proofs.flight.FlightRows.{found_key, change_row-here, change_row-other}
 use Rattle.mqtt_rules.proofs.order.Ordered.{length-filter_le}
 use Rattle.mqtt_rules.proofs.order.OrderedAccepted.{accepted_within, is_to}
@@ -119,18 +119,11 @@ module _ (m : Asked) where
       by : (o : Option Session) → session_at d.birth b.records ≡ o → Delivered ds (with_session o (λ s. always (enter_deeds m.step.env d.copy s)) b) b
       by None there = ((λ rest. tt), fits_more d ds b.records fits)
       by (Some s) there = delivered_to d ds s b orders is (sym (found_key birth_of d.birth s b.records.sessions there)) (own d.birth s b.records there) fits
-  delivered_by false d ds b orders is fits = by (line_of d.birth b)
-    where
-      packet : Packet
-      packet = publish_of b.now false 0 d.copy
-
-      by : (o : Option Line) → Delivered ds (offer o packet) b
-      by None = ((λ rest. tt), fits_more d ds b.records fits)
-      by (Some l) = if_small (nat_le (size_of packet) l.largest)
-        where
-          if_small : (t : Bool) → Delivered ds (cond t (Send l.number packet ∷ []) []) b
-          if_small true = (quietly m (Send l.number packet ∷ []) b (tt, tt), fits_more d ds b.records fits)
-          if_small false = ((λ rest. tt), fits_more d ds b.records fits)
+  delivered_by false d ds b orders is fits =
+      let packet = publish_of b.now false 0 d.copy in
+      let more = fits_more d ds b.records fits in
+      of_offer_if (λ (acts : List Deed). Delivered ds acts b) (has_form d.copy b) (line_of d.birth b) packet ((λ rest. tt), more)
+      (λ l there. (quietly m (Send l.number packet ∷ []) b (tt, tt), more))
 
   all_delivered : (ds : List CopyTo) (b : Broker) → Orders b → Fits ds b.records → Caused m (series (map (deliver m.step.env) ds) b) b
   all_delivered [] b orders fits = λ rest. tt

@@ -1,17 +1,13 @@
--- The turns of a session's queue: each copy that leaves by an answer, a pump or a lapse has its cause.
-use Rattle.std.proofs.Common.{◌≡◌, ℕ, zero, suc, ◌≤◌, ◌-◌, ◌/◌, Bool, true, false, ◌&&◌, List, [], ◌∷◌, map, Option, Some, None, refl, sym, ap, subst, ◌∙◌, ◌⊎◌, inl, inr}
+-- The turns of a session's queue: each copy that leaves by an answer or a lapse has its cause.
+use Rattle.std.proofs.Common.{◌≡◌, ℕ, ◌≤◌, ◌-◌, ◌/◌, Bool, true, false, ◌&&◌, List, [], ◌∷◌, map, Option, Some, None, refl, sym, ap, subst, ◌∙◌, ◌⊎◌, inl}
 use Rattle.std.specs.Prelude.{⊤, flat_map}
 use Rattle.std.specs.List.{AllByRecursion}
-use Rattle.std.proofs.lemmas.Bool.{ltb-true, leb-true}
+use Rattle.std.proofs.lemmas.Bool.{leb-true}
 use Rattle.mqtt_base.specs.declared.session.Ending.{Ending}
 use Rattle.mqtt_base.specs.declared.session.Ending.TheVariants as endings
 use Rattle.mqtt_base.specs.declared.session.Phase.{Phase}
 use Rattle.mqtt_base.specs.declared.session.Phase.TheVariants.{Waiting, Sent, Released, Oversize}
-use Rattle.mqtt_base.specs.declared.session.Qos.{Qos}
-use Rattle.mqtt_base.specs.declared.session.Qos.TheVariants.{AtMostOnce, AtLeastOnce, ExactlyOnce}
-use Rattle.mqtt_flow.specs.Outbound.{Verdict, pass, end, outgrow, send, resend, first_time, too_large, once_more, verdict, verdict_by, in_room, step_on, step_by, paced, then_on, pump_from, pace, is_late, is_large, is_waiting, is_past, expired, expired_at}
-use Rattle.mqtt_flow.specs.Pacing.{Pacing}
-use Rattle.mqtt_flow_inbound.specs.Identifiers.{free_identifier}
+use Rattle.mqtt_flow.specs.Outbound.{is_late, is_waiting, is_past, expired, expired_at}
 use Rattle.mqtt_flow.specs.declared.entry.Turn.{Turn}
 use Rattle.mqtt_flow.specs.declared.entry.Turn.TheVariants as turns
 use Rattle.mqtt_records_message.specs.Queue.{CopyRow}
@@ -19,15 +15,14 @@ use Rattle.mqtt_records.specs.Session.{copy_place}
 use Rattle.mqtt_records.specs.declared.session.Session.{Session}
 use Rattle.mqtt_records_rows.specs.Order.{IsAscending, row_at}
 use Rattle.mqtt_rules.specs.Deeds.{whose, Mark, Leave, Went, Deed, At, On, Send, after, after_all}
-use Rattle.mqtt_rules.specs.Inbound.{pump_turns, pump_deeds}
-use Rattle.mqtt_rules.specs.Outbound.{of_entry, leave_deeds, turn_deeds, all_turn_deeds, way_of}
+use Rattle.mqtt_rules.specs.Outbound.{of_entry, leave_deeds, turn_deeds, all_turn_deeds}
 use Rattle.mqtt_rules.specs.Packets.{publish_of}
-use Rattle.mqtt_rules.specs.State.{Line, Broker, entry_on, queue_on, queued_copy, line_at}
+use Rattle.mqtt_rules.specs.State.{Line, Broker, entry_on, queued_copy, line_at}
 use Rattle.mqtt_rules.specs.Step.{Call, Pump, Tick}
 use Rattle.mqtt_rules.specs.Tick.{lapses, lapse_deeds}
 use Rattle.mqtt_rules.proofs.flight.FlightRows.{all_found}
 use Rattle.mqtt_world_cause_laws.specs.Endings.{Asked, EndAt}
-use Rattle.mqtt_world_cause_laws.specs.Causes.{IsCause, IsOfItsLine, MayBeTooLarge}
+use Rattle.mqtt_world_cause_laws.specs.Causes.{IsCause, IsOfItsLine}
 use Rattle.mqtt_world_cause_laws.proofs.Caused.{Caused, quietly, caused_next}
 use Rattle.mqtt_world_cause_laws.proofs.Queues.{Same, same_left, same_marked, some_is}
 
@@ -35,13 +30,23 @@ module _ (m : Asked) where
   abbrev pub the_end : Broker → List Deed → Session → CopyRow → Ending → EndAt
   the_end b behind s e ending = record { asked = m; broker = b; who = whose s; row = e; ending = ending; behind = behind }
 
-  -- wherever this copy leaves for it in the step, it does so for a cause
+  -- wherever this copy leaves for it in the step, in a state of which this holds, it does so for a cause
+  abbrev pub HasReasonIn : (Broker → Type 0) → Session → CopyRow → Ending → Type 0
+  HasReasonIn Stands s e ending = (b : Broker) (behind : List Deed) (t : Session) → Stands b → IsCause ending (the_end b behind s e ending) t
+
+  abbrev pub IsFineIn : (Broker → Type 0) → Session → Turn → Type 0
+  IsFineIn Stands s (turns.Leave place ending) = (e : CopyRow) → row_at copy_place place s.queue ≡ Some e → HasReasonIn Stands s e ending
+  IsFineIn Stands s t = ⊤
+
+  -- so it does in each state at this moment
+  abbrev IsAt : ℕ → Broker → Type 0
+  IsAt now b = b.now ≡ now
+
   abbrev pub HasReason : ℕ → Session → CopyRow → Ending → Type 0
-  HasReason now s e ending = (b : Broker) (behind : List Deed) (t : Session) → b.now ≡ now → IsCause ending (the_end b behind s e ending) t
+  HasReason now s e ending = HasReasonIn (IsAt now) s e ending
 
   abbrev pub IsFine : ℕ → Session → Turn → Type 0
-  IsFine now s (turns.Leave place ending) = (e : CopyRow) → row_at copy_place place s.queue ≡ Some e → HasReason now s e ending
-  IsFine now s t = ⊤
+  IsFine now s t = IsFineIn (IsAt now) s t
 
   abbrev pub AreFine : ℕ → Session → List Turn → Type 0
   AreFine now s ts = AllByRecursion (IsFine now s) ts
@@ -49,44 +54,45 @@ module _ (m : Asked) where
   -- ---- fine turns
 
   -- what is said of some deeds: each end has its cause, and the session stays
-  abbrev Turned : Session → List Deed → Broker → Type 0
+  abbrev pub Turned : Session → List Deed → Broker → Type 0
   Turned s ds b = Caused m ds b × Same s (after_all ds b).records
 
-  leave_turned : (s : Session) (place : ℕ) (ending : Ending) (b : Broker) → IsFine b.now s (turns.Leave place ending) → Same s b.records → Turned s (leave_deeds s (turns.Leave place ending)) b
-  leave_turned s place ending b fine same = by (row_at copy_place place s.queue) refl
+  leave_turned : (Stands : Broker → Type 0) (s : Session) (place : ℕ) (ending : Ending) (b : Broker) → Stands b → IsFineIn Stands s (turns.Leave place ending) → Same s b.records → Turned s (leave_deeds s (turns.Leave place ending)) b
+  leave_turned Stands s place ending b stands fine same = by (row_at copy_place place s.queue) refl
     where
       by : (o : Option CopyRow) → row_at copy_place place s.queue ≡ o → Turned s (of_entry o (λ e. At (whose s) (Leave e ending) ∷ [])) b
       by None is = ((λ rest. tt), same)
       by (Some e) is = (
-        (λ rest. (record { session = same.session; found = same.there; its = same.its; cause = fine e is b rest same.session refl }, tt)),
+        (λ rest. (record { session = same.session; found = same.there; its = same.its; cause = fine e is b rest same.session stands }, tt)),
         same_left s e ending b same,
       )
 
-  turn_turned : (line : ℕ) (s : Session) (t : Turn) (b : Broker) → IsFine b.now s t → Same s b.records → Turned s (turn_deeds b.now line s t) b
-  turn_turned line s (turns.Send place id) b fine same = by (row_at copy_place place s.queue)
+  -- so are the deeds of a fine turn
+  pub turn_turned : (Stands : Broker → Type 0) (line : ℕ) (s : Session) (t : Turn) (b : Broker) → Stands b → IsFineIn Stands s t → Same s b.records → Turned s (turn_deeds b.now line s t) b
+  turn_turned Stands line s (turns.Send place id) b stands fine same = by (row_at copy_place place s.queue)
     where
       by : (o : Option CopyRow) → Turned s (of_entry o (λ e. At (whose s) (Mark place (Sent id)) ∷ On line (Went place) ∷ Send line (publish_of b.now false id e.copy) ∷ [])) b
       by None = ((λ rest. tt), same)
       by (Some e) = (quietly m (At (whose s) (Mark place (Sent id)) ∷ On line (Went place) ∷ Send line (publish_of b.now false id e.copy) ∷ []) b (tt, (tt, (tt, tt))), same_marked s place (Sent id) b same)
-  turn_turned line s (turns.Resend place id) b fine same = by (row_at copy_place place s.queue)
+  turn_turned Stands line s (turns.Resend place id) b stands fine same = by (row_at copy_place place s.queue)
     where
       by : (o : Option CopyRow) → Turned s (of_entry o (λ e. On line (Went place) ∷ Send line (publish_of b.now true id e.copy) ∷ [])) b
       by None = ((λ rest. tt), same)
       by (Some e) = (quietly m (On line (Went place) ∷ Send line (publish_of b.now true id e.copy) ∷ []) b (tt, (tt, tt)), same)
-  turn_turned line s (turns.Release place id order) b fine same =
+  turn_turned Stands line s (turns.Release place id order) b stands fine same =
       (quietly m (turn_deeds b.now line s (turns.Release place id order)) b (tt, (tt, tt)), same_marked s place (Released id order) b same)
-  turn_turned line s (turns.Outgrow place id order) b fine same =
+  turn_turned Stands line s (turns.Outgrow place id order) b stands fine same =
       (quietly m (turn_deeds b.now line s (turns.Outgrow place id order)) b (tt, (tt, tt)), same_marked s place (Oversize id order) b same)
-  turn_turned line s (turns.Repeat id) b fine same = (quietly m (turn_deeds b.now line s (turns.Repeat id)) b (tt, tt), same)
-  turn_turned line s (turns.Unknown id) b fine same = (quietly m (turn_deeds b.now line s (turns.Unknown id)) b (tt, tt), same)
-  turn_turned line s (turns.Leave place ending) b fine same = leave_turned s place ending b fine same
+  turn_turned Stands line s (turns.Repeat id) b stands fine same = (quietly m (turn_deeds b.now line s (turns.Repeat id)) b (tt, tt), same)
+  turn_turned Stands line s (turns.Unknown id) b stands fine same = (quietly m (turn_deeds b.now line s (turns.Unknown id)) b (tt, tt), same)
+  turn_turned Stands line s (turns.Leave place ending) b stands fine same = leave_turned Stands s place ending b stands fine same
 
   -- a copy that leaves by a turn has its cause, if it has a reason
   pub turn_caused : (line : ℕ) (s : Session) (t : Turn) (b : Broker) → IsFine b.now s t → Same s b.records → Caused m (turn_deeds b.now line s t) b
-  turn_caused line s t b fine same = (turn_turned line s t b fine same).0
+  turn_caused line s t b fine same = (turn_turned (IsAt b.now) line s t b refl fine same).0
 
   turned_now : (line : ℕ) (s : Session) (t : Turn) (b : Broker) (now : ℕ) → b.now ≡ now → IsFine now s t → Same s b.records → Turned s (turn_deeds now line s t) b
-  turned_now line s t b now is fine same = subst (λ (n : ℕ). IsFine n s t → Turned s (turn_deeds n line s t) b) is (λ f. turn_turned line s t b f same) fine
+  turned_now line s t b now is fine same = subst (λ (n : ℕ). Turned s (turn_deeds n line s t) b) is (turn_turned (IsAt now) line s t b is fine same)
 
   -- a moment stays over deeds
   stays_now : (ds : List Deed) (b : Broker) → (after_all ds b).now ≡ b.now
@@ -116,8 +122,9 @@ module _ (m : Asked) where
 
   -- ---- a copy at its place
 
-  its_turn : (now : ℕ) (s : Session) (e : CopyRow) (ending : Ending) → row_at copy_place e.place s.queue ≡ Some e → HasReason now s e ending → IsFine now s (turns.Leave e.place ending)
-  its_turn now s e ending there why x found = subst (λ (y : CopyRow). HasReason now s y ending) (some_is e x (sym there ∙ found)) why
+  -- its turn is fine if it has a reason
+  pub its_turn : (Stands : Broker → Type 0) (s : Session) (e : CopyRow) (ending : Ending) → row_at copy_place e.place s.queue ≡ Some e → HasReasonIn Stands s e ending → IsFineIn Stands s (turns.Leave e.place ending)
+  its_turn Stands s e ending there why x found = subst (λ (y : CopyRow). HasReasonIn Stands s y ending) (some_is e x (sym there ∙ found)) why
 
   abbrev pub AreThere : Session → List CopyRow → Type 0
   AreThere s es = AllByRecursion (λ e. row_at copy_place e.place s.queue ≡ Some e) es
@@ -161,7 +168,8 @@ module _ (m : Asked) where
   past None waited h = absurd cc
   past (Some interval) waited h = record { interval = interval; has = refl; passed = leb-true interval waited h }
 
-  has_expired : (now : ℕ) (s : Session) (e : CopyRow) → e.phase ≡ Waiting → is_late now (queued_copy e.copy) ≡ true
+  -- a copy that waits and is late has a reason to expire
+  pub has_expired : (now : ℕ) (s : Session) (e : CopyRow) → e.phase ≡ Waiting → is_late now (queued_copy e.copy) ≡ true
       → ((b : Broker) (behind : List Deed) → (m.call ≡ Some Tick) ⊎ ((line : Line) × IsOfItsLine (the_end b behind s e endings.Expired) Pump line))
       → HasReason now s e endings.Expired
   has_expired now s e phase late when b behind t is =
@@ -178,79 +186,8 @@ module _ (m : Asked) where
       by false is more = more
       by true is more =
           let both = both_true (is_waiting e.phase) (is_late now (queued_copy e.copy)) is in
-          (its_turn now s e endings.Expired there.0 (has_expired now s e (waits e.phase both.0) both.1 (λ b behind. inl asked)), more)
+          (its_turn (IsAt now) s e endings.Expired there.0 (has_expired now s e (waits e.phase both.0) both.1 (λ b behind. inl asked)), more)
 
   -- a copy that expires by the clock has its cause
   pub lapse_caused : (s : Session) (b : Broker) → m.call ≡ Some Tick → IsAscending copy_place s.queue → Same s b.records → Caused m (lapse_deeds b.now s) b
   lapse_caused s b asked up same = leaves_caused s (lapses b.now s) b b.now refl (lapsed_fine b.now s s.queue asked (all_found copy_place s.queue up)) same
-
-  -- ---- a pump
-
-  module _ (now : ℕ) (l : Line) (s : Session) (comes : Comes Pump l s.birth) where
-    abbrev IsFineVerdict : CopyRow → Verdict → Type 0
-    IsFineVerdict e (end ending) = HasReason now s e ending
-    IsFineVerdict e v = ⊤
-
-    -- the turn that a verdict makes, and those behind it
-    room_fine : (room : ℕ) (t : Turn) (phase : Phase) (p : Pacing) (rest : Pacing → List Turn) → IsFine now s t → ((q : Pacing) → AreFine now s (rest q)) → AreFine now s (then_on (in_room room t) phase p rest)
-    room_fine zero t phase p rest h more = tt
-    room_fine (suc room) t phase p rest h more = (h, more (paced t phase p))
-
-    step_fine : (e : CopyRow) (v : Verdict) (p : Pacing) (rest : Pacing → List Turn) → row_at copy_place e.place s.queue ≡ Some e → IsFineVerdict e v → ((q : Pacing) → AreFine now s (rest q))
-        → AreFine now s (then_on (step_on v e.place p) e.phase p rest)
-    step_fine e pass p rest there h more = more p
-    step_fine e (end ending) p rest there h more = (its_turn now s e ending there h, more (paced (turns.Leave e.place ending) e.phase p))
-    step_fine e (outgrow i) p rest there h more = (tt, more (paced (turns.Outgrow e.place i p.order) e.phase p))
-    step_fine e send p rest there h more = room_fine p.room (turns.Send e.place (free_identifier p.used)) e.phase p rest tt more
-    step_fine e (resend i) p rest there h more = room_fine p.room (turns.Resend e.place i) e.phase p rest tt more
-
-    paced_fine : (left : ℕ) (e : CopyRow) (v : Verdict) (p : Pacing) (rest : Pacing → List Turn) → row_at copy_place e.place s.queue ≡ Some e → IsFineVerdict e v → ((q : Pacing) → AreFine now s (rest q))
-        → AreFine now s (then_on (step_by left v e.place p) e.phase p rest)
-    paced_fine zero e v p rest there h more = tt
-    paced_fine (suc left) e v p rest there h more = step_fine e v p rest there h more
-
-    its_line : (b : Broker) (behind : List Deed) (e : CopyRow) (ending : Ending) → IsOfItsLine (the_end b behind s e ending) Pump l
-    its_line b behind e ending = of_line Pump l s (the_end b behind s e ending) refl refl comes
-
-    first_fine : (e : CopyRow) → e.phase ≡ Waiting → (late large : Bool) → is_late now (queued_copy e.copy) ≡ late → is_large (way_of l now) (queued_copy e.copy) ≡ large → IsFineVerdict e (first_time late large)
-    first_fine e phase true large is big = has_expired now s e phase is (λ b behind. inr (l, its_line b behind e endings.Expired))
-    first_fine e phase false true is big = λ b behind t moment.
-        inl (record { line = l; pumped = its_line b behind e endings.TooLarge; larger = ltb-true l.largest _ big; phase = by e.phase phase })
-      where
-        by : (p : Phase) → p ≡ Waiting → MayBeTooLarge e.copy.qos p
-        by Waiting h = tt
-        by (Sent i) h = absurd cc
-        by (Released i order) h = absurd cc
-        by (Oversize i order) h = absurd cc
-    first_fine e phase false false is big = tt
-
-    sent_large : (e : CopyRow) (i : ℕ) → e.phase ≡ Sent i → (e.copy.qos ≡ ExactlyOnce → ⊥) → is_large (way_of l now) (queued_copy e.copy) ≡ true → HasReason now s e endings.TooLarge
-    sent_large e i phase qos big b behind t moment =
-        inl (record { line = l; pumped = its_line b behind e endings.TooLarge; larger = ltb-true l.largest _ big; phase = subst (λ (p : Phase). MayBeTooLarge e.copy.qos p) (sym phase) qos })
-
-    large_fine : (e : CopyRow) (i : ℕ) (qos : Qos) → e.phase ≡ Sent i → e.copy.qos ≡ qos → is_large (way_of l now) (queued_copy e.copy) ≡ true → IsFineVerdict e (too_large qos i)
-    large_fine e i AtMostOnce phase is big = sent_large e i phase (λ other. let no : AtMostOnce ≡ ExactlyOnce = sym is ∙ other in absurd cc) big
-    large_fine e i AtLeastOnce phase is big = sent_large e i phase (λ other. let no : AtLeastOnce ≡ ExactlyOnce = sym is ∙ other in absurd cc) big
-    large_fine e i ExactlyOnce phase is big = tt
-
-    again_fine : (e : CopyRow) (i : ℕ) (here large : Bool) → e.phase ≡ Sent i → is_large (way_of l now) (queued_copy e.copy) ≡ large → IsFineVerdict e (once_more here large e.copy.qos i)
-    again_fine e i true large phase big = tt
-    again_fine e i false true phase big = large_fine e i e.copy.qos phase refl big
-    again_fine e i false false phase big = tt
-
-    verdict_fine : (e : CopyRow) (here : Bool) (phase : Phase) → e.phase ≡ phase → IsFineVerdict e (verdict_by (way_of l now) (queued_copy e.copy) here phase)
-    verdict_fine e here Waiting is = first_fine e is (is_late now (queued_copy e.copy)) (is_large (way_of l now) (queued_copy e.copy)) refl refl
-    verdict_fine e here (Sent i) is = again_fine e i here (is_large (way_of l now) (queued_copy e.copy)) is refl
-    verdict_fine e here (Released i order) is = tt
-    verdict_fine e here (Oversize i order) is = tt
-
-    pump_fine : (es : List CopyRow) (p : Pacing) → AreThere s es → AreFine now s (pump_from (way_of l now) (map (entry_on l.went) es) p)
-    pump_fine [] p there = tt
-    pump_fine (e ∷ es) p there =
-        let x = entry_on l.went e in
-        paced_fine p.left e (verdict (way_of l now) x) p (pump_from (way_of l now) (map (entry_on l.went) es)) there.0 (verdict_fine e x.here e.phase refl) (λ q. pump_fine es q there.1)
-
-  -- a copy that leaves by a pump has its cause
-  pub pump_caused : (l : Line) (s : Session) (b : Broker) → Comes Pump l s.birth → IsAscending copy_place s.queue → Same s b.records → Caused m (pump_deeds l b.now s) b
-  pump_caused l s b comes up same =
-      turns_caused l.number s (pump_turns l b.now s) b b.now refl (pump_fine b.now l s comes s.queue (pace (way_of l b.now) (queue_on l.went s)) (all_found copy_place s.queue up)) same

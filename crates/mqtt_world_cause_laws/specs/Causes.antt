@@ -21,6 +21,7 @@ use Rattle.mqtt_records_rows.specs.Order.{row_at}
 use Rattle.mqtt_rules.specs.declared.Limits.{Limits}
 use Rattle.mqtt_rules.specs.Closing.{has_due_end}
 use Rattle.mqtt_rules.specs.Deeds.{whose, Enter, At, Finish}
+use Rattle.mqtt_rules.specs.Fitting.{has_form}
 use Rattle.mqtt_rules.specs.Laws.{IsAmong}
 use Rattle.mqtt_rules.specs.Outbound.{is_new}
 use Rattle.mqtt_records_message.specs.PassedOn.{number_at}
@@ -81,7 +82,8 @@ pub record HasExpired (x : EndAt) : Type 0 where
   pub waits : x.row.phase ≡ Waiting
   pub asked : (x.asked.call ≡ Some Tick) ⊎ ((line : Line) × IsPumped x line)
 
--- ---- TooLarge: as its line is pumped its PUBLISH is larger than the client takes there (3.1.2.11.4)
+-- ---- TooLarge: as its line is pumped its PUBLISH is larger than the client takes there (3.1.2.11.4), with its whole topic and in each
+-- form in which it might go out, by what the client was told before it
 
 -- it waits, or was sent; one of QoS 2 that was sent isn't ended so, but released (ours)
 abbrev pub MayBeTooLarge : Qos → Phase → Type 0
@@ -94,6 +96,7 @@ pub record IsTooLarge (x : EndAt) : Type 0 where
   pub line : Line
   pub pumped : IsPumped x line
   pub larger : line.largest < size_of (publish_of x.row.copy.content.arrived false 1 x.row.copy)
+  pub formless : has_form x.row.copy x.broker line ≡ false
   pub phase : MayBeTooLarge x.row.copy.qos x.row.phase
 
 -- and of one that was released so the PUBCOMP comes

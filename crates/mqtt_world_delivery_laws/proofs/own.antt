@@ -9,4 +9,5 @@ pub mod Pumping
 pub mod Reading
 pub mod Replies
 pub mod Taking
+pub mod Untold
 pub mod Wishes

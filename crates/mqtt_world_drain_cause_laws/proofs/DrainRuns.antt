@@ -33,6 +33,7 @@ use Rattle.mqtt_world_delivery_laws.specs.Standing.{IsPlaced, IsSeen}
 use Rattle.mqtt_world_delivery_laws.specs.Taking.{any_size}
 use Rattle.mqtt_world_delivery_laws.specs.Untouched.{IsUntouched}
 use Rattle.mqtt_world_delivery_laws.proofs.drains.Drains.{round_carried}
+use Rattle.mqtt_world_delivery_laws.proofs.own.Untold.{untold_there}
 use Rattle.mqtt_world_delivery_laws.proofs.whole.EveryRun.{carried_append, fair_run_kept, spent_append}
 use Rattle.mqtt_world_delivery_laws.proofs.whole.Ledgers.{run_remains}
 use Rattle.mqtt_world_delivery_laws.proofs.broker.Untouched.{start_untouched}
@@ -130,7 +131,8 @@ module _ (large : Type 0) (client : List ℕ) (limits : Limits) (K : World → T
         let same : Pump n ≡ call = cc in
         subst (λ (x : Call). AreOwn large client (Some x) (deeds limits choice w.now x w.broker)) same
         (subst (λ (c : List ℕ). AreOwn large c (Some (Pump n)) (deeds limits choice w.now (Pump n) w.broker)) (named_client r w e)
-        (pump_own large limits choice w.now r w.broker (knows.fits w r ready.kept ready.known e) any_size ready.kept.stands.ids ready.kept.stands.ns placed n is))
+        (pump_own large limits choice w.now r w.broker (knows.fits w r ready.kept ready.known e) any_size ready.kept.stands.ids ready.kept.stands.ns placed n is
+        (untold_there client r n w ready.kept.fit.untold e is) ready.kept.stands.standing.around.steady.coherent.ordered))
 
     read : (number : Option ℕ) (up : List Back) → r.line.number ≡ number → r.line.up ≡ up → AllByRecursion SaysWell up → (call : Call) → input_on number (map (wire_back r.client r.window) up) ≡ Some call
         → AreOwn large client (Some call) (deeds limits choice w.now call w.broker)

@@ -1,12 +1,11 @@
 -- A SUBSCRIBE of a client: by it copies enter the client's own queue alone, and only its own make way.
-use Rattle.std.proofs.Common.{◌≡◌, ℕ, ◌+◌, ◌-◌, Bool, true, false, cond, ◌&&◌, ◌||◌, List, [], ◌∷◌, ◌++◌, filter, length, map, Option, Some, None, nat_lt, nat_le, refl, sym, ap, subst, ◌∙◌, append_assoc}
+use Rattle.std.proofs.Common.{◌≡◌, ℕ, ◌+◌, ◌-◌, Bool, true, false, cond, ◌&&◌, ◌||◌, List, [], ◌∷◌, ◌++◌, filter, length, map, Option, Some, None, nat_lt, nat_le, refl, sym, ap, subst, ◌∙◌}
 use Rattle.std.specs.Prelude.{⊤, flat_map, option_map}
 use Rattle.std.specs.List.{AllByRecursion}
 use Rattle.mqtt_base.specs.Codes.{identifier_in_use}
 use Rattle.mqtt_base.specs.declared.limits.TheConstants.{SUBSCRIPTION_LIMIT}
 use Rattle.mqtt_base.specs.declared.session.SubscriptionOptions.{SubscriptionOptions}
 use Rattle.mqtt_codec_subscribe.specs.Options.{options_of}
-use Rattle.mqtt_codec.specs.declared.packet.Packet.{Packet}
 use Rattle.mqtt_flow.specs.Outbound.{way_made}
 use Rattle.mqtt_flow.specs.declared.entry.Turn.{Turn}
 use Rattle.mqtt_flow.specs.declared.entry.Turn.TheVariants as turns
@@ -26,13 +25,15 @@ use Rattle.mqtt_rules.specs.Laws.{client_at}
 use Rattle.mqtt_records_rows.specs.Order.{row_at}
 use Rattle.mqtt_rules.specs.Outbound.{of_entry, enter_deeds, leave_deeds, queue_limits, room, since}
 use Rattle.mqtt_records_message.specs.PassedOn.{number_at}
-use Rattle.mqtt_rules.specs.Packets.{publish_of, size_of, suback}
+use Rattle.mqtt_rules.proofs.acts.Offers.{of_offer_if}
+use Rattle.mqtt_rules.specs.Fitting.{has_form}
+use Rattle.mqtt_rules.specs.Packets.{publish_of, suback}
 use Rattle.mqtt_rules.specs.Routing.{CopyTo, deliver, deliver_by, is_queued}
-use Rattle.mqtt_rules.specs.State.{Broker, Env, Line, line_at, line_of, queue_on, session_at}
+use Rattle.mqtt_rules.specs.State.{Broker, Env, line_at, line_of, queue_on, session_at}
 use Rattle.mqtt_rules.specs.Step.{Call}
 use Rattle.mqtt_rules.specs.Subscribe as sub
 use Rattle.mqtt_rules.proofs.acts.Acts.{brought_to}
-use Rattle.mqtt_rules.proofs.numbers.Copies.{each_append, each_flat}
+use Rattle.mqtt_rules.proofs.numbers.Copies.{each_append}
 use Rattle.mqtt_rules.proofs.flight.FlightRows.{found_key}
 use Rattle.mqtt_rules.proofs.acts.LookedUp.{client_at_part}
 use Rattle.mqtt_world_drain_cause_laws.specs.DrainEnds.{Subscribes}
@@ -113,14 +114,6 @@ module _ (large : Type 0) (client : List ℕ) (call : Option Call) (asks : Subsc
       each_append IsMild (flat_map (leave_deeds s) ts) (At (whose s) (Enter copy) ∷ [])
       (mild_leaves s ts its (drop_well large client call asks (length (queue_on [] s) + 1 - env.limits.queue) (since env s) (queue_on [] s))) (tt, tt)
 
-  mild_offer : (o : Option Line) (packet : Packet) → AreMild (offer o packet)
-  mild_offer None packet = tt
-  mild_offer (Some l) packet = by (nat_le (size_of packet) l.largest)
-    where
-      by : (t : Bool) → AreMild (cond t (Send l.number packet ∷ []) [])
-      by true = (tt, tt)
-      by false = tt
-
   abbrev AreFor : List CopyTo → Type 0
   AreFor ds = AllByRecursion (λ (d : CopyTo). d.birth ≡ birth) ds
 
@@ -130,7 +123,7 @@ module _ (large : Type 0) (client : List ℕ) (call : Option Call) (asks : Subsc
       by : (o : Option Session) → session_at d.birth b.records ≡ o → AreMild (with_session o (λ s. always (enter_deeds env d.copy s)) b)
       by None there = tt
       by (Some s) there = entering env d.copy s (its_client s b (subst (λ (n : ℕ). session_at n b.records ≡ Some s) mine there) owns)
-  delivered_by false env d b mine owns = mild_offer (line_of d.birth b) (publish_of b.now false 0 d.copy)
+  delivered_by false env d b mine owns = of_offer_if AreMild (has_form d.copy b) (line_of d.birth b) (publish_of b.now false 0 d.copy) tt (λ l there. (tt, tt))
 
   delivered : (env : Env) (ds : List CopyTo) (b : Broker) → AreFor ds → Owns b → AreMild (series (map (deliver env) ds) b)
   delivered env [] b h owns = tt
@@ -184,6 +177,15 @@ module _ (large : Type 0) (client : List ℕ) (call : Option Call) (asks : Subsc
       let mild = filter_mild env identifier a.filter (options_of a.options) b (session_at birth b.records) refl owns in
       each_append IsMild g.deeds (sub.filter_answers env birth identifier rest (after_all g.deeds b)).deeds mild (filters_mild env identifier rest (after_all g.deeds b) (owns_all g.deeds b mild owns))
 
+-- nor do copies of retained messages that go out at once
+late_own : (large : Type 0) (client : List ℕ) (call : Option Call) (line : ℕ) (ds : List CopyTo) (b : Broker) → AreOwn large client call (series (map (sub.late_send line) ds) b)
+late_own large client call line [] b = tt
+late_own large client call line (d ∷ ds) b =
+    let first = sub.late_send line d b in
+    let rest = after_all first b in
+    each_append (own.IsOwn large client call) first (series (map (sub.late_send line) ds) rest)
+    (of_offer_if (AreOwn large client call) (has_form d.copy b) (line_at line b) (publish_of b.now false 0 d.copy) tt (λ l there. (tt, tt))) (late_own large client call line ds rest)
+
 -- a subscription ends no copy but by its own session
 pub subscribe_own : (large : Type 0) (client : List ℕ) (call : Option Call) → Subscribes call → (t : Bool) (env : Env) (line : ℕ) (s : Session) (p : Asking) (b : Broker) → session_at s.birth b.records ≡ Some s → s.client ≡ client
     → AreOwn large client call (sub.subscribe_by t env line s p b)
@@ -191,9 +193,8 @@ subscribe_own large client call asks true env line s p b there its = own.own_off
 subscribe_own large client call asks false env line s p b there its =
     let a = sub.filter_answers env s.birth (number_at SubscriptionIdentifier p.properties) p.subscriptions b in
     let told = offer (line_at line b) (suback p.identifier a.codes) in
-    let late = flat_map (λ d. sub.late_sends line b.now d b) a.late in
     let owns : client_at s.birth b.records ≡ Some client = ap (option_map (λ (x : Session). x.client)) there ∙ ap Some its in
     let mild = filters_mild large client call asks s.birth env (number_at SubscriptionIdentifier p.properties) p.subscriptions b owns in
-    let said = each_append (own.IsOwn large client call) told late (own.own_offer large client call (line_at line b) (suback p.identifier a.codes))
-    (each_flat (own.IsOwn large client call) (λ d. sub.late_sends line b.now d b) (λ d. own.own_offer large client call (line_at line b) (publish_of b.now false 0 d.copy)) a.late) in
-    subst (AreOwn large client call) (sym (append_assoc a.deeds told late)) (each_append (own.IsOwn large client call) a.deeds (told ++ late) (all_own large client call asks s.birth a.deeds mild) said)
+    let c = after_all (a.deeds ++ told) b in
+    let front = each_append (own.IsOwn large client call) a.deeds told (all_own large client call asks s.birth a.deeds mild) (own.own_offer large client call (line_at line b) (suback p.identifier a.codes)) in
+    each_append (own.IsOwn large client call) (a.deeds ++ told) (series (map (sub.late_send line) a.late) c) front (late_own large client call line a.late c)

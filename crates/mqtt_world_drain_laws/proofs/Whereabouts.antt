@@ -165,7 +165,7 @@ module _ (c : List ℕ) (limits : Limits) (w : World) (kept : IsKept [] c limits
     pub connected_of : Connected c x.receiver.line.up w
     connected_of =
         let j = joined_there in
-        let k = connection_of c any_size limits s.ids s.ns r w s.standing x.named kept.fit.distinct (takes_some c w kept.fit.takes) placed j.birth j.own j.at j.there in
+        let k = connection_of c any_size limits s.ids s.ns r w s.standing x.named kept.fit.distinct (takes_some c w kept.fit.takes kept.fit.untold) placed j.birth j.own j.at j.there in
         let y = k.connected.in_step.runs (place_of s.ids) (places_number s.ids placed.told.differ) in
         record {
           window = k.window;

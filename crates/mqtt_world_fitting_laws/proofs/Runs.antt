@@ -1,17 +1,13 @@
--- The copies of receivers fit whole on their lines, wherever a run comes to.
-use Rattle.mqtt_flow.specs.Outbound.{pump}
+-- The copies of receivers fit whole on their lines, wherever a run comes to, and their pumps go by whole topics.
 use Rattle.mqtt_records.specs.Session.{birth_of}
-use Rattle.mqtt_records.specs.declared.session.Session.{Session}
 use Rattle.mqtt_records_message.specs.Queue.{CopyRow}
 use Rattle.mqtt_records_message.specs.declared.message.MessageCopy.{MessageCopy}
 use Rattle.mqtt_rules.proofs.acts.Leads.{row_among}
 use Rattle.mqtt_rules.proofs.fit.FitLaw.{all_among}
 use Rattle.mqtt_rules.specs.Contents.{HasContentsOf, IsCopiedOf, of_rows}
-use Rattle.mqtt_rules.specs.Outbound.{way_of}
-use Rattle.mqtt_rules.specs.State.{Line, queue_on, queued_copy}
+use Rattle.mqtt_rules.specs.State.{queued_copy}
 use Rattle.mqtt_rules.specs.declared.Limits.{Limits}
 use Rattle.mqtt_rules_spelling_laws.specs.Sending.{SendsWell}
-use Rattle.mqtt_topic_aliases.specs.Told.{ToldTopics}
 use Rattle.mqtt_world_acceptance_laws.specs.Fair.{IsFair}
 use Rattle.mqtt_world_delivery_laws.proofs.broker.Untouched.{start_untouched}
 use Rattle.mqtt_world_delivery_laws.proofs.others.Runs.{IsKept}
@@ -20,9 +16,8 @@ use Rattle.mqtt_world_delivery_laws.proofs.whole.EveryRun.{fair_run_kept}
 use Rattle.mqtt_world_delivery_laws.specs.Taking.{any_size}
 use Rattle.mqtt_world_delivery_laws.specs.Untouched.{IsUntouched}
 use Rattle.mqtt_world_drain_cause_laws.proofs.Fits.{is_small}
-use Rattle.mqtt_world_fitting_laws.proofs.Forms.{told_fits}
-use Rattle.mqtt_world_fitting_laws.proofs.Pumps.{pump_fits}
-use Rattle.mqtt_world_fitting_laws.specs.Whole.{FitsWhole, ItsCopiesFit, pump_told, size_told}
+use Rattle.mqtt_world_fitting_laws.proofs.Pumps.{whole_pump}
+use Rattle.mqtt_world_fitting_laws.specs.Whole.{ItsCopiesFit, ItsPumpsAreWhole}
 use Rattle.mqtt_world_model.specs.Run.{Turn, run}
 use Rattle.mqtt_world_model.specs.World.{World, start}
 use Rattle.mqtt_world_reading_laws.proofs.Goings.{goes_on}
@@ -31,15 +26,6 @@ use Rattle.mqtt_world_reading_laws.specs.Sayable.{AreSayable}
 use Rattle.std.proofs.Common.{List, [], inl, inr, nat_lt, subst, sym, ℕ, ◌∷◌, ◌≡◌, ◌≤◌}
 use Rattle.std.proofs.lemmas.Bool.{cases_Bool, ltb-false}
 use Rattle.std.specs.List.{AllByRecursion}
-
-told_all : (l : Line) (told : CopyRow → ToldTopics) (rows : List CopyRow) → AllByRecursion (λ (e : CopyRow). (queued_copy e.copy).size ≤ l.largest) rows
-    → AllByRecursion (λ (e : CopyRow). size_told l.largest (told e) e.copy ≤ l.largest) rows
-told_all l told [] h = tt
-told_all l told (e ∷ rows) h = (told_fits l.largest (told e) e.copy h.0, told_all l told rows h.1)
-
--- a pump that looks at forms is the one that looks at whole topics
-pub pump_told_is : (told : CopyRow → ToldTopics) (l : Line) (now : ℕ) (s : Session) → FitsWhole l s → pump_told told l now s ≡ pump (way_of l now) (queue_on l.went s)
-pump_told_is told l now s fits = pump_fits (λ e. size_told l.largest (told e) e.copy) l.went l now s (told_all l told s.queue fits) fits
 
 -- ---- sizes of lawful contents
 
@@ -67,6 +53,11 @@ pub run_fits : (limits : Limits) (ts : List Turn) (w : World) (client : List ℕ
 run_fits limits ts w client u sends fair sayable =
     let goes = goes_on limits ts w u.new.publishers u.new.receivers u.new.strangers sends sayable fair.unspent in
     fits_there client limits (run limits ts w) (fair_run_kept limits ts w u fair client) goes.going.sends
+
+-- and so their pumps go by whole topics
+pub run_pumps : (limits : Limits) (ts : List Turn) (w : World) (client : List ℕ) → IsUntouched limits w → SendsWell w.broker → IsFair limits ts w → AreSayable ts → ItsPumpsAreWhole client (run limits ts w)
+run_pumps limits ts w client u sends fair sayable r n birth l s e number at on there =
+    whole_pump l s (run_fits limits ts w client u sends fair sayable r n birth l s e number at on there)
 
 -- also from the start
 pub start_fits : (limits : Limits) (ts : List Turn) (client : List ℕ) → IsFair limits ts start → AreSayable ts → ItsCopiesFit client (run limits ts start)

@@ -10,3 +10,4 @@ pub mod OwnCalls
 pub mod OwnDoings
 pub mod OwnOthers
 pub mod OwnSubscribes
+pub mod Untold

@@ -9,12 +9,13 @@ use Rattle.mqtt_flow.specs.OutboundWorld.{Lot, World as Hop, past, standing}
 use Rattle.mqtt_world_model.specs.Ends.{Back, Receiver, answers, asks_for}
 use Rattle.mqtt_world_model.specs.Lines.{is_one_of}
 use Rattle.mqtt_world_model.specs.World.{World, publisher_named, receiver_named}
+use Rattle.mqtt_topic_aliases.specs.Told.{none_told}
 use Rattle.mqtt_records_message.specs.declared.message.RetainedMessage.{RetainedMessage}
 use Rattle.mqtt_records_rows.specs.Distinct.{AllDiffer}
 use Rattle.mqtt_rules.specs.Flight.{HasDistinctIdentifiers}
 use Rattle.mqtt_rules.specs.Laws.{IsOrdered}
 use Rattle.mqtt_rules.specs.Lines.{HasUniqueLines}
-use Rattle.mqtt_rules.specs.State.{Line as BrokerLine, Broker, MemberChoice, line_at}
+use Rattle.mqtt_rules.specs.State.{Line as BrokerLine, Broker, MemberChoice, line_at, told_on}
 use Rattle.mqtt_rules.specs.Step.{at_moment}
 use Rattle.mqtt_rules.specs.declared.Limits.{Limits}
 use Rattle.mqtt_world_receiver_laws.specs.Drains.{after_round, copies_left}
@@ -43,6 +44,8 @@ pub record IsConnected (largest window : ℕ) (ids : List CopyId) (birth : ℕ) 
   pub connected : line.session ≡ Some birth
   pub window_is : line.window ≡ window
   pub largest_is : line.largest ≡ largest
+  -- its client takes no alias, and was told nothing
+  pub untold : told_on line.number b.tellings ≡ none_told 0
   -- the line that it gave up is another one
   pub apart : is_one_of r.line.old_number (line.number ∷ []) ≡ false
   pub unique : HasUniqueLines b

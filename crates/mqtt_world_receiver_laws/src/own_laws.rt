@@ -10,11 +10,12 @@ ghost use Rattle.mqtt_world_receiver_laws.specs.Served.{IsCallOfOthers, IsOverdu
 ghost use Rattle.mqtt_world_model.specs.Ends.{Back, Receiver, Wish, answers, asks_for, wire_back};
 ghost use Rattle.mqtt_world_model.specs.Lines.{is_one_of};
 ghost use Rattle.mqtt_records.specs.Session.{auto};
+ghost use Rattle.mqtt_topic_aliases.specs.Told.{none_told};
 ghost use Rattle.mqtt_records.specs.declared.session.Session.{Session};
 ghost use Rattle.mqtt_rules.specs.Flight.{HasDistinctIdentifiers};
 ghost use Rattle.mqtt_rules.specs.Laws.{IsOrdered};
 ghost use Rattle.mqtt_rules.specs.Lines.{HasUniqueLines};
-ghost use Rattle.mqtt_rules.specs.State.{Broker, Line, MemberChoice, line_at};
+ghost use Rattle.mqtt_rules.specs.State.{Broker, Line, MemberChoice, line_at, told_on};
 ghost use Rattle.mqtt_rules.specs.Step.{Call, Input, Lost, Pump, Tick, at_moment, stepped};
 ghost use Rattle.mqtt_rules.specs.declared.Limits.{Limits};
 
@@ -40,7 +41,8 @@ pub fn answers_leave_a_receiver_in_step()
 pub fn its_line_leaves_a_receiver_in_step()
     ensures sends { (largest : ℕ) (ids : List CopyId) (birth : ℕ) (ns : List ℕ) (limits : Limits) (choice : MemberChoice)
         → (now : ℕ) (r : Receiver) (l : Line) (s : Session) (b : Broker)
-        → IsInStep largest ids birth ns r b → IsListening r l s b → l.largest ≡ largest → HasDistinctIdentifiers b.records
+        → IsInStep largest ids birth ns r b → IsListening r l s b → l.largest ≡ largest
+        → told_on l.number b.tellings ≡ none_told 0 → HasDistinctIdentifiers b.records
         → IsInStep largest ids birth ns (receiver_called limits choice now (Pump l.number) r b)
         (stepped limits choice now (Pump l.number) b) }
     ensures loses { (largest : ℕ) (ids : List CopyId) (birth : ℕ) (ns : List ℕ) (limits : Limits) (choice : MemberChoice)

@@ -19,7 +19,8 @@ use Rattle.mqtt_rules.specs.declared.Limits.{Limits}
 use Rattle.mqtt_rules.specs.Closing.{end_session, settle, is_due, end_due, has_due_end}
 use Rattle.mqtt_rules.specs.Connect.{expiry_of, will_of, greet, begin_named, connack_properties}
 use Rattle.mqtt_rules.specs.Deeds.{Whose, whose, Message, Origin, Subscribe, Part, Resume, Open, Close, Leave, SetAlias, Hear, Deed, Accept, Begin, Name, Count, At, Finish, Forget, RefuseWill, Link, On, Send, Gone, on_line, without_place, rows_of_all, after, after_all, series, always}
-use Rattle.mqtt_rules.specs.Inbound.{pump_deeds, pump_turns}
+use Rattle.mqtt_rules.specs.Fitting.{pump_turns}
+use Rattle.mqtt_rules.specs.Inbound.{pump_deeds}
 use Rattle.mqtt_rules.specs.Laws.{IsAmong, AreWithin}
 use Rattle.mqtt_rules.specs.Lines.{closed_at, HasUniqueLines}
 use Rattle.mqtt_rules.specs.Outbound.{of_entry, leave_deeds, turn_deeds}
@@ -99,8 +100,8 @@ other_turn now line s (turns.Repeat id) = (tt, tt)
 other_turn now line s (turns.Unknown id) = (tt, tt)
 other_turn now line s (turns.Leave place ending) = leave_other s (turns.Leave place ending)
 
-other_pump : (l : Line) (now : ℕ) (s : Session) → AreOther (pump_deeds l now s)
-other_pump l now s = each_flat IsOther (turn_deeds now l.number s) (other_turn now l.number s) (pump_turns l now s)
+other_pump : (l : Line) (b : Broker) (s : Session) → AreOther (pump_deeds l b s)
+other_pump l b s = each_flat IsOther (turn_deeds b.now l.number s) (other_turn b.now l.number s) (pump_turns l b s)
 
 other_lapses : (now : ℕ) (s : Session) → AreOther (lapse_deeds now s)
 other_lapses now s = each_flat IsOther (leave_deeds s) (leave_other s) (lapses now s)
@@ -231,7 +232,7 @@ module _ (env : Env) (within : AreWithin env.limits) where
         unique_resumed l c s b (named_stands c.client_identifier s b k.0.0 is) both.1 (both.0 s.birth client) u);
     begins = λ l c b k its none came taken name is room x. begins (is_empty c.client_identifier) l c b k (fit.begins l c b k.0 its none came taken name is room (was_prepared l c b x)) none x;
     grants = λ w s b k its asked granted. quiet (sub.granted_filter env (sub.next_number b.records) s w (brought_to w s b) b).deeds b k (fit.grants w s b k.0 its asked granted) (grants w s b) (quiet_grants env w s b);
-    pumps = λ l s b k its is there. quiet (pump_deeds l b.now s) b k (fit.pumps l s b k.0 its is there) (other_pump l b.now s) (quiet_pump l b.now s b);
+    pumps = λ l s b k its is there. quiet (pump_deeds l b s) b k (fit.pumps l s b k.0 its is there) (other_pump l b s) (quiet_pump l s b);
     turns = λ a t l s b k its own there is e. quiet (turn_deeds b.now l.number s t) b k (fit.turns a t l s b k.0 its own there is e) (other_turn b.now l.number s t) (quiet_turn b.now l.number s t b);
     lapses = λ s b k among. quiet (lapse_deeds b.now s) b k (fit.lapses s b k.0 among) (other_lapses b.now s) (quiet_lapses b.now s b);
     stale = λ x b k among. quiet (Forget x.place ∷ []) b k (fit.stale x b k.0 among) (tt, tt) (tt, tt);

@@ -17,6 +17,7 @@ use Rattle.mqtt_routes.specs.Retained.{kept_for}
 use Rattle.mqtt_topic.specs.Filters.{begins_share}
 use Rattle.mqtt_topic.specs.Names.{is_empty}
 use Rattle.mqtt_rules.specs.Deeds.{whose, Message, Origin, Subscribe, Enter, Deed, Accept, Count, At, after, after_all, always, series, with_session}
+use Rattle.mqtt_rules.specs.Fitting.{has_form}
 use Rattle.mqtt_rules.specs.Outbound.{leave_deeds, since, queue_limits, enter_deeds}
 use Rattle.mqtt_rules.specs.Packets.{publish_of}
 use Rattle.mqtt_rules.specs.Routing.{CopyTo, is_queued, deliver_by, deliver, retained_of, forgets, retain_by, next_publication, accepted_copies, publish}
@@ -24,8 +25,9 @@ use Rattle.mqtt_rules.specs.State.{Broker, Env, session_at, line_of, queue_on}
 use Rattle.mqtt_rules.specs.Step.{Call, deeds_of, opening}
 use Rattle.mqtt_rules.specs.Subscribe as sub
 use Rattle.mqtt_rules.proofs.acts.Acts.{brought_to}
+use Rattle.mqtt_rules.proofs.acts.Offers.{of_offer_if}
 use Rattle.mqtt_rules.proofs.numbers.Copies.{IsNumbered, each_append, each_map, each_more, routed_numbered}
-use Rattle.mqtt_rules.proofs.order.OrderedActs.{IsPlain, ArePlain, plain_flat, plain_leave, plain_offer}
+use Rattle.mqtt_rules.proofs.order.OrderedActs.{IsPlain, ArePlain, plain_flat, plain_leave}
 use Rattle.mqtt_rules.proofs.fit.StandLaw.{Orders}
 use Rattle.mqtt_rules.specs.Numbers.{publication_given}
 use Rattle.mqtt_world_model.specs.Run.{Acceptance, accepted_by, acceptances_of}
@@ -116,7 +118,7 @@ module _ (env : Env) where
       by : (o : Option Session) → AreOther (with_session o (λ s. always (enter_deeds env d.copy s)) b)
       by None = tt
       by (Some s) = other_enter d.copy s
-  other_deliver false d b = plains_other (deliver_by false env d b) (plain_offer (line_of d.birth b) (publish_of b.now false 0 d.copy))
+  other_deliver false d b = of_offer_if AreOther (has_form d.copy b) (line_of d.birth b) (publish_of b.now false 0 d.copy) tt (λ l there. (tt, tt))
 
   -- handing over copies accepts nothing
   pub other_deliveries : (ds : List CopyTo) (b : Broker) → AreOther (series (map (deliver env) ds) b)

@@ -4,7 +4,6 @@ use Rattle.std.specs.Prelude.{⊤, find, flat_map}
 use Rattle.std.specs.List.{AllByRecursion}
 use Rattle.std.proofs.lemmas.Bool.{cases_Bool, eqb-true}
 use Rattle.mqtt_base.specs.declared.session.Ending.TheVariants.{SessionEnded}
-use Rattle.mqtt_codec.specs.declared.packet.Packet.{Packet}
 use Rattle.mqtt_codec_connect.specs.declared.connect.Connect.{Connect as Greeting}
 use Rattle.mqtt_topic.specs.Names.{is_empty}
 use Rattle.mqtt_flow.specs.declared.entry.Turn.{Turn}
@@ -22,17 +21,18 @@ use Rattle.mqtt_records.specs.Session.{copy_place}
 use Rattle.mqtt_rules.specs.declared.Limits.{Limits}
 use Rattle.mqtt_rules.specs.Packets.{publish_of}
 use Rattle.mqtt_rules.specs.State.{Line, Broker, Env, MemberChoice, is_of, line_of, queue_on, session_at}
-use Rattle.mqtt_rules.specs.Deeds.{whose, Message, Origin, FromClient, Part, Resume, Close, Open, Enter, Leave, LinePart, Hear, Greet, SetAlias, Went, Deed, Accept, Count, At, Finish, Forget, RefuseWill, Link, On, Send, Gone, after, after_all, always, fresh_line, given_after, line_after, lines_after, lines_at, offer, on_line, rows_of_all, series, without_place}
+use Rattle.mqtt_rules.specs.Deeds.{whose, Message, Origin, FromClient, Part, Resume, Close, Open, Enter, Leave, LinePart, Hear, Greet, SetAlias, Went, Deed, Accept, Count, At, Finish, Forget, RefuseWill, Link, On, Send, Gone, after, after_all, always, fresh_line, given_after, line_after, lines_after, lines_at, on_line, rows_of_all, series, without_place}
 use Rattle.mqtt_rules.specs.Deeds as deeds
 use Rattle.mqtt_rules.specs.Outbound.{leave_deeds, turn_deeds, since, queue_limits, enter_deeds}
 use Rattle.mqtt_rules.specs.Routing.{CopyTo, next_publication, is_queued, deliver_by, deliver, retained_of, forgets, retain_by, publish}
 use Rattle.mqtt_rules.specs.Closing.{end_session}
 use Rattle.mqtt_rules.specs.Connect.{expiry_of, will_of, greet, begin_named}
-use Rattle.mqtt_rules.specs.Inbound.{pump_turns, pump_deeds}
+use Rattle.mqtt_rules.specs.Fitting.{has_form, pump_turns}
+use Rattle.mqtt_rules.specs.Inbound.{pump_deeds}
 use Rattle.mqtt_rules.specs.Subscribe as sub
 use Rattle.mqtt_rules.specs.Tick.{is_silent, lapses, lapse_deeds}
 use Rattle.mqtt_rules.specs.Step.{Call, NewLine, Input, BadInput, Lost, Pump, Tick, deeds_of, done, env_of, opened, opening, unopened, with_moment}
-use Rattle.mqtt_rules.proofs.acts.Offers.{of_offer}
+use Rattle.mqtt_rules.proofs.acts.Offers.{of_offer_if}
 use Rattle.mqtt_rules.proofs.acts.Goods.{AreGood, good_append, good_flat, good_of_entry, good_with_session}
 use Rattle.mqtt_rules.proofs.acts.Leads.{Leads, leads_good}
 use Rattle.mqtt_rules.proofs.acts.Acts.{About, IsCallOf, closing_session, closing_on, closing, brought_to, Law, leads_call, leads_opening}
@@ -144,13 +144,11 @@ module _ (g : ℕ) where
       let ts = way_made (queue_limits env) (since env s) (queue_on [] s) in
       good_append IsGiven (flat_map (leave_deeds s) ts) (At (whose s) (Enter copy) ∷ []) b (given_leaves s ts b) (tt, tt)
 
-  given_offer : (o : Option Line) (packet : Packet) (b : Broker) → Given (offer o packet) b
-  given_offer o packet b = of_offer (λ (ds : List Deed). Given ds b) o packet tt (λ l there. (tt, tt))
-
   given_deliver : (t : Bool) (env : Env) (d : CopyTo) (b : Broker) → Given (deliver_by t env d b) b
   given_deliver true env d b =
       good_with_session IsGiven (session_at d.birth b.records) (λ s. always (enter_deeds env d.copy s)) b (λ s e. given_enter env d.copy s b)
-  given_deliver false env d b = given_offer (line_of d.birth b) (publish_of b.now false 0 d.copy) b
+  given_deliver false env d b =
+      of_offer_if (λ (ds : List Deed). Given ds b) (has_form d.copy b) (line_of d.birth b) (publish_of b.now false 0 d.copy) tt (λ l there. (tt, tt))
 
   given_deliveries : (env : Env) (ds : List CopyTo) (b : Broker) → Given (series (map (deliver env) ds) b) b
   given_deliveries env [] b = tt
@@ -241,7 +239,7 @@ module _ (g : ℕ) where
     resumes = λ l c s b k its none came taken own is prepared. led (At (whose s) (Resume (expiry_of c) (will_of c)) ∷ greet l c s.birth ∷ []) b k (tt, (its, tt));
     begins = λ l c b k its none came taken name is room prepared. led (begin_named (is_empty c.client_identifier) l c b.records) b k (given_begin (is_empty c.client_identifier) l c b.records b its);
     grants = λ w s b k its asked granted. led (sub.granted_filter env (sub.next_number b.records) s w (brought_to w s b) b).deeds b k (given_grants env w s b);
-    pumps = λ l s b k its is there. led (pump_deeds l b.now s) b k (good_flat IsGiven (turn_deeds b.now l.number s) (given_turn b.now l.number s) (pump_turns l b.now s) b);
+    pumps = λ l s b k its is there. led (pump_deeds l b s) b k (good_flat IsGiven (turn_deeds b.now l.number s) (given_turn b.now l.number s) (pump_turns l b s) b);
     turns = λ a t l s b k its own there is e. led (turn_deeds b.now l.number s t) b k (given_turn b.now l.number s t b);
     lapses = λ s b k among. led (lapse_deeds b.now s) b k (given_leaves s (lapses b.now s) b);
     stale = λ x b k among. led (Forget x.place ∷ []) b k (tt, tt);

@@ -10,7 +10,8 @@ use Rattle.mqtt_records.specs.Session.{copy_place}
 use Rattle.mqtt_records.specs.declared.session.Session.{Session}
 use Rattle.mqtt_records_rows.specs.Order.{row_at}
 use Rattle.mqtt_rules.specs.Deeds.{At, Deed, Mark, Part, Whose, after}
-use Rattle.mqtt_rules.specs.Inbound.{pump_deeds, pump_turns}
+use Rattle.mqtt_rules.specs.Fitting.{pump_turns}
+use Rattle.mqtt_rules.specs.Inbound.{pump_deeds}
 use Rattle.mqtt_rules.specs.Outbound.{of_entry, turn_deeds}
 use Rattle.mqtt_rules.specs.State.{Broker, Env, Line}
 use Rattle.mqtt_rules.specs.Step.{Call, deeds_of, opening}
@@ -42,8 +43,8 @@ marked_turn now line s (turns.Repeat id) = (tt, tt)
 marked_turn now line s (turns.Unknown id) = (tt, tt)
 marked_turn now line s (turns.Leave place ending) = marked_entry (row_at copy_place place s.queue) _ (λ e. (tt, tt))
 
-marked_pump : (l : Line) (now : ℕ) (s : Session) → AreMarked (pump_deeds l now s)
-marked_pump l now s = each_flat IsMarked (turn_deeds now l.number s) (marked_turn now l.number s) (pump_turns l now s)
+marked_pump : (l : Line) (b : Broker) (s : Session) → AreMarked (pump_deeds l b s)
+marked_pump l b s = each_flat IsMarked (turn_deeds b.now l.number s) (marked_turn b.now l.number s) (pump_turns l b s)
 
 -- ---- all that a call or an opening does
 
@@ -94,7 +95,7 @@ deed_law env = record {
 
 turn_law : TurnLaw anyone Any Good
 turn_law = record {
-  pumps = λ l s b k its is there. (good_marked (pump_deeds l b.now s) b (marked_pump l b.now s), tt);
+  pumps = λ l s b k its is there. (good_marked (pump_deeds l b s) b (marked_pump l b s), tt);
   turns = λ a t l s b k its own there is e. (good_marked (turn_deeds b.now l.number s t) b (marked_turn b.now l.number s t), tt);
 }
 

@@ -40,9 +40,10 @@ use Rattle.mqtt_topic.specs.Names.{is_empty}
 use Rattle.mqtt_rules.specs.Closing.{close, close_connected, close_session, drop_line, end_session, has_due_end, has_due_will, publish_or_refuse, publish_will, settle, will_deeds, will_message}
 use Rattle.mqtt_rules.specs.Connect.{begin_named, clear, connect_by, joins, largest_of, of_client, prepare, refusal, refusal_size, refused, resume, take_over}
 use Rattle.mqtt_rules.specs.Deeds.{Whose, whose, Message, Origin, FromClient, FromWill, Close, DropWill, Leave, Hear, Deed, At, Finish, Forget, RefuseWill, Link, On, Send, Gone, Act, after_all, always, of_session, offer, only_if, series, with_line, with_session}
-use Rattle.mqtt_rules.specs.Inbound.{Meaning, Means, Wrong, answer, code_accepted, code_again, leave_by, meaning, message_of, new_expiry, on_answer, opens, publish_by, publish_meant, publish_new, pump_deeds, pump_turns, release_by, sets_alias, standing}
+use Rattle.mqtt_rules.specs.Fitting.{pump_turns}
+use Rattle.mqtt_rules.specs.Inbound.{Meaning, Means, Wrong, answer, code_accepted, code_again, leave_by, meaning, message_of, new_expiry, on_answer, opens, publish_by, publish_meant, publish_new, pump_deeds, release_by, sets_alias, standing}
 use Rattle.mqtt_rules.specs.Outbound.{all_turn_deeds, turn_deeds}
-use Rattle.mqtt_rules.specs.Packets.{connack, disconnect, publish_of, suback, unsuback}
+use Rattle.mqtt_rules.specs.Packets.{connack, disconnect, suback, unsuback}
 use Rattle.mqtt_records_message.specs.PassedOn.{number_at}
 use Rattle.mqtt_rules.specs.Routing.{CopyTo, accepted_copies, is_queued, is_wanted, publish}
 use Rattle.mqtt_rules.specs.State.{Broker, Env, Line, is_connected, line_at, line_of, queue_on, session_at, session_named}
@@ -53,7 +54,7 @@ use Rattle.mqtt_rules.proofs.acts.Acts.{brought_to}
 use Rattle.mqtt_rules.proofs.flight.FlightRows.{found_key}
 use Rattle.mqtt_rules.proofs.numbers.Copies.{each_all, each_append, each_flat}
 use Rattle.mqtt_rules.proofs.fit.StandLaw.{Orders, ordered_all}
-use Rattle.mqtt_world_acceptance_laws.proofs.copies.Entering.{AreCalm, AreStill, IsCalm, calm_cond, calm_entry, calm_leave, calm_leaves, calm_offer, stills}
+use Rattle.mqtt_world_acceptance_laws.proofs.copies.Entering.{AreCalm, AreStill, IsCalm, calm_cond, calm_copy, calm_entry, calm_leave, calm_leaves, calm_offer, stills}
 
 -- ---- lists of deeds that bring nothing and let nothing enter, begin no session and open no identifier
 
@@ -332,13 +333,21 @@ module _ (env : Env) (came : Came) (Keeps : Broker → Type 0) (R : List Deed �
       says.next g.deeds (sub.filter_answers env birth identifier rest (after_all g.deeds b)).deeds b
       (filter_told identifier a.filter (options_of a.options) birth b (session_at birth b.records) wished.0 refl) (filters_told birth identifier rest (after_all g.deeds b) wished.1)
 
+  all_late : (line : ℕ) (ds : List CopyTo) (b : Broker) → AreCalm (series (map (sub.late_send line) ds) b)
+  all_late line [] b = tt
+  all_late line (d ∷ ds) b =
+      let first = sub.late_send line d b in
+      let c = after_all first b in
+      each_append IsCalm first (series (map (sub.late_send line) ds) c) (calm_copy (line_at line b) d.copy b) (all_late line ds c)
+
   subscribing : (t : Bool) (line : ℕ) (s : Session) (p : Asking) (b : Broker) → came.packet (packets.Subscribe p) → R (sub.subscribe_by t env line s p b) b
   subscribing true line s p b took = calmly _ b (calm_offer (line_at line b) (suback p.identifier (map (λ a. identifier_in_use) p.subscriptions)))
   subscribing false line s p b took =
       let a = sub.filter_answers env s.birth (number_at SubscriptionIdentifier p.properties) p.subscriptions b in
       let told = offer (line_at line b) (suback p.identifier a.codes) in
-      let late = flat_map (λ d. sub.late_sends line b.now d b) a.late in
-      let quiet = each_append IsCalm told late (calm_offer (line_at line b) (suback p.identifier a.codes)) (each_flat IsCalm (λ d. sub.late_sends line b.now d b) (λ d. calm_offer (line_at line b) (publish_of b.now false 0 d.copy)) a.late) in
+      let c = after_all (a.deeds ++ told) b in
+      let late = series (map (sub.late_send line) a.late) c in
+      let quiet = each_append IsCalm told late (calm_offer (line_at line b) (suback p.identifier a.codes)) (all_late line a.late c) in
       subst (λ (ds : List Deed). R ds b) (sym (append_assoc a.deeds told late))
       (says.next a.deeds (told ++ late) b (filters_told s.birth (number_at SubscriptionIdentifier p.properties) p.subscriptions b (came.asks p took)) (calmly (told ++ late) (after_all a.deeds b) quiet))
 
@@ -437,7 +446,7 @@ module _ (env : Env) (came : Came) (Keeps : Broker → Type 0) (R : List Deed �
 
   pumping : (l : Line) (o : Option ℕ) → SaysAct (on_pump l o)
   pumping l None b h = nothing b
-  pumping l (Some birth) b h = on_birth birth (λ s. always (pump_deeds l b.now s)) (λ s. calm (pump_deeds l b.now s) (calm_turns b.now l.number s (pump_turns l b.now s))) b h
+  pumping l (Some birth) b h = on_birth birth (λ s. always (pump_deeds l b s)) (λ s. calm (pump_deeds l b s) (calm_turns b.now l.number s (pump_turns l b s))) b h
 
   -- what is said of publications, beginnings, openings and grants is said of a call
   pub call_says : (call : Call) → CameIn came call → SaysAct (deeds_of env call)

@@ -21,12 +21,13 @@ use Rattle.mqtt_records_rows.specs.Order.{row_at}
 use Rattle.mqtt_rules.specs.Packets.{publish_of}
 use Rattle.mqtt_rules.specs.State.{Line, Broker, Env, session_at, line_of, queue_on}
 use Rattle.mqtt_rules.specs.Deeds.{whose, Message, Origin, Subscribe, Open, Enter, Leave, Deed, Accept, Begin, Count, At, Keep, Send, after, after_all, always, series, with_session, offer}
+use Rattle.mqtt_rules.specs.Fitting.{has_form, offer_copy}
 use Rattle.mqtt_rules.specs.Outbound.{of_entry, leave_deeds, since, queue_limits, enter_deeds, room_at}
 use Rattle.mqtt_rules.specs.Routing.{CopyTo, is_queued, deliver_by, deliver, retained_of, forgets, retain_by, next_publication, accepted_copies, publish}
 use Rattle.mqtt_routes.specs.Retained.{kept_for}
 use Rattle.mqtt_topic.specs.Filters.{begins_share}
 use Rattle.mqtt_rules.specs.Subscribe as sub
-use Rattle.mqtt_rules.proofs.acts.Offers.{of_offer}
+use Rattle.mqtt_rules.proofs.acts.Offers.{of_offer, of_offer_if}
 use Rattle.mqtt_rules.proofs.acts.Acts.{brought_to}
 use Rattle.mqtt_rules.proofs.numbers.Copies.{each_flat}
 use Rattle.mqtt_rules.proofs.order.OrderedAccepted.{is_to, accepted_within}
@@ -168,6 +169,10 @@ calm_leaves s ts = each_flat IsCalm (leave_deeds s) (calm_leave s) ts
 pub calm_offer : (o : Option Line) (packet : Packet) → AreCalm (offer o packet)
 calm_offer o packet = of_offer AreCalm o packet tt (λ l there. (tt, tt))
 
+-- so is that of a copy
+pub calm_copy : (o : Option Line) (copy : MessageCopy) (b : Broker) → AreCalm (offer_copy o copy b)
+calm_copy o copy b = of_offer_if AreCalm (has_form copy b) o (publish_of b.now false 0 copy) tt (λ l there. (tt, tt))
+
 entered_once : (env : Env) (copy : MessageCopy) (s : Session) → entered (enter_deeds env copy s) ≡ copy.id ∷ []
 entered_once env copy s =
     let ts = way_made (queue_limits env) (since env s) (queue_on [] s) in
@@ -192,8 +197,8 @@ stay : (ds : List CopyTo) (r q : Records) → ((k : ℕ) → Has k r → Has k q
 stay [] r q keeps h = tt
 stay (d ∷ ds) r q keeps h = ((λ is. keeps d.birth (h.0 is)), stay ds r q keeps h.1)
 
-for_offer : (k : ℕ) (o : Option Line) (packet : Packet) → AreFor k (offer o packet)
-for_offer k o packet = of_offer (AreFor k) o packet tt (λ l there. (tt, tt))
+for_copy : (k : ℕ) (o : Option Line) (copy : MessageCopy) (b : Broker) → AreFor k (offer_copy o copy b)
+for_copy k o copy b = of_offer_if (AreFor k) (has_form copy b) o (publish_of b.now false 0 copy) tt (λ l there. (tt, tt))
 
 -- what a delivery lets enter, that it brings nothing, and that it ends no session
 pub record Delivers (t : Bool) (env : Env) (d : CopyTo) (b : Broker) : Type 0 where
@@ -218,12 +223,12 @@ delivers : (t : Bool) (env : Env) (d : CopyTo) (b : Broker) → (t ≡ true → 
 delivers true env d b has = delivers_to env d b (has refl)
 delivers false env d b has =
     let o = line_of d.birth b in
-    let packet = publish_of b.now false 0 d.copy in
-    let calm = stills (offer o packet) (calm_offer o packet) in
+    let ds = offer_copy o d.copy b in
+    let calm = stills ds (calm_copy o d.copy b) in
     record {
-      lets_in = entered_none (offer o packet) calm;
-      brings_none = mutes (offer o packet) calm;
-      keeps = λ k h. for_stays k 0 (offer o packet) b (for_offer 0 o packet) h;
+      lets_in = entered_none ds calm;
+      brings_none = mutes ds calm;
+      keeps = λ k h. for_stays k 0 ds b (for_copy 0 o d.copy b) h;
     }
 
 -- and all of them

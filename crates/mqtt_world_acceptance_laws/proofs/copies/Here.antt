@@ -9,7 +9,6 @@ use Rattle.mqtt_records_rows.proofs.OrderLemmas.{apart}
 use Rattle.mqtt_base.specs.declared.limits.TheConstants.{SESSION_LIMIT}
 use Rattle.mqtt_base.specs.declared.session.Ending.TheVariants.{SessionEnded}
 use Rattle.mqtt_base.specs.declared.session.Phase.TheVariants.{Sent}
-use Rattle.mqtt_codec.specs.declared.packet.Packet.{Packet}
 use Rattle.mqtt_codec_connect.specs.declared.connect.Connect.{Connect as Greeting}
 use Rattle.mqtt_topic.specs.Names.{is_empty}
 use Rattle.mqtt_flow.specs.declared.entry.Turn.{Turn}
@@ -31,18 +30,19 @@ use Rattle.mqtt_records.specs.declared.change.Counter.TheVariants.{Births, Publi
 use Rattle.mqtt_records.specs.Records.{changed, changed_all, put_session, in_session, with_counter}
 use Rattle.mqtt_rules.specs.Packets.{publish_of}
 use Rattle.mqtt_rules.specs.State.{Line, Broker, Env, session_at, line_of, queue_on}
-use Rattle.mqtt_rules.specs.Deeds.{Whose, whose, Message, Origin, FromClient, Part, Resume, Close, SetExpiry, DropWill, Unsubscribe, Open, Release, Enter, Mark, Leave, Hear, SetAlias, Went, Deed, Accept, Begin, Name, Count, At, Finish, Keep, Forget, RefuseWill, Link, On, Send, Gone, will_row, part_rows, part_rows_of, rows_of, after, after_all, always, series, offer}
+use Rattle.mqtt_rules.specs.Deeds.{Whose, whose, Message, Origin, FromClient, Part, Resume, Close, SetExpiry, DropWill, Unsubscribe, Open, Release, Enter, Mark, Leave, Hear, SetAlias, Went, Deed, Accept, Begin, Name, Count, At, Finish, Keep, Forget, RefuseWill, Link, On, Send, Gone, will_row, part_rows, part_rows_of, rows_of, after, after_all, always, series}
 use Rattle.mqtt_rules.specs.Deeds as deeds
 use Rattle.mqtt_rules.specs.Outbound.{of_entry, leave_deeds, turn_deeds, since, queue_limits, enter_deeds}
 use Rattle.mqtt_rules.specs.Routing.{CopyTo, is_queued, deliver_by, deliver, retained_of, forgets, retain_by, next_publication, publish}
 use Rattle.mqtt_rules.specs.Closing.{end_session}
 use Rattle.mqtt_rules.specs.Connect.{expiry_of, will_of, greet, begin_named}
-use Rattle.mqtt_rules.specs.Inbound.{pump_turns, pump_deeds}
+use Rattle.mqtt_rules.specs.Fitting.{has_form, pump_turns}
+use Rattle.mqtt_rules.specs.Inbound.{pump_deeds}
 use Rattle.mqtt_rules.specs.Subscribe as sub
 use Rattle.mqtt_rules.specs.Step.{Call, deeds_of, opening}
 use Rattle.mqtt_rules.specs.Tick.{lapses, lapse_deeds}
 use Rattle.mqtt_rules.specs.Laws.{IsAmong, IsOrdered}
-use Rattle.mqtt_rules.proofs.acts.Offers.{of_offer}
+use Rattle.mqtt_rules.proofs.acts.Offers.{of_offer_if}
 use Rattle.mqtt_rules.proofs.acts.Goods.{AreGood, good_append, good_with_session}
 use Rattle.mqtt_rules.proofs.acts.Leads.{Leads}
 use Rattle.mqtt_rules.proofs.acts.Acts.{anyone, call_of_anyone, finds_anyone, is_alone, closing_session, closing_on, closing, brought_to, Law, leads_call, leads_opening}
@@ -285,13 +285,10 @@ found_has k s r e = subst (λ (n : ℕ). Has n r) (sym (found_key birth_of k s r
 
 -- ---- publications
 
-here_offer : (o : Option Line) (packet : Packet) (b : Broker) → AreGood Here (offer o packet) b
-here_offer o packet b = of_offer (λ (ds : List Deed). AreGood Here ds b) o packet tt (λ l there. (tt, tt))
-
 here_deliver : (t : Bool) (env : Env) (d : CopyTo) (b : Broker) → AreGood Here (deliver_by t env d b) b
 here_deliver true env d b =
     good_with_session Here (session_at d.birth b.records) (λ s. always (enter_deeds env d.copy s)) b (λ s e. for_here s.birth (enter_deeds env d.copy s) b (for_enter env d.copy s) (found_has d.birth s b.records e))
-here_deliver false env d b = here_offer (line_of d.birth b) (publish_of b.now false 0 d.copy) b
+here_deliver false env d b = of_offer_if (λ (ds : List Deed). AreGood Here ds b) (has_form d.copy b) (line_of d.birth b) (publish_of b.now false 0 d.copy) tt (λ l there. (tt, tt))
 
 here_deliveries : (env : Env) (ds : List CopyTo) (b : Broker) → AreGood Here (series (map (deliver env) ds) b) b
 here_deliveries env [] b = tt
@@ -407,7 +404,7 @@ here_law env = record {
   resumes = λ l c s b h its none came taken mine is prepared. led (At (whose s) (Resume (expiry_of c) (will_of c)) ∷ greet l c s.birth ∷ []) b h (tt, (tt, tt));
   begins = λ l c b h its none came taken name is room prepared. led (begin_named (is_empty c.client_identifier) l c b.records) b h (here_begin (is_empty c.client_identifier) l c b);
   grants = λ w s b h its asked granted. led (sub.granted_filter env (sub.next_number b.records) s w (brought_to w s b) b).deeds b h (here_grants env w s b);
-  pumps = λ l s b h its is there. led (pump_deeds l b.now s) b h (for_here s.birth (pump_deeds l b.now s) b (for_flat s.birth (turn_deeds b.now l.number s) (pump_turns l b.now s) (for_turn b.now l.number s)) (ap is_some there));
+  pumps = λ l s b h its is there. led (pump_deeds l b s) b h (for_here s.birth (pump_deeds l b s) b (for_flat s.birth (turn_deeds b.now l.number s) (pump_turns l b s) (for_turn b.now l.number s)) (ap is_some there));
   turns = λ a t l s b h its mine there is e. led (turn_deeds b.now l.number s t) b h (for_here s.birth (turn_deeds b.now l.number s t) b (for_turn b.now l.number s t) (ap is_some there));
   lapses = λ s b h among. let there = stands_here s b h among in
       led (lapse_deeds b.now s) b h (for_here s.birth (lapse_deeds b.now s) b (for_flat s.birth (leave_deeds s) (lapses b.now s) (for_leave s)) (ap is_some there));

@@ -1,30 +1,33 @@
 -- Copies of QoS 0 go out in the step in which their publication is accepted.
-use Rattle.std.proofs.Common.{◌≡◌, ℕ, Bool, true, false, cond, List, [], ◌∷◌, ◌++◌, map, filter, Option, Some, None, nat_le, refl, sym, ap, subst, ◌∙◌, inl, inr, append_assoc, append-nil}
-use Rattle.std.specs.Prelude.{⊤, find, flat_map, filter_map}
+use Rattle.std.proofs.Common.{◌≡◌, ℕ, Bool, true, false, cond, List, [], ◌∷◌, ◌++◌, map, filter, Option, Some, None, nat_eq, refl, sym, ap, subst, ◌∙◌, inl, inr, append_assoc, append-nil}
+use Rattle.std.specs.Prelude.{⊤, find, flat_map, filter_map, is_some, option_map}
 use Rattle.std.specs.List.{AllByRecursion}
 use Rattle.std.proofs.lemmas.Bool.{cases_Bool}
 use Rattle.std.proofs.lemmas.List.Elements.{filter_map-append}
 use Rattle.mqtt_codec.specs.declared.packet.Packet.{Packet}
+use Rattle.mqtt_codec.specs.declared.packet.Packet.TheVariants.{Publish}
 use Rattle.mqtt_flow.specs.Outbound.{way_made}
 use Rattle.mqtt_flow.specs.declared.entry.Turn.{Turn}
 use Rattle.mqtt_flow.specs.declared.entry.Turn.TheVariants as turns
 use Rattle.mqtt_flow_inbound.specs.Identifiers.{ids_without}
 use Rattle.mqtt_records_message.specs.Queue.{CopyRow}
+use Rattle.mqtt_records_message.specs.declared.message.MessageCopy.{MessageCopy}
 use Rattle.mqtt_records_message.specs.declared.message.RetainedMessage.{RetainedMessage}
 use Rattle.mqtt_records.specs.Session.{copy_place}
 use Rattle.mqtt_records.specs.declared.session.Session.{Session}
 use Rattle.mqtt_records_rows.specs.Order.{row_at}
 use Rattle.mqtt_topic.specs.Names.{is_empty}
-use Rattle.mqtt_rules.specs.Deeds.{whose, Message, Origin, Enter, Leave, Subscribe, Deed, Accept, Count, At, Keep, Forget, Send, after, after_all, always, offer, output, series, with_session, without_place}
+use Rattle.mqtt_rules.specs.Deeds.{whose, Message, Origin, Enter, Leave, Subscribe, Deed, Accept, Count, At, Keep, Forget, Send, after, after_all, always, fresh_line, output, series, tells_on, with_session, without_place}
+use Rattle.mqtt_rules.specs.Fitting.{form_of, has_form, offer_copy}
 use Rattle.mqtt_rules.specs.Outbound.{enter_deeds, leave_deeds, of_entry, queue_limits, since}
-use Rattle.mqtt_rules.specs.Packets.{publish_of, size_of}
+use Rattle.mqtt_rules.specs.Packets.{publish_of}
 use Rattle.mqtt_rules.specs.Routing.{CopyTo, accepted_copies, deliver, deliver_by, forgets, is_queued, next_publication, publish, retain_by, retained_of}
-use Rattle.mqtt_rules.specs.State.{Broker, Env, Line, is_of, line_of, queue_on, session_at}
+use Rattle.mqtt_rules.specs.State.{Broker, Env, Line, Telling, is_of, line_at, line_of, queue_on, session_at, told_on}
 use Rattle.mqtt_rules.specs.Subscribe as sub
-use Rattle.mqtt_rules.proofs.acts.Offers.{of_offer}
+use Rattle.mqtt_rules.proofs.acts.Offers.{of_offer_if}
 use Rattle.mqtt_rules.proofs.acts.Acts.{brought_to}
 use Rattle.mqtt_rules.proofs.fit.StandLaw.{Orders}
-use Rattle.mqtt_world_acceptance_laws.specs.AtOnce.{IsPart, due, due_at, due_by, due_for, due_if, put_on}
+use Rattle.mqtt_world_acceptance_laws.specs.AtOnce.{IsPart, behind, due, due_at, due_by, due_for, due_if, put_on}
 use Rattle.mqtt_world_acceptance_laws.specs.Entries.{moments_of}
 use Rattle.mqtt_world_acceptance_laws.proofs.copies.EachAct.{Says, says_still, whatever}
 use Rattle.mqtt_world_acceptance_laws.proofs.copies.Entering.{IsStill, AreStill}
@@ -111,37 +114,48 @@ stills_other : (ds : List Deed) → AreStill ds → AreOther ds
 stills_other [] h = tt
 stills_other (d ∷ ds) h = (still_other d h.0, stills_other ds h.1)
 
--- ---- lines: a delivery leaves their numbers, their sessions and what they take as they were
+-- ---- lines: what is entered leaves their numbers, their sessions and what they take as they were
+
+-- a line's number and what its client takes
+abbrev seen : Option Line → Option (ℕ × ℕ)
+seen o = option_map (λ (l : Line). (l.number, l.largest)) o
 
 -- the same is put on each session's line, at the same moment
 record IsSame (b c : Broker) : Type 0 where
   pub now : c.now ≡ b.now
-  pub lines : (birth : ℕ) (packet : Packet) → put_on (line_of birth c) packet ≡ put_on (line_of birth b) packet
+  pub tellings : c.tellings ≡ b.tellings
+  pub sessions : (birth : ℕ) → seen (line_of birth c) ≡ seen (line_of birth b)
+  pub numbers : (n : ℕ) → seen (line_at n c) ≡ seen (line_at n b)
 
-abbrev its_line : ℕ → List Line → Option Line
-its_line birth ls = find (λ l. is_of l.session birth) ls
-
-without_same : (birth k place : ℕ) (packet : Packet) (ls : List Line) → put_on (its_line birth (map (without_place k place) ls)) packet ≡ put_on (its_line birth ls) packet
-without_same birth k place packet [] = refl
-without_same birth k place packet (l ∷ ls) = by (is_of l.session k) (without_same birth k place packet ls)
+without_same : (test : Line → Bool) (k place : ℕ) → ((l : Line) → test (without_place k place l) ≡ test l) → (ls : List Line) → seen (find test (map (without_place k place) ls)) ≡ seen (find test ls)
+without_same test k place same [] = refl
+without_same test k place same (l ∷ ls) = elim (cases_Bool (test l)) [
+  | inl is ↦ let its : test (without_place k place l) ≡ true = same l ∙ is in rw (its, is) (by (is_of l.session k))
+  | inr other ↦ let its : test (without_place k place l) ≡ false = same l ∙ other in rw (its, other) (without_same test k place same ls)
+]
   where
-    first : (m : Line) → m.session ≡ l.session → put_on (Some m) packet ≡ put_on (Some l) packet → put_on (its_line birth (map (without_place k place) ls)) packet ≡ put_on (its_line birth ls) packet
-        → put_on (its_line birth (m ∷ map (without_place k place) ls)) packet ≡ put_on (its_line birth (l ∷ ls)) packet
-    first m same put more = elim (cases_Bool (is_of l.session birth)) [
-      | inl is ↦ let its : is_of m.session birth ≡ true = ap (λ (o : Option ℕ). is_of o birth) same ∙ is in rw (its, is) put
-      | inr other ↦ let its : is_of m.session birth ≡ false = ap (λ (o : Option ℕ). is_of o birth) same ∙ other in rw (its, other) more
-    ]
+    by : (t : Bool) → seen (Some (cond t (record l { went = ids_without place l.went }) l)) ≡ seen (Some l)
+    by true = refl
+    by false = refl
 
-    by : (t : Bool) → put_on (its_line birth (map (without_place k place) ls)) packet ≡ put_on (its_line birth ls) packet
-        → put_on (its_line birth (cond t (record l { went = ids_without place l.went }) l ∷ map (without_place k place) ls)) packet ≡ put_on (its_line birth (l ∷ ls)) packet
-    by true more = first (record l { went = ids_without place l.went }) refl refl more
-    by false more = first l refl refl more
+session_stays : (birth k place : ℕ) (l : Line) → is_of (without_place k place l).session birth ≡ is_of l.session birth
+session_stays birth k place l = by (is_of l.session k)
+  where
+    by : (t : Bool) → is_of (cond t (record l { went = ids_without place l.went }) l).session birth ≡ is_of l.session birth
+    by true = refl
+    by false = refl
 
--- deeds of a delivery: copies leave, one enters, a packet goes out; and what RETAIN does
+number_stays : (n k place : ℕ) (l : Line) → nat_eq (without_place k place l).number n ≡ nat_eq l.number n
+number_stays n k place l = by (is_of l.session k)
+  where
+    by : (t : Bool) → nat_eq (cond t (record l { went = ids_without place l.went }) l).number n ≡ nat_eq l.number n
+    by true = refl
+    by false = refl
+
+-- deeds by which nothing goes out: copies leave, and one enters; and what RETAIN does
 abbrev IsLight : Deed → Type 0
 IsLight (At who (Leave e ending)) = ⊤
 IsLight (At who (Enter copy)) = ⊤
-IsLight (Send line packet) = ⊤
 IsLight (Keep kept) = ⊤
 IsLight (Forget place) = ⊤
 IsLight d = ⊥
@@ -150,19 +164,28 @@ abbrev AreLight : List Deed → Type 0
 AreLight ds = AllByRecursion IsLight ds
 
 light_same : (d : Deed) (b : Broker) → IsLight d → IsSame b (after d b)
-light_same (At who (Leave e ending)) b h = record { now = refl; lines = λ birth packet. without_same birth who.birth e.place packet b.lines }
-light_same (At who (Enter copy)) b h = record { now = refl; lines = λ birth packet. refl }
-light_same (Send line packet) b h = record { now = refl; lines = λ birth packet. refl }
-light_same (Keep kept) b h = record { now = refl; lines = λ birth packet. refl }
-light_same (Forget place) b h = record { now = refl; lines = λ birth packet. refl }
+light_same (At who (Leave e ending)) b h = record {
+  now = refl;
+  tellings = refl;
+  sessions = λ birth. without_same (λ l. is_of l.session birth) who.birth e.place (session_stays birth who.birth e.place) b.lines;
+  numbers = λ n. without_same (λ l. nat_eq l.number n) who.birth e.place (number_stays n who.birth e.place) b.lines;
+}
+light_same (At who (Enter copy)) b h = record { now = refl; tellings = refl; sessions = λ birth. refl; numbers = λ n. refl }
+light_same (Keep kept) b h = record { now = refl; tellings = refl; sessions = λ birth. refl; numbers = λ n. refl }
+light_same (Forget place) b h = record { now = refl; tellings = refl; sessions = λ birth. refl; numbers = λ n. refl }
 light_same d b h = absurd h
 
 lights_same : (ds : List Deed) (b : Broker) → AreLight ds → IsSame b (after_all ds b)
-lights_same [] b h = record { now = refl; lines = λ birth packet. refl }
+lights_same [] b h = record { now = refl; tellings = refl; sessions = λ birth. refl; numbers = λ n. refl }
 lights_same (d ∷ ds) b h =
     let first = light_same d b h.0 in
     let rest = lights_same ds (after d b) h.1 in
-    record { now = rest.now ∙ first.now; lines = λ birth packet. rest.lines birth packet ∙ first.lines birth packet }
+    record {
+      now = rest.now ∙ first.now;
+      tellings = rest.tellings ∙ first.tellings;
+      sessions = λ birth. rest.sessions birth ∙ first.sessions birth;
+      numbers = λ n. rest.numbers n ∙ first.numbers n;
+    }
 
 light_other : (d : Deed) → IsLight d → IsOther d
 light_other (Accept number origin m) h = absurd h
@@ -188,25 +211,25 @@ light_leaves : (s : Session) (ts : List Turn) → AreLight (flat_map (leave_deed
 light_leaves s [] = tt
 light_leaves s (t ∷ ts) = light_append (leave_deeds s t) (flat_map (leave_deeds s) ts) (light_leave s t) (light_leaves s ts)
 
-light_offer : (o : Option Line) (packet : Packet) → AreLight (offer o packet)
-light_offer o packet = of_offer AreLight o packet tt (λ l there. (tt, tt))
-
-light_deliver : (t : Bool) (env : Env) (d : CopyTo) (b : Broker) → AreLight (deliver_by t env d b)
-light_deliver true env d b = by (session_at d.birth b.records)
+light_enter : (env : Env) (d : CopyTo) (b : Broker) → AreLight (deliver_by true env d b)
+light_enter env d b = by (session_at d.birth b.records)
   where
     by : (o : Option Session) → AreLight (with_session o (λ s. always (enter_deeds env d.copy s)) b)
     by None = tt
     by (Some s) =
         let ts = way_made (queue_limits env) (since env s) (queue_on [] s) in
         light_append (flat_map (leave_deeds s) ts) (At (whose s) (Enter d.copy) ∷ []) (light_leaves s ts) (tt, tt)
-light_deliver false env d b = light_offer (line_of d.birth b) (publish_of b.now false 0 d.copy)
 
-light_deliveries : (env : Env) (ds : List CopyTo) (b : Broker) → AreLight (series (map (deliver env) ds) b)
-light_deliveries env [] b = tt
-light_deliveries env (d ∷ ds) b =
+other_deliver : (t : Bool) (env : Env) (d : CopyTo) (b : Broker) → AreOther (deliver_by t env d b)
+other_deliver true env d b = lights_other (deliver_by true env d b) (light_enter env d b)
+other_deliver false env d b = of_offer_if AreOther (has_form d.copy b) (line_of d.birth b) (publish_of b.now false 0 d.copy) tt (λ l there. (tt, tt))
+
+other_deliveries : (env : Env) (ds : List CopyTo) (b : Broker) → AreOther (series (map (deliver env) ds) b)
+other_deliveries env [] b = tt
+other_deliveries env (d ∷ ds) b =
     let first = deliver env d b in
     let c = after_all first b in
-    light_append first (series (map (deliver env) ds) c) (light_deliver (is_queued d) env d b) (light_deliveries env ds c)
+    other_append first (series (map (deliver env) ds) c) (other_deliver (is_queued d) env d b) (other_deliveries env ds c)
 
 light_forgets : (o : Option RetainedMessage) → AreLight (forgets o)
 light_forgets None = tt
@@ -219,10 +242,13 @@ light_retain true false number m b = (tt, tt)
 
 -- ---- what goes out for a copy is what is due for it
 
-offered : (o : Option Line) (packet : Packet) → outputs (offer o packet) ≡ put_on o packet
-offered None packet = refl
-offered (Some l) packet = by (nat_le (size_of packet) l.largest)
+offered : (o : Option Line) (copy : MessageCopy) (b : Broker) → outputs (offer_copy o copy b) ≡ put_on o copy b
+offered None copy b = refl
+offered (Some l) copy b = by (has_form copy b l)
   where
+    packet : Packet
+    packet = publish_of b.now false 0 copy
+
     by : (t : Bool) → outputs (cond t (Send l.number packet ∷ []) []) ≡ cond t ((l.number, packet) ∷ []) []
     by true = refl
     by false = refl
@@ -230,28 +256,88 @@ offered (Some l) packet = by (nat_le (size_of packet) l.largest)
 delivered : (t : Bool) (env : Env) (d : CopyTo) (b : Broker) → IsPart (due_by t d b) (outputs (deliver_by t env d b))
 delivered true env d b = tt
 delivered false env d b =
-    let o = line_of d.birth b in
-    let packet = publish_of b.now false 0 d.copy in
-    subst (IsPart (put_on o packet)) (sym (offered o packet)) (part_all (put_on o packet))
+    let put = put_on (line_of d.birth b) d.copy b in
+    subst (IsPart put) (sym (offered (line_of d.birth b) d.copy b)) (part_all put)
+
+-- what is put on a line, by its number and what its client takes
+abbrev put_by : Option (ℕ × ℕ) → MessageCopy → ℕ → List Telling → Packets
+put_by None copy now ts = []
+put_by (Some x) copy now ts = cond (is_some (form_of x.1 (told_on x.0 ts) copy)) ((x.0, publish_of now false 0 copy) ∷ []) []
+
+put_seen : (o : Option Line) (copy : MessageCopy) (b : Broker) → put_on o copy b ≡ put_by (seen o) copy b.now b.tellings
+put_seen None copy b = refl
+put_seen (Some l) copy b = refl
 
 due_same : (t : Bool) (d : CopyTo) (b c : Broker) → IsSame b c → due_by t d c ≡ due_by t d b
 due_same true d b c same = refl
-due_same false d b c same = ap (λ (n : ℕ). put_on (line_of d.birth c) (publish_of n false 0 d.copy)) same.now ∙ same.lines d.birth (publish_of b.now false 0 d.copy)
+due_same false d b c same =
+    put_seen (line_of d.birth c) d.copy c
+    ∙ (ap (λ (o : Option (ℕ × ℕ)). put_by o d.copy c.now c.tellings) (same.sessions d.birth)
+    ∙ (ap (λ (n : ℕ). put_by (seen (line_of d.birth b)) d.copy n c.tellings) same.now
+    ∙ (ap (λ (ts : List Telling). put_by (seen (line_of d.birth b)) d.copy b.now ts) same.tellings
+    ∙ sym (put_seen (line_of d.birth b) d.copy b))))
 
-dues_same : (ds : List CopyTo) (b c : Broker) → IsSame b c → flat_map (due_for c) ds ≡ flat_map (due_for b) ds
+-- so is what a packet tells
+abbrev line_seen : ℕ × ℕ → Line
+line_seen x = record (fresh_line x.0 0) { largest = x.1 }
+
+abbrev telling_by : ℕ → Option (ℕ × ℕ) → Packet → List Telling → List Telling
+telling_by n o packet ts = tells_on n (option_map line_seen o) packet ts
+
+telling_seen : (n : ℕ) (o : Option Line) (packet : Packet) (ts : List Telling) → tells_on n o packet ts ≡ telling_by n (seen o) packet ts
+telling_seen n None packet ts = refl
+telling_seen n (Some l) (Publish p) ts = refl
+telling_seen n (Some l) packet ts = refl
+
+send_same : (n : ℕ) (packet : Packet) (b c : Broker) → IsSame b c → IsSame (after (Send n packet) b) (after (Send n packet) c)
+send_same n packet b c same = record {
+  now = same.now;
+  tellings =
+      telling_seen n (line_at n c) packet c.tellings
+      ∙ (ap (λ (o : Option (ℕ × ℕ)). telling_by n o packet c.tellings) (same.numbers n)
+      ∙ (ap (λ (ts : List Telling). telling_by n (seen (line_at n b)) packet ts) same.tellings
+      ∙ sym (telling_seen n (line_at n b) packet b.tellings)));
+  sessions = same.sessions;
+  numbers = same.numbers;
+}
+
+behind_same : (ps : Packets) (b c : Broker) → IsSame b c → IsSame (behind ps b) (behind ps c)
+behind_same [] b c same = same
+behind_same (p ∷ ps) b c same = behind_same ps (after (Send p.0 p.1) b) (after (Send p.0 p.1) c) (send_same p.0 p.1 b c same)
+
+dues_same : (ds : List CopyTo) (b c : Broker) → IsSame b c → due_for ds c ≡ due_for ds b
 dues_same [] b c same = refl
-dues_same (d ∷ ds) b c same = ap (λ (ps : Packets). ps ++ flat_map (due_for c) ds) (due_same (is_queued d) d b c same) ∙ ap (λ (ps : Packets). due_for b d ++ ps) (dues_same ds b c same)
+dues_same (d ∷ ds) b c same =
+    let put = due_by (is_queued d) d b in
+    ap (λ (ps : Packets). ps ++ due_for ds (behind ps c)) (due_same (is_queued d) d b c same)
+    ∙ ap (λ (ps : Packets). put ++ ps) (dues_same ds (behind put b) (behind put c) (behind_same put b c same))
 
-all_delivered : (env : Env) (ds : List CopyTo) (b : Broker) → IsPart (flat_map (due_for b) ds) (outputs (series (map (deliver env) ds) b))
+-- what is due behind a delivery
+behind_offer : (o : Option Line) (copy : MessageCopy) (b : Broker) → after_all (offer_copy o copy b) b ≡ behind (put_on o copy b) b
+behind_offer None copy b = refl
+behind_offer (Some l) copy b = by (has_form copy b l)
+  where
+    packet : Packet
+    packet = publish_of b.now false 0 copy
+
+    by : (t : Bool) → after_all (cond t (Send l.number packet ∷ []) []) b ≡ behind (cond t ((l.number, packet) ∷ []) []) b
+    by true = refl
+    by false = refl
+
+due_behind : (t : Bool) (env : Env) (d : CopyTo) (ds : List CopyTo) (b : Broker) → due_for ds (after_all (deliver_by t env d b) b) ≡ due_for ds (behind (due_by t d b) b)
+due_behind true env d ds b = let first = deliver_by true env d b in dues_same ds b (after_all first b) (lights_same first b (light_enter env d b))
+due_behind false env d ds b = ap (due_for ds) (behind_offer (line_of d.birth b) d.copy b)
+
+all_delivered : (env : Env) (ds : List CopyTo) (b : Broker) → IsPart (due_for ds b) (outputs (series (map (deliver env) ds) b))
 all_delivered env [] b = tt
 all_delivered env (d ∷ ds) b =
     let first = deliver env d b in
+    let put = due_by (is_queued d) d b in
+    let more = due_for ds (behind put b) in
     let c = after_all first b in
     let rest = series (map (deliver env) ds) c in
-    let same = lights_same first b (light_deliver (is_queued d) env d b) in
-    let later : IsPart (flat_map (due_for b) ds) (outputs rest) = subst (λ (ps : Packets). IsPart ps (outputs rest)) (dues_same ds b c same) (all_delivered env ds c) in
-    subst (IsPart (due_for b d ++ flat_map (due_for b) ds)) (sym (outputs_append first rest))
-    (part_append (due_for b d) (outputs first) (flat_map (due_for b) ds) (outputs rest) (delivered (is_queued d) env d b) later)
+    let later : IsPart more (outputs rest) = subst (λ (ps : Packets). IsPart ps (outputs rest)) (due_behind (is_queued d) env d ds b) (all_delivered env ds c) in
+    subst (IsPart (put ++ more)) (sym (outputs_append first rest)) (part_append put (outputs first) more (outputs rest) (delivered (is_queued d) env d b) later)
 
 -- ---- a publication, and all else
 
@@ -264,12 +350,11 @@ publish_gives env origin m ds b h e =
     let all = series (map (deliver env) ds) d in
     let light = light_retain m.retain (is_empty m.payload) number m c in
     let rest = lights_same next c light in
-    let same : IsSame b d = record { now = rest.now; lines = rest.lines } in
-    let put : IsPart (flat_map (due_for b) ds) (outputs all) = subst (λ (ps : Packets). IsPart ps (outputs all)) (dues_same ds b d same) (all_delivered env ds d) in
-    let out : IsPart (flat_map (due_for b) ds) (outputs (next ++ all)) =
-    subst (IsPart (flat_map (due_for b) ds)) (sym (outputs_append next all)) (part_behind (flat_map (due_for b) ds) (outputs next) (outputs all) put) in
-    let none : dues env (next ++ all) c ≡ [] = no_dues env (next ++ all) c (lights_other (next ++ all) (light_append next all light (light_deliveries env ds d))) in
-    let its : due_if (accepted_copies env m b) b ++ dues env (next ++ all) c ≡ flat_map (due_for b) ds =
+    let same : IsSame b d = record { now = rest.now; tellings = rest.tellings; sessions = rest.sessions; numbers = rest.numbers } in
+    let put : IsPart (due_for ds b) (outputs all) = subst (λ (ps : Packets). IsPart ps (outputs all)) (dues_same ds b d same) (all_delivered env ds d) in
+    let out : IsPart (due_for ds b) (outputs (next ++ all)) = subst (IsPart (due_for ds b)) (sym (outputs_append next all)) (part_behind (due_for ds b) (outputs next) (outputs all) put) in
+    let none : dues env (next ++ all) c ≡ [] = no_dues env (next ++ all) c (other_append next all (lights_other next light) (other_deliveries env ds d)) in
+    let its : due_if (accepted_copies env m b) b ++ dues env (next ++ all) c ≡ due_for ds b =
     ap (λ (ps : Packets). due_if (accepted_copies env m b) b ++ ps) none ∙ append-nil (due_if (accepted_copies env m b) b) ∙ ap (λ (o : Option (List CopyTo)). due_if o b) e in
     subst (λ (ps : Packets). IsPart ps (outputs (next ++ all))) (sym its) out
 
@@ -279,7 +364,7 @@ grants_give env w s b =
     let first : List Deed = Count number ∷ At (whose s) (Subscribe (sub.subscription number s w)) ∷ [] in
     let c = after_all first b in
     let all = series (map (deliver env) (filter is_queued (brought_to w s b))) c in
-    others_give env (first ++ all) b (tt, (tt, lights_other all (light_deliveries env (filter is_queued (brought_to w s b)) c)))
+    others_give env (first ++ all) b (tt, (tt, other_deliveries env (filter is_queued (brought_to w s b)) c))
 
 -- every act tells no more copies of QoS 0 than are due
 pub giving : (env : Env) → Says env whatever Orders (Gives env)

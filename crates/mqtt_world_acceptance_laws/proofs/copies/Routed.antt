@@ -13,13 +13,15 @@ use Rattle.mqtt_rules.specs.Packets.{publish_of}
 use Rattle.mqtt_rules.specs.State.{Broker, Env, session_at, line_of, queue_on}
 use Rattle.mqtt_rules.specs.Deeds.{whose, Message, Origin, Enter, Deed, Accept, Begin, Name, Count, At, Finish, Keep, Forget, RefuseWill, Link, On, Send, Gone, after, after_all, always, series, with_session}
 use Rattle.mqtt_rules.specs.Deeds as deeds
+use Rattle.mqtt_rules.specs.Fitting.{has_form}
 use Rattle.mqtt_rules.specs.Outbound.{leave_deeds, since, queue_limits, enter_deeds}
 use Rattle.mqtt_rules.specs.Routing.{CopyTo, is_queued, deliver_by, deliver, retained_of, forgets, retain_by, next_publication, accepted_copies, publish}
 use Rattle.mqtt_rules.specs.Subscribe as sub
 use Rattle.mqtt_rules.specs.Step.{Call, at_moment, env_of, deeds_of, deeds, opening, unopened}
+use Rattle.mqtt_rules.proofs.acts.Offers.{of_offer_if}
 use Rattle.mqtt_rules.proofs.acts.Goods.{AreGood, good_append}
 use Rattle.mqtt_rules.proofs.acts.Acts.{brought_to}
-use Rattle.mqtt_rules.proofs.order.OrderedActs.{IsPlain, ArePlain, Keeping, leads_all, leads_open, plain_flat, plain_leave, plain_offer}
+use Rattle.mqtt_rules.proofs.order.OrderedActs.{IsPlain, ArePlain, Keeping, leads_all, leads_open, plain_flat, plain_leave}
 use Rattle.mqtt_world_model.specs.World.{World, Setting, Event, publisher, receiver, connect_end, give_up, publish as publishes, subscribe, to_end, clock, ask, restart, stop_before, stop_after, Asking, to_broker, old_to_broker, break, pump, tick, stranger, stranger_named, calls_if, comes, next_held, call_of_stranger, held_count, before, call_of, first_step, is_bad}
 use Rattle.mqtt_world_model.specs.Run.{Turn, setting, turned, Acceptance, acceptances_of, acceptances_over, read_if, read_rest, read_first, read_asked, read_opening, read_in, the_acceptances}
 use Rattle.mqtt_world_acceptance_laws.specs.Copies.{IsRouted, AreRouted}
@@ -88,7 +90,7 @@ module _ (env : Env) where
       by : (o : Option Session) → AreGood Good (with_session o (λ s. always (enter_deeds env d.copy s)) b) b
       by None = tt
       by (Some s) = good_enter d.copy s b
-  good_deliver false d b = plains_good (deliver_by false env d b) b (plain_offer (line_of d.birth b) (publish_of b.now false 0 d.copy))
+  good_deliver false d b = of_offer_if (λ (ds : List Deed). AreGood Good ds b) (has_form d.copy b) (line_of d.birth b) (publish_of b.now false 0 d.copy) tt (λ l there. (tt, tt))
 
   good_deliveries : (ds : List CopyTo) (b : Broker) → AreGood Good (series (map (deliver env) ds) b) b
   good_deliveries [] b = tt

@@ -113,7 +113,7 @@ module _ (window n : ℕ) where
       resumes = λ l c s b o its none came taken own is prepared. ((tt, (suits l c none its came, tt)), tt);
       begins = λ l c b o its none came taken name is room prepared. (begin_fits (is_empty c.client_identifier) l c b.records b (suits l c none its came), tt);
       grants = λ w s b o its asked granted. (quiet_all (sub.granted_filter env (sub.next_number b.records) s w (brought_to w s b) b).deeds b (quiet_grants env w s b), tt);
-      pumps = λ l s b o its is there. (quiet_all (pump_deeds l b.now s) b (quiet_pump l b.now s b), tt);
+      pumps = λ l s b o its is there. (quiet_all (pump_deeds l b s) b (quiet_pump l s b), tt);
       turns = λ a t l s b o its own there is e. (quiet_all (turn_deeds b.now l.number s t) b (quiet_turn b.now l.number s t b), tt);
       lapses = λ s b o among. (quiet_all (lapse_deeds b.now s) b (quiet_lapses b.now s b), tt);
       stale = λ k b o among. ((tt, tt), tt);

@@ -1,5 +1,5 @@
 -- How a world may begin: with nothing stored, or opened on what a broker left (MQTT 5.0, 4.1).
-use Rattle.std.proofs.Common.{ℕ, ◌≤◌}
+use Rattle.std.proofs.Common.{ℕ, ◌≤◌, refl}
 use Rattle.mqtt_base.specs.declared.session.Cause.TheVariants.{Direct}
 use Rattle.mqtt_base.specs.declared.session.CopyId.{CopyId}
 use Rattle.mqtt_records.specs.declared.records.Records.{Records}
@@ -15,6 +15,7 @@ use Rattle.mqtt_world_acceptance_laws.specs.Fair.{MayOpen, opened_world}
 use Rattle.mqtt_world_acceptance_laws.proofs.copies.Entries.{opening_counted}
 use Rattle.mqtt_world_acceptance_laws.proofs.publishers.Runs.{opened_new, start_new}
 use Rattle.mqtt_world_receiver_laws.proofs.connects.Stopping.{opening_tidy}
+use Rattle.mqtt_world_untold_laws.proofs.Calls.{opened_untold}
 use Rattle.mqtt_world_delivery_laws.specs.Untouched.{IsUntouched}
 use Rattle.mqtt_world_delivery_laws.specs.Retaining.{AreRetainedOnce}
 use Rattle.mqtt_world_delivery_laws.proofs.broker.Unused.{opening_unused}
@@ -28,6 +29,7 @@ start_untouched limits within =
       distinct = tt;
       retained = tt;
       unused = tt;
+      untold = λ n less. refl;
     }
 
 -- so is one that opens over what was stored
@@ -42,6 +44,7 @@ opened_untouched limits choice now r within may distinct once = record {
     differ = once;
   })).kept.differ;
   unused = opening_unused limits choice now r;
+  untold = λ n less. opened_untold limits choice now r n;
 }
   where
     any_copy : CopyId

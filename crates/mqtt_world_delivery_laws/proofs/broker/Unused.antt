@@ -25,14 +25,16 @@ use Rattle.mqtt_records.specs.declared.session.Session.{Session}
 use Rattle.mqtt_records_rows.specs.Order.{row_at}
 use Rattle.mqtt_rules.proofs.acts.Acts.{About as Whom, IsAnswer, IsCallOf, IsOn, Law, brought_to, closing, closing_on, closing_session, found_on, leads_call, leads_drop, leads_opening, leads_prepare, leads_refused, stays_on}
 use Rattle.mqtt_rules.proofs.flight.FlightRows.{all_found, all_more, found_key}
-use Rattle.mqtt_rules.proofs.acts.Goods.{AreGood, GoodAct, after_append, good_acts, good_append, good_cond, good_flat, good_map, good_of_entry, good_series, good_with_session}
+use Rattle.mqtt_rules.proofs.acts.Goods.{AreGood, GoodAct, after_append, good_acts, good_append, good_flat, good_map, good_of_entry, good_series, good_with_session}
 use Rattle.mqtt_rules.proofs.acts.Leads.{Leads, found_among, leads_good}
 use Rattle.mqtt_rules.proofs.numbers.NumberBirths.{below_found}
 use Rattle.mqtt_rules.specs.Closing.{drop_line, end_session}
 use Rattle.mqtt_rules.specs.Connect.{begin_named, connect_by, joins, largest_of, on_connect, prepare, refusal, refused, resume, window_of}
-use Rattle.mqtt_rules.specs.Deeds.{At, Close, Count, Deed, Enter, Finish, Forget, FromClient, Gone, Greet, Hear, Leave, LinePart, Link, Message, On, Open, Origin, Part, RefuseWill, Send, SetAlias, Went, after, after_all, always, fresh_line, given_after, line_after, lines_after, lines_at, offer, on_line, rows_of_all, series, whose, with_line, with_session, without_place}
+use Rattle.mqtt_rules.specs.Deeds.{At, Close, Count, Deed, Enter, Finish, Forget, FromClient, Gone, Greet, Hear, Leave, LinePart, Link, Message, On, Open, Origin, Part, RefuseWill, Send, SetAlias, Went, after, after_all, always, fresh_line, given_after, line_after, lines_after, lines_at, on_line, rows_of_all, series, whose, with_line, with_session, without_place}
 use Rattle.mqtt_rules.specs.Deeds as deeds
-use Rattle.mqtt_rules.specs.Inbound.{pump_deeds, pump_turns}
+use Rattle.mqtt_rules.proofs.acts.Offers.{of_offer_if}
+use Rattle.mqtt_rules.specs.Fitting.{has_form, pump_turns}
+use Rattle.mqtt_rules.specs.Inbound.{pump_deeds}
 use Rattle.mqtt_rules.specs.Lines.{HasUniqueLines, line_number}
 use Rattle.mqtt_rules.specs.Outbound.{all_turn_deeds, enter_deeds, leave_deeds, queue_limits, since, turn_deeds}
 use Rattle.mqtt_rules.specs.Packets.{publish_of, pubrel}
@@ -177,13 +179,10 @@ module _ (joined : ℕ → Bool) where
       let ts = way_made (queue_limits env) (since env s) (queue_on [] s) in
       good_append IsSafe (flat_map (leave_deeds s) ts) (At (whose s) (Enter copy) ∷ []) b (good_flat IsSafe (leave_deeds s) (safe_leave s) ts b) (tt, tt)
 
-  safe_offer : (o : Option Line) (packet : Packet) (b : Broker) → AreGood IsSafe (offer o packet) b
-  safe_offer None packet b = tt
-  safe_offer (Some l) packet b = good_cond IsSafe _ (Send l.number packet ∷ []) [] b (tt, tt) tt
-
   safe_deliver_by : (t : Bool) (env : Env) (d : CopyTo) (b : Broker) → AreGood IsSafe (deliver_by t env d b) b
   safe_deliver_by true env d b = good_with_session IsSafe (session_at d.birth b.records) (λ s. always (enter_deeds env d.copy s)) b (λ s e. safe_enter env d.copy s b)
-  safe_deliver_by false env d b = safe_offer (line_of d.birth b) (publish_of b.now false 0 d.copy) b
+  safe_deliver_by false env d b =
+      of_offer_if (λ (ds : List Deed). AreGood IsSafe ds b) (has_form d.copy b) (line_of d.birth b) (publish_of b.now false 0 d.copy) tt (λ l there. (tt, tt))
 
   safe_deliver : (env : Env) (d : CopyTo) → GoodAct IsSafe (deliver env d)
   safe_deliver env d b = safe_deliver_by (is_queued d) env d b
@@ -282,7 +281,7 @@ module _ (joined : ℕ → Bool) where
     begins = λ l c b k its none came taken name is room prepared. absurd came;
     grants = λ w s b k its asked granted. led (sub.granted_filter env (sub.next_number b.records) s w (brought_to w s b) b).deeds b k (safe_grants env w s b);
     pumps = λ l s b k its is there.
-        led (pump_deeds l b.now s) b k (good_flat IsSafe (turn_deeds b.now l.number s) (λ t x. safe_turn b.now l.number s t x (sends_there l s.birth its is)) (pump_turns l b.now s) b);
+        led (pump_deeds l b s) b k (good_flat IsSafe (turn_deeds b.now l.number s) (λ t x. safe_turn b.now l.number s t x (sends_there l s.birth its is)) (pump_turns l b s) b);
     turns = λ a t l s b k its own there is e. led (turn_deeds b.now l.number s t) b k (safe_reply b.now l.number s t b (subst IsReply e (replies a l s is)));
     lapses = λ s b k among. led (lapse_deeds b.now s) b k (good_flat IsSafe (leave_deeds s) (safe_leave s) (lapses b.now s) b);
     stale = λ x b k among. led (Forget x.place ∷ []) b k (tt, tt);

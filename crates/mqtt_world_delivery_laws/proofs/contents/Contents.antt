@@ -32,11 +32,13 @@ use Rattle.mqtt_rules.proofs.acts.Acts.{brought_to}
 use Rattle.mqtt_rules.proofs.numbers.Copies.{each_all, each_append, each_filter, each_flat, each_map, each_more}
 use Rattle.mqtt_rules.proofs.flight.FlightRows.{all_changed, all_put}
 use Rattle.mqtt_rules.proofs.acts.Goods.{after_append}
-use Rattle.mqtt_rules.specs.Deeds.{Accept, At, Begin, Close, Count, Deed, DropWill, Enter, Finish, Forget, Gone, Keep, Leave, Link, Mark, Message, Name, On, Open, Origin, Part, RefuseWill, Release, Resume, Send, SetExpiry, Subscribe, Unsubscribe, Whose, after, after_all, always, new_entry, offer, part_rows, part_rows_of, rows_of_all, series, stored_after, whose, with_session}
+use Rattle.mqtt_rules.specs.Deeds.{Accept, At, Begin, Close, Count, Deed, DropWill, Enter, Finish, Forget, Gone, Keep, Leave, Link, Mark, Message, Name, On, Open, Origin, Part, RefuseWill, Release, Resume, Send, SetExpiry, Subscribe, Unsubscribe, Whose, after, after_all, always, new_entry, part_rows, part_rows_of, rows_of_all, series, stored_after, whose, with_session}
 use Rattle.mqtt_rules.specs.Connect.{begin_named}
 use Rattle.mqtt_rules.specs.Inbound.{opens}
 use Rattle.mqtt_rules.specs.Laws.{IsAmong}
 use Rattle.mqtt_rules.specs.Outbound.{enter_deeds, leave_deeds, queue_limits, since}
+use Rattle.mqtt_rules.proofs.acts.Offers.{of_offer_if}
+use Rattle.mqtt_rules.specs.Fitting.{has_form}
 use Rattle.mqtt_rules.specs.Packets.{publish_of}
 use Rattle.mqtt_rules.specs.Routing.{CopyTo, accepted_copies, accepted_if, copies_to, copy_to, deliver, deliver_by, finds_place, forgets, is_queued, next_publication, publish, retain_by, retained_of, routing_of, served_copies_to}
 use Rattle.mqtt_rules.specs.State.{Broker, Env, Line, line_of, queue_on, session_at}
@@ -44,7 +46,7 @@ use Rattle.mqtt_rules.specs.Step.{at_moment, deeds, env_of, opening, unopened, w
 use Rattle.mqtt_rules.specs.Subscribe as sub
 use Rattle.mqtt_rules.specs.declared.Limits.{Limits}
 use Rattle.mqtt_world_acceptance_laws.proofs.copies.EachAct.{Says, call_says, opening_says, whatever}
-use Rattle.mqtt_world_acceptance_laws.proofs.copies.Entering.{AreCalm, IsCalm, calm_forgets, calm_leaves, calm_offer}
+use Rattle.mqtt_world_acceptance_laws.proofs.copies.Entering.{AreCalm, IsCalm, calm_forgets, calm_leaves}
 use Rattle.mqtt_world_acceptance_laws.proofs.copies.Walks.{Walk}
 
 -- ---- what was accepted, by its number
@@ -215,7 +217,7 @@ module _ (base : ℕ) (xs : List Numbered) where
       by : (o : Option Session) → BringSaid (with_session o (λ s. always (enter_deeds env d.copy s)) b)
       by None = tt
       by (Some s) = enter_said env d s h
-  deliver_said false env d b h = all_calm (offer (line_of d.birth b) (publish_of b.now false 0 d.copy)) (calm_offer (line_of d.birth b) (publish_of b.now false 0 d.copy))
+  deliver_said false env d b h = of_offer_if BringSaid (has_form d.copy b) (line_of d.birth b) (publish_of b.now false 0 d.copy) tt (λ l there. (tt, tt))
 
   deliveries_said : (env : Env) (ds : List CopyTo) (b : Broker) → AllByRecursion CopySaid ds → BringSaid (series (map (deliver env) ds) b)
   deliveries_said env [] b h = tt

@@ -46,6 +46,7 @@ use Rattle.mqtt_world_delivery_laws.specs.Standing.{BeginWith, GoesAlong, IsPlac
 use Rattle.mqtt_world_delivery_laws.specs.Taking.{EachTakes, ReceiverTakes, any_size}
 use Rattle.mqtt_world_delivery_laws.specs.Untouched.{IsUntouched}
 use Rattle.mqtt_world_delivery_laws.proofs.drains.Drains.{MayBeDrained, connection_of, over_if}
+use Rattle.mqtt_world_delivery_laws.proofs.own.Untold.{untold_there}
 use Rattle.mqtt_world_delivery_laws.proofs.whole.EveryRun.{fair_run_kept, over_or_drained, takes_some}
 use Rattle.mqtt_world_delivery_laws.proofs.own.Fronts.{Awaits, calm_front, front}
 use Rattle.mqtt_world_delivery_laws.proofs.own.Greetings.{may_renew, may_resume, spared_left}
@@ -191,7 +192,7 @@ module _ (c : List ℕ) (limits : Limits) (choice : MemberChoice) (v : World) (k
   -- its session is connected on its line
   ends_connected : (birth : ℕ) → placed.birth ≡ Some birth → r.line.number ≡ Some placed.line → connected_at placed.line v.broker.lines ≡ Some (Some birth) → is_over c v ≡ false → AsksOnce r.line.up → Ends (course_of r.line.up) last
   ends_connected birth own at there over once =
-      let k = connection_of c any_size limits s.ids s.ns r v s.standing e kept.fit.distinct (takes_some c v kept.fit.takes) placed birth own at there in
+      let k = connection_of c any_size limits s.ids s.ns r v s.standing e kept.fit.distinct (takes_some c v kept.fit.takes kept.fit.untold) placed birth own at there in
       let x = run_now in
       let calm = calm_up (place_of s.ids) any_size x.after r v.broker x.run_is (connected_linked placed.line birth r.line.number v.broker at there) in
       elim (courses r.line.up calm) [
@@ -233,6 +234,7 @@ module _ (c : List ℕ) (limits : Limits) (choice : MemberChoice) (v : World) (k
       steady = s.standing.around.steady;
       ordered = s.standing.around.steady.coherent.ordered;
       distinct = kept.fit.distinct;
+      untold = untold_there c r l.number v kept.fit.untold e here.number;
       unspent = connect_unspent c limits choice clean v r l e alone here up down unspent;
     }
 

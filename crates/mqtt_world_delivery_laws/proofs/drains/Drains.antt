@@ -22,6 +22,7 @@ use Rattle.mqtt_world_receiver_laws.specs.Drains.{after_round, all_to_broker, al
 use Rattle.mqtt_world_receiver_laws.specs.WorldRounds.{IsAnswer, IsConnected, MayDrain}
 use Rattle.mqtt_world_receiver_laws.proofs.drains.DrainRuns.{run_append}
 use Rattle.mqtt_world_receiver_laws.proofs.drains.WorldRounds.{drain_over_later, drain_within_later}
+use Rattle.mqtt_world_untold_laws.specs.Untold.{IsUntold}
 use Rattle.mqtt_world_delivery_laws.specs.Standing.{GoesAlong, IsPlaced, IsSeen, Stands, StandsWith, line_like, packet_like}
 use Rattle.mqtt_world_delivery_laws.proofs.others.Around.{changed_its, on_back}
 use Rattle.mqtt_world_delivery_laws.proofs.others.Like.{closed_stands, none_stands}
@@ -157,9 +158,9 @@ pub record MayBeDrained (c : List ℕ) (largest : ℕ) (v : World) : Type 0 wher
   pub receiver : Receiver
   pub may : MayDrain largest window ids birth ns c receiver v
 
--- its connected line has this Maximum Packet Size, and a Receive Maximum
+-- its connected line has this Maximum Packet Size, and a Receive Maximum, and nothing was told on it
 abbrev pub TakesSome : List ℕ → ℕ → World → Type 0
-TakesSome c largest v = (r : Receiver) (n birth : ℕ) (l : BrokerLine) → receiver_named c v ≡ Some r → r.line.number ≡ Some n → line_at n v.broker ≡ Some l → l.session ≡ Some birth → (l.largest ≡ largest) × (1 ≤ l.window)
+TakesSome c largest v = (r : Receiver) (n birth : ℕ) (l : BrokerLine) → receiver_named c v ≡ Some r → r.line.number ≡ Some n → line_at n v.broker ≡ Some l → l.session ≡ Some birth → (l.largest ≡ largest) × (1 ≤ l.window) × IsUntold n v.broker
 
 -- a drain is over if one of its two reasons holds
 pub over_if : (a b : Bool) → b ≡ false → (a || not b) ≡ true
@@ -193,6 +194,7 @@ connection_of c largest limits ids ns r v s e distinct takes placed birth own at
         connected = x.2;
         window_is = refl;
         largest_is = size.0;
+        untold = size.2;
         apart = not_among r.line.old_number l.number (λ f. placed.apart l.number number f);
         unique = s.around.steady.lines;
         ordered = s.around.steady.coherent.ordered;

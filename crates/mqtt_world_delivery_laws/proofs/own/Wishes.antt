@@ -1,7 +1,7 @@
 -- The broker reads a receiver's SUBSCRIBE, on its line or on the one that it gave up, while its session is connected (MQTT
 -- 5.0, 3.3.1.3, 3.8.4, 4.4).
 use Rattle.std.proofs.Common.{◌≡◌, ℕ, ◌≤◌, Bool, true, false, cond, List, [], ◌∷◌, ◌++◌, filter, map, Option, Some, None, subst, inl, inr}
-use Rattle.std.specs.Prelude.{flat_map, nat_le}
+use Rattle.std.specs.Prelude.{nat_le}
 use Rattle.std.specs.List.{AllByRecursion}
 use Rattle.mqtt_base.specs.Codes.{identifier_in_use}
 use Rattle.mqtt_base.specs.declared.session.CopyId.{CopyId}
@@ -24,6 +24,8 @@ use Rattle.mqtt_rules.proofs.numbers.NumberSteps.{step_fell}
 use Rattle.mqtt_rules.specs.Deeds.{At, Count, Deed, Send, after_all, offer, series, whose}
 use Rattle.mqtt_rules.specs.Deeds as deeds
 use Rattle.mqtt_rules.specs.Laws.{IsCoherentMessage}
+use Rattle.mqtt_rules.proofs.acts.Offers.{of_offer_if}
+use Rattle.mqtt_rules.specs.Fitting.{has_form}
 use Rattle.mqtt_rules.specs.Packets.{publish_of, size_of, suback}
 use Rattle.mqtt_rules.specs.Routing.{CopyTo, deliver, is_queued}
 use Rattle.mqtt_rules.specs.State.{Line as BrokerLine, Broker, Env, MemberChoice, line_at, session_at}
@@ -62,10 +64,13 @@ module _ (client : List ℕ) (birth n : ℕ) where
       by true = (inr tt, tt)
       by false = tt
 
-  mine_late : (line now : ℕ) (b : Broker) (ds : List CopyTo) → AreMine client birth n (flat_map (λ (d : CopyTo). sub.late_sends line now d b) ds)
-  mine_late line now b [] = tt
-  mine_late line now b (d ∷ ds) =
-      mine_append client birth n (sub.late_sends line now d b) (flat_map (λ (x : CopyTo). sub.late_sends line now x b) ds) (mine_offer (line_at line b) (publish_of now false 0 d.copy)) (mine_late line now b ds)
+  mine_late : (line : ℕ) (b : Broker) (ds : List CopyTo) → AreMine client birth n (series (map (sub.late_send line) ds) b)
+  mine_late line b [] = tt
+  mine_late line b (d ∷ ds) =
+      let first = sub.late_send line d b in
+      let rest = after_all first b in
+      mine_append client birth n first (series (map (sub.late_send line) ds) rest)
+      (of_offer_if (AreMine client birth n) (has_form d.copy b) (line_at line b) (publish_of b.now false 0 d.copy) tt (λ l there. (inr tt, tt))) (mine_late line rest ds)
 
   mine_grants : (t u : Bool) (env : Env) (w : sub.Wish) (s : Session) (b : Broker) → AreMine client birth n (sub.answer_by t u env (sub.next_number b.records) s w (brought_to w s b) b).deeds
   mine_grants false u env w s b = tt
@@ -90,11 +95,12 @@ module _ (client : List ℕ) (birth n : ℕ) where
       mine_append client birth n g.deeds more.deeds (mine_filter env (sub.wish_of identifier a) (session_at k b.records) b) (mine_filters env k identifier rest (after_all g.deeds b))
 
   mine_answers : (a : sub.FilterAnswers) (line identifier : ℕ) (b : Broker) → AreMine client birth n a.deeds
-      → AreMine client birth n (a.deeds ++ offer (line_at line b) (suback identifier a.codes) ++ flat_map (λ (d : CopyTo). sub.late_sends line b.now d b) a.late)
+      → (let told = a.deeds ++ offer (line_at line b) (suback identifier a.codes) in AreMine client birth n (told ++ series (map (sub.late_send line) a.late) (after_all told b)))
   mine_answers a line identifier b h =
       let tells = offer (line_at line b) (suback identifier a.codes) in
-      let lates = flat_map (λ (d : CopyTo). sub.late_sends line b.now d b) a.late in
-      mine_append client birth n (a.deeds ++ tells) lates (mine_append client birth n a.deeds tells h (mine_offer (line_at line b) (suback identifier a.codes))) (mine_late line b.now b a.late)
+      let c = after_all (a.deeds ++ tells) b in
+      mine_append client birth n (a.deeds ++ tells) (series (map (sub.late_send line) a.late) c)
+      (mine_append client birth n a.deeds tells h (mine_offer (line_at line b) (suback identifier a.codes))) (mine_late line c a.late)
 
   mine_subscribe : (t : Bool) (env : Env) (line : ℕ) (s : Session) (p : Asking) (b : Broker) → AreMine client birth n (sub.subscribe_by t env line s p b)
   mine_subscribe true env line s p b = mine_offer (line_at line b) (suback p.identifier (map (λ (x : Asked). identifier_in_use) p.subscriptions))

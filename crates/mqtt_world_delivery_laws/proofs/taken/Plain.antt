@@ -47,12 +47,14 @@ use Rattle.mqtt_topic.specs.Names.{is_empty}
 use Rattle.mqtt_rules.specs.Closing.{close, close_connected, close_session, drop_line, end_session, has_due_end, has_due_will, publish_or_refuse, publish_will, settle, will_deeds, will_message}
 use Rattle.mqtt_rules.specs.Connect.{begin_named, clear, connect_by, joins, largest_of, of_client, prepare, refusal, refusal_size, refused, resume, take_over}
 use Rattle.mqtt_rules.specs.Deeds.{Whose, whose, Message, Origin, FromClient, FromWill, Close, Count, DropWill, Leave, Subscribe, Hear, Deed, Accept, At, Enter, Forget, Link, On, Send, Gone, Finish, Act, after, after_all, always, of_session, offer, only_if, series, with_line, with_session}
-use Rattle.mqtt_rules.specs.Inbound.{Meaning, Means, Wrong, answer, code_accepted, code_again, leave_by, meaning, message_of, new_expiry, on_answer, opens, publish_by, publish_meant, publish_new, pump_deeds, pump_turns, release_by, sets_alias, standing}
+use Rattle.mqtt_rules.proofs.acts.Offers.{of_offer_if}
+use Rattle.mqtt_rules.specs.Fitting.{fitted, has_form, pump_turns, size_at, sized}
+use Rattle.mqtt_rules.specs.Inbound.{Meaning, Means, Wrong, answer, code_accepted, code_again, leave_by, meaning, message_of, new_expiry, on_answer, opens, publish_by, publish_meant, publish_new, pump_deeds, release_by, sets_alias, standing}
 use Rattle.mqtt_rules.specs.Outbound.{all_turn_deeds, enter_deeds, leave_deeds, of_entry, queue_limits, since, turn_deeds, way_of}
 use Rattle.mqtt_rules.specs.Packets.{connack, disconnect, publish_of, suback, unsuback}
 use Rattle.mqtt_records_message.specs.PassedOn.{number_at}
 use Rattle.mqtt_rules.specs.Routing.{CopyTo, accepted_copies, deliver, deliver_by, forgets, is_queued, is_queued_at, is_wanted, next_publication, publish, retain_by, retained_of}
-use Rattle.mqtt_rules.specs.State.{Broker, Env, Line, MemberChoice, is_connected, line_at, line_of, queue_on, session_at, session_named}
+use Rattle.mqtt_rules.specs.State.{Broker, Env, Line, MemberChoice, is_connected, line_at, line_of, queue_on, session_at, session_named, told_on}
 use Rattle.mqtt_rules.specs.Step.{Call, NewLine, Input, BadInput, Lost, Pump, Tick, at_moment, can_link, close_if, deeds, deeds_of, env_of, first_packet, late_code, next_packet, on_fault, on_packet, on_pump, opening}
 use Rattle.mqtt_rules.specs.Subscribe as sub
 use Rattle.mqtt_rules.specs.Tick.{due, first_due, has_lapsed, is_silent, is_stale, lapse_deeds, lapses, on_tick, silence}
@@ -287,7 +289,7 @@ module _ (env : Env) where
     where
       by : (t : Bool) → is_queued d ≡ t → ArePlain (deliver_by t env d b)
       by true e = on_birth d.birth (λ s. always (enter_deeds env d.copy s)) (λ s a. plain_enter env d.copy s) b
-      by false e = plain_offer (line_of d.birth b) (publish_of b.now false 0 d.copy) (no_copy b.now false 0 d.copy e)
+      by false e = of_offer_if ArePlain (has_form d.copy b) (line_of d.birth b) (publish_of b.now false 0 d.copy) tt (λ l there. (no_copy b.now false 0 d.copy e, tt))
 
   all_delivering : (ds : List CopyTo) → AllByRecursion Plainly (map (deliver env) ds)
   all_delivering [] = tt
@@ -425,10 +427,13 @@ module _ (env : Env) where
       let others = filters_told birth identifier rest (after_all g.deeds b) in
       record { plain = each_append IsPlain g.deeds h.deeds first.plain others.plain; late = each_append IsLate g.late h.late first.late others.late }
 
-  late_plain : (line now : ℕ) (b : Broker) (ds : List CopyTo) → AllByRecursion IsLate ds → ArePlain (flat_map (λ d. sub.late_sends line now d b) ds)
-  late_plain line now b [] h = tt
-  late_plain line now b (d ∷ ds) h =
-      each_append IsPlain (sub.late_sends line now d b) (flat_map (λ e. sub.late_sends line now e b) ds) (plain_offer (line_at line b) (publish_of now false 0 d.copy) (no_copy now false 0 d.copy h.0)) (late_plain line now b ds h.1)
+  late_plain : (line : ℕ) (b : Broker) (ds : List CopyTo) → AllByRecursion IsLate ds → ArePlain (series (map (sub.late_send line) ds) b)
+  late_plain line b [] h = tt
+  late_plain line b (d ∷ ds) h =
+      let first = sub.late_send line d b in
+      let rest = after_all first b in
+      each_append IsPlain first (series (map (sub.late_send line) ds) rest)
+      (of_offer_if ArePlain (has_form d.copy b) (line_at line b) (publish_of b.now false 0 d.copy) tt (λ l there. (no_copy b.now false 0 d.copy h.0, tt))) (late_plain line rest ds h.1)
 
   subscribing : (t : Bool) (line : ℕ) (s : Session) (p : Asking) → Plainly (sub.subscribe_by t env line s p)
   subscribing true line s p b = plain_offer (line_at line b) (suback p.identifier (map (λ a. identifier_in_use) p.subscriptions)) tt
@@ -436,8 +441,8 @@ module _ (env : Env) where
       let a = sub.filter_answers env s.birth (number_at SubscriptionIdentifier p.properties) p.subscriptions b in
       let all = filters_told s.birth (number_at SubscriptionIdentifier p.properties) p.subscriptions b in
       let told = offer (line_at line b) (suback p.identifier a.codes) in
-      let late = flat_map (λ d. sub.late_sends line b.now d b) a.late in
-      each_append IsPlain (a.deeds ++ told) late (each_append IsPlain a.deeds told all.plain (plain_offer (line_at line b) (suback p.identifier a.codes) tt)) (late_plain line b.now b a.late all.late)
+      let c = after_all (a.deeds ++ told) b in
+      each_append IsPlain (a.deeds ++ told) (series (map (sub.late_send line) a.late) c) (each_append IsPlain a.deeds told all.plain (plain_offer (line_at line b) (suback p.identifier a.codes) tt)) (late_plain line c a.late all.late)
 
   -- ---- tick
 
@@ -689,10 +694,12 @@ untaken_turns now line s (t ∷ ts) h = each_append IsUntaken (turn_deeds now li
 untaken_pump : (env : Env) (n : ℕ) (b : Broker) → AllByRecursion IsUntaken (deeds_of env (Pump n) b)
 untaken_pump env n b = by (line_at n b)
   where
-    sent : (l : Line) (s : Session) → AllByRecursion IsUntaken (pump_deeds l b.now s)
-    sent l s = untaken_turns b.now l.number s (pump_turns l b.now s) (pump_ends (way_of l b.now) (queue_on l.went s) (pace (way_of l b.now) (queue_on l.went s)))
+    sent : (l : Line) (s : Session) → AllByRecursion IsUntaken (pump_deeds l b s)
+    sent l s =
+        let rows = map (sized (size_at (fitted l b.now (told_on l.number b.tellings) s.queue)) l.went) s.queue in
+        untaken_turns b.now l.number s (pump_turns l b s) (pump_ends (way_of l b.now) rows (pace (way_of l b.now) rows))
 
-    to_session : (l : Line) (o : Option Session) → AllByRecursion IsUntaken (with_session o (λ s. always (pump_deeds l b.now s)) b)
+    to_session : (l : Line) (o : Option Session) → AllByRecursion IsUntaken (with_session o (λ s. always (pump_deeds l b s)) b)
     to_session l None = tt
     to_session l (Some s) = sent l s
 

@@ -22,7 +22,8 @@ use Rattle.mqtt_rules.specs.Outbound.{of_entry, leave_deeds, turn_deeds}
 use Rattle.mqtt_rules.specs.Routing.{CopyTo, is_queued, deliver, publish}
 use Rattle.mqtt_rules.specs.Closing.{is_due, will_due, end_due, has_due_will, has_due_end, end_session}
 use Rattle.mqtt_rules.specs.Connect.{expiry_of, will_of, greet, begin, begin_named}
-use Rattle.mqtt_rules.specs.Inbound.{pump_turns, pump_deeds}
+use Rattle.mqtt_rules.specs.Fitting.{pump_turns}
+use Rattle.mqtt_rules.specs.Inbound.{pump_deeds}
 use Rattle.mqtt_rules.specs.Subscribe as sub
 use Rattle.mqtt_rules.specs.Tick.{is_silent, lapses, lapse_deeds}
 use Rattle.mqtt_rules.specs.Step.{Call, NewLine, Input, BadInput, Lost, Pump, Tick, on_pump, deeds_of}
@@ -242,7 +243,7 @@ module _ (client : List ℕ) (birth n : ℕ) where
     resumes = λ l c s b o its none came taken own is prepared. led (At (whose s) (Resume (expiry_of c) (will_of c)) ∷ greet l c s.birth ∷ []) b o (inl (inl own), (far_greet l c s.birth its own, tt));
     begins = λ l c b o its none came taken name is room prepared. led (begin_named (is_empty c.client_identifier) l c b.records) b o (far_begin_named (is_empty c.client_identifier) l c b.records its came plain o.births);
     grants = λ w s b o its asked granted. led (sub.granted_filter env (sub.next_number b.records) s w (brought_to w s b) b).deeds b o (far_grants env w s b);
-    pumps = λ l s b o its is there. led (pump_deeds l b.now s) b o (far_turns b.now l.number s (pump_turns l b.now s));
+    pumps = λ l s b o its is there. led (pump_deeds l b s) b o (far_turns b.now l.number s (pump_turns l b s));
     turns = λ a t l s b o its own there is e. led (turn_deeds b.now l.number s t) b o (far_turn b.now l.number s t);
     lapses = λ s b o among. led (lapse_deeds b.now s) b o (far_flat (leave_deeds s) (λ t. far_quiet (leave_deeds s t) (quiet_leave birth n s t)) (lapses b.now s));
     stale = λ k b o among. led (Forget k.place ∷ []) b o (inl tt, tt);
@@ -268,9 +269,9 @@ module _ (client : List ℕ) (birth n : ℕ) where
   far_pump l None b = tt
   far_pump l (Some k) b = found (session_at k b.records)
     where
-      found : (x : Option Session) → Far (with_session x (λ s. always (pump_deeds l b.now s)) b)
+      found : (x : Option Session) → Far (with_session x (λ s. always (pump_deeds l b s)) b)
       found None = tt
-      found (Some s) = far_turns b.now l.number s (pump_turns l b.now s)
+      found (Some s) = far_turns b.now l.number s (pump_turns l b s)
 
   -- a call on another line, for another client, does far deeds
   pub far_call : (env : Env) (call : Call) (b : Broker) → Own client birth n b → starts_with nat_eq client auto ≡ false → IsFarCall client n call → Far (deeds_of env call b)

@@ -19,11 +19,12 @@ use Rattle.mqtt_records_rows.specs.Order.{row_at}
 use Rattle.mqtt_records.specs.Session.{birth_of, copy_place}
 use Rattle.mqtt_rules.specs.Packets.{publish_of}
 use Rattle.mqtt_rules.specs.State.{Line, Broker, Env, session_at, line_of, is_of, queue_on}
-use Rattle.mqtt_rules.specs.Deeds.{whose, Message, Origin, FromClient, FromWill, Part, Resume, Close, SetExpiry, DropWill, Subscribe, Unsubscribe, Open, Release, Enter, Mark, Leave, LinePart, Hear, Greet, SetAlias, Went, Deed, Accept, Begin, Name, Count, At, Finish, Keep, Forget, RefuseWill, Link, On, Send, Gone, will_row, part_rows, part_rows_of, rows_of, stored_after, line_after, on_line, without_place, lines_at, lines_after, after, after_all, Act, always, series, with_session, offer, output, closing}
+use Rattle.mqtt_rules.specs.Deeds.{whose, Message, Origin, FromClient, FromWill, Part, Resume, Close, SetExpiry, DropWill, Subscribe, Unsubscribe, Open, Release, Enter, Mark, Leave, LinePart, Hear, Greet, SetAlias, Went, Deed, Accept, Begin, Name, Count, At, Finish, Keep, Forget, RefuseWill, Link, On, Send, Gone, will_row, part_rows, part_rows_of, rows_of, stored_after, line_after, on_line, without_place, lines_at, lines_after, after, after_all, Act, always, series, with_session, output, closing}
+use Rattle.mqtt_rules.specs.Fitting.{has_form, offer_copy}
 use Rattle.mqtt_rules.specs.Outbound.{of_entry, leave_deeds, since, queue_limits, enter_deeds}
 use Rattle.mqtt_rules.specs.Routing.{CopyTo, is_queued, deliver_by, deliver, retained_of, forgets, retain_by, next_publication, publish}
 use Rattle.mqtt_rules.specs.Numbers.{birth_given}
-use Rattle.mqtt_rules.proofs.acts.Offers.{of_offer}
+use Rattle.mqtt_rules.proofs.acts.Offers.{of_offer_if}
 use Rattle.mqtt_rules.proofs.flight.FlightRows.{found_key}
 use Rattle.mqtt_world_model.specs.Ends.{heard}
 use Rattle.mqtt_world_model.specs.Run.{client_number}
@@ -392,8 +393,8 @@ quiet_enter birth n env copy s =
     quiet_append birth n (flat_map (leave_deeds s) ts) (At (whose s) (Enter copy) ∷ []) (quiet_flat birth n (leave_deeds s) (quiet_leave birth n s) ts) (inr tt, tt)
 
 -- a copy of QoS 0 is a PUBLISH, which a publisher passes over
-pub quiet_offer : (birth n now : ℕ) (o : Option Line) (copy : MessageCopy) → AreQuiet birth n (offer o (publish_of now false 0 copy))
-quiet_offer birth n now o copy = of_offer (AreQuiet birth n) o (publish_of now false 0 copy) tt (λ l there. (inr refl, tt))
+pub quiet_offer : (birth n : ℕ) (o : Option Line) (copy : MessageCopy) (b : Broker) → AreQuiet birth n (offer_copy o copy b)
+quiet_offer birth n o copy b = of_offer_if (AreQuiet birth n) (has_form copy b) o (publish_of b.now false 0 copy) tt (λ l there. (inr refl, tt))
 
 quiet_with : (birth n : ℕ) (o : Option Session) (f : Session → Act) (b : Broker) → ((s : Session) → AreQuiet birth n (f s b)) → AreQuiet birth n (with_session o f b)
 quiet_with birth n None f b h = tt
@@ -402,7 +403,7 @@ quiet_with birth n (Some s) f b h = h s
 quiet_deliver_by : (birth n : ℕ) (t : Bool) (env : Env) (d : CopyTo) (b : Broker) → AreQuiet birth n (deliver_by t env d b)
 quiet_deliver_by birth n true env d b =
     quiet_with birth n (session_at d.birth b.records) (λ s. always (enter_deeds env d.copy s)) b (λ s. quiet_enter birth n env d.copy s)
-quiet_deliver_by birth n false env d b = quiet_offer birth n b.now (line_of d.birth b) d.copy
+quiet_deliver_by birth n false env d b = quiet_offer birth n (line_of d.birth b) d.copy b
 
 -- deliveries are quiet
 pub quiet_deliveries : (birth n : ℕ) (env : Env) (ds : List CopyTo) (b : Broker) → AreQuiet birth n (series (map (deliver env) ds) b)

@@ -21,7 +21,8 @@ use Rattle.mqtt_rules.specs.Outbound.{of_entry, leave_deeds, turn_deeds}
 use Rattle.mqtt_rules.specs.Routing.{is_queued, deliver, publish}
 use Rattle.mqtt_rules.specs.Closing.{has_due_will, has_due_end, end_session, publish_will, close_connected}
 use Rattle.mqtt_rules.specs.Connect.{expiry_of, will_of, greet, begin_named}
-use Rattle.mqtt_rules.specs.Inbound.{pump_turns, pump_deeds}
+use Rattle.mqtt_rules.specs.Fitting.{pump_turns}
+use Rattle.mqtt_rules.specs.Inbound.{pump_deeds}
 use Rattle.mqtt_rules.specs.Subscribe as sub
 use Rattle.mqtt_rules.specs.Tick.{is_silent, silence, lapses, lapse_deeds, has_lapsed, is_stale, first_due, on_tick}
 use Rattle.mqtt_rules.specs.Step.{Call, NewLine, Input, BadInput, Lost, Pump, Tick, on_pump, deeds_of}
@@ -410,7 +411,7 @@ module _ (n : ℕ) where
     resumes = λ l c s b h its none came taken own is prepared. led (At (whose s) (Resume (expiry_of c) (will_of c)) ∷ greet l c s.birth ∷ []) b h (tt, (inl its, tt));
     begins = λ l c b h its none came taken name is room prepared. led (begin_named (is_empty c.client_identifier) l c b.records) b h (away_begin (is_empty c.client_identifier) l c b.records its);
     grants = λ w s b h its asked granted. led (sub.granted_filter env (sub.next_number b.records) s w (brought_to w s b) b).deeds b h (away_grants env w s b);
-    pumps = λ l s b h its is there. led (pump_deeds l b.now s) b h (away_flat (turn_deeds b.now l.number s) (away_turn b.now l.number s) (pump_turns l b.now s));
+    pumps = λ l s b h its is there. led (pump_deeds l b s) b h (away_flat (turn_deeds b.now l.number s) (away_turn b.now l.number s) (pump_turns l b s));
     turns = λ a t l s b h its own there is e. led (turn_deeds b.now l.number s t) b h (away_turn b.now l.number s t);
     lapses = λ s b h among. led (lapse_deeds b.now s) b h (away_flat (leave_deeds s) (λ t. away_quiet 0 n (leave_deeds s t) (quiet_leave 0 n s t)) (lapses b.now s));
     stale = λ k b h among. led (Forget k.place ∷ []) b h (tt, tt);

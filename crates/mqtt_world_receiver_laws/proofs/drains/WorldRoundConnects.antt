@@ -42,6 +42,7 @@ use Rattle.mqtt_world_receiver_laws.proofs.connects.Beginning.{cut_ids}
 use Rattle.mqtt_world_receiver_laws.proofs.queue.Entering.{long_is, long_renewed}
 use Rattle.mqtt_world_receiver_laws.proofs.connects.Greetings.{HasGreeted, greeted_on, renewed_line, resumed_line}
 use Rattle.mqtt_world_receiver_laws.proofs.queue.Numbers.{place_of, places_number}
+use Rattle.mqtt_world_receiver_laws.proofs.own.Untold.{back_takes, untold_step}
 use Rattle.mqtt_world_receiver_laws.proofs.connects.OwnConnects.{renewal_in_step, resume_in_step}
 use Rattle.mqtt_world_receiver_laws.proofs.connects.Renewing.{renewal_is_run}
 use Rattle.mqtt_world_receiver_laws.proofs.connects.Resuming.{connect_is_run, renewed_ids}
@@ -171,7 +172,8 @@ module _ (limits : Limits) (choice : MemberChoice) (clean : Bool) (client : List
       let p = reads_answer limits choice w.now n (connect clean) r b in
       let linked : is_linked p.line.number d ≡ true = ap (λ (o : Option ℕ). is_linked o d) number_is ∙ (linked_is n d ∙ ap linked_of (greeted_on n birth r.window d g)) in
       let c : IsConnected any_size r.window ids birth ns p d =
-      connected_there number any_size r.window ids birth ns ids n p d k number_is j.apart linked (greeted_goes n birth r.window d g) (steady_step limits choice w.now call b j.within j.steady j.unspent).lines
+      connected_there number any_size r.window ids birth ns ids n p d k number_is j.apart linked (greeted_goes n birth r.window d g)
+      (untold_step limits choice w.now n call b j.untold (back_takes r.client r.window n n (answers (connect clean)))) (steady_step limits choice w.now call b j.within j.steady j.unspent).lines
       (step-ordered limits choice w.now call b j.ordered) (step_keeps limits choice w.now call b j.distinct) in
       let closed = is_one_of r.line.number (told limits choice w.now call b).closed in
       let z : DrainsFrom number r.window ids birth ns client copies came = record {

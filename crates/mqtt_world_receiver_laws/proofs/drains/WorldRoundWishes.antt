@@ -1,7 +1,7 @@
 -- A receiver that is connected and in step: the broker reads its SUBSCRIBE, and it is so again, with the copies of retained
 -- messages that the filter brings.
-use Rattle.std.proofs.Common.{◌≡◌, ℕ, suc, ◌+◌, Bool, true, false, cond, List, [], ◌∷◌, ◌++◌, drop, length, map, Option, Some, None, refl, sym, ap, subst, ◌∙◌, arith}
-use Rattle.std.specs.Prelude.{◌≢◌, flat_map, nat_le, option_map}
+use Rattle.std.proofs.Common.{◌≡◌, ℕ, suc, ◌+◌, Bool, true, false, List, [], ◌∷◌, ◌++◌, drop, length, map, Option, Some, None, refl, sym, ap, subst, ◌∙◌, arith}
+use Rattle.std.specs.Prelude.{◌≢◌, option_map}
 use Rattle.std.specs.List.{AllByRecursion}
 use Rattle.mqtt_base.specs.declared.session.CopyId.{CopyId}
 use Rattle.mqtt_codec.specs.declared.packet.Packet.{Packet}
@@ -21,9 +21,11 @@ use Rattle.mqtt_rules.proofs.acts.Acts.{brought_to}
 use Rattle.mqtt_rules.proofs.acts.Goods.{AreGood, good_append}
 use Rattle.mqtt_rules.proofs.lines.LineActs.{quiet_grants}
 use Rattle.mqtt_rules.proofs.lines.LineRows.{IsQuiet, leaves, still_quiet}
-use Rattle.mqtt_rules.specs.Deeds.{Deed, Send, after_all, offer, rows_of_all}
+use Rattle.mqtt_rules.proofs.acts.Offers.{of_offer, of_offer_if}
+use Rattle.mqtt_rules.specs.Deeds.{Deed, after_all, offer, rows_of_all, series}
+use Rattle.mqtt_rules.specs.Fitting.{has_form}
 use Rattle.mqtt_records_message.specs.PassedOn.{number_at}
-use Rattle.mqtt_rules.specs.Packets.{publish_of, size_of, suback}
+use Rattle.mqtt_rules.specs.Packets.{publish_of, suback}
 use Rattle.mqtt_rules.specs.Routing.{CopyTo}
 use Rattle.mqtt_rules.specs.State.{Line as BrokerLine, Broker, Env, MemberChoice, line_at, session_at}
 use Rattle.mqtt_rules.specs.Step.{Call, Input, at_moment, deeds, env_of, next_packet, stepped}
@@ -38,25 +40,22 @@ use Rattle.mqtt_world_receiver_laws.specs.Served.{IsTidy}
 use Rattle.mqtt_world_receiver_laws.specs.Tags.{AreNumbered, id_of}
 use Rattle.mqtt_world_receiver_laws.specs.WorldRounds.{AreTold, IsConnected, IsOlder}
 use Rattle.mqtt_world_receiver_laws.proofs.own.OwnSubscribes.{LotsOn, wished}
+use Rattle.mqtt_world_receiver_laws.proofs.own.Untold.{back_takes}
 use Rattle.mqtt_world_receiver_laws.proofs.queue.QueueLengths.{IsUpTo}
 use Rattle.mqtt_world_receiver_laws.proofs.drains.WorldRoundSteps.{called_again, listens_now, stays_up}
 
 -- ---- its deeds connect, close and end nobody
 
 quiet_offer : (o : Option BrokerLine) (packet : Packet) (b : Broker) → AreGood IsQuiet (offer o packet) b
-quiet_offer None packet b = tt
-quiet_offer (Some l) packet b = by (nat_le (size_of packet) l.largest)
-  where
-    by : (t : Bool) → AreGood IsQuiet (cond t (Send l.number packet ∷ []) []) b
-    by true = (tt, tt)
-    by false = tt
+quiet_offer o packet b = of_offer (λ (xs : List Deed). AreGood IsQuiet xs b) o packet tt (λ l there. (tt, tt))
 
-quiet_late : (n now : ℕ) (c b : Broker) (ds : List CopyTo) → AreGood IsQuiet (flat_map (λ (d : CopyTo). sub.late_sends n now d c) ds) b
-quiet_late n now c b [] = tt
-quiet_late n now c b (d ∷ ds) =
-    let first = sub.late_sends n now d c in
-    let rest = flat_map (λ (x : CopyTo). sub.late_sends n now x c) ds in
-    good_append IsQuiet first rest b (quiet_offer (line_at n c) (publish_of now false 0 d.copy) b) (quiet_late n now c (after_all first b) ds)
+quiet_late : (n : ℕ) (b : Broker) (ds : List CopyTo) → AreGood IsQuiet (series (map (sub.late_send n) ds) b) b
+quiet_late n b [] = tt
+quiet_late n b (d ∷ ds) =
+    let first = sub.late_send n d b in
+    let rest = after_all first b in
+    good_append IsQuiet first (series (map (sub.late_send n) ds) rest) b
+    (of_offer_if (λ (xs : List Deed). AreGood IsQuiet xs b) (has_form d.copy b) (line_at n b) (publish_of b.now false 0 d.copy) tt (λ l there. (tt, tt))) (quiet_late n rest ds)
 
 quiet_answer_by : (t u : Bool) (env : Env) (w : sub.Wish) (s : Session) (b : Broker) → AreGood IsQuiet (sub.answer_by t u env (sub.next_number b.records) s w (brought_to w s b) b).deeds b
 quiet_answer_by false u env w s b = tt
@@ -80,11 +79,10 @@ quiet_subscribe true env line s p b = quiet_offer (line_at line b) (suback p.ide
 quiet_subscribe false env line s p b =
     let a = sub.filter_answers env s.birth (number_at SubscriptionIdentifier p.properties) p.subscriptions b in
     let answer = offer (line_at line b) (suback p.identifier a.codes) in
-    let late = flat_map (λ (d : CopyTo). sub.late_sends line b.now d b) a.late in
     let c = after_all (a.deeds ++ answer) b in
-    good_append IsQuiet (a.deeds ++ answer) late b
+    good_append IsQuiet (a.deeds ++ answer) (series (map (sub.late_send line) a.late) c) b
     (good_append IsQuiet a.deeds answer b (quiet_filters env s.birth (number_at SubscriptionIdentifier p.properties) p.subscriptions b) (quiet_offer (line_at line b) (suback p.identifier a.codes) (after_all a.deeds b)))
-    (quiet_late line b.now b c a.late)
+    (quiet_late line c a.late)
 
 -- ---- copies that are brought differ from those before them
 
@@ -144,6 +142,6 @@ module _ (number : Numbering) (largest window : ℕ) (ids : List CopyId) (birth 
         differ = differ_join ids x.after.more told.differ (x.differ told.retained) (apart_from birth b.records.subscribes ids x.after.more told.older x.after.new);
         longer = x.longer;
         lots = x.lots;
-        connected = called_again number largest window ids birth ns limits choice now call r b quiet (ids ++ x.after.more) q c x.after.in_step refl refl linked;
+        connected = called_again number largest window ids birth ns limits choice now call r b quiet (ids ++ x.after.more) q c x.after.in_step refl refl linked (back_takes r.client r.window n n (asks_for w));
         up = stays_up number largest window ids birth ns limits choice now call r b quiet (drop 1 r.line.up) ∙ ap (drop 1) up;
       }

@@ -1,12 +1,11 @@
 -- Calls of others while a receiver awaits its session: no session of its name begins, and on its lines nobody is connected and
 -- nothing of copies is told.
-use Rattle.std.proofs.Common.{◌≡◌, ℕ, suc, ◌≤◌, ◌<◌, Bool, true, false, cond, ◌⊎◌, List, [], ◌∷◌, ◌++◌, filter, map, Option, Some, None, bytes_eq, nat_eq, refl, sym, ap, subst, ◌∙◌, arith, inl, inr}
-use Rattle.std.specs.Prelude.{⊤, find, is_some, nat_le}
+use Rattle.std.proofs.Common.{◌≡◌, ℕ, suc, ◌≤◌, ◌<◌, Bool, true, false, ◌⊎◌, List, [], ◌∷◌, ◌++◌, filter, map, Option, Some, None, bytes_eq, nat_eq, refl, sym, ap, subst, ◌∙◌, arith, inl, inr}
+use Rattle.std.specs.Prelude.{⊤, find, is_some}
 use Rattle.std.specs.List.{AllByRecursion, starts_with}
 use Rattle.std.proofs.lemmas.Bool.{cases_Bool, eqb-true}
 use Rattle.mqtt_base.specs.declared.session.CopyId.{CopyId}
 use Rattle.mqtt_base.specs.declared.session.Ending.TheVariants.{SessionEnded}
-use Rattle.mqtt_codec.specs.declared.packet.Packet.{Packet}
 use Rattle.mqtt_codec_connect.specs.declared.connect.Connect.{Connect as Greeting}
 use Rattle.mqtt_flow.specs.OutboundWorld.{Lot}
 use Rattle.mqtt_flow.specs.declared.entry.Turn.{Turn}
@@ -32,11 +31,13 @@ use Rattle.mqtt_rules.proofs.acts.Leads.{Leads}
 use Rattle.mqtt_rules.proofs.lines.LineRows.{numbered}
 use Rattle.mqtt_rules.specs.Closing.{end_session}
 use Rattle.mqtt_rules.specs.Connect.{begin_named, expiry_of, greet, will_of}
-use Rattle.mqtt_rules.specs.Deeds.{At, Count, Deed, Finish, Forget, FromClient, Gone, Hear, Leave, LinePart, Link, Message, On, Open, Origin, Part, RefuseWill, Resume, Send, SetAlias, after, after_all, always, fresh_line, given_after, line_after, lines_after, lines_at, offer, on_line, rows_of_all, series, whose, with_session, without_place}
+use Rattle.mqtt_rules.specs.Deeds.{At, Count, Deed, Finish, Forget, FromClient, Gone, Hear, Leave, LinePart, Link, Message, On, Open, Origin, Part, RefuseWill, Resume, Send, SetAlias, after, after_all, always, fresh_line, given_after, line_after, lines_after, lines_at, on_line, rows_of_all, series, whose, with_session, without_place}
 use Rattle.mqtt_rules.specs.Deeds as deeds_of_all
-use Rattle.mqtt_rules.specs.Inbound.{pump_deeds, pump_turns}
+use Rattle.mqtt_rules.specs.Fitting.{has_form, pump_turns}
+use Rattle.mqtt_rules.specs.Inbound.{pump_deeds}
 use Rattle.mqtt_rules.specs.Outbound.{enter_deeds, leave_deeds, of_entry, turn_deeds}
-use Rattle.mqtt_rules.specs.Packets.{publish_of, size_of}
+use Rattle.mqtt_rules.proofs.acts.Offers.{of_offer_if}
+use Rattle.mqtt_rules.specs.Packets.{publish_of}
 use Rattle.mqtt_rules.specs.Routing.{CopyTo, deliver, deliver_by, forgets, is_queued, next_publication, publish, retain_by, retained_of}
 use Rattle.mqtt_rules.specs.State.{Line as BrokerLine, Broker, Env, MemberChoice, is_of, line_of, session_at, session_named}
 use Rattle.mqtt_rules.specs.Step.{Call, NewLine, Input, BadInput, Lost, Pump, Tick, at_moment, deeds, done, env_of, outcome_of, stepped}
@@ -166,21 +167,13 @@ module _ (ns : List ℕ) where
   apart_begin false l c r out = (tt, (out, (inl out, tt)))
   apart_begin true l c r out = (tt, (tt, (out, (inl out, tt))))
 
-  apart_offer : (o : Option BrokerLine) (packet : Packet) → IsUnheard packet → Apart (offer o packet)
-  apart_offer None packet q = tt
-  apart_offer (Some l) packet q = by (nat_le (size_of packet) l.largest)
-    where
-      by : (t : Bool) → Apart (cond t (Send l.number packet ∷ []) [])
-      by true = (inr q, tt)
-      by false = tt
-
   apart_deliver : (env : Env) (t : Bool) (d : CopyTo) (b : Broker) → is_queued d ≡ t → Apart (deliver_by t env d b)
   apart_deliver env true d b queued = by (session_at d.birth b.records)
     where
       by : (o : Option Session) → Apart (with_session o (λ s. always (enter_deeds env d.copy s)) b)
       by None = tt
       by (Some s) = apart_queue (enter_deeds env d.copy s) (queue_enter env d.copy s)
-  apart_deliver env false d b plain = apart_offer (line_of d.birth b) (publish_of b.now false 0 d.copy) (unheard_of d.copy.qos plain)
+  apart_deliver env false d b plain = of_offer_if Apart (has_form d.copy b) (line_of d.birth b) (publish_of b.now false 0 d.copy) tt (λ l there. (inr (unheard_of d.copy.qos plain), tt))
 
   apart_deliveries : (env : Env) (ds : List CopyTo) (b : Broker) → Apart (series (map (deliver env) ds) b)
   apart_deliveries env [] b = tt
@@ -264,7 +257,7 @@ module _ (ns : List ℕ) where
     resumes = λ l c s b h its none came taken own is prepared. led (At (whose s) (Resume (expiry_of c) (will_of c)) ∷ greet l c s.birth ∷ []) b h (tt, (its, tt));
     begins = λ l c b h its none came taken name is room prepared. led (begin_named (is_empty c.client_identifier) l c b.records) b h (apart_begin (is_empty c.client_identifier) l c b.records its);
     grants = λ w s b h its asked granted. led (sub.granted_filter env (sub.next_number b.records) s w (brought_to w s b) b).deeds b h (apart_grants env w s b);
-    pumps = λ l s b h its is there. led (pump_deeds l b.now s) b h (each_flat IsApart (turn_deeds b.now l.number s) (λ t. apart_turn b.now l.number s t its) (pump_turns l b.now s));
+    pumps = λ l s b h its is there. led (pump_deeds l b s) b h (each_flat IsApart (turn_deeds b.now l.number s) (λ t. apart_turn b.now l.number s t its) (pump_turns l b s));
     turns = λ a t l s b h its own there is e. led (turn_deeds b.now l.number s t) b h (apart_turn b.now l.number s t its);
     lapses = λ s b h among. led (lapse_deeds b.now s) b h (each_flat IsApart (leave_deeds s) (λ t. apart_queue (leave_deeds s t) (queue_leave s t)) (lapses b.now s));
     stale = λ x b h among. led (Forget x.place ∷ []) b h (tt, tt);

@@ -30,7 +30,8 @@ use Rattle.mqtt_rules.proofs.order.OrderedFull.{queues_keeping}
 use Rattle.mqtt_rules.specs.Closing.{end_session, has_due_end, has_due_will}
 use Rattle.mqtt_rules.specs.Connect.{begin_named, expiry_of, greet, will_of}
 use Rattle.mqtt_rules.specs.Deeds.{At, Deed, Forget, FromClient, Gone, Hear, Link, On, Open, RefuseWill, Resume, Send, SetAlias, after, after_all, closing, output, rows_of_all, whose}
-use Rattle.mqtt_rules.specs.Inbound.{pump_deeds, pump_turns}
+use Rattle.mqtt_rules.specs.Fitting.{pump_turns}
+use Rattle.mqtt_rules.specs.Inbound.{pump_deeds}
 use Rattle.mqtt_rules.specs.Outbound.{turn_deeds}
 use Rattle.mqtt_rules.specs.Routing.{publish}
 use Rattle.mqtt_rules.specs.State.{Line as BrokerLine, Broker, Env, MemberChoice}
@@ -109,7 +110,7 @@ module _ (largest : ℕ) (env : Env) (small : env.limits.queue ≤ QUEUE_LIMIT) 
             theirs_led largest env small r birth ns ids has (sub.granted_filter env (sub.next_number b.records) s w (brought_to w s b) b).deeds b (grants_theirs largest env small r birth ns ids has w s b its)
             (q.grants w s b h.queues tt (asked.0, tt, asked.2) granted).1 h;
         pumps = λ l s b h its is there.
-            theirs_led largest env small r birth ns ids has (pump_deeds l b.now s) b (theirs_flat r.client birth ns (turn_deeds b.now l.number s) (λ t. theirs_turn r.client birth ns b.now l.number s t its.number (its.session s.birth is)) (pump_turns l b.now s))
+            theirs_led largest env small r birth ns ids has (pump_deeds l b s) b (theirs_flat r.client birth ns (turn_deeds b.now l.number s) (λ t. theirs_turn r.client birth ns b.now l.number s t its.number (its.session s.birth is)) (pump_turns l b s))
             (q.pumps l s b h.queues tt is there).1 h;
         turns = λ a t l s b h its own there is e.
             theirs_led largest env small r birth ns ids has (turn_deeds b.now l.number s t) b (theirs_turn r.client birth ns b.now l.number s t its.number own) (q.turns a t l s b h.queues tt tt there is e).1 h;

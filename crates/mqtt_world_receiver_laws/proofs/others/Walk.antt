@@ -1,7 +1,7 @@
 -- A call of others, unit by unit: what the receiver and its session see of each is a run of their hop.
 use Rattle.std.proofs.Common.{◌≡◌, ℕ, suc, ◌+◌, ◌-◌, ◌≤◌, ◌<◌, Bool, true, false, cond, List, [], ◌∷◌, ◌++◌, ◌⊎◌, filter, length, map, Option, Some, None, nat_eq, refl, sym, ap, subst, ◌∙◌, append_assoc, arith, inl, inr}
 use Rattle.std.specs.List.{AllByRecursion}
-use Rattle.std.specs.Prelude.{⊤, ◌≢◌, flat_map, nat_le}
+use Rattle.std.specs.Prelude.{⊤, ◌≢◌, flat_map}
 use Rattle.std.proofs.lemmas.Bool.{cases_Bool, eqb-true, lt-ltb}
 use Rattle.std.proofs.lemmas.Cmp.{nat_eq_equiv}
 use Rattle.mqtt_base.specs.declared.limits.TheConstants.{QUEUE_LIMIT}
@@ -36,13 +36,15 @@ use Rattle.mqtt_rules.proofs.acts.Leads.{Leads, leads_append}
 use Rattle.mqtt_rules.proofs.order.OrderedAccepted.{accepted_within, is_to}
 use Rattle.mqtt_rules.proofs.order.OrderedEnters.{Entered, ShortQueues, enters, own_stay, still_short}
 use Rattle.mqtt_rules.proofs.order.OrderedQueues.{stay_is}
-use Rattle.mqtt_rules.specs.Deeds.{Whose, Accept, At, Begin, Count, Deed, Enter, Finish, Forget, FromClient, Gone, Hear, Keep, Leave, Link, Message, Name, On, Open, Origin, RefuseWill, Resume, Send, SetAlias, after, after_all, always, offer, series, whose, with_session}
+use Rattle.mqtt_rules.specs.Deeds.{Whose, Accept, At, Begin, Count, Deed, Enter, Finish, Forget, FromClient, Gone, Hear, Keep, Leave, Link, Message, Name, On, Open, Origin, RefuseWill, Resume, Send, SetAlias, after, after_all, always, series, whose, with_session}
 use Rattle.mqtt_rules.specs.Deeds as deeds
 use Rattle.mqtt_rules.specs.Laws.{HasTables, IsAmong}
 use Rattle.mqtt_rules.specs.Outbound.{enter_deeds, leave_deeds, of_entry, queue_limits, room, room_at, since}
-use Rattle.mqtt_rules.specs.Packets.{delivery_by, publish_of, size_of}
+use Rattle.mqtt_rules.proofs.acts.Offers.{of_offer_if}
+use Rattle.mqtt_rules.specs.Fitting.{has_form, offer_copy}
+use Rattle.mqtt_rules.specs.Packets.{delivery_by, publish_of}
 use Rattle.mqtt_rules.specs.Routing.{CopyTo, accepted_copies, deliver, deliver_by, forgets, is_queued, is_queued_at, next_publication, publish, retain_by, retained_of}
-use Rattle.mqtt_rules.specs.State.{Line as BrokerLine, Broker, Env, line_of, queue_on, session_at}
+use Rattle.mqtt_rules.specs.State.{Broker, Env, line_of, queue_on, session_at}
 use Rattle.mqtt_rules.specs.Subscribe as sub
 use Rattle.mqtt_rules.specs.Tick.{lapse_deeds, lapses}
 use Rattle.mqtt_topic.specs.Names.{is_empty}
@@ -428,17 +430,16 @@ module _ (largest : ℕ) (env : Env) (small : env.limits.queue ≤ QUEUE_LIMIT) 
             record { ready = record { kept = k; fits = fits; differ = fewer_ids h.kept.more d rest h.differ; passed = omega (arith, passed, same); numbers = numbers }; mute = mute_queue ns ds b parts }
       ]
 
-  offered_to : (d : CopyTo) (rest : List CopyTo) (b : Broker) (o : Option BrokerLine) → is_queued d ≡ false → Ready (d ∷ rest) b → Delivers rest (offer o (publish_of b.now false 0 d.copy)) b
-  offered_to d rest b None plain h = record { ready = unmoved d rest b h; mute = tt }
-  offered_to d rest b (Some l) plain h = by (nat_le (size_of (publish_of b.now false 0 d.copy)) l.largest)
-    where
-      by : (t : Bool) → Delivers rest (cond t (Send l.number (publish_of b.now false 0 d.copy) ∷ []) []) b
-      by true = record { ready = told_ready l.number (publish_of b.now false 0 d.copy) rest b (unmoved d rest b h); mute = (inr (unheard_of d.copy.qos plain), tt) }
-      by false = record { ready = unmoved d rest b h; mute = tt }
+  offered_to : (d : CopyTo) (rest : List CopyTo) (b : Broker) → is_queued d ≡ false → Ready (d ∷ rest) b → Delivers rest (offer_copy (line_of d.birth b) d.copy b) b
+  offered_to d rest b plain h =
+      let packet = publish_of b.now false 0 d.copy in
+      let same = unmoved d rest b h in
+      of_offer_if (λ (ds : List Deed). Delivers rest ds b) (has_form d.copy b) (line_of d.birth b) packet (record { ready = same; mute = tt })
+      (λ l there. record { ready = told_ready l.number packet rest b same; mute = (inr (unheard_of d.copy.qos plain), tt) })
 
   one_delivered : (t : Bool) (d : CopyTo) (rest : List CopyTo) (b : Broker) → is_queued d ≡ t → Ready (d ∷ rest) b → Delivers rest (deliver_by t env d b) b
   one_delivered true d rest b queued h = queued_to d rest b (session_at d.birth b.records) queued refl h
-  one_delivered false d rest b queued h = offered_to d rest b (line_of d.birth b) queued h
+  one_delivered false d rest b queued h = offered_to d rest b queued h
 
   all_delivered : (ds : List CopyTo) (b : Broker) → Ready ds b → Led (series (map (deliver env) ds) b) b
   all_delivered [] b h = (tt, h.kept)

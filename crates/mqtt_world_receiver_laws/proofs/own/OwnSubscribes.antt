@@ -1,7 +1,7 @@
 -- The broker reads a receiver's SUBSCRIBE: the copies of retained messages that its filter brings enter its queue, the
 -- answer goes out, and the two stay in step.
-use Rattle.std.proofs.Common.{◌≡◌, ℕ, suc, ◌+◌, ◌-◌, ◌≤◌, Bool, true, false, cond, not, ◌⊎◌, List, [], ◌∷◌, ◌++◌, drop, filter, length, map, Option, Some, None, nat_eq, nat_lt, refl, sym, ap, subst, ◌∙◌, append-nil, append_assoc, arith, inl, inr}
-use Rattle.std.specs.Prelude.{⊤, ◌&&◌, ◌||◌, filter_map, flat_map, is_some, nat_le, slice_get}
+use Rattle.std.proofs.Common.{◌≡◌, ℕ, suc, ◌+◌, ◌-◌, ◌≤◌, Bool, true, false, not, ◌⊎◌, List, [], ◌∷◌, ◌++◌, drop, filter, length, map, Option, Some, None, nat_eq, nat_lt, refl, sym, ap, subst, ◌∙◌, append-nil, append_assoc, arith, inl, inr}
+use Rattle.std.specs.Prelude.{⊤, ◌&&◌, ◌||◌, filter_map, is_some, nat_le, slice_get}
 use Rattle.std.specs.List.{AllByRecursion}
 use Rattle.std.proofs.lemmas.Bool.{cases_Bool, leb-true}
 use Rattle.mqtt_base.specs.Codes.{identifier_in_use, quota_exceeded, topic_filter_invalid}
@@ -49,7 +49,9 @@ use Rattle.mqtt_rules.specs.Deeds as deeds
 use Rattle.mqtt_rules.specs.Laws.{HasTables}
 use Rattle.mqtt_rules.specs.Outbound.{enter_deeds, room, since}
 use Rattle.mqtt_records_message.specs.PassedOn.{number_at}
-use Rattle.mqtt_rules.specs.Packets.{publish_of, size_of, suback}
+use Rattle.mqtt_rules.proofs.acts.Offers.{of_offer, of_offer_if}
+use Rattle.mqtt_rules.specs.Fitting.{has_form}
+use Rattle.mqtt_rules.specs.Packets.{publish_of, suback}
 use Rattle.mqtt_rules.specs.Routing.{CopyTo, deliver, deliver_by, is_queued}
 use Rattle.mqtt_rules.specs.State.{Line as BrokerLine, Broker, Env, MemberChoice, line_at, session_at, session_named}
 use Rattle.mqtt_rules.specs.Step.{Call, Input, at_moment, deeds as deeds_in, env_of, outcome_of, stepped, with_moment}
@@ -570,17 +572,14 @@ module _ (largest : ℕ) (env : Env) (small : env.limits.queue ≤ QUEUE_LIMIT) 
   telling_hush (d ∷ ds) q = absurd q.0
 
   telling_offer : (o : Option BrokerLine) (packet : Packet) → IsHush packet → AllByRecursion IsTelling (offer o packet)
-  telling_offer None packet q = tt
-  telling_offer (Some l) packet q = by (nat_le (size_of packet) l.largest)
-    where
-      by : (t : Bool) → AllByRecursion IsTelling (cond t (Send l.number packet ∷ []) [])
-      by true = (q, tt)
-      by false = tt
+  telling_offer o packet q = of_offer (λ (xs : List Deed). AllByRecursion IsTelling xs) o packet tt (λ l there. (q, tt))
 
-  telling_late : (n now : ℕ) (b : Broker) (ds : List CopyTo) → AllByRecursion (λ (d : CopyTo). is_queued d ≡ false) ds → AllByRecursion IsTelling (flat_map (λ (d : CopyTo). sub.late_sends n now d b) ds)
-  telling_late n now b [] q = tt
-  telling_late n now b (d ∷ ds) q =
-      each_append IsTelling (sub.late_sends n now d b) (flat_map (λ (x : CopyTo). sub.late_sends n now x b) ds) (telling_offer (line_at n b) (publish_of now false 0 d.copy) (unheard_of d.copy.qos q.0)) (telling_late n now b ds q.1)
+  telling_late : (n : ℕ) (b : Broker) (ds : List CopyTo) → AllByRecursion (λ (d : CopyTo). is_queued d ≡ false) ds → AllByRecursion IsTelling (series (map (sub.late_send n) ds) b)
+  telling_late n b [] q = tt
+  telling_late n b (d ∷ ds) q =
+      let first = sub.late_send n d b in
+      let one = of_offer_if (λ (xs : List Deed). AllByRecursion IsTelling xs) (has_form d.copy b) (line_at n b) (publish_of b.now false 0 d.copy) tt (λ l there. (unheard_of d.copy.qos q.0, tt)) in
+      each_append IsTelling first (series (map (sub.late_send n) ds) (after_all first b)) one (telling_late n (after_all first b) ds q.1)
 
   -- ---- the packet
 
@@ -617,11 +616,12 @@ module _ (largest : ℕ) (env : Env) (small : env.limits.queue ≤ QUEUE_LIMIT) 
       let of : sub.filter_answers env s.birth identifier p.subscriptions b ≡ sub.before g (record { codes = []; deeds = []; late = [] }) =
       ap (λ (xs : List Asked). sub.filter_answers env s.birth identifier xs b) is
       ∙ ap (λ (o : Option Session). sub.before (sub.filter_answer_of env (sub.wish_of identifier a) b o) (record { codes = []; deeds = []; late = [] })) there in
-      let tells : List Deed = offer (line_at line b) (suback p.identifier (g.code ∷ [])) ++ flat_map (λ (d : CopyTo). sub.late_sends line b.now d b) (g.late ++ []) in
-      let late = each_append (λ (d : CopyTo). is_queued d ≡ false) g.late [] one.late tt in
-      let q = each_append IsTelling (offer (line_at line b) (suback p.identifier (g.code ∷ []))) (flat_map (λ (d : CopyTo). sub.late_sends line b.now d b) (g.late ++ []))
-      (telling_offer (line_at line b) (suback p.identifier (g.code ∷ [])) tt) (telling_late line b.now b (g.late ++ []) late) in
       let front : List Deed = g.deeds ++ [] in
+      let answer : List Deed = offer (line_at line b) (suback p.identifier (g.code ∷ [])) in
+      let sends : List Deed = series (map (sub.late_send line) (g.late ++ [])) (after_all (front ++ answer) b) in
+      let tells : List Deed = answer ++ sends in
+      let late = each_append (λ (d : CopyTo). is_queued d ≡ false) g.late [] one.late tt in
+      let q = each_append IsTelling answer sends (telling_offer (line_at line b) (suback p.identifier (g.code ∷ [])) tt) (telling_late line (after_all (front ++ answer) b) (g.late ++ []) late) in
       let fronts : after_all front b ≡ after_all g.deeds b = ap (λ (xs : List Deed). after_all xs b) (append-nil g.deeds) in
       let end : (after_all (front ++ tells) b).records ≡ (after_all g.deeds b).records =
       ap (λ (z : Broker). z.records) (after_append front tells b) ∙ (telling_records tells (after_all front b) q ∙ ap (λ (z : Broker). z.records) fronts) in
@@ -634,8 +634,8 @@ module _ (largest : ℕ) (env : Env) (small : env.limits.queue ≤ QUEUE_LIMIT) 
         differ = one.differ;
         apart = λ a. subst (AreToldApart one.more) (sym end) (one.apart a);
       } in
-      subst (λ (x : sub.FilterAnswers). Does (x.deeds ++ offer (line_at line b) (suback p.identifier x.codes) ++ flat_map (λ (d : CopyTo). sub.late_sends line b.now d b) x.late) n b) (sym of)
-      (subst (λ (zs : List Deed). Does zs n b) (sym (append_assoc front (offer (line_at line b) (suback p.identifier (g.code ∷ []))) (flat_map (λ (d : CopyTo). sub.late_sends line b.now d b) (g.late ++ [])))) made)
+      subst (λ (x : sub.FilterAnswers). let told = x.deeds ++ offer (line_at line b) (suback p.identifier x.codes) in Does (told ++ series (map (sub.late_send line) x.late) (after_all told b)) n b) (sym of)
+      (subst (λ (zs : List Deed). Does zs n b) (sym (append_assoc front answer sends)) made)
 
 -- ---- the call
 

@@ -25,11 +25,13 @@ use Rattle.mqtt_rules.proofs.flight.FlightRows.{all_at, all_found}
 use Rattle.mqtt_rules.proofs.flight.FlightStep.{step_keeps}
 use Rattle.mqtt_rules.specs.Deeds.{Deed, after_all, closing, output, rows_of_all, with_line, with_session}
 use Rattle.mqtt_rules.specs.Flight.{HasDistinctIdentifiers, IsFlight}
-use Rattle.mqtt_rules.specs.Inbound.{pump_deeds, pump_turns}
-use Rattle.mqtt_rules.specs.Outbound.{way_of}
-use Rattle.mqtt_rules.specs.State.{Line as BrokerLine, Broker, MemberChoice, line_at, queue_on, session_at}
+use Rattle.mqtt_rules.specs.Inbound.{pump_deeds}
+use Rattle.mqtt_rules.specs.Outbound.{all_turn_deeds, way_of}
+use Rattle.mqtt_rules.specs.State.{Line as BrokerLine, Broker, MemberChoice, line_at, queue_on, session_at, told_on}
 use Rattle.mqtt_rules.specs.Step.{Pump, at_moment, deeds, on_pump, stepped}
 use Rattle.mqtt_rules.specs.declared.Limits.{Limits}
+use Rattle.mqtt_rules_fitting_laws.proofs.Untold.{plain_pumps}
+use Rattle.mqtt_topic_aliases.specs.Told.{none_told}
 use Rattle.mqtt_world_receiver_laws.specs.Calls.{receiver_called}
 use Rattle.mqtt_world_receiver_laws.specs.Entering.{AreKnown, Receives}
 use Rattle.mqtt_world_receiver_laws.specs.Handing.{IsListening, IsRun, RunsOn}
@@ -74,11 +76,11 @@ queue_granted number largest copies went queue r b h still =
 
 -- a pump's deeds are those of its turns
 pub pump_is : (limits : Limits) (choice : MemberChoice) (now : ℕ) (l : BrokerLine) (s : Session) (b : Broker) → line_at l.number b ≡ Some l → l.session ≡ Some s.birth → session_at s.birth b.records ≡ Some s
-    → deeds limits choice now (Pump l.number) b ≡ pump_deeds l (at_moment now b).now s
+    → deeds limits choice now (Pump l.number) b ≡ pump_deeds l (at_moment now b) s
 pump_is limits choice now l s b line connected at =
     let first = at_moment now b in
     ap (λ (o : Option BrokerLine). with_line o (λ (x : BrokerLine). on_pump x x.session) first) line
-    ∙ (ap (λ (o : Option ℕ). on_pump l o first) connected ∙ ap (λ (o : Option Session). with_session o (λ (x : Session) (d : Broker). pump_deeds l first.now x) first) at)
+    ∙ (ap (λ (o : Option ℕ). on_pump l o first) connected ∙ ap (λ (o : Option Session). with_session o (λ (x : Session) (d : Broker). pump_deeds l first x) first) at)
 
 all_zero : (es : List CopyRow) → AllByRecursion (λ (e : CopyRow). 0 ≤ e.place) es
 all_zero [] = tt
@@ -89,15 +91,20 @@ none_of None = refl
 none_of (Some n) = refl
 
 module _ (number : Numbering) (largest : ℕ) (copies : List Lot) (limits : Limits) (choice : MemberChoice) (now : ℕ) (r : Receiver) (l : BrokerLine) (s : Session) (b : Broker)
-    (h : IsRun number largest copies r b) (c : IsListening r l s b) (fits : l.largest ≡ largest) (distinct : HasDistinctIdentifiers b.records) where
+    (h : IsRun number largest copies r b) (c : IsListening r l s b) (fits : l.largest ≡ largest) (untold : told_on l.number b.tellings ≡ none_told 0)
+    (distinct : HasDistinctIdentifiers b.records) where
   abbrev n : ℕ
   n = l.number
 
   abbrev first : Broker
   first = at_moment now b
 
+  -- its client was told nothing, so each copy is too large or not by its whole topic
   abbrev ts : List Turn
-  ts = pump_turns l first.now s
+  ts = rules.pump (way_of l first.now) (queue_on l.went s)
+
+  abbrev its_deeds : List Deed
+  its_deeds = all_turn_deeds first.now n s ts
 
   abbrev ids : List CopyId
   ids = map id_of copies
@@ -105,8 +112,8 @@ module _ (number : Numbering) (largest : ℕ) (copies : List Lot) (limits : Limi
   abbrev new : Broker
   new = stepped limits choice now (Pump n) b
 
-  pumps_are : deeds limits choice now (Pump n) b ≡ pump_deeds l first.now s
-  pumps_are = pump_is limits choice now l s b c.line c.connected c.session
+  pumps_are : deeds limits choice now (Pump n) b ≡ its_deeds
+  pumps_are = pump_is limits choice now l s b c.line c.connected c.session ∙ ap (all_turn_deeds first.now n s) (plain_pumps l first s untold c.places)
 
   standing_now : still_standing copies ≡ map (lot_on l.went) s.queue
   standing_now = standing_by copies r l s b h.queue_is c
@@ -123,7 +130,7 @@ module _ (number : Numbering) (largest : ℕ) (copies : List Lot) (limits : Limi
     known = λ k. k;
   }
 
-  goes : Goes number n first.now s l.went ids h.numbered (pump_deeds l first.now s) ts 0 s.queue copies first
+  goes : Goes number n first.now s l.went ids h.numbered its_deeds ts 0 s.queue copies first
   goes =
       let all = all_found copy_place s.queue c.places in
       pump_goes number n first.now s l.went ids h.numbered (way_of l first.now) l.went 0 s.queue c.places all (queue_granted number largest copies l.went s.queue r b h standing_now) (all_zero s.queue)
@@ -155,7 +162,7 @@ module _ (number : Numbering) (largest : ℕ) (copies : List Lot) (limits : Limi
     client = c.client;
     birth_is = refl;
     only = subst (λ (ds : List Deed). IsOnly r.client s.birth (after_all ds first).records) (sym pumps_are)
-        (only_deeds r.client s.birth (pump_deeds l first.now s) first (inside_begins r.client s.birth (pump_deeds l first.now s) (inside_turns first.now n s ts)) c.only);
+        (only_deeds r.client s.birth its_deeds first (inside_begins r.client s.birth its_deeds (inside_turns first.now n s ts)) c.only);
     queued = subst (λ (ds : List Deed). StandOn (lots_by ts copies) goes.last (its_went s.birth (after_all ds first).lines)) (sym pumps_are)
         (subst (λ (o : Option (List ℕ)). StandOn (lots_by ts copies) goes.last o) (sym goes.tracks.went_is) goes.tracks.standing);
     linked = ap linked_of on_last;
@@ -166,7 +173,7 @@ module _ (number : Numbering) (largest : ℕ) (copies : List Lot) (limits : Limi
   }
     where
       none_close : filter_map closing (deeds limits choice now (Pump n) b) ≡ []
-      none_close = ap (filter_map closing) pumps_are ∙ inside_closes (pump_deeds l first.now s) (inside_turns first.now n s ts)
+      none_close = ap (filter_map closing) pumps_are ∙ inside_closes its_deeds (inside_turns first.now n s ts)
 
   pumped_is : hop_called number (lots_by ts copies) ids limits choice now (Pump n) r n s.birth b (outputs_of ts copies) false false
       ≡ step largest (seen number copies r b) (pump l.window first.now)
