@@ -20,7 +20,7 @@ use Rattle.mqtt_rules.specs.Outbound.{of_entry, turn_deeds, all_turn_deeds}
 use Rattle.mqtt_rules.specs.Packets.{publish_of}
 use Rattle.mqtt_rules.specs.Step.{publish_out}
 use Rattle.mqtt_rules.proofs.flight.FlightRows.{all_found}
-use Rattle.mqtt_rules.proofs.flight.SizedRows.{sized}
+use Rattle.mqtt_rules.specs.Fitting.{sized}
 use Rattle.mqtt_broker_queue.specs.Turning.{is_sending}
 
 -- a PUBLISH goes out of a copy that stands
