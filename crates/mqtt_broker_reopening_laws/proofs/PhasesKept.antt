@@ -31,7 +31,7 @@ use Rattle.mqtt_records_rows.specs.Order.{IsAscending, change_row, remove_row, r
 use Rattle.mqtt_records_rows.proofs.LookUps.{row_at-here, row_at-remove_row}
 use Rattle.mqtt_rules.specs.declared.Limits.{Limits}
 use Rattle.mqtt_rules.specs.Deeds.{Whose, whose, FromClient, Part, Resume, Close, SetExpiry, DropWill, Subscribe, Unsubscribe, Open, Release, Enter, Mark, Leave, Went, Deed, Accept, Begin, Name, Count, At, Finish, Keep, Forget, RefuseWill, Link, On, Send, Gone, after, after_all, new_entry, part_rows, part_rows_of, rows_of, rows_of_all}
-use Rattle.mqtt_rules.specs.Fitting.{fitted, size_at}
+use Rattle.mqtt_rules.specs.Fitting.{fitted, size_at, sized}
 use Rattle.mqtt_rules.specs.Inbound.{pump_deeds}
 use Rattle.mqtt_rules.specs.Laws.{IsOrdered}
 use Rattle.mqtt_rules.specs.Outbound.{all_turn_deeds, of_entry, turn_deeds, way_of}
@@ -44,7 +44,7 @@ use Rattle.mqtt_rules.proofs.acts.Acts.{IsAnswer, Law, anyone, call_of_anyone, f
 use Rattle.mqtt_rules.proofs.acts.ByDeeds.{DeedLaw, TurnLaw, by_ends}
 use Rattle.mqtt_rules.proofs.numbers.Copies.{each_filter, each_more}
 use Rattle.mqtt_rules.proofs.flight.FlightRows.{all_at, all_changed_at, all_found, change_row-here, change_row-other, found_behind, found_key, all_put}
-use Rattle.mqtt_rules.proofs.flight.SizedRows.{orders_sized, sized}
+use Rattle.mqtt_rules.proofs.flight.SizedRows.{orders_sized}
 use Rattle.mqtt_rules.proofs.acts.Goods.{after_append}
 use Rattle.mqtt_rules.proofs.acts.Leads.{leads_end}
 use Rattle.mqtt_rules.proofs.order.Ordered.{changed_all-ordered}
