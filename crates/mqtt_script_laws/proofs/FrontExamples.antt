@@ -1,13 +1,13 @@
--- Worked: what the premise on texts is for. An end whose name is no text connects, and the broker would not take its CONNECT (MQTT
--- 5.0, 1.5.4, 3.1.3.1).
+-- Worked: what is asked of the beginning is needed. Where an end stands whose name is no text, as no event makes one, it connects,
+-- and the broker would not take its CONNECT (MQTT 5.0, 1.5.4, 3.1.3.1).
 use Rattle.std.proofs.Common.{◌≡◌, ℕ, true, false, List, [], ◌∷◌, Some, inr, refl, sym, subst, true≢false, ◌∙◌}
 use Rattle.std.specs.Str.{is_utf8, chars}
 use Rattle.std.proofs.Math.Utf8.{encode}
 use Rattle.mqtt_base.specs.Values.{is_text}
 use Rattle.mqtt_rules.proofs.examples.Play.{usual}
-use Rattle.mqtt_world_model.specs.Ends.{connect_with}
-use Rattle.mqtt_world_model.specs.Run.{after}
-use Rattle.mqtt_world_model.specs.World.{World, ask, connect_end, is_bad, publisher, to_broker}
+use Rattle.mqtt_world_model.specs.Ends.{connect_with, new_publisher}
+use Rattle.mqtt_world_model.specs.Run.{run}
+use Rattle.mqtt_world_model.specs.World.{World, ask, connect_end, is_bad, publisher, start, to_broker}
 use Rattle.mqtt_world_model.proofs.examples.Scripts.{turns}
 use Rattle.mqtt_script.specs.declared.event.Event.TheVariants.{ToBroker}
 use Rattle.mqtt_script_laws.specs.Scripted.{IsBadHere, IsRefused, bad_event, front_of}
@@ -16,14 +16,19 @@ use Rattle.mqtt_script_laws.specs.Scripted.{IsBadHere, IsRefused, bad_event, fro
 abbrev odd : List ℕ
 odd = 255 ∷ []
 
--- an end of that name has connected
-abbrev joined : World
-joined = after usual (turns (publisher odd ∷ connect_end odd true ∷ []))
-
 -- the name is no text
 pub it_is_no_text : is_text odd ≡ false
 unfolding is_utf8 chars encode
 it_is_no_text = refl
+
+-- so it is bad that such an end comes
+pub none_comes : is_bad (publisher odd) start ≡ true
+unfolding is_utf8 chars encode
+none_comes = refl
+
+-- where one stands, it connects
+abbrev joined : World
+joined = run usual (turns (connect_end odd true ∷ [])) (record start { publishers = new_publisher odd ∷ [] })
 
 -- its CONNECT is in front
 pub its_connect_is_in_front : front_of (to_broker odd) joined ≡ Some (connect_with odd true [])

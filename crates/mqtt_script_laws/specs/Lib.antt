@@ -3,4 +3,3 @@ pub mod Scripted
 pub mod Turns
 pub mod Cleanly
 pub mod Drains
-pub mod Sayable

@@ -10,7 +10,6 @@ ghost use Rattle.mqtt_rules.specs.State.{MemberChoice};
 ghost use Rattle.mqtt_rules.specs.declared.Limits.{Limits};
 ghost use Rattle.mqtt_script.specs.declared.event.Event.{Event};
 ghost use Rattle.mqtt_script_laws.specs.Cleanly.{AreMadeAnew, BeginClean, HaveNoSession, ScriptDelivers, makes_ends_first};
-ghost use Rattle.mqtt_script_laws.specs.Sayable.{AreSayableEvents};
 ghost use Rattle.mqtt_script_laws.specs.Scripted.{HasBadFront, IsBad, IsBadHere, RunsTo};
 ghost use Rattle.mqtt_world_single_step_laws.specs.Unrolled.{AreAllAlike, HoldNoPacket};
 ghost use Rattle.mqtt_rules_spelling_laws.specs.Sending.{SendsWell};
@@ -49,16 +48,15 @@ pub fn strangers_hold_no_packet()
 {}
 
 /// Where a script has come to, the broker takes each packet that it may be asked to read next: so it refuses an event only
-/// if that is bad as the world's that it means, or as a drain. Asked: nobody was there at first, the broker sent well then,
-/// texts that the events so far brought are texts, and strangers sent bytes; so from nothing stored that alone (1.5.4, 2.1.4,
-/// 2.2.1).
+/// if that is bad as the world's that it means, or as a drain. Asked: nobody was there at first, and the broker sent well
+/// then; so from nothing stored nothing (1.5.4, 2.1.4, 2.2.1).
 pub fn what_is_in_front_is_taken()
     ensures fronts { (limits : Limits) (es : List Event) (tells : List Telling) (w after : World) → IsUninhabited w
-        → SendsWell w.broker → AreSayableEvents es → RunsTo limits es tells w after
+        → SendsWell w.broker → RunsTo limits es tells w after
         → (x : world.Event) → ¬ HasBadFront x after }
     ensures refuses { (limits : Limits) (es : List Event) (tells : List Telling) (w after : World) → IsUninhabited w
-        → SendsWell w.broker → AreSayableEvents es → RunsTo limits es tells w after
+        → SendsWell w.broker → RunsTo limits es tells w after
         → (e : Event) → IsBadHere e after → IsBad e after }
     ensures from_nothing { (limits : Limits) (es : List Event) (tells : List Telling) (after : World) → AreWithin limits
-        → AreSayableEvents es → RunsTo limits es tells start after → (e : Event) → IsBadHere e after → IsBad e after }
+        → RunsTo limits es tells start after → (e : Event) → IsBadHere e after → IsBad e after }
 {}

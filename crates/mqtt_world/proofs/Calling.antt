@@ -1,12 +1,12 @@
 -- What the bytes of a stranger make of a world, piece by piece (MQTT 5.0, 2.1, 4.1, 4.13).
-use Rattle.std.proofs.Common.{◌≡◌, ◌<◌, ℕ, zero, suc, Bool, true, false, List, [], ◌∷◌, ◌++◌, length, take, drop, Option, Some, None, refl, sym, ap, subst, ◌∙◌, ◌⊎◌, inl, inr, arith, IfOk}
+use Rattle.std.proofs.Common.{◌≡◌, ◌<◌, ℕ, zero, suc, Bool, true, false, not, ◌||◌, List, [], ◌∷◌, ◌++◌, length, take, drop, Option, Some, None, refl, sym, ap, subst, ◌∙◌, ◌⊎◌, inl, inr, arith, IfOk}
 use Rattle.std.specs.Prelude.{Result, Ok, Err, is_some}
 use Rattle.std.specs.List.{AllByRecursion}
 use Rattle.std.proofs.lemmas.List.{append-nil, take-append-drop}
 use Rattle.mqtt_packet.specs.Front.{first_of}
 use Rattle.mqtt_records.specs.declared.keep.Keep.{Ghosts}
 use Rattle.mqtt_world_model.specs.Tellings.{Telling, silent}
-use Rattle.mqtt_world_model.specs.World.{Event, Setting, Stranger, World, ask, bytes_held, call_on, calls, calls_if, held_after, is_bad, is_bad_asking, next_line, stranger, stranger_named, with_stranger}
+use Rattle.mqtt_world_model.specs.World.{Event, Setting, Stranger, World, are_bytes, ask, bytes_held, bytes_name, call_on, calls, calls_if, held_after, is_bad, is_bad_asking, next_line, stranger, stranger_named, with_stranger}
 use Rattle.mqtt_rules.specs.Laws.{AreWithin}
 use Rattle.mqtt_rules.specs.Piece.{call_by}
 use Rattle.mqtt_rules.specs.Step.{Call, NewLine}
@@ -48,14 +48,16 @@ same_asked (Some n) bytes given a = a.asks n
 
 -- ---- whom CONNECTs name
 
--- of a stage that is taken apart
+-- of a stage that is taken apart: bytes may not come exactly if a CONNECT among them names an end
 pub any_named : {K : Type 0} (P : Played K) (ss : List Stranger) (now : ℕ) (limits : Limits) (s : Staged K) (name bytes : List ℕ) (names seen : List (List ℕ)) (bad : Bool)
-    → staged P ss now limits ≡ s → NamesThese (held_of name ss ++ bytes) names → seen ≡ names
+    → staged P ss now limits ≡ s → are_bytes bytes ≡ true → NamesThese (held_of name ss ++ bytes) names → seen ≡ names
     → ((w : World) → bad ≡ is_end_among seen (among_ends P.ends w)) → bad ≡ is_bad_asking (stranger name bytes) (world_at s)
-any_named P ss now limits s name bytes names seen bad view these same is =
+any_named P ss now limits s name bytes names seen bad view said these same is =
     let w = world_of now ss P in
+    let all = held_of name ss ++ bytes in
     subst (λ (x : Staged _). bad ≡ is_bad_asking (stranger name bytes) (world_at x)) view
-    (is w ∙ (ap (λ (xs : List (List ℕ)). is_end_among xs w) same ∙ sym (these w)))
+    (is w ∙ (ap (λ (xs : List (List ℕ)). is_end_among xs w) same
+    ∙ (sym (these w) ∙ sym (ap (λ (t : Bool). not t || bytes_name (length all) all w) said))))
 
 -- ---- who is there
 

@@ -8,7 +8,6 @@ use Rattle.mqtt_world_peers.specs.declared.told.RunFault.{RunFault}
 use Rattle.mqtt_world_peers.specs.declared.told.RunFault.TheVariants as fault
 use Rattle.mqtt_script.specs.declared.event.Event.{Event}
 use Rattle.mqtt_script.specs.declared.event.Event.TheVariants.{Drain}
-use Rattle.mqtt_script_laws.specs.Sayable.{AreSayableEvents}
 use Rattle.mqtt_script_laws.specs.Scripted.{IsBad, IsBadHere, RunsTo, as_drain, as_event, bad_drain, bad_event}
 use Rattle.mqtt_script_laws.specs.Drains.{DrainHappens}
 use Rattle.mqtt_script_drain_laws.specs.Done.{IsEmptied}
@@ -118,12 +117,12 @@ module _ {K : Type 0} (g : Ghosts K) where
   played_bad e old new (performs_drain client is (None, told, p)) = λ sound reached untold. bad_drain client is (p.done sound (spells_all old.limits) reached untold).0
   played_bad e old new (performs_drain client is (Some x, told, p)) = absurd (cc)
 
-  -- where the kept events have led, it is bad by the definitions alone, since what they bring can be said
-  bad_after : (start : World) (e : Event) (s n : Staged K) (w : Lasting K) → AreSayableEvents w.events → Performs g e s None n
+  -- where the kept events have led, it is bad by the definitions alone
+  bad_after : (start : World) (e : Event) (s n : Staged K) (w : Lasting K) → Performs g e s None n
       → HasCome g start (with_stage s w) → IfBegunWell g start n (IsBad e (world_at s))
-  bad_after start e s n w said p come = λ sound nobody sends.
+  bad_after start e s n w p come = λ sound nobody sends.
       let c = come s refl ((played_none e s n p).sound sound) in
-      script_refuses s.limits w.events c.tells start (world_at s) nobody sends said c.runs e (played_bad e s n p sound c.reached c.untold)
+      script_refuses s.limits w.events c.tells start (world_at s) nobody sends c.runs e (played_bad e s n p sound c.reached c.untold)
 
   -- ---- in the world
 
@@ -151,9 +150,9 @@ module _ {K : Type 0} (g : Ghosts K) where
   happened_one e s n t w new p is kept = record { from = s; to = n; was = refl; is = is; runs = played_one e s t n p; kept = kept }
 
   -- an event that could not be performed on the stage can't happen, and the world keeps nothing of it
-  pub cant_happen : (e : Event) (s n : Staged K) (w : Lasting K) → AreSayableEvents w.events → Performs g e s None n
+  pub cant_happen : (e : Event) (s n : Staged K) (w : Lasting K) → Performs g e s None n
       → CantHappen g e (with_stage s w) (with_stage n w)
-  cant_happen e s n w said p = record {
+  cant_happen e s n w p = record {
     nothing = record {
       from = s;
       to = n;
@@ -163,7 +162,7 @@ module _ {K : Type 0} (g : Ghosts K) where
       kept = sym (append-nil w.events);
     };
     bad = played_bad e s n p;
-    is_bad = λ start come. bad_after start e s n w said p come;
+    is_bad = λ start come. bad_after start e s n w p come;
   }
 
   -- a world that is over
@@ -238,12 +237,12 @@ module _ {K : Type 0} (g : Ghosts K) where
   kept_happens e s n told w new (Err f) p told_is is = tt
 
   -- what can't happen is not
-  pub refused_here : (e : Event) (s n : Staged K) (w new : Lasting K) (r : Result Telling RunFault) → AreSayableEvents w.events
+  pub refused_here : (e : Event) (s n : Staged K) (w new : Lasting K) (r : Result Telling RunFault)
       → Performs g e s None n → r ≡ Err (fault.BadEvent (length w.events)) → new ≡ with_stage n w
       → IfErr r (λ (f : RunFault). Refuses g e f (with_stage s w) new)
-  refused_here e s n w new r said p is same =
+  refused_here e s n w new r p is same =
       subst (λ (x : Result Telling RunFault). IfErr x (λ (f : RunFault). Refuses g e f (with_stage s w) new)) (sym is)
-      (subst (λ (x : Lasting K). CantHappen g e (with_stage s w) x) (sym same) (cant_happen g e s n w said p), refl)
+      (subst (λ (x : Lasting K). CantHappen g e (with_stage s w) x) (sym same) (cant_happen g e s n w p), refl)
 
   -- ---- what a drain comes to
 
@@ -269,12 +268,12 @@ module _ {K : Type 0} (g : Ghosts K) where
   kept_drain e client rounds s n told w new (Err f) is p kept = tt
 
   -- a drain that can't happen is refused, with its place behind the events that are kept
-  pub drain_refused : (client : List ℕ) (s n : Staged K) (w new : Lasting K) (f : RunFault) → AreSayableEvents w.events → PlaysDrain g client s None n
+  pub drain_refused : (client : List ℕ) (s n : Staged K) (w new : Lasting K) (f : RunFault) → PlaysDrain g client s None n
       → f ≡ fault.BadEvent (length w.events) → new ≡ with_stage n w → Refuses g (Drain client) f (with_stage s w) new
-  drain_refused client s n w new f said p is same =
+  drain_refused client s n w new f p is same =
       subst (λ (x : RunFault). Refuses g (Drain client) x (with_stage s w) new) (sym is) (
         subst (λ (x : Lasting K). CantHappen g (Drain client) (with_stage s w) x) (sym same)
-            (cant_happen g (Drain client) s n w said (performs_drain client refl (None, refl, p))),
+            (cant_happen g (Drain client) s n w (performs_drain client refl (None, refl, p))),
         refl,
       )
 

@@ -3,7 +3,7 @@
 ghost use Rattle.std.specs.Prelude.{◌≡◌, ℕ, false, is_some, List, None, Ok, Some, true, IfOk, OnOk};
 ghost use Rattle.mqtt_packet.specs.Front.{first_of};
 ghost use Rattle.mqtt_world_model.specs.Tellings.{silent};
-ghost use Rattle.mqtt_world_model.specs.World.{World, ask, is_bad_asking, stop_after, stop_before, stranger};
+ghost use Rattle.mqtt_world_model.specs.World.{World, are_bytes, ask, is_bad_asking, stop_after, stop_before, stranger};
 ghost use Rattle.mqtt_world_clients.specs.Ends.{in_world};
 ghost use Rattle.mqtt_world_strangers.specs.Fronts.{is_end_among};
 ghost use Rattle.mqtt_world_strangers.specs.Strangers.{held_of, named};
@@ -20,6 +20,12 @@ use mqtt_world_peers::Told;
 use mqtt_world_scene::Halt;
 use mqtt_world_strangers::Piece;
 use std::alloc::AllocError;
+
+/// Bytes are bytes: their type gives it, and here it is told. Takes no memory.
+#[tactic(auto, using(crate::proofs::Bytes::all_bytes))]
+fn are_bytes(bytes: &[u8])
+    ensures { are_bytes bytes.now ≡ true }
+{}
 
 /// Whether an end has one of these names. Takes no memory.
 fn is_end_among(clients: &Clients, names: &[Text]) -> bool
@@ -38,6 +44,7 @@ impl<K: Keep> Stage<K> {
     fn is_bad_visit(&self, name: &str, bytes: &[u8]) -> Result<bool, AllocError>
         ensures { IfOk result (λ bad. bad ≡ is_bad_asking (stranger name.now bytes.now) (world_at self.entry.now)) }
     {
+        are_bytes(bytes);
         let names = self.strangers.names_in(name, bytes)?;
         let bad = is_end_among(&self.scene.clients, &names);
         drop(names);

@@ -6,7 +6,6 @@ ghost use Rattle.mqtt_rules.specs.Laws.{AreWithin};
 ghost use Rattle.mqtt_world_model.specs.Tellings.{Telling};
 ghost use Rattle.mqtt_world_model.specs.World.{World as Start};
 ghost use Rattle.mqtt_world_peers.specs.declared.told.RunFault.TheVariants as fault;
-ghost use Rattle.mqtt_script_laws.specs.Sayable.{AreSayableEvents};
 ghost use Rattle.mqtt_world_scene.specs.Halting.{IsFaultDue, IsNoStart, fault_of};
 ghost use Rattle.mqtt_world.specs.Stages.{IsStanding, Staged};
 ghost use Rattle.mqtt_world.specs.Worlds.{Happen, HasCome, HasDelivered, Performs, Refuses, Starts, Stops, TellsBad, TellsFirstBad, over_by, with_stage};
@@ -150,12 +149,11 @@ impl<K: Keep> World<K> {
         }
     }
 
-    /// An event can't happen, and what stands goes on. What the kept events bring can be said. Takes no memory.
+    /// An event can't happen, and what stands goes on. Takes no memory.
     pub(crate) fn refuse(&mut self, stage: Stage<K>) -> RunFault
         requires standing { IsStanding K.Keep stage }
         ensures fault { result ≡ fault.BadEvent (length self.old.events) }
         ensures goes_on { self.new ≡ with_stage stage self.old }
-        ensures said { AreSayableEvents self.old.events }
         ensures cause { IsFaultDue K.Keep result }
     {
         self.stage = Ok(stage);

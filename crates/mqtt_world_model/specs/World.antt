@@ -3,7 +3,8 @@
 use Rattle.std.specs.Prelude.{ℕ, zero, suc, ◌^◌, Bool, true, false, cond, not, ◌&&◌, ◌||◌, List, [], ◌∷◌, ◌++◌}
 use Rattle.std.specs.Prelude.{length, drop, find, map, nat_eq, nat_lt, nat_le, bytes_eq, Option, Some, None, is_some}
 use Rattle.std.specs.Prelude.{is_none, option_map, Ok, Err}
-use Rattle.std.specs.List.{starts_with}
+use Rattle.std.specs.List.{list_all, starts_with}
+use Rattle.mqtt_base.specs.Values.{is_text}
 use Rattle.mqtt_base.specs.declared.limits.TheConstants.{CLIENT_LIMIT, PACKET_LIMIT}
 use Rattle.mqtt_base.specs.declared.session.Qos.{Qos as Quality}
 use Rattle.mqtt_base.specs.declared.session.Qos.TheVariants.{AtMostOnce, AtLeastOnce, ExactlyOnce}
@@ -310,9 +311,11 @@ happens set (stop_after a) w = restarts set (first_step set a w)
 
 -- ---- events that are bad: nothing happens
 
--- a name that is not one's own, or that the broker would not take
+-- a name that is not one's own, that the broker would not take, or that is no text (1.5.4)
 abbrev pub is_bad_name : List ℕ → Bool
-is_bad_name client = nat_eq (length client) 0 || (nat_lt CLIENT_LIMIT (length client) || starts_with nat_eq client auto)
+is_bad_name client =
+    nat_eq (length client) 0
+    || (nat_lt CLIENT_LIMIT (length client) || (starts_with nat_eq client auto || not (is_text client)))
 
 abbrev pub link_by : Option Publisher → Option Receiver → Option Link
 link_by (Some p) r = Some p.line.link
@@ -343,7 +346,7 @@ abbrev pub may_ask : Option Receiver → Bool
 may_ask None = false
 may_ask (Some r) = may_ask_on r.line.link r.asking
 
--- a packet that the broker is handed is lawful, and not larger than a line lets through
+-- a packet that the broker is handed is lawful, and not larger than a line lets through; its topic or filter is a text
 abbrev pub delivery_at : Quality → Delivery
 delivery_at AtMostOnce = delivery.AtMostOnce
 delivery_at AtLeastOnce = delivery.AtLeastOnce false 1
@@ -355,13 +358,16 @@ is_input packet = is_lawful packet && nat_le (size_of packet) PACKET_LIMIT
 abbrev pub message_packet : Draft → Packet
 message_packet d = publish_with (delivery_at d.qos) d.content
 
+abbrev pub is_message : Draft → Bool
+is_message d = is_text d.content.topic && is_input (message_packet d)
+
 -- a Subscription Identifier fits a Variable Byte Integer; that it isn't 0 is a law of the packet (3.8.2.1.2)
 abbrev pub fits_number : Option ℕ → Bool
 fits_number None = true
 fits_number (Some n) = nat_lt n (2 ^ 28)
 
 abbrev pub is_wish : Wish → Bool
-is_wish x = fits_number x.identifier && is_input (subscribe_with x)
+is_wish x = fits_number x.identifier && (is_text x.filter && is_input (subscribe_with x))
 
 -- a Receive Maximum is two bytes, and not 0 (3.1.2.11.3)
 abbrev pub is_window : ℕ → Bool
@@ -385,6 +391,10 @@ abbrev pub bytes_held : Option Stranger → List ℕ
 bytes_held None = []
 bytes_held (Some s) = s.held
 
+-- what can go over a line (2.1)
+abbrev pub are_bytes : List ℕ → Bool
+are_bytes bytes = list_all (λ b. nat_lt b 256) bytes
+
 abbrev pub is_bad_asking : Asking → World → Bool
 is_bad_asking (to_broker client) w = not (is_end client w)
 is_bad_asking (old_to_broker client) w = not (is_end client w)
@@ -392,14 +402,14 @@ is_bad_asking (break client) w = not (has_line (link_of client w))
 is_bad_asking (pump client) w = not (is_end client w)
 is_bad_asking tick w = false
 is_bad_asking (stranger name bytes) w =
-    let all = bytes_held (stranger_named name w) ++ bytes in bytes_name (length all) all w
+    let all = bytes_held (stranger_named name w) ++ bytes in not (are_bytes bytes) || bytes_name (length all) all w
 
 abbrev pub is_bad : Event → World → Bool
 is_bad (publisher client) w = is_bad_name client || is_end client w
 is_bad (receiver client window) w = is_bad_name client || (is_end client w || not (is_window window))
 is_bad (connect_end client clean) w = not (is_away (link_of client w))
 is_bad (give_up client) w = not (has_line (link_of client w))
-is_bad (publish client d) w = is_none (publisher_named client w) || not (is_input (message_packet d))
+is_bad (publish client d) w = is_none (publisher_named client w) || not (is_message d)
 is_bad (subscribe client x) w = not (may_ask (receiver_named client w)) || not (is_wish x)
 is_bad (to_end client) w = not (is_end client w)
 is_bad (clock wait) w = false

@@ -1,8 +1,8 @@
 -- Which packets of ends the broker takes, in code and in the definitions (MQTT 5.0, 2.1.4, 3.3, 3.8).
-use Rattle.std.proofs.Common.{◌≡◌, refl, sym, ◌∙◌, Bool, true, false, length, length-append, arith}
+use Rattle.std.proofs.Common.{◌≡◌, refl, sym, ap, ◌∙◌, Bool, true, false, ◌&&◌, length, length-append, arith}
 use Rattle.std.specs.Prelude.{nat_le, IsTrue, ◌↔◌}
 use Rattle.std.proofs.lemmas.Bool.{le-leb, leb-true}
-use Rattle.mqtt_base.specs.Values.{FitsText, varint}
+use Rattle.mqtt_base.specs.Values.{FitsText, is_text, varint}
 use Rattle.mqtt_base.specs.declared.limits.TheConstants.{PACKET_LIMIT}
 use Rattle.mqtt_codec.specs.Packets.{Fits, is_lawful, shortest_body}
 use Rattle.mqtt_codec.specs.declared.packet.Packet.{Packet}
@@ -10,7 +10,7 @@ use Rattle.mqtt_rules.proofs.contents.PassedContents.{and_two, two}
 use Rattle.mqtt_rules.specs.Contents.{IsTaken}
 use Rattle.mqtt_rules.specs.Packets.{size_of}
 use Rattle.mqtt_world_model.specs.Ends.{Draft, Wish, subscribe_with}
-use Rattle.mqtt_world_model.specs.World.{fits_number, is_input, is_wish, message_packet}
+use Rattle.mqtt_world_model.specs.World.{fits_number, is_input, is_message, is_wish, message_packet}
 use Rattle.mqtt_world_single_step_laws.proofs.TakenPackets.{publish_tested, wish_taken}
 
 input_of : (p : Packet) → IsTaken p → is_input p ≡ true
@@ -35,15 +35,17 @@ decided p false false h eq good = refl
 pub fitting_is : (p : Packet) (b : Bool) → (IsTrue b ↔ IsTaken p) → Fits p → b ≡ is_input p
 fitting_is p b h fits = decided p b (is_input p) h refl (taken_of p fits)
 
--- so is a message
+-- so is a message, whose topic is a text
 pub message_is : (d : Draft) (b : Bool) → (IsTrue b ↔ IsTaken (message_packet d)) → FitsText d.content.topic
-    → b ≡ is_input (message_packet d)
+    → b ≡ is_message d
 message_is d b h topic =
-    decided (message_packet d) b (is_input (message_packet d)) h refl (λ is. publish_tested d.qos d.content is topic.1)
+    let same : is_message d ≡ is_input (message_packet d) = ap (λ (t : Bool). t && is_input (message_packet d)) topic.1 in
+    decided (message_packet d) b (is_input (message_packet d)) h refl (λ is. publish_tested d.qos d.content is topic.1) ∙ sym same
 
--- if the identifier fits
+-- so is a wish, if the identifier fits: its filter is a text
 pub wish_is : (w : Wish) (b : Bool) → (IsTrue b ↔ IsTaken (subscribe_with w)) → fits_number w.identifier ≡ true
     → FitsText w.filter → b ≡ is_wish w
 wish_is w b h fits filter =
-    let same : is_wish w ≡ is_input (subscribe_with w) = rw fits refl in
-    decided (subscribe_with w) b (is_input (subscribe_with w)) h refl (λ is. wish_taken w (same ∙ is) filter.1) ∙ sym same
+    let same : is_wish w ≡ is_input (subscribe_with w) =
+    ap (λ (t : Bool). t && (is_text w.filter && is_input (subscribe_with w))) fits ∙ ap (λ (t : Bool). t && is_input (subscribe_with w)) filter.1 in
+    decided (subscribe_with w) b (is_input (subscribe_with w)) h refl (λ is. wish_taken w (same ∙ is)) ∙ sym same

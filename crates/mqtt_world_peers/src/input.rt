@@ -3,7 +3,7 @@
 ghost use Rattle.std.specs.Prelude.{◌≡◌, ◌↔◌, IfOk, IsTrue};
 ghost use Rattle.mqtt_codec.specs.Packets.{Fits};
 ghost use Rattle.mqtt_rules.specs.Contents.{IsTaken};
-ghost use Rattle.mqtt_world_model.specs.World.{delivery_at, fits_number, is_input, is_wish, message_packet};
+ghost use Rattle.mqtt_world_model.specs.World.{delivery_at, fits_number, is_input, is_message, is_wish};
 ghost use Rattle.mqtt_world_peers.specs.Publishers.{draft_of};
 ghost use Rattle.mqtt_world_peers.specs.Receivers.{wish_of};
 
@@ -54,9 +54,9 @@ fn delivery_at(qos: Qos) -> Delivery
 /// Whether the broker takes the PUBLISH of a message (3.3).
 #[tactic(auto, using(crate::proofs::Inputs::message_is))]
 pub fn is_message(draft: &Draft) -> Result<bool, AllocError>
-    ensures { IfOk result (λ is. is ≡ is_input (message_packet (draft_of draft.now))) }
+    ensures { IfOk result (λ is. is ≡ is_message (draft_of draft.now)) }
 {
-    // This shows that the topic has a spelling.
+    // This shows that the topic is a text, and has a spelling.
     let _topic = draft.content.topic.as_str();
     let packet = publish(delivery_at(draft.qos), &draft.content)?;
     let is = is_taken(&packet);
@@ -82,7 +82,7 @@ pub fn is_wish(alloc: Global, wish: &Wish) -> Result<bool, AllocError>
     if !fits_number(wish.identifier) {
         return Ok(false);
     }
-    // This shows that the filter has a spelling.
+    // This shows that the filter is a text, and has a spelling.
     let _filter = wish.filter.as_str();
     let packet = subscribe(alloc, wish)?;
     let is = is_taken(&packet);

@@ -118,22 +118,22 @@ for_group birth = record { publication = 1; birth = birth; cause = Share (codes 
 
 -- a direct copy, and one for the group
 pub one_direct_and_one_for_the_group : entered_from usual (turns (grouped ExactlyOnce)) start ≡ directly 3 ∷ for_group 1 ∷ []
-unfolding varint
+unfolding varint is_utf8 chars encode
 one_direct_and_one_for_the_group = refl
 
 -- which is one
 pub one_entered_for_the_group : count_by (is_groups 1 (codes "g/a/b")) (entered_from usual (turns (grouped ExactlyOnce)) start) ≡ 1
-unfolding varint
+unfolding varint is_utf8 chars encode
 one_entered_for_the_group = refl
 
 -- at QoS 0 the group's copy goes out and enters no queue
 pub none_entered_for_the_group : entered_from usual (turns (grouped AtMostOnce)) start ≡ directly 3 ∷ []
-unfolding varint
+unfolding varint is_utf8 chars encode
 none_entered_for_the_group = refl
 
 -- of one publication
 pub it_was_accepted_once : map (λ (a : Acceptance). a.number) (acceptances_over usual (turns (grouped ExactlyOnce)) start) ≡ 1 ∷ []
-unfolding varint
+unfolding varint is_utf8 chars encode
 it_was_accepted_once = refl
 
 -- ---- what a later SUBSCRIBE brings of a publication is no copy of its routing
@@ -145,12 +145,12 @@ kept =
 
 -- and one that a later subscription brings
 pub one_is_brought_later : entered_from usual (turns kept) start ≡ directly 1 ∷ record { publication = 1; birth = 3; cause = Retained 2 } ∷ []
-unfolding varint
+unfolding varint is_utf8 chars encode
 one_is_brought_later = refl
 
 -- which the publication did not route
 pub that_one_is_not_of_the_routing : filter (is_own 1) (entered_from usual (turns kept) start) ≡ directly 1 ∷ []
-unfolding varint
+unfolding varint is_utf8 chars encode
 that_one_is_not_of_the_routing = refl
 
 -- ---- a stranger's Will goes to a group whose only member has QoS 0: the member stands on a line, but not while the broker

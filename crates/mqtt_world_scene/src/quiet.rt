@@ -16,10 +16,12 @@ use mqtt_script::{Draft, Wish};
 use mqtt_world_peers::{Told, is_message, is_wish};
 use std::alloc::{AllocError, Global};
 
-/// A name that is not one's own, or that the broker would not take (3.1.3.1). Takes no memory.
-fn is_bad_name(client: &str) -> bool
+/// A name that is not one's own, or that the broker would not take (3.1.3.1). That it is a text is known by its type.
+/// Takes no memory.
+fn is_bad_name(client: &Text) -> bool
     ensures { result ≡ is_bad_name client.now }
 {
+    let client = client.as_str();
     client.is_empty() || client.len() > CLIENT_LIMIT || client.as_bytes().starts_with(b"auto-")
 }
 
@@ -31,14 +33,14 @@ fn is_window(window: u16) -> bool
 }
 
 impl<K: Keep> Scene<K> {
-    fn is_bad_publisher(&self, client: &str) -> bool
+    fn is_bad_publisher(&self, client: &Text) -> bool
         ensures { (now : ℕ) (ss : List Stranger) → result
             ≡ is_bad (publisher client.now) (world_of now ss self.now) }
     {
-        is_bad_name(client) || self.clients.is_end(client)
+        is_bad_name(client) || self.clients.is_end(client.as_str())
     }
 
-    fn is_bad_receiver(&self, client: &str, window: u16) -> bool
+    fn is_bad_receiver(&self, client: &Text, window: u16) -> bool
         ensures { (now : ℕ) (ss : List Stranger) → result
             ≡ is_bad (receiver client.now window) (world_of now ss self.now) }
     {
@@ -68,7 +70,7 @@ impl<K: Keep> Scene<K> {
         requires { IsPlayable K.Keep self.old }
         ensures { IfOk result (λ t. (now : ℕ) → Does K.Keep now (publisher client.now) self.old t self.new) }
     {
-        if self.is_bad_publisher(client.as_str()) {
+        if self.is_bad_publisher(client) {
             return Ok(None);
         }
         let client = client.clone()?;
@@ -86,7 +88,7 @@ impl<K: Keep> Scene<K> {
         requires { IsPlayable K.Keep self.old }
         ensures { IfOk result (λ t. (now : ℕ) → Does K.Keep now (receiver client.now window) self.old t self.new) }
     {
-        if self.is_bad_receiver(client.as_str(), window) {
+        if self.is_bad_receiver(client, window) {
             return Ok(None);
         }
         let client = client.clone()?;

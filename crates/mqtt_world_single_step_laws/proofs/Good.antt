@@ -1,25 +1,53 @@
--- Whether a stranger's bytes name an end.
-use Rattle.std.proofs.Common.{◌≡◌, ◌≤◌, ◌<◌, ◌+◌, ℕ, zero, suc, Bool, true, false, cond, ◌||◌, List, [], ◌∷◌, ◌++◌, length, map, drop}
+-- Whether what a stranger sends is bytes, and names an end.
+use Rattle.std.proofs.Common.{◌≡◌, ◌≤◌, ◌<◌, ◌+◌, ℕ, zero, suc, Bool, true, false, cond, not, nat_lt, ◌||◌, List, [], ◌∷◌, ◌++◌, length, map, drop}
 use Rattle.std.proofs.Common.{Option, Some, None, bytes_eq, refl, sym, ap, ◌∙◌, arith, inl, inr, append_assoc, length-append}
 use Rattle.std.specs.Prelude.{◌⊎◌, find, is_some, Ok, Err}
 use Rattle.std.proofs.lemmas.List.{drop_all, drop-append-le}
+use Rattle.std.proofs.lemmas.List.Folds.{list_all-append}
 use Rattle.mqtt_codec.specs.declared.packet.Packet.{Packet}
 use Rattle.mqtt_codec.specs.declared.packet.Packet.TheVariants as packets
 use Rattle.mqtt_packet.specs.Front.{first_of}
 use Rattle.mqtt_packet.proofs.Fronts.{first_stays, first_within}
+use Rattle.mqtt_rules.proofs.contents.PassedContents.{two}
 use Rattle.mqtt_rules.specs.Piece.{Front}
 use Rattle.mqtt_rules.specs.Step.{Call, NewLine}
 use Rattle.mqtt_world_model.specs.Ends.{Publisher, Receiver}
-use Rattle.mqtt_world_model.specs.World.{Setting, World, answers_rest, asks, bytes_name, call_of_stranger, calls_if}
-use Rattle.mqtt_world_model.specs.World.{comes, front_names, held_after, held_by as held_behind, held_count, is_end}
+use Rattle.mqtt_world_model.specs.World.{Setting, World, answers_rest, are_bytes, asks, bytes_name, call_of_stranger, calls_if}
+use Rattle.mqtt_world_model.specs.World.{comes, front_names, held_after, held_by as held_behind, held_count, is_bad_asking, is_end}
 use Rattle.mqtt_world_model.specs.World.{linked_at, names_end, next_held, publisher_named, receiver_named}
 use Rattle.mqtt_world_model.specs.World.{stranger, stranger_named}
+use Rattle.mqtt_world_single_step_laws.specs.Unrolled.{bytes_come}
 use Rattle.mqtt_world_single_step_laws.proofs.Answered.{is_none_first, less_by, none_longer, not_both, nothing_first}
 
 -- if neither holds, both fail
 pub either_false : (a b : Bool) → (a || b) ≡ false → (a ≡ false) × (b ≡ false)
 either_false true b h = absurd cc
 either_false false b h = (refl, h)
+
+-- ---- what a stranger sends
+
+is_so : (t : Bool) → not t ≡ false → t ≡ true
+is_so true h = refl
+is_so false h = absurd cc
+
+-- what is not bad to send is bytes, and names no end
+pub good_bytes : (name bytes : List ℕ) (w : World) → is_bad_asking (stranger name bytes) w ≡ false
+    → (are_bytes bytes ≡ true) × (bytes_name (length (bytes_come name bytes w)) (bytes_come name bytes w) w ≡ false)
+good_bytes name bytes w good =
+    let all = bytes_come name bytes w in
+    let both = either_false (not (are_bytes bytes)) (bytes_name (length all) all w) good in
+    (is_so (are_bytes bytes) both.0, both.1)
+
+-- and such bytes are not bad to send
+pub bytes_good : (name bytes : List ℕ) (w : World) → are_bytes bytes ≡ true
+    → bytes_name (length (bytes_come name bytes w)) (bytes_come name bytes w) w ≡ false → is_bad_asking (stranger name bytes) w ≡ false
+bytes_good name bytes w said none =
+    let all = bytes_come name bytes w in
+    ap (λ (t : Bool). not t || bytes_name (length all) all w) said ∙ none
+
+-- bytes in two parts are bytes in each
+pub said_parts : (part more : List ℕ) → are_bytes (part ++ more) ≡ true → (are_bytes part ≡ true) × (are_bytes more ≡ true)
+said_parts part more said = two (are_bytes part) (are_bytes more) (sym (list_all-append (λ b. nat_lt b 256) part more) ∙ said)
 
 -- ---- the ends are the same
 

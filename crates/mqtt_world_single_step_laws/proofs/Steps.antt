@@ -13,7 +13,7 @@ use Rattle.mqtt_world_model.specs.World.{to_broker, to_end}
 use Rattle.mqtt_world_single_step_laws.specs.Unrolled.{AreAlike, AreAllAlike, AreCut, IsDecided, IsOneStep, IsWhole, Unrolls, UnrollsAsking}
 use Rattle.mqtt_world_single_step_laws.specs.Unrolled.{UnrollsStop, bytes_come, come_in, turn}
 use Rattle.mqtt_world_single_step_laws.proofs.Answered.{asks_alike, none_behind, splits}
-use Rattle.mqtt_world_single_step_laws.proofs.Good.{good_after, good_parts, same_asked}
+use Rattle.mqtt_world_single_step_laws.proofs.Good.{bytes_good, good_after, good_bytes, good_parts, said_parts, same_asked}
 use Rattle.mqtt_world_single_step_laws.proofs.Stopped.{first_alone, good_part, restarts_behind}
 
 -- ---- bytes in two parts
@@ -39,13 +39,17 @@ parted : (set : Setting) (name part more : List ℕ) (w : World) → AreAlike na
     → is_bad (ask (stranger name (part ++ more))) w ≡ false → Parted set name part more w
 parted set name part more w alike whole good =
     let held = bytes_held (stranger_named name w) in
-    let both = good_parts held part more whole.0 w whole.1 good in
+    let all = good_bytes name (part ++ more) w good in
+    let said = said_parts part more all.0 in
+    let both = good_parts held part more whole.0 w whole.1 all.1 in
+    let alone = bytes_good name part w said.0 both.0 in
     let v = asks set (stranger name part) w in
     let none = none_behind set name part w alike whole in
     let later : is_bad_asking (stranger name more) v ≡ false =
-    ap (λ (bytes : List ℕ). bytes_name (length (bytes ++ more)) (bytes ++ more) v) none
-    ∙ good_after more v w (same_asked set name part w) both.1 in
-    let first = good_step set (stranger name part) w both.0 in
+    bytes_good name more v said.1
+    (ap (λ (bytes : List ℕ). bytes_name (length (bytes ++ more)) (bytes ++ more) v) none
+    ∙ good_after more v w (same_asked set name part w) both.1) in
+    let first = good_step set (stranger name part) w alone in
     record {
       both =
           good_step set (stranger name (part ++ more)) w good
@@ -78,7 +82,7 @@ pub stop_first : (set : Setting) (name part more : List ℕ) (w : World) → Are
     → is_bad (stop_after (stranger name (part ++ more))) w ≡ false
     → step set (stop_after (stranger name (part ++ more))) w ≡ step set (stop_after (stranger name part)) w
 stop_first set name part more w alike found good =
-    let fine = good_part (bytes_held (stranger_named name w)) part more w good in
+    let fine = good_part name part more w good in
     stops set (stranger name (part ++ more)) w good
     ∙ (first_alone set name part more w alike found ∙ sym (stops set (stranger name part) w fine))
 
@@ -138,7 +142,7 @@ stop_steps set (stranger name bytes) es w alike good (part, more, joined, found,
     whole = ap (λ (xs : List ℕ). is_bad (stop_after (stranger name xs)) w) joined ∙ good
 
     fine : is_bad (stop_after (stranger name part)) w ≡ false
-    fine = good_part (bytes_held (stranger_named name w)) part more w whole
+    fine = good_part name part more w whole
 
     by : (more ≡ []) ⊎ IsDecided (bytes_come name part w) → steps set es w ≡ step set (stop_after (stranger name bytes)) w
     by (inl nothing) =

@@ -10,7 +10,7 @@ use Rattle.mqtt_rules.specs.Step.{Call}
 use Rattle.mqtt_world_model.specs.Ends.{Publisher, Receiver}
 use Rattle.mqtt_world_model.specs.Lines.{left}
 use Rattle.mqtt_world_model.specs.World.{Asking, Setting, Stranger, World, asks, break, bytes_held, bytes_name, call_of_stranger}
-use Rattle.mqtt_world_model.specs.World.{call_on, calls_if, comes, first_step, front_names, held_after, held_by as held_behind, held_count}
+use Rattle.mqtt_world_model.specs.World.{call_on, calls_if, comes, first_step, front_names, held_after, held_by as held_behind, held_count, is_bad_asking}
 use Rattle.mqtt_world_model.specs.World.{old_to_broker, publisher_restarted, pump, receiver_restarted, restarts, stranger}
 use Rattle.mqtt_world_model.specs.World.{stranger_named, tick, to_broker, unlinked, with_line}
 use Rattle.mqtt_world_single_step_laws.specs.Unrolled.{AreAlike, IsDecided, IsFound, IsOneStep, bytes_come}
@@ -18,7 +18,7 @@ use Rattle.mqtt_world_single_step_laws.proofs.Strangers.{changed, found_holds, h
 use Rattle.mqtt_world_single_step_laws.proofs.Answered.{Holds, come, come_count, come_found, come_holds, comes_both, comes_is, comes_welcomed}
 use Rattle.mqtt_world_single_step_laws.proofs.Answered.{enough, next_holds, next_world, nothing_first, still, welcomed, welcomed_found}
 use Rattle.mqtt_world_single_step_laws.proofs.Answered.{welcomed_holds, with_strangers}
-use Rattle.mqtt_world_single_step_laws.proofs.Good.{either_false, enough_looks, none_named}
+use Rattle.mqtt_world_single_step_laws.proofs.Good.{bytes_good, either_false, enough_looks, good_bytes, none_named, said_parts}
 
 -- ---- what a restart forgets
 
@@ -190,12 +190,17 @@ front_part (suc n) bytes more w good = elim (first_stays bytes more) [
         less (drop x.1 xs) ys v (sym (ap (λ (zs : List ℕ). bytes_name n zs v) (drop-append-le x.1 xs ys size.0)) ∙ e)
     behind_by less xs ys v (Err fault) is e = none_named n [] v nothing_first
 
--- bytes that name no end name none in their first part
-pub good_part : (held part more : List ℕ) (w : World) → bytes_name (length (held ++ (part ++ more))) (held ++ (part ++ more)) w ≡ false
+none_in_part : (held part more : List ℕ) (w : World) → bytes_name (length (held ++ (part ++ more))) (held ++ (part ++ more)) w ≡ false
     → bytes_name (length (held ++ part)) (held ++ part) w ≡ false
-good_part held part more w good =
+none_in_part held part more w good =
     let front = held ++ part in
     let joined : front ++ more ≡ held ++ (part ++ more) = append_assoc held part more in
     let n = length (front ++ more) in
     let whole : bytes_name n (front ++ more) w ≡ false = ap (λ (xs : List ℕ). bytes_name (length xs) xs w) joined ∙ good in
     enough_looks (length front) n front w (omega arith) (omega (arith, length-append front more)) ∙ front_part n front more w whole
+
+-- the first part of what is not bad to send is not bad to send
+pub good_part : (name part more : List ℕ) (w : World) → is_bad_asking (stranger name (part ++ more)) w ≡ false → is_bad_asking (stranger name part) w ≡ false
+good_part name part more w good =
+    let both = good_bytes name (part ++ more) w good in
+    bytes_good name part w (said_parts part more both.0).0 (none_in_part (bytes_held (stranger_named name w)) part more w both.1)

@@ -15,18 +15,13 @@ use Rattle.mqtt_rules.specs.declared.Limits.{Limits}
 use Rattle.mqtt_world_model.specs.Ends.{Back, Publisher, Receiver, Sent, answers, new_publisher, new_receiver, publisher_reads, published, receiver_reads, shake}
 use Rattle.mqtt_world_model.specs.Lines.{Line, gives_up, joined, left, told_by}
 use Rattle.mqtt_world_model.specs.Run.{Turn, run, setting, turned}
-use Rattle.mqtt_world_model.specs.World.{Asking, Event, Setting, World, answers_rest, ask, asks, asks_wish, before, break, call_of, call_of_stranger, calls, calls_if, clock, comes, connect_end, end_reads, first_step, give_up, happens, held_count, is_bad, is_bad_name, is_end, is_input, is_open_line, is_window, is_wish, linked_at, links, message_packet, next_held, next_line, old_to_broker, publish, publisher, publisher_named, publisher_restarted, publisher_told, pump, receiver, receiver_named, receiver_restarted, receiver_told, restart, restarts, stop_after, stop_before, stranger, stranger_named, subscribe, taken_old, taken_up, tick, to_broker, to_end, with_line, may_ask}
-use Rattle.mqtt_world_single_step_laws.specs.Taken.{HasTexts, HaveTexts, IsTakenFrom, IsTakenFromReceiver}
-use Rattle.mqtt_world_single_step_laws.proofs.TakenLines.{Carries, gives_carries, joined_carries, left_carries, old_carries, restarted_carries, told_carries, up_carries}
-use Rattle.mqtt_world_single_step_laws.proofs.TakenPackets.{IsName, wish_taken}
-use Rattle.mqtt_world_single_step_laws.proofs.TakenPublishers.{IsGoodSent, IsSound, draft_good, new_sound, on_line_sound, published_sound, publisher_reads_sound, sound_taken}
-use Rattle.mqtt_world_single_step_laws.proofs.TakenReceivers.{IsGoodBack, alike_sound, new_receiver_sound, receiver_reads_sound, sound_taken_back, wish_sound}
-use Rattle.mqtt_world_single_step_laws.proofs.TakenReceivers.{IsSound as IsSoundReceiver}
-
--- every end has sent, and will send, what the broker takes
-pub record AreSound (w : World) : Type 0 where
-  pub publishers : AllByRecursion IsSound w.publishers
-  pub receivers : AllByRecursion IsSoundReceiver w.receivers
+use Rattle.mqtt_world_model.specs.World.{Asking, Event, Setting, World, answers_rest, ask, asks, asks_wish, before, break, call_of, call_of_stranger, calls, calls_if, clock, comes, connect_end, end_reads, first_step, give_up, happens, held_count, is_bad, is_bad_name, is_end, is_message, is_open_line, is_window, is_wish, linked_at, links, next_held, next_line, old_to_broker, publish, publisher, publisher_named, publisher_restarted, publisher_told, pump, receiver, receiver_named, receiver_restarted, receiver_told, restart, restarts, stop_after, stop_before, stranger, stranger_named, subscribe, taken_old, taken_up, tick, to_broker, to_end, with_line, may_ask}
+use Rattle.mqtt_world_single_step_laws.specs.Sound.{AreSound, Carries, IsGoodBack, IsGoodSent, IsName, IsSoundPublisher, IsSoundReceiver}
+use Rattle.mqtt_world_single_step_laws.specs.Taken.{IsTakenFrom, IsTakenFromReceiver}
+use Rattle.mqtt_world_single_step_laws.proofs.TakenLines.{gives_carries, joined_carries, left_carries, old_carries, restarted_carries, told_carries, up_carries}
+use Rattle.mqtt_world_single_step_laws.proofs.TakenPackets.{wish_taken}
+use Rattle.mqtt_world_single_step_laws.proofs.TakenPublishers.{draft_good, new_sound, on_line_sound, published_sound, publisher_reads_sound, sound_taken}
+use Rattle.mqtt_world_single_step_laws.proofs.TakenReceivers.{alike_sound, new_receiver_sound, receiver_reads_sound, sound_taken_back, wish_sound}
 
 neither : (a b : Bool) → (a || b) ≡ false → (a ≡ false) × (b ≡ false)
 neither true b h = absurd cc
@@ -46,15 +41,15 @@ one_named : {X : Type 0} (P : X → Type 0) (t : Bool) (x y : X) → P x → P y
 one_named P true x y h g = g
 one_named P false x y h g = h
 
-with_ends : (client : List ℕ) (f : Publisher → Publisher) (g : Receiver → Receiver) (w v : World) → ((p : Publisher) → IsSound p → IsSound (f p)) → ((r : Receiver) → IsSoundReceiver r → IsSoundReceiver (g r))
+with_ends : (client : List ℕ) (f : Publisher → Publisher) (g : Receiver → Receiver) (w v : World) → ((p : Publisher) → IsSoundPublisher p → IsSoundPublisher (f p)) → ((r : Receiver) → IsSoundReceiver r → IsSoundReceiver (g r))
     → v.publishers ≡ map (λ p. cond (bytes_eq p.client client) (f p) p) w.publishers → v.receivers ≡ map (λ r. cond (bytes_eq r.client client) (g r) r) w.receivers → AreSound w → AreSound v
 with_ends client f g w v f_keeps g_keeps ps rs h = record {
-  publishers = subst (AllByRecursion IsSound) (sym ps) (each IsSound (λ p. cond (bytes_eq p.client client) (f p) p) (λ p s. one_named IsSound (bytes_eq p.client client) p (f p) s (f_keeps p s)) w.publishers h.publishers);
+  publishers = subst (AllByRecursion IsSoundPublisher) (sym ps) (each IsSoundPublisher (λ p. cond (bytes_eq p.client client) (f p) p) (λ p s. one_named IsSoundPublisher (bytes_eq p.client client) p (f p) s (f_keeps p s)) w.publishers h.publishers);
   receivers = subst (AllByRecursion IsSoundReceiver) (sym rs) (each IsSoundReceiver (λ r. cond (bytes_eq r.client client) (g r) r) (λ r s. one_named IsSoundReceiver (bytes_eq r.client client) r (g r) s (g_keeps r s)) w.receivers h.receivers);
 }
 
 same_ends : (w v : World) → v.publishers ≡ w.publishers → v.receivers ≡ w.receivers → AreSound w → AreSound v
-same_ends w v ps rs h = record { publishers = subst (AllByRecursion IsSound) (sym ps) h.publishers; receivers = subst (AllByRecursion IsSoundReceiver) (sym rs) h.receivers }
+same_ends w v ps rs h = record { publishers = subst (AllByRecursion IsSoundPublisher) (sym ps) h.publishers; receivers = subst (AllByRecursion IsSoundReceiver) (sym rs) h.receivers }
 
 on_back : (r : Receiver) (l : Line Back) → IsSoundReceiver r → Carries IsGoodBack l → IsSoundReceiver (record r { line = l })
 on_back r l h c = alike_sound r (record r { line = l }) refl refl h c
@@ -72,7 +67,7 @@ calls_sound set call w h =
     let b = stepped set.limits set.choice w.now call w.broker in
     let out = told set.limits set.choice w.now call w.broker in
     record {
-      publishers = each IsSound (publisher_told b out) (λ p s. on_line_sound p (told_by b out p.line) s (told_carries (IsGoodSent (length p.fates)) b out p.line s.line)) w.publishers h.publishers;
+      publishers = each IsSoundPublisher (publisher_told b out) (λ p s. on_line_sound p (told_by b out p.line) s (told_carries (IsGoodSent (length p.fates)) b out p.line s.line)) w.publishers h.publishers;
       receivers = each IsSoundReceiver (receiver_told b out) (λ r s. on_back r (told_by b out r.line) s (told_carries IsGoodBack b out r.line s.line)) w.receivers h.receivers;
     }
 
@@ -82,7 +77,7 @@ if_sound set (Some call) w h = calls_sound set call w h
 
 restarts_sound : (set : Setting) (w : World) → AreSound w → AreSound (restarts set w)
 restarts_sound set w h = record {
-  publishers = each IsSound publisher_restarted (λ p s. on_line_sound p _ s (restarted_carries (IsGoodSent (length p.fates)) p.line)) w.publishers h.publishers;
+  publishers = each IsSoundPublisher publisher_restarted (λ p s. on_line_sound p _ s (restarted_carries (IsGoodSent (length p.fates)) p.line)) w.publishers h.publishers;
   receivers = each IsSoundReceiver receiver_restarted (λ r s. on_back r _ s (restarted_carries IsGoodBack r.line)) w.receivers h.receivers;
 }
 
@@ -130,71 +125,82 @@ links_sound set (Some n) client clean w h =
     (λ p s. on_line_sound p _ s (joined_carries (IsGoodSent (length p.fates)) (shake (CONNECT clean)) n clean p.line tt s.line)) (λ r s. on_back r _ s (joined_carries IsGoodBack (answers (connect clean)) n clean r.line tt s.line)) refl refl
     (calls_sound set NewLine w h)
 
-name_of : (client : List ℕ) → is_bad_name client ≡ false → is_text client ≡ true → IsName client
-name_of client good text =
-    let first = neither (nat_eq (length client) 0) (nat_lt CLIENT_LIMIT (length client) || starts_with nat_eq client auto) good in
-    let second = neither (nat_lt CLIENT_LIMIT (length client)) (starts_with nat_eq client auto) first.1 in
-    record { text = text; short = ltb-false CLIENT_LIMIT (length client) second.0 }
+name_of : (client : List ℕ) → is_bad_name client ≡ false → IsName client
+name_of client good =
+    let first = neither (nat_eq (length client) 0) (nat_lt CLIENT_LIMIT (length client) || (starts_with nat_eq client auto || not (is_text client))) good in
+    let second = neither (nat_lt CLIENT_LIMIT (length client)) (starts_with nat_eq client auto || not (is_text client)) first.1 in
+    let third = neither (starts_with nat_eq client auto) (not (is_text client)) second.1 in
+    record { text = is_so (is_text client) third.1; short = ltb-false CLIENT_LIMIT (length client) second.0 }
 
-happens_sound : (e : Event) (set : Setting) (w : World) → HasTexts e → is_bad e w ≡ false → AreSound w → AreSound (happens set e w)
-happens_sound (publisher client) set w text good h = record {
-  publishers = each_append IsSound w.publishers (new_publisher client ∷ []) h.publishers (new_sound client (name_of client (neither (is_bad_name client) (is_end client w) good).0 text), tt);
+happens_sound : (e : Event) (set : Setting) (w : World) → is_bad e w ≡ false → AreSound w → AreSound (happens set e w)
+happens_sound (publisher client) set w good h = record {
+  publishers = each_append IsSoundPublisher w.publishers (new_publisher client ∷ []) h.publishers (new_sound client (name_of client (neither (is_bad_name client) (is_end client w) good).0), tt);
   receivers = h.receivers;
 }
-happens_sound (receiver client window) set w text good h =
+happens_sound (receiver client window) set w good h =
     let both = neither (is_bad_name client) (is_end client w || not (is_window window)) good in
     let more = neither (is_end client w) (not (is_window window)) both.1 in
     let since = w.broker.records.births in
     record {
       publishers = h.publishers;
-      receivers = each_append IsSoundReceiver w.receivers (new_receiver client window since ∷ []) h.receivers (new_receiver_sound client window since (name_of client both.0 text) (is_so (is_window window) more.1), tt);
+      receivers = each_append IsSoundReceiver w.receivers (new_receiver client window since ∷ []) h.receivers (new_receiver_sound client window since (name_of client both.0) (is_so (is_window window) more.1), tt);
     }
-happens_sound (connect_end client clean) set w text good h = links_sound set (next_line w.broker) client clean w h
-happens_sound (give_up client) set w text good h =
+happens_sound (connect_end client clean) set w good h = links_sound set (next_line w.broker) client clean w h
+happens_sound (give_up client) set w good h =
     lines_sound client (λ l. gives_up l.link l) (λ l. gives_up l.link l) w (λ k l c. gives_carries (IsGoodSent k) l c) (λ l c. gives_carries IsGoodBack l c) h
-happens_sound (publish client d) set w text good h =
-    let input = is_so (is_input (message_packet d)) (neither (is_none (publisher_named client w)) (not (is_input (message_packet d))) good).1 in
+happens_sound (publish client d) set w good h =
+    let message = is_so (is_message d) (neither (is_none (publisher_named client w)) (not (is_message d)) good).1 in
     record {
-      publishers = each IsSound (λ p. cond (bytes_eq p.client client) (published (is_open_line p.line w) d p) p)
-          (λ p s. one_named IsSound (bytes_eq p.client client) p (published (is_open_line p.line w) d p) s (published_sound (is_open_line p.line w) d p (draft_good d input text) s)) w.publishers h.publishers;
+      publishers = each IsSoundPublisher (λ p. cond (bytes_eq p.client client) (published (is_open_line p.line w) d p) p)
+          (λ p s. one_named IsSoundPublisher (bytes_eq p.client client) p (published (is_open_line p.line w) d p) s (published_sound (is_open_line p.line w) d p (draft_good d message) s)) w.publishers h.publishers;
       receivers = h.receivers;
     }
-happens_sound (subscribe client x) set w text good h =
+happens_sound (subscribe client x) set w good h =
     let wish = is_so (is_wish x) (neither (not (may_ask (receiver_named client w))) (not (is_wish x)) good).1 in
     record {
       publishers = h.publishers;
       receivers = each IsSoundReceiver (λ r. cond (bytes_eq r.client client) (asks_wish (is_open_line r.line w) x r) r)
-          (λ r s. one_named IsSoundReceiver (bytes_eq r.client client) r (asks_wish (is_open_line r.line w) x r) s (wish_sound (is_open_line r.line w) x r (wish_taken x wish text) s)) w.receivers h.receivers;
+          (λ r s. one_named IsSoundReceiver (bytes_eq r.client client) r (asks_wish (is_open_line r.line w) x r) s (wish_sound (is_open_line r.line w) x r (wish_taken x wish) s)) w.receivers h.receivers;
     }
-happens_sound (to_end client) set w text good h =
+happens_sound (to_end client) set w good h =
     with_ends client (λ p. publisher_reads (is_open_line p.line w) p.line.down p) (λ r. receiver_reads (is_open_line r.line w) r.line.down r) w (end_reads client w)
     (λ p s. publisher_reads_sound (is_open_line p.line w) p.line.down p s) (λ r s. receiver_reads_sound (is_open_line r.line w) r.line.down r s) refl refl h
-happens_sound (clock wait) set w text good h = record { publishers = h.publishers; receivers = h.receivers }
-happens_sound (ask a) set w text good h = asks_sound set a w h
-happens_sound restart set w text good h = restarts_sound set w h
-happens_sound (stop_before a) set w text good h = restarts_sound set (before set a w) (before_sound set a w h)
-happens_sound (stop_after a) set w text good h = restarts_sound set (first_step set a w) (first_sound set a w h)
+happens_sound (clock wait) set w good h = record { publishers = h.publishers; receivers = h.receivers }
+happens_sound (ask a) set w good h = asks_sound set a w h
+happens_sound restart set w good h = restarts_sound set w h
+happens_sound (stop_before a) set w good h = restarts_sound set (before set a w) (before_sound set a w h)
+happens_sound (stop_after a) set w good h = restarts_sound set (first_step set a w) (first_sound set a w h)
 
 -- ---- a run
 
-turned_sound : (limits : Limits) (t : Turn) (w : World) → HasTexts t.event → AreSound w → AreSound (turned limits t w)
-turned_sound limits t w text h = by (is_bad t.event w) refl
+-- an event leaves each end sound, whichever it is
+pub turned_sound : (limits : Limits) (t : Turn) (w : World) → AreSound w → AreSound (turned limits t w)
+turned_sound limits t w h = by (is_bad t.event w) refl
   where
     by : (bad : Bool) → is_bad t.event w ≡ bad → AreSound (cond bad w (happens (setting limits t) t.event w))
     by true is = h
-    by false is = happens_sound t.event (setting limits t) w text is h
+    by false is = happens_sound t.event (setting limits t) w is h
 
-run_sound : (limits : Limits) (ts : List Turn) (w : World) → HaveTexts ts → AreSound w → AreSound (run limits ts w)
-run_sound limits [] w texts h = h
-run_sound limits (t ∷ ts) w texts h = run_sound limits ts (turned limits t w) texts.1 (turned_sound limits t w texts.0 h)
+run_sound : (limits : Limits) (ts : List Turn) (w : World) → AreSound w → AreSound (run limits ts w)
+run_sound limits [] w h = h
+run_sound limits (t ∷ ts) w h = run_sound limits ts (turned limits t w) (turned_sound limits t w h)
 
-nobody : (w : World) → w.publishers ≡ [] → w.receivers ≡ [] → AreSound w
-nobody w ps rs = record { publishers = subst (AllByRecursion IsSound) (sym ps) tt; receivers = subst (AllByRecursion IsSoundReceiver) (sym rs) tt }
+-- where nobody is, all are sound
+pub nobody_sound : (w : World) → w.publishers ≡ [] → w.receivers ≡ [] → AreSound w
+nobody_sound w ps rs = record { publishers = subst (AllByRecursion IsSoundPublisher) (sym ps) tt; receivers = subst (AllByRecursion IsSoundReceiver) (sym rs) tt }
+
+-- sound publishers have sent what a broker takes
+pub from_publishers : (w : World) → AreSound w → AllByRecursion IsTakenFrom w.publishers
+from_publishers w h = all_more IsSoundPublisher IsTakenFrom w.publishers sound_taken h.publishers
+
+-- so have sound receivers
+pub from_receivers : (w : World) → AreSound w → AllByRecursion IsTakenFromReceiver w.receivers
+from_receivers w h = all_more IsSoundReceiver IsTakenFromReceiver w.receivers sound_taken_back h.receivers
 
 -- in every run publishers have sent what a broker takes
-pub publishers_taken : (limits : Limits) (ts : List Turn) (w : World) → w.publishers ≡ [] → w.receivers ≡ [] → HaveTexts ts → AllByRecursion IsTakenFrom (run limits ts w).publishers
-publishers_taken limits ts w ps rs texts = let v = run limits ts w in all_more IsSound IsTakenFrom v.publishers sound_taken (run_sound limits ts w texts (nobody w ps rs)).publishers
+pub publishers_taken : (limits : Limits) (ts : List Turn) (w : World) → w.publishers ≡ [] → w.receivers ≡ [] → AllByRecursion IsTakenFrom (run limits ts w).publishers
+publishers_taken limits ts w ps rs = from_publishers (run limits ts w) (run_sound limits ts w (nobody_sound w ps rs))
 
 -- in every run receivers have sent what a broker takes
-pub receivers_taken : (limits : Limits) (ts : List Turn) (w : World) → w.publishers ≡ [] → w.receivers ≡ [] → HaveTexts ts → AllByRecursion IsTakenFromReceiver (run limits ts w).receivers
-receivers_taken limits ts w ps rs texts = let v = run limits ts w in all_more IsSoundReceiver IsTakenFromReceiver v.receivers sound_taken_back (run_sound limits ts w texts (nobody w ps rs)).receivers
+pub receivers_taken : (limits : Limits) (ts : List Turn) (w : World) → w.publishers ≡ [] → w.receivers ≡ [] → AllByRecursion IsTakenFromReceiver (run limits ts w).receivers
+receivers_taken limits ts w ps rs = from_receivers (run limits ts w) (run_sound limits ts w (nobody_sound w ps rs))

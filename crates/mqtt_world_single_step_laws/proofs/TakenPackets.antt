@@ -6,7 +6,7 @@ use Rattle.mqtt_base.proofs.Varints.{size_first}
 use Rattle.mqtt_base.specs.Codes.{success, identifier_not_found}
 use Rattle.mqtt_base.specs.Service.{qos_number}
 use Rattle.mqtt_base.specs.Values.{FitsText, blob, is_text, two_bytes, varint}
-use Rattle.mqtt_base.specs.declared.limits.TheConstants.{CLIENT_LIMIT, PACKET_LIMIT}
+use Rattle.mqtt_base.specs.declared.limits.TheConstants.{PACKET_LIMIT}
 use Rattle.mqtt_base.specs.declared.session.Qos.{Qos as Quality}
 use Rattle.mqtt_base.specs.declared.session.Qos.TheVariants.{AtMostOnce, AtLeastOnce, ExactlyOnce}
 use Rattle.mqtt_base.specs.declared.session.RetainHandling.{RetainHandling}
@@ -32,6 +32,7 @@ use Rattle.mqtt_rules.specs.Packets.{size_of}
 use Rattle.mqtt_rules.specs.Packets as sent
 use Rattle.mqtt_world_model.specs.Ends.{Content, Wish, connect_with, identified, publish_with, subscribe_with}
 use Rattle.mqtt_world_model.specs.World.{delivery_at, fits_number, is_input, is_window, is_wish}
+use Rattle.mqtt_world_single_step_laws.specs.Sound.{IsCarried, IsIdentifier, IsName}
 
 -- ---- how many bytes a packet has
 
@@ -105,13 +106,6 @@ resent d e c fits lawful same h =
     let short = h.short in
     taken q (fits, h.spelled.0.1, h.spelled.0.2) (and_two keeps (lawful_identifier e && named) laws.0 (and_two (lawful_identifier e) named lawful rest.1)) (omega (arith, size, short))
 
--- what a message of QoS 1 or 2 carries
-abbrev pub IsCarried : Content → Type 0
-IsCarried c = IsTaken (publish_with (delivery.AtLeastOnce false 1) c)
-
-abbrev pub IsOne : ℕ → Type 0
-IsOne id = (1 ≤ id) × (id < 65536)
-
 above : (id : ℕ) → 1 ≤ id → nat_lt 0 id ≡ true
 above id h = lt-ltb 0 id (omega (arith, h))
 
@@ -119,11 +113,11 @@ fits_16 : (id : ℕ) → id < 65536 → id < 2 ^ 16
 fits_16 id h = omega (arith, h)
 
 -- a content that passed it is taken at QoS 1
-pub carried_once : (dup : Bool) (id : ℕ) (c : Content) → IsOne id → IsCarried c → IsTaken (publish_with (delivery.AtLeastOnce dup id) c)
+pub carried_once : (dup : Bool) (id : ℕ) (c : Content) → IsIdentifier id → IsCarried c → IsTaken (publish_with (delivery.AtLeastOnce dup id) c)
 carried_once dup id c one h = resent (delivery.AtLeastOnce false 1) (delivery.AtLeastOnce dup id) c (fits_16 id one.1) (above id one.0) refl h
 
 -- and at QoS 2
-pub carried_twice : (dup : Bool) (id : ℕ) (c : Content) → IsOne id → IsCarried c → IsTaken (publish_with (delivery.ExactlyOnce dup id) c)
+pub carried_twice : (dup : Bool) (id : ℕ) (c : Content) → IsIdentifier id → IsCarried c → IsTaken (publish_with (delivery.ExactlyOnce dup id) c)
 carried_twice dup id c one h = resent (delivery.AtLeastOnce false 1) (delivery.ExactlyOnce dup id) c (fits_16 id one.1) (above id one.0) refl h
 
 -- what passes the test at QoS 1 can be carried
@@ -137,31 +131,26 @@ twice_tested c input text = resent (delivery.ExactlyOnce false 1) (delivery.AtLe
 -- ---- acks
 
 -- a PUBACK is taken
-pub puback_taken : (id : ℕ) → IsOne id → IsTaken (sent.puback id success)
+pub puback_taken : (id : ℕ) → IsIdentifier id → IsTaken (sent.puback id success)
 puback_taken id one = taken (sent.puback id success) (fits_16 id one.1, refl, none_stand places.Puback) (above id one.0) (few (sent.puback id success) (omega arith))
 
 -- a PUBREC is taken
-pub pubrec_taken : (id : ℕ) → IsOne id → IsTaken (sent.pubrec id success)
+pub pubrec_taken : (id : ℕ) → IsIdentifier id → IsTaken (sent.pubrec id success)
 pubrec_taken id one = taken (sent.pubrec id success) (fits_16 id one.1, refl, none_stand places.Pubrec) (above id one.0) (few (sent.pubrec id success) (omega arith))
 
 -- a PUBREL is taken
-pub pubrel_taken : (id : ℕ) → IsOne id → IsTaken (sent.pubrel id success)
+pub pubrel_taken : (id : ℕ) → IsIdentifier id → IsTaken (sent.pubrel id success)
 pubrel_taken id one = taken (sent.pubrel id success) (fits_16 id one.1, refl, none_stand places.Pubrel) (above id one.0) (few (sent.pubrel id success) (omega arith))
 
 -- a PUBCOMP is taken
-pub pubcomp_taken : (id : ℕ) → IsOne id → IsTaken (sent.pubcomp id success)
+pub pubcomp_taken : (id : ℕ) → IsIdentifier id → IsTaken (sent.pubcomp id success)
 pubcomp_taken id one = taken (sent.pubcomp id success) (fits_16 id one.1, refl, none_stand places.Pubcomp) (above id one.0) (few (sent.pubcomp id success) (omega arith))
 
 -- so is one of an identifier that was not found
-pub unknown_taken : (id : ℕ) → IsOne id → IsTaken (sent.pubcomp id identifier_not_found)
+pub unknown_taken : (id : ℕ) → IsIdentifier id → IsTaken (sent.pubcomp id identifier_not_found)
 unknown_taken id one = taken (sent.pubcomp id identifier_not_found) (fits_16 id one.1, refl, none_stand places.Pubcomp) (above id one.0) (few (sent.pubcomp id identifier_not_found) (omega arith))
 
 -- ---- CONNECT
-
--- a client identifier is a text, and no longer than one may be
-pub record IsName (client : List ℕ) : Type 0 where
-  pub text : is_text client ≡ true
-  pub short : length client ≤ CLIENT_LIMIT
 
 connect_few : (client : List ℕ) (clean : Bool) (more : List Prop) → IsName client → length (props (property SessionExpiryInterval (U32 0xffffffff) ∷ more)) ≤ 8
     → length (shortest_body (connect_with client clean more)) < 128
@@ -243,12 +232,13 @@ wish_stands None fits less = none_stand places.Subscribe
 wish_stands (Some n) fits less = let small = ltb-true n (2 ^ 28) fits in (record { each = (record { kind = refl; fits = small }, tt); short = omega (arith, less) }, refl)
 
 -- a SUBSCRIBE that passes the test is taken
-pub wish_taken : (w : Wish) → is_wish w ≡ true → is_text w.filter ≡ true → IsTaken (subscribe_with w)
-wish_taken w is text =
+pub wish_taken : (w : Wish) → is_wish w ≡ true → IsTaken (subscribe_with w)
+wish_taken w is =
     let p = subscribe_with w in
-    let both = two (fits_number w.identifier) (is_input p) is in
-    let h = input_of p both.1 in
+    let both = two (fits_number w.identifier) (is_text w.filter && is_input p) is in
+    let said = two (is_text w.filter) (is_input p) both.1 in
+    let h = input_of p said.1 in
     let less = within p h.1 in
     let long = wish_length w in
-    let filter_fits : FitsText w.filter = (omega (arith, less, long), text) in
+    let filter_fits : FitsText w.filter = (omega (arith, less, long), said.0) in
     taken p (omega arith, wish_stands w.identifier both.0 (omega (arith, less, long)), ((filter_fits, options_most w.options), tt)) h.0 h.1

@@ -1,6 +1,5 @@
 -- What a publisher sends, whatever it reads, the broker takes (MQTT 5.0, 2.2.1, 4.3, 4.4).
 use Rattle.std.proofs.Common.{◌≡◌, ◌≤◌, ◌<◌, ◌+◌, ℕ, zero, suc, Bool, true, false, ◌&&◌, if◌then◌else◌, List, [], ◌∷◌, ◌++◌, map, length, Option, Some, None, nat_eq, nat_lt, refl, sym, ap, subst, ◌∙◌, arith, inl, inr, length-append}
-use Rattle.std.specs.Prelude.{⊤}
 use Rattle.std.specs.List.{AllByRecursion, list_any}
 use Rattle.std.proofs.lemmas.Bool.{cases_Bool, eqb-true, ltb-true}
 use Rattle.std.proofs.lemmas.List.{length-map}
@@ -8,7 +7,6 @@ use Rattle.mqtt_base.specs.Codes.{is_success}
 use Rattle.mqtt_base.specs.declared.limits.TheConstants.{OPEN_LIMIT}
 use Rattle.mqtt_base.specs.declared.session.Qos.{Qos as Quality}
 use Rattle.mqtt_base.specs.declared.session.Qos.TheVariants.{AtMostOnce, AtLeastOnce, ExactlyOnce}
-use Rattle.mqtt_codec.specs.declared.publish.Delivery.TheVariants as delivery
 use Rattle.mqtt_flow_inbound.specs.Identifiers.{free_identifier, is_among, lowest_from}
 use Rattle.mqtt_flow_inbound.specs.Line.{Link, away, asked, live}
 use Rattle.mqtt_flow_inbound.specs.Publisher.{Fate, sent_1, ended_1, sent, released, ended, CONNECT, PUBLISH_1, PUBLISH_2, PUBREL, Qos, qos_1, qos_2, ToPublisher, CONNACK, CONNACK_REFUSED, PUBACK, PUBREC, PUBCOMP, DISCONNECT, completed, acknowledged, received, first_fate, first_packet, in_flight, is_sent, on_new_session, on_puback, on_pubcomp, on_pubrec, pubrel_for, pubrel_if, resent_from}
@@ -18,20 +16,14 @@ use Rattle.mqtt_rules.proofs.contents.PassedContents.{two}
 use Rattle.mqtt_rules.specs.Contents.{IsTaken}
 use Rattle.mqtt_world_model.specs.Ends.{Content, Draft, Publisher, Sent, connected, content_at, goes, goes_out, heard, new_publisher, numbered, plain, publish_with, published, publisher_reads, reads, reads_connack, reads_if, send_all, send_one, send_unsent, shake, wire}
 use Rattle.mqtt_world_model.specs.Lines.{Down, Line, left}
-use Rattle.mqtt_world_model.specs.World.{delivery_at, is_input, message_packet}
+use Rattle.mqtt_world_model.specs.World.{delivery_at, is_input, is_message, message_packet}
 use Rattle.mqtt_base.specs.Values.{is_text}
+use Rattle.mqtt_world_single_step_laws.specs.Sound.{Carries, IsCarried, IsGoodDraft, IsGoodFate, IsGoodSent, IsIdentifier, IsName, IsSoundPublisher, IsTested}
 use Rattle.mqtt_world_single_step_laws.specs.Taken.{IsTakenFrom}
-use Rattle.mqtt_world_single_step_laws.proofs.TakenLines.{Carries, goes_carries, left_carries}
-use Rattle.mqtt_world_single_step_laws.proofs.TakenPackets.{IsCarried, IsName, IsOne, carried_once, carried_twice, connect_taken, once_tested, publish_tested, pubrel_taken, twice_tested}
+use Rattle.mqtt_world_single_step_laws.proofs.TakenLines.{goes_carries, left_carries}
+use Rattle.mqtt_world_single_step_laws.proofs.TakenPackets.{carried_once, carried_twice, connect_taken, once_tested, publish_tested, pubrel_taken, twice_tested}
 
 -- ---- identifiers
-
-abbrev pub IsGoodFate : Fate → Type 0
-IsGoodFate (sent_1 id) = IsOne id
-IsGoodFate (ended_1 by) = ⊤
-IsGoodFate (sent id) = IsOne id
-IsGoodFate (released id) = IsOne id
-IsGoodFate (ended by) = ⊤
 
 lowest_bounds : (more id : ℕ) (used : List ℕ) → (id ≤ lowest_from more id used) × (lowest_from more id used ≤ id + more)
 lowest_bounds zero id used = (omega arith, omega arith)
@@ -42,7 +34,7 @@ lowest_bounds (suc more) id used = by (is_among id used) (lowest_bounds more (su
     by true x = let low = x.0 in let high = x.1 in (omega (arith, low), omega (arith, high))
     by false x = (omega arith, omega arith)
 
-free_one : (used : List ℕ) → nat_lt (length used) OPEN_LIMIT ≡ true → IsOne (free_identifier used)
+free_one : (used : List ℕ) → nat_lt (length used) OPEN_LIMIT ≡ true → IsIdentifier (free_identifier used)
 free_one used room =
     let x = lowest_bounds (length used) 1 used in
     let low = x.0 in
@@ -52,13 +44,6 @@ free_one used room =
 
 -- ---- what it sends, when so many messages have gone out
 
-abbrev pub IsGoodSent : ℕ → Sent → Type 0
-IsGoodSent k (shake (CONNECT clean)) = ⊤
-IsGoodSent k (shake (PUBLISH_1 id n dup)) = IsOne id × (n < k)
-IsGoodSent k (shake (PUBLISH_2 id n dup)) = IsOne id × (n < k)
-IsGoodSent k (shake (PUBREL id)) = IsOne id
-IsGoodSent k (plain c) = IsTaken (publish_with delivery.AtMostOnce c)
-
 later : (k m : ℕ) (s : Sent) → k ≤ m → IsGoodSent k s → IsGoodSent m s
 later k m (shake (CONNECT clean)) le h = tt
 later k m (shake (PUBLISH_1 id n dup)) le h = let less = h.1 in (h.0, omega (arith, less, le))
@@ -66,31 +51,14 @@ later k m (shake (PUBLISH_2 id n dup)) le h = let less = h.1 in (h.0, omega (ari
 later k m (shake (PUBREL id)) le h = h
 later k m (plain c) le h = h
 
-abbrev pub IsTested : Quality → Content → Type 0
-IsTested AtMostOnce c = IsTaken (publish_with delivery.AtMostOnce c)
-IsTested AtLeastOnce c = IsCarried c
-IsTested ExactlyOnce c = IsCarried c
-
-abbrev pub IsGoodDraft : Draft → Type 0
-IsGoodDraft d = IsTested d.qos d.content
-
 -- ---- the publisher
-
--- what a publisher has sent and has to send are packets that the broker takes, with identifiers of two bytes
-pub record IsSound (p : Publisher) : Type 0 where
-  pub name : IsName p.client
-  pub fates : AllByRecursion IsGoodFate p.fates
-  pub contents : AllByRecursion IsCarried p.contents
-  pub same : length p.contents ≡ length p.fates
-  pub unsent : AllByRecursion IsGoodDraft p.unsent
-  pub line : Carries (IsGoodSent (length p.fates)) p.line
 
 content_carried : (n : ℕ) (cs : List Content) → n < length cs → AllByRecursion IsCarried cs → IsCarried (content_at n cs)
 content_carried n [] less h = absurd (omega (arith, less))
 content_carried zero (c ∷ cs) less h = h.0
 content_carried (suc n) (c ∷ cs) less h = content_carried n cs (omega (arith, less)) h.1
 
-wire_taken : (p : Publisher) → IsSound p → (s : Sent) → IsGoodSent (length p.fates) s → IsTaken (wire p.client p.contents s)
+wire_taken : (p : Publisher) → IsSoundPublisher p → (s : Sent) → IsGoodSent (length p.fates) s → IsTaken (wire p.client p.contents s)
 wire_taken p h (shake (CONNECT clean)) g = connect_taken p.client clean h.name
 wire_taken p h (shake (PUBLISH_1 id n dup)) g =
     let less = g.1 in let same = h.same in carried_once dup id (content_at n p.contents) g.0 (content_carried n p.contents (omega (arith, less, same)) h.contents)
@@ -100,31 +68,31 @@ wire_taken p h (shake (PUBREL id)) g = pubrel_taken id g
 wire_taken p h (plain c) g = g
 
 -- a sound publisher has sent what a broker takes
-pub sound_taken : (p : Publisher) → IsSound p → IsTakenFrom p
+pub sound_taken : (p : Publisher) → IsSoundPublisher p → IsTakenFrom p
 sound_taken p h = record {
   up = all_more (IsGoodSent (length p.fates)) (λ (s : Sent). IsTaken (wire p.client p.contents s)) p.line.up (wire_taken p h) h.line.up;
   old = all_more (IsGoodSent (length p.fates)) (λ (s : Sent). IsTaken (wire p.client p.contents s)) p.line.old (wire_taken p h) h.line.old;
 }
 
 -- a new publisher is sound
-pub new_sound : (client : List ℕ) → IsName client → IsSound (new_publisher client)
+pub new_sound : (client : List ℕ) → IsName client → IsSoundPublisher (new_publisher client)
 new_sound client name = record { name = name; fates = tt; contents = tt; same = refl; unsent = tt; line = record { up = tt; old = tt } }
 
 -- its line alone changes
-pub on_line_sound : (p : Publisher) (l : Line Sent) → IsSound p → Carries (IsGoodSent (length p.fates)) l → IsSound (record p { line = l })
+pub on_line_sound : (p : Publisher) (l : Line Sent) → IsSoundPublisher p → Carries (IsGoodSent (length p.fates)) l → IsSoundPublisher (record p { line = l })
 on_line_sound p l h g = record { name = h.name; fates = h.fates; contents = h.contents; same = h.same; unsent = h.unsent; line = g }
 
 -- ---- messages go out
 
-first_good : (qos : Qos) (id : ℕ) → IsOne id → IsGoodFate (first_fate qos id)
+first_good : (qos : Qos) (id : ℕ) → IsIdentifier id → IsGoodFate (first_fate qos id)
 first_good qos_1 id one = one
 first_good qos_2 id one = one
 
-packet_good : (qos : Qos) (id n : ℕ) → IsOne id → IsGoodSent (suc n) (shake (first_packet qos id n))
+packet_good : (qos : Qos) (id n : ℕ) → IsIdentifier id → IsGoodSent (suc n) (shake (first_packet qos id n))
 packet_good qos_1 id n one = (one, omega arith)
 packet_good qos_2 id n one = (one, omega arith)
 
-numbered_sound : (t : Bool) (qos : Qos) (c : Content) (rest : List Draft) (p : Publisher) → nat_lt (length (in_flight p.fates)) OPEN_LIMIT ≡ true → IsCarried c → AllByRecursion IsGoodDraft rest → IsSound p → IsSound (numbered t qos c rest p)
+numbered_sound : (t : Bool) (qos : Qos) (c : Content) (rest : List Draft) (p : Publisher) → nat_lt (length (in_flight p.fates)) OPEN_LIMIT ≡ true → IsCarried c → AllByRecursion IsGoodDraft rest → IsSoundPublisher p → IsSoundPublisher (numbered t qos c rest p)
 numbered_sound t qos c rest p room good drafts h =
     let id = free_identifier (in_flight p.fates) in
     let one = free_one (in_flight p.fates) room in
@@ -147,7 +115,7 @@ numbered_sound t qos c rest p room good drafts h =
       line = subst (λ (n : ℕ). Carries (IsGoodSent n) (goes t (packet ∷ []) p.line)) (sym fates_more) gone;
     }
 
-out_sound : (t : Bool) (q : Quality) (c : Content) (rest : List Draft) (p : Publisher) → nat_lt (length (in_flight p.fates)) OPEN_LIMIT ≡ true → IsTested q c → AllByRecursion IsGoodDraft rest → IsSound p → IsSound (goes_out t q c rest p)
+out_sound : (t : Bool) (q : Quality) (c : Content) (rest : List Draft) (p : Publisher) → nat_lt (length (in_flight p.fates)) OPEN_LIMIT ≡ true → IsTested q c → AllByRecursion IsGoodDraft rest → IsSoundPublisher p → IsSoundPublisher (goes_out t q c rest p)
 out_sound t AtMostOnce c rest p room good drafts h = record {
   name = h.name;
   fates = h.fates;
@@ -159,33 +127,33 @@ out_sound t AtMostOnce c rest p room good drafts h = record {
 out_sound t AtLeastOnce c rest p room good drafts h = numbered_sound t qos_1 c rest p room good drafts h
 out_sound t ExactlyOnce c rest p room good drafts h = numbered_sound t qos_2 c rest p room good drafts h
 
-one_sound : (t : Bool) (d : Draft) (rest : List Draft) (p : Publisher) → IsGoodDraft d → AllByRecursion IsGoodDraft rest → IsSound p → IsSound (send_one t d rest p)
+one_sound : (t : Bool) (d : Draft) (rest : List Draft) (p : Publisher) → IsGoodDraft d → AllByRecursion IsGoodDraft rest → IsSoundPublisher p → IsSoundPublisher (send_one t d rest p)
 one_sound t d rest p good drafts h = by (nat_lt (length (in_flight p.fates)) OPEN_LIMIT) refl
   where
-    by : (room : Bool) → nat_lt (length (in_flight p.fates)) OPEN_LIMIT ≡ room → IsSound (if room then goes_out t d.qos d.content rest p else p)
+    by : (room : Bool) → nat_lt (length (in_flight p.fates)) OPEN_LIMIT ≡ room → IsSoundPublisher (if room then goes_out t d.qos d.content rest p else p)
     by true is = out_sound t d.qos d.content rest p is good drafts h
     by false is = h
 
-all_sound : (t : Bool) (ds : List Draft) (p : Publisher) → AllByRecursion IsGoodDraft ds → IsSound p → IsSound (send_all t ds p)
+all_sound : (t : Bool) (ds : List Draft) (p : Publisher) → AllByRecursion IsGoodDraft ds → IsSoundPublisher p → IsSoundPublisher (send_all t ds p)
 all_sound t [] p good h = h
 all_sound t (d ∷ rest) p good h = all_sound t rest (send_one t d rest p) good.1 (one_sound t d rest p good.0 good.1 h)
 
-unsent_sound : (t : Bool) (link : Link) (p : Publisher) → IsSound p → IsSound (send_unsent t link p)
+unsent_sound : (t : Bool) (link : Link) (p : Publisher) → IsSoundPublisher p → IsSoundPublisher (send_unsent t link p)
 unsent_sound t away p h = h
 unsent_sound t asked p h = h
 unsent_sound t live p h = all_sound t p.unsent p h.unsent h
 
 -- a draft that passes the test is good
-pub draft_good : (d : Draft) → is_input (message_packet d) ≡ true → is_text d.content.topic ≡ true → IsGoodDraft d
-draft_good d input text = by d.qos input
+pub draft_good : (d : Draft) → is_message d ≡ true → IsGoodDraft d
+draft_good d h = by d.qos (two (is_text d.content.topic) (is_input (message_packet d)) h)
   where
-    by : (q : Quality) → is_input (publish_with (delivery_at q) d.content) ≡ true → IsTested q d.content
-    by AtMostOnce i = publish_tested AtMostOnce d.content i text
-    by AtLeastOnce i = once_tested d.content i text
-    by ExactlyOnce i = twice_tested d.content i text
+    by : (q : Quality) → (is_text d.content.topic ≡ true) × (is_input (publish_with (delivery_at q) d.content) ≡ true) → IsTested q d.content
+    by AtMostOnce is = publish_tested AtMostOnce d.content is.1 is.0
+    by AtLeastOnce is = once_tested d.content is.1 is.0
+    by ExactlyOnce is = twice_tested d.content is.1 is.0
 
 -- publishing a good draft leaves a publisher sound
-pub published_sound : (t : Bool) (d : Draft) (p : Publisher) → IsGoodDraft d → IsSound p → IsSound (published t d p)
+pub published_sound : (t : Bool) (d : Draft) (p : Publisher) → IsGoodDraft d → IsSoundPublisher p → IsSoundPublisher (published t d p)
 published_sound t d p good h = unsent_sound t p.line.link (record p { unsent = p.unsent ++ d ∷ [] }) (record {
   name = h.name;
   fates = h.fates;
@@ -220,7 +188,7 @@ acknowledged_good : (t : Bool) → IsGoodFate (acknowledged t)
 acknowledged_good true = tt
 acknowledged_good false = tt
 
-received_good : (t : Bool) (id : ℕ) → IsOne id → IsGoodFate (received t id)
+received_good : (t : Bool) (id : ℕ) → IsIdentifier id → IsGoodFate (received t id)
 received_good true id h = h
 received_good false id h = tt
 
@@ -258,12 +226,12 @@ pubcomp_good id (released other) h = by (nat_eq id other)
 pubcomp_good id (ended by) h = h
 
 -- a PUBREL is of a message that was sent
-sent_one : (id : ℕ) (fates : List Fate) → AllByRecursion IsGoodFate fates → list_any (is_sent id) fates ≡ true → IsOne id
+sent_one : (id : ℕ) (fates : List Fate) → AllByRecursion IsGoodFate fates → list_any (is_sent id) fates ≡ true → IsIdentifier id
 sent_one id [] h e = absurd cc
 sent_one id (sent_1 other ∷ fates) h e = sent_one id fates h.1 e
 sent_one id (ended_1 by ∷ fates) h e = sent_one id fates h.1 e
 sent_one id (sent other ∷ fates) h e = elim (cases_Bool (nat_eq id other)) [
-  | inl here ↦ subst IsOne (sym (eqb-true id other here)) h.0
+  | inl here ↦ subst IsIdentifier (sym (eqb-true id other here)) h.0
   | inr further ↦ sent_one id fates h.1 (rw further at e)
 ]
 sent_one id (released other ∷ fates) h e = sent_one id fates h.1 e
@@ -277,7 +245,7 @@ pubrel_good id code k fates h = by (list_any (is_sent id) fates && is_success co
     by false is = tt
 
 -- its handshakes change, each by itself
-fates_sound : (f : Fate → Fate) → ((x : Fate) → IsGoodFate x → IsGoodFate (f x)) → (p : Publisher) (l : Line Sent) → IsSound p → Carries (IsGoodSent (length p.fates)) l → IsSound (record p { fates = map f p.fates; line = l })
+fates_sound : (f : Fate → Fate) → ((x : Fate) → IsGoodFate x → IsGoodFate (f x)) → (p : Publisher) (l : Line Sent) → IsSoundPublisher p → Carries (IsGoodSent (length p.fates)) l → IsSoundPublisher (record p { fates = map f p.fates; line = l })
 fates_sound f g p l h c =
     let same = length-map p.fates f in
     record {
@@ -289,7 +257,7 @@ fates_sound f g p l h c =
       line = subst (λ (n : ℕ). Carries (IsGoodSent n) l) (sym same) c;
     }
 
-connack_sound : (t : Bool) (link : Link) (present : Bool) (p : Publisher) → IsSound p → IsSound (reads_connack t link present p)
+connack_sound : (t : Bool) (link : Link) (present : Bool) (p : Publisher) → IsSoundPublisher p → IsSoundPublisher (reads_connack t link present p)
 connack_sound t away present p h = h
 connack_sound t asked true p h =
     let k = length p.fates in
@@ -302,7 +270,7 @@ connack_sound t asked false p h =
     (fates_sound on_new_session forgets_good p (connected p.line) h (record { up = h.line.up; old = h.line.old }))
 connack_sound t live present p h = h
 
-reads_sound : (t : Bool) (packet : ToPublisher) (p : Publisher) → IsSound p → IsSound (reads t packet p)
+reads_sound : (t : Bool) (packet : ToPublisher) (p : Publisher) → IsSoundPublisher p → IsSoundPublisher (reads t packet p)
 reads_sound t (CONNACK present) p h = connack_sound t p.line.link present p h
 reads_sound t (CONNACK_REFUSED code) p h = on_line_sound p (left (record p.line { clean = false })) h (record { up = tt; old = h.line.old })
 reads_sound t (PUBACK id code) p h = unsent_sound t p.line.link (record p { fates = map (on_puback id code) p.fates }) (fates_sound (on_puback id code) (puback_good id code) p p.line h h.line)
@@ -314,11 +282,11 @@ reads_sound t (PUBREC id code) p h =
 reads_sound t (PUBCOMP id code) p h = unsent_sound t p.line.link (record p { fates = map (on_pubcomp id) p.fates }) (fates_sound (on_pubcomp id) (pubcomp_good id) p p.line h h.line)
 reads_sound t (DISCONNECT code) p h = on_line_sound p (left p.line) h (left_carries (IsGoodSent (length p.fates)) p.line h.line)
 
-if_sound : (t : Bool) (x : Option ToPublisher) (p : Publisher) → IsSound p → IsSound (reads_if t x p)
+if_sound : (t : Bool) (x : Option ToPublisher) (p : Publisher) → IsSoundPublisher p → IsSoundPublisher (reads_if t x p)
 if_sound t None p h = h
 if_sound t (Some packet) p h = reads_sound t packet p h
 
 -- so does its reading
-pub publisher_reads_sound : (t : Bool) (ds : List Down) (p : Publisher) → IsSound p → IsSound (publisher_reads t ds p)
+pub publisher_reads_sound : (t : Bool) (ds : List Down) (p : Publisher) → IsSoundPublisher p → IsSoundPublisher (publisher_reads t ds p)
 publisher_reads_sound t [] p h = h
 publisher_reads_sound t (d ∷ rest) p h = if_sound t (heard d.packet) (record p { line = record p.line { down = rest } }) (on_line_sound p (record p.line { down = rest }) h (record { up = h.line.up; old = h.line.old }))

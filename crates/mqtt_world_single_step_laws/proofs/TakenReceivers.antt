@@ -1,6 +1,5 @@
 -- What a receiver sends, whatever it reads, the broker takes, if its answers have identifiers (MQTT 5.0, 2.2.1, 4.3, 4.4).
-use Rattle.std.proofs.Common.{◌≡◌, ◌≤◌, ◌<◌, ◌^◌, ℕ, Bool, true, false, cond, ◌⊎◌, if◌then◌else◌, List, [], ◌∷◌, Option, nat_lt, refl, sym, ap, subst, ◌∙◌, arith, inl, inr}
-use Rattle.std.specs.Prelude.{⊤}
+use Rattle.std.proofs.Common.{◌≡◌, ◌≤◌, ◌<◌, ◌^◌, ℕ, Bool, true, false, cond, if◌then◌else◌, List, [], ◌∷◌, Option, nat_lt, refl, sym, ap, subst, ◌∙◌, arith, inl, inr}
 use Rattle.mqtt_base.specs.Codes.{success, identifier_not_found}
 use Rattle.mqtt_base.specs.declared.session.CopyId.{CopyId}
 use Rattle.mqtt_codec.specs.declared.packet.Packet.{Packet}
@@ -17,28 +16,15 @@ use Rattle.mqtt_rules.specs.Packets as sent
 use Rattle.mqtt_world_model.specs.Ends.{Back, Receiver, Wish, answers, asks_for, greeted, hears, new_receiver, reads_publish, receiver_connack, receiver_reads, subscribe_with}
 use Rattle.mqtt_world_model.specs.Lines.{Down, left}
 use Rattle.mqtt_world_model.specs.World.{asks_wish, is_window}
+use Rattle.mqtt_world_single_step_laws.specs.Sound.{Carries, IsGoodBack, IsIdentifier, IsName, IsSoundReceiver}
 use Rattle.mqtt_world_single_step_laws.specs.Taken.{IsTakenBack, IsTakenFromReceiver}
-use Rattle.mqtt_world_single_step_laws.proofs.TakenLines.{Carries, goes_carries, left_carries}
-use Rattle.mqtt_world_single_step_laws.proofs.TakenPackets.{IsName, IsOne, connect_back_taken, puback_taken, pubcomp_taken, pubrec_taken, unknown_taken}
+use Rattle.mqtt_world_single_step_laws.proofs.TakenLines.{goes_carries, left_carries}
+use Rattle.mqtt_world_single_step_laws.proofs.TakenPackets.{connect_back_taken, puback_taken, pubcomp_taken, pubrec_taken, unknown_taken}
 
--- its answers tell that all is well, or that the broker's packet identifier isn't known
-abbrev pub IsGoodBack : Back → Type 0
-IsGoodBack (answers (connect clean)) = ⊤
-IsGoodBack (answers (puback i code)) = code ≡ success
-IsGoodBack (answers (pubrec i code)) = code ≡ success
-IsGoodBack (answers (pubcomp i code)) = (code ≡ success) ⊎ (code ≡ identifier_not_found)
-IsGoodBack (asks_for w) = IsTaken (subscribe_with w)
-
--- what a receiver has sent are packets that the broker takes
-pub record IsSound (r : Receiver) : Type 0 where
-  pub name : IsName r.client
-  pub window : is_window r.window ≡ true
-  pub line : Carries IsGoodBack r.line
-
-one_of : (i : ℕ) → (1 ≤ i) × (i < 2 ^ 16) → IsOne i
+one_of : (i : ℕ) → (1 ≤ i) × (i < 2 ^ 16) → IsIdentifier i
 one_of i h = let low = h.0 in let less = h.1 in (low, omega (arith, less))
 
-back_taken : (r : Receiver) → IsSound r → (x : Back) → IsGoodBack x → IsTakenBack r x
+back_taken : (r : Receiver) → IsSoundReceiver r → (x : Back) → IsGoodBack x → IsTakenBack r x
 back_taken r h (answers (connect clean)) g = λ one. connect_back_taken r.client r.window clean h.name h.window
 back_taken r h (answers (puback i code)) g = λ one. subst (λ (n : ℕ). IsTaken (sent.puback i n)) (sym g) (puback_taken i (one_of i one))
 back_taken r h (answers (pubrec i code)) g = λ one. subst (λ (n : ℕ). IsTaken (sent.pubrec i n)) (sym g) (pubrec_taken i (one_of i one))
@@ -47,35 +33,35 @@ back_taken r h (answers (pubcomp i code)) (inr g) = λ one. subst (λ (n : ℕ).
 back_taken r h (asks_for w) g = λ one. g
 
 -- a sound receiver has sent what a broker takes
-pub sound_taken_back : (r : Receiver) → IsSound r → IsTakenFromReceiver r
+pub sound_taken_back : (r : Receiver) → IsSoundReceiver r → IsTakenFromReceiver r
 sound_taken_back r h = record {
   up = all_more IsGoodBack (IsTakenBack r) r.line.up (back_taken r h) h.line.up;
   old = all_more IsGoodBack (IsTakenBack r) r.line.old (back_taken r h) h.line.old;
 }
 
 -- a new receiver is sound
-pub new_receiver_sound : (client : List ℕ) (window since : ℕ) → IsName client → is_window window ≡ true → IsSound (new_receiver client window since)
+pub new_receiver_sound : (client : List ℕ) (window since : ℕ) → IsName client → is_window window ≡ true → IsSoundReceiver (new_receiver client window since)
 new_receiver_sound client window since name is = record { name = name; window = is; line = record { up = tt; old = tt } }
 
 -- whoever has its name, its window and such a line
-pub alike_sound : (r s : Receiver) → s.client ≡ r.client → s.window ≡ r.window → IsSound r → Carries IsGoodBack s.line → IsSound s
+pub alike_sound : (r s : Receiver) → s.client ≡ r.client → s.window ≡ r.window → IsSoundReceiver r → Carries IsGoodBack s.line → IsSoundReceiver s
 alike_sound r s client window h c = record { name = subst IsName (sym client) h.name; window = ap is_window window ∙ h.window; line = c }
 
 -- ---- it reads
 
-publish_sound : (t : Bool) (copy : Option CopyId) (p : Publication) (d : Delivery) (r : Receiver) → IsSound r → IsSound (reads_publish t copy p d r)
+publish_sound : (t : Bool) (copy : Option CopyId) (p : Publication) (d : Delivery) (r : Receiver) → IsSoundReceiver r → IsSoundReceiver (reads_publish t copy p d r)
 publish_sound t copy p delivery.AtMostOnce r h = h
 publish_sound t copy p (delivery.AtLeastOnce dup i) r h =
     alike_sound r (reads_publish t copy p (delivery.AtLeastOnce dup i) r) refl refl h (goes_carries IsGoodBack t (answers (puback i success) ∷ []) r.line (refl, tt) h.line)
 publish_sound t copy p (delivery.ExactlyOnce dup i) r h =
     alike_sound r (reads_publish t copy p (delivery.ExactlyOnce dup i) r) refl refl h (goes_carries IsGoodBack t (answers (pubrec i success) ∷ []) r.line (refl, tt) h.line)
 
-code_sound : (t : Bool) (present : Bool) (r : Receiver) → IsSound r
-    → IsSound (cond t (record r { line = left (record r.line { clean = false }) }) (record r { line = greeted r.line; asking = false; kept = if present then r.kept else [] }))
+code_sound : (t : Bool) (present : Bool) (r : Receiver) → IsSoundReceiver r
+    → IsSoundReceiver (cond t (record r { line = left (record r.line { clean = false }) }) (record r { line = greeted r.line; asking = false; kept = if present then r.kept else [] }))
 code_sound true present r h = alike_sound r (record r { line = left (record r.line { clean = false }) }) refl refl h (record { up = tt; old = h.line.old })
 code_sound false present r h = alike_sound r (record r { line = greeted r.line; asking = false; kept = if present then r.kept else [] }) refl refl h (record { up = h.line.up; old = h.line.old })
 
-connack_sound : (link : Link) (present : Bool) (code : ℕ) (r : Receiver) → IsSound r → IsSound (receiver_connack link present code r)
+connack_sound : (link : Link) (present : Bool) (code : ℕ) (r : Receiver) → IsSoundReceiver r → IsSoundReceiver (receiver_connack link present code r)
 connack_sound away present code r h = h
 connack_sound live present code r h = h
 connack_sound asked present code r h = code_sound (nat_lt 0 code) present r h
@@ -84,7 +70,7 @@ known : (t : Bool) (i : ℕ) → IsGoodBack (answers (pubcomp i (if t then succe
 known true i = inl refl
 known false i = inr refl
 
-hears_sound : (t : Bool) (copy : Option CopyId) (packet : Packet) (r : Receiver) → IsSound r → IsSound (hears t copy packet r)
+hears_sound : (t : Bool) (copy : Option CopyId) (packet : Packet) (r : Receiver) → IsSoundReceiver r → IsSoundReceiver (hears t copy packet r)
 hears_sound t copy (packets.Connack a) r h = connack_sound r.line.link a.session_present a.reason.0 r h
 hears_sound t copy (packets.Publish p) r h = publish_sound t copy p p.delivery r h
 hears_sound t copy (packets.Pubrel a) r h =
@@ -96,7 +82,7 @@ hears_sound t copy (packets.Disconnect n) r h = alike_sound r (record r { line =
 hears_sound t copy packet r h = h
 
 -- reading leaves a receiver sound
-pub receiver_reads_sound : (t : Bool) (ds : List Down) (r : Receiver) → IsSound r → IsSound (receiver_reads t ds r)
+pub receiver_reads_sound : (t : Bool) (ds : List Down) (r : Receiver) → IsSoundReceiver r → IsSoundReceiver (receiver_reads t ds r)
 receiver_reads_sound t [] r h = h
 receiver_reads_sound t (d ∷ rest) r h =
     let v = record r { line = record r.line { down = rest } } in
@@ -105,5 +91,5 @@ receiver_reads_sound t (d ∷ rest) r h =
 -- ---- it asks for a subscription
 
 -- so does a subscription
-pub wish_sound : (t : Bool) (w : Wish) (r : Receiver) → IsTaken (subscribe_with w) → IsSound r → IsSound (asks_wish t w r)
+pub wish_sound : (t : Bool) (w : Wish) (r : Receiver) → IsTaken (subscribe_with w) → IsSoundReceiver r → IsSoundReceiver (asks_wish t w r)
 wish_sound t w r good h = alike_sound r (asks_wish t w r) refl refl h (goes_carries IsGoodBack t (asks_for w ∷ []) r.line (good, tt) h.line)

@@ -1,23 +1,9 @@
 -- What is said of the packets that are under way from the ends of the world (MQTT 5.0, 1.5.4, 2.2.1).
-use Rattle.std.specs.Prelude.{◌≡◌, ◌≤◌, ◌<◌, ◌^◌, ⊤, true, List}
+use Rattle.std.specs.Prelude.{◌≤◌, ◌<◌, ◌^◌, ⊤}
 use Rattle.std.specs.List.{AllByRecursion}
-use Rattle.mqtt_base.specs.Values.{is_text}
 use Rattle.mqtt_flow.specs.Receiver.{connect, puback, pubcomp, pubrec}
 use Rattle.mqtt_rules.specs.Contents.{IsTaken}
 use Rattle.mqtt_world_model.specs.Ends.{Back, Publisher, Receiver, Sent, answers, asks_for, wire, wire_back}
-use Rattle.mqtt_world_model.specs.Run.{Turn}
-use Rattle.mqtt_world_model.specs.World.{Event, publish, publisher, receiver, subscribe}
-
--- the names, topics and filters that an event brings are texts
-abbrev pub HasTexts : Event → Type 0
-HasTexts (publisher client) = is_text client ≡ true
-HasTexts (receiver client window) = is_text client ≡ true
-HasTexts (publish client d) = is_text d.content.topic ≡ true
-HasTexts (subscribe client x) = is_text x.filter ≡ true
-HasTexts e = ⊤
-
-abbrev pub HaveTexts : List Turn → Type 0
-HaveTexts ts = AllByRecursion (λ (t : Turn). HasTexts t.event) ts
 
 -- the broker takes whatever is under way from a publisher, on its line and on the one that it gave up
 pub record IsTakenFrom (p : Publisher) : Type 0 where

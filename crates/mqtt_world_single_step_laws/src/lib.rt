@@ -9,4 +9,4 @@ pub use laws::{
     a_stop_after_is_a_step_and_a_restart, an_event_is_its_steps, bytes_come_packet_by_packet,
     every_event_comes_to_steps, strangers_of_a_name_are_alike,
 };
-pub use taken_laws::packets_of_ends_are_taken;
+pub use taken_laws::{ends_stay_sound, packets_of_ends_are_taken};

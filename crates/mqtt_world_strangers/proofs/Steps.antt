@@ -14,7 +14,7 @@ use Rattle.mqtt_world_model.specs.World.{receiver_named, step, stranger, strange
 use Rattle.mqtt_world_single_step_laws.specs.Unrolled.{AreAlike, IsWhole, bytes_come}
 use Rattle.mqtt_world_single_step_laws.proofs.Strangers.{held_by}
 use Rattle.mqtt_world_single_step_laws.proofs.Answered.{Holds, asks_both, asks_is, come, come_count, come_found, come_holds, comes_both, comes_is, enough, next_holds, next_world, none_behind, none_longer, nothing_asked, nothing_left, still, welcomed_found}
-use Rattle.mqtt_world_single_step_laws.proofs.Good.{AreSameEnds, good_after, good_parts, same_asked}
+use Rattle.mqtt_world_single_step_laws.proofs.Good.{AreSameEnds, bytes_good, good_after, good_bytes, good_parts, said_parts, same_asked}
 use Rattle.mqtt_world_strangers.proofs.Pieces.{none_left}
 use Rattle.mqtt_world_strangers.specs.Strangers.{IsStep, asks_piece, line_of, newcomer, takes_piece, welcomes}
 
@@ -129,9 +129,11 @@ pub first_good : (set : Setting) (name piece : List ℕ) (w : World) → strange
     → is_bad (ask (stranger name piece)) w ≡ false → is_bad (ask (stranger name piece)) (welcomes set name w) ≡ false
 first_good set name piece w none good =
     let v = welcomes set name w in
-    ap (λ (o : Option Stranger). bytes_name (length (bytes_held o ++ piece)) (bytes_held o ++ piece) v) (first_found set name w none)
+    let all = good_bytes name piece w good in
+    bytes_good name piece v all.0
+    (ap (λ (o : Option Stranger). bytes_name (length (bytes_held o ++ piece)) (bytes_held o ++ piece) v) (first_found set name w none)
     ∙ good_after piece v w (same_ends set name w)
-    (sym (ap (λ (o : Option Stranger). bytes_name (length (bytes_held o ++ piece)) (bytes_held o ++ piece) w) none) ∙ good)
+    (sym (ap (λ (o : Option Stranger). bytes_name (length (bytes_held o ++ piece)) (bytes_held o ++ piece) w) none) ∙ all.1))
 
 -- a first piece does what it does behind the welcome
 pub first_does : (set : Setting) (name piece : List ℕ) (w : World) → stranger_named name w ≡ None
@@ -162,7 +164,10 @@ first_deeds set name piece w none good = read_first_piece the_deeds set name pie
 -- bytes that are good are good up to the end of a packet
 pub good_first : (name piece more : List ℕ) (w : World) → IsWhole (bytes_come name piece w)
     → is_bad (ask (stranger name (piece ++ more))) w ≡ false → is_bad (ask (stranger name piece)) w ≡ false
-good_first name piece more w whole good = (good_parts (bytes_held (stranger_named name w)) piece more whole.0 w whole.1 good).0
+good_first name piece more w whole good =
+    let all = good_bytes name (piece ++ more) w good in
+    bytes_good name piece w (said_parts piece more all.0).0
+    (good_parts (bytes_held (stranger_named name w)) piece more whole.0 w whole.1 all.1).0
 
 -- behind it nothing is held
 pub nothing_held : (set : Setting) (name piece more : List ℕ) (w : World) → AreAlike name w → IsWhole (bytes_come name piece w)
@@ -177,8 +182,10 @@ pub good_rest : (set : Setting) (name piece more : List ℕ) (w : World) → Are
     → is_bad (ask (stranger name (piece ++ more))) w ≡ false
     → is_bad (ask (stranger name more)) (step set (ask (stranger name piece)) w) ≡ false
 good_rest set name piece more w alike whole good =
-    let both = good_parts (bytes_held (stranger_named name w)) piece more whole.0 w whole.1 good in
+    let all = good_bytes name (piece ++ more) w good in
+    let both = good_parts (bytes_held (stranger_named name w)) piece more whole.0 w whole.1 all.1 in
     let v = asks set (stranger name piece) w in
-    ap (λ (u : World). is_bad_asking (stranger name more) u) (good_step set name piece w both.0)
-    ∙ (ap (λ (bytes : List ℕ). bytes_name (length (bytes ++ more)) (bytes ++ more) v) (none_behind set name piece w alike whole)
+    ap (λ (u : World). is_bad_asking (stranger name more) u) (good_step set name piece w (good_first name piece more w whole good))
+    ∙ bytes_good name more v (said_parts piece more all.0).1
+    (ap (λ (bytes : List ℕ). bytes_name (length (bytes ++ more)) (bytes ++ more) v) (none_behind set name piece w alike whole)
     ∙ good_after more v w (same_asked set name piece w) both.1)

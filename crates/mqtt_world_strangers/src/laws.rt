@@ -32,8 +32,8 @@ pub fn a_stranger_is_welcomed_first()
         ≡ deeds_at set (ask (stranger name piece)) (welcomes set name w) }
 {}
 
-/// If bytes name no end, neither do those up to the end of their first packet, nor those behind it when these have
-/// come; and nothing is held then.
+/// If what a stranger sends is bytes and names no end, so it is with what comes up to the end of the first packet, and
+/// with what is behind that when it has come; and nothing is held then.
 pub fn pieces_are_good()
     ensures first { (name piece more : List ℕ) (w : World) → IsWhole (bytes_come name piece w)
         → is_bad (ask (stranger name (piece ++ more))) w ≡ false → is_bad (ask (stranger name piece)) w ≡ false }

@@ -3,6 +3,8 @@ use Rattle.std.proofs.Common.{◌≡◌, ℕ, Bool, true, false, ◌&&◌, List,
 use Rattle.std.specs.Prelude.{is_none, option_map}
 use Rattle.std.specs.List.{AllByRecursion}
 use Rattle.std.proofs.lemmas.Slice.Eq.{bytes_eq-Decides}
+use Rattle.std.specs.Str.{is_utf8, chars}
+use Rattle.std.proofs.Math.Utf8.{encode}
 use Rattle.mqtt_base.specs.Values.{varint}
 use Rattle.mqtt_base.specs.declared.session.Qos.TheVariants.{AtLeastOnce}
 use Rattle.mqtt_codec.specs.declared.packet.Packet.{Packet}
@@ -60,27 +62,27 @@ copy_with id = record { delivery = delivery.AtLeastOnce false id; retain = false
 
 -- the first names the alias, and the second has no topic
 pub named_then_short : under_way one sent_twice ≡ Some (packets.Publish (in_form (Named 1) (copy_with 1)) ∷ packets.Publish (in_form (Short 1) (copy_with 2)) ∷ [])
-unfolding varint
+unfolding varint is_utf8 chars encode
 named_then_short = refl
 
 -- both are read with the topic
 pub both_are_read : read_of one read_twice ≡ Some (topic ∷ topic ∷ [])
-unfolding varint
+unfolding varint is_utf8 chars encode
 both_are_read = refl
 
 -- and the alias is known then
 pub alias_is_known : (after one usual (turns read_twice)).known ≡ record { max = 1; topics = (1, topic) ∷ [] } ∷ []
-unfolding varint
+unfolding varint is_utf8 chars encode
 alias_is_known = refl
 
 -- a client that takes none is sent the topic twice
 pub plain_twice : under_way none sent_twice ≡ Some (packets.Publish (copy_with 1) ∷ packets.Publish (copy_with 2) ∷ [])
-unfolding varint
+unfolding varint is_utf8 chars encode
 plain_twice = refl
 
 -- on a new line nothing is known, and the alias is named again
 pub named_again : under_way one sent_again ≡ Some (packets.Publish (in_form (Named 1) (record (copy_with 1) { delivery = delivery.AtLeastOnce true 1 })) ∷ packets.Publish (in_form (Short 1) (record (copy_with 2) { delivery = delivery.AtLeastOnce true 2 })) ∷ [])
-unfolding varint
+unfolding varint is_utf8 chars encode
 named_again = refl
 
 -- ---- the laws are of this run: each PUBLISH that is meant goes to a/b, and has no alias
@@ -113,7 +115,7 @@ send_their_topics [] e = tt
 send_their_topics (d ∷ ds) e = (sends_its_topic d (and_left (goes_there d) (all_go_there ds) e), send_their_topics ds (and_right (goes_there d) (all_go_there ds) e))
 
 all_go : all_go_there (deeds_over usual (turns read_twice) start) ≡ true
-unfolding varint
+unfolding varint is_utf8 chars encode
 all_go = refl
 
 -- so it goes as the run of what is meant

@@ -20,7 +20,7 @@ use Rattle.mqtt_records.specs.Session.{copy_place}
 use Rattle.mqtt_records_rows.specs.Order.{row_at}
 use Rattle.mqtt_rules.specs.Packets.{publish_of}
 use Rattle.mqtt_rules.specs.State.{Line, Broker, Env, session_at, line_of, queue_on}
-use Rattle.mqtt_rules.specs.Deeds.{whose, Message, Origin, Subscribe, Open, Enter, Leave, Deed, Accept, Begin, Count, At, Keep, Send, after, after_all, always, series, with_session, offer}
+use Rattle.mqtt_rules.specs.Deeds.{whose, Message, Origin, Subscribe, Open, Enter, Leave, Deed, Accept, Begin, Count, At, Keep, after, after_all, always, series, with_session, offer}
 use Rattle.mqtt_rules.specs.Fitting.{has_form, offer_copy}
 use Rattle.mqtt_rules.specs.Outbound.{of_entry, leave_deeds, since, queue_limits, enter_deeds, room_at}
 use Rattle.mqtt_rules.specs.Routing.{CopyTo, is_queued, deliver_by, deliver, retained_of, forgets, retain_by, next_publication, accepted_copies, publish}

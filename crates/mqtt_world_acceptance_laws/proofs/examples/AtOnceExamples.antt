@@ -1,6 +1,8 @@
 -- Worked runs: a subscriber of granted QoS 0 gets its copy at once, and a stop keeps it back (MQTT 5.0, 3.3.4, 4.3.1).
 use Rattle.std.proofs.Common.{◌≡◌, ℕ, false, List, [], ◌∷◌, ◌++◌, None, refl}
 use Rattle.std.specs.Prelude.{flat_map, length}
+use Rattle.std.specs.Str.{is_utf8, chars}
+use Rattle.std.proofs.Math.Utf8.{encode}
 use Rattle.mqtt_base.specs.Values.{varint}
 use Rattle.mqtt_base.specs.declared.session.Qos.TheVariants.{AtMostOnce}
 use Rattle.mqtt_rules.proofs.examples.Play.{usual, topic, options}
@@ -33,30 +35,30 @@ due_after es = length (flat_map due_in (steps_over usual (turns es) start))
 
 -- before the publication
 pub nothing_is_under_way : waiting_after subscribed ≡ 0
-unfolding varint
+unfolding varint is_utf8 chars encode
 nothing_is_under_way = refl
 
 -- a copy of QoS 0 is due
 pub a_copy_is_due_at_once : due_after given ≡ 1
-unfolding varint
+unfolding varint is_utf8 chars encode
 a_copy_is_due_at_once = refl
 
 -- and on its way
 pub it_is_under_way : waiting_after given ≡ 1
-unfolding varint
+unfolding varint is_utf8 chars encode
 it_is_under_way = refl
 
 -- it enters no queue
 pub it_enters_no_queue : entered_from usual (turns given) start ≡ []
-unfolding varint
+unfolding varint is_utf8 chars encode
 it_enters_no_queue = refl
 
 -- also if the broker stops
 pub it_is_due_in_a_stopped_step : due_after stopped ≡ 1
-unfolding varint
+unfolding varint is_utf8 chars encode
 it_is_due_in_a_stopped_step = refl
 
 -- but then it is not sent
 pub a_stop_keeps_it_back : waiting_after stopped ≡ 0
-unfolding varint
+unfolding varint is_utf8 chars encode
 a_stop_keeps_it_back = refl

@@ -2,6 +2,8 @@
 -- has all its lines gives none; a group's copy ends with its member (MQTT 5.0, 3.1.2.4, 4.3.3, 4.4, 4.8.2).
 use Rattle.std.proofs.Common.{◌≡◌, ℕ, zero, suc, Bool, true, false, not, ◌&&◌, List, [], ◌∷◌, ◌++◌, map, Option, Some, None, refl}
 use Rattle.std.specs.Prelude.{codes, option_map}
+use Rattle.std.specs.Str.{is_utf8, chars}
+use Rattle.std.proofs.Math.Utf8.{encode}
 use Rattle.mqtt_base.specs.Values.{varint}
 use Rattle.mqtt_base.specs.declared.session.Qos.TheVariants.{ExactlyOnce}
 use Rattle.mqtt_base.specs.declared.session.CopyId.{CopyId}
@@ -41,48 +43,49 @@ restarted = asked ++ ask (to_broker p1) ∷ restart ∷ resent
 
 -- a stop before the commit is fair
 pub a_stop_before_is_fair : is_fair before_it ≡ true
-unfolding varint
+unfolding varint is_utf8 chars encode
 a_stop_before_is_fair = refl
 
 -- the message is accepted once
 pub a_stop_before_is_once : times before_it ≡ 1
-unfolding varint
+unfolding varint is_utf8 chars encode
 a_stop_before_is_once = refl
 
 -- and completes
 pub a_stop_before_completes : fate_of p1 0 (run usual (turns before_it) start) ≡ Some (ended completed)
-unfolding varint
+unfolding varint is_utf8 chars encode
 a_stop_before_completes = refl
 
 -- so is a stop behind it
 pub a_stop_after_is_fair : is_fair after_it ≡ true
-unfolding varint
+unfolding varint is_utf8 chars encode
 a_stop_after_is_fair = refl
 
 -- the message is accepted once
 pub a_stop_after_is_once : times after_it ≡ 1
-unfolding varint
+unfolding varint is_utf8 chars encode
 a_stop_after_is_once = refl
 
 -- and a restart
 pub a_restart_is_fair : is_fair restarted ≡ true
-unfolding varint
+unfolding varint is_utf8 chars encode
 a_restart_is_fair = refl
 
 -- ---- a late CONNECT on a line that was given up is fair; a Clean Start whose line is given up isn't
 
 -- and a CONNECT that comes late
 pub a_late_connect_is_fair : is_fair (publisher p1 ∷ connect_end p1 false ∷ give_up p1 ∷ connect_end p1 false ∷ ask (to_broker p1) ∷ ask (old_to_broker p1) ∷ []) ≡ true
-unfolding varint
+unfolding varint is_utf8 chars encode
 a_late_connect_is_fair = refl
 
 -- and a Clean Start on a line that begins
 pub a_clean_start_is_fair : is_fair (asked ++ ask (break p1) ∷ joins p1 true) ≡ true
-unfolding varint
+unfolding varint is_utf8 chars encode
 a_clean_start_is_fair = refl
 
 -- but not one that is given up
 pub a_clean_start_given_up_is_not : is_fair (publisher p1 ∷ connect_end p1 true ∷ give_up p1 ∷ []) ≡ false
+unfolding is_utf8 chars encode
 a_clean_start_given_up_is_not = refl
 
 -- ---- a broker with 64 lines gives no further one, and the end goes on without
@@ -96,12 +99,12 @@ line_after es = option_map (λ (p : Publisher). p.line.number) (publisher_named 
 
 -- a broker with 64 lines gives none
 pub a_full_broker_gives_no_line : line_after (strangers 64 ++ publisher p1 ∷ connect_end p1 false ∷ []) ≡ Some None
-unfolding varint
+unfolding varint is_utf8 chars encode
 a_full_broker_gives_no_line = refl
 
 -- one with 63 gives the last
 pub a_last_line_is_given : line_after (strangers 63 ++ publisher p1 ∷ connect_end p1 false ∷ []) ≡ Some (Some 64)
-unfolding varint
+unfolding varint is_utf8 chars encode
 a_last_line_is_given = refl
 
 -- ---- a group whose member is lost: its copy ends with its session, and goes to no other (4.8.2)
@@ -126,20 +129,20 @@ births xs = map (λ (c : CopyId). c.birth) xs
 
 -- one member of a group gets the copy
 pub a_group_has_one_copy : births (entered_from usual (turns lost) start) ≡ 1 ∷ []
-unfolding varint
+unfolding varint is_utf8 chars encode
 a_group_has_one_copy = refl
 
 -- where it waits
 pub it_waits_for_its_member : births (standing (run usual (turns grouped) start).broker) ≡ 1 ∷ []
-unfolding varint
+unfolding varint is_utf8 chars encode
 it_waits_for_its_member = refl
 
 -- and ends with the member's session
 pub it_ends_with_its_member : births (ended_from usual (turns lost) start) ≡ 1 ∷ []
-unfolding varint
+unfolding varint is_utf8 chars encode
 it_ends_with_its_member = refl
 
 -- nobody else has it
 pub it_waits_for_no_other : births (standing (run usual (turns lost) start).broker) ≡ []
-unfolding varint
+unfolding varint is_utf8 chars encode
 it_waits_for_no_other = refl

@@ -4,6 +4,7 @@ use Rattle.std.specs.Prelude.{option_map, is_none, is_some}
 use Rattle.std.specs.List.{AllByRecursion, starts_with}
 use Rattle.std.proofs.lemmas.Bool.{cases_Bool}
 use Rattle.std.proofs.lemmas.Slice.Eq.{bytes_eq-Decides}
+use Rattle.mqtt_base.specs.Values.{is_text}
 use Rattle.mqtt_base.specs.declared.limits.TheConstants.{CLIENT_LIMIT}
 use Rattle.mqtt_flow_inbound.specs.Line.{Link, away, asked, live}
 use Rattle.mqtt_flow_inbound.specs.InboundWorld as hop
@@ -41,9 +42,10 @@ is_nothing (Some x) e = absurd cc
 pub named_so : (c : List ℕ) → is_bad_name c ≡ false → IsNamed c
 named_so [] h = absurd cc
 named_so (x ∷ xs) h =
-    let some_ = either (nat_eq (length (x ∷ xs)) 0) (nat_lt CLIENT_LIMIT (length (x ∷ xs)) || starts_with nat_eq (x ∷ xs) auto) h in
-    let both = either (nat_lt CLIENT_LIMIT (length (x ∷ xs))) (starts_with nat_eq (x ∷ xs) auto) some_.1 in
-    record { some = refl; short = both.0; plain = both.1 }
+    let c = x ∷ xs in
+    let some_ = either (nat_eq (length c) 0) (nat_lt CLIENT_LIMIT (length c) || (starts_with nat_eq c auto || not (is_text c))) h in
+    let both = either (nat_lt CLIENT_LIMIT (length c)) (starts_with nat_eq c auto || not (is_text c)) some_.1 in
+    record { some = refl; short = both.0; plain = (either (starts_with nat_eq c auto) (not (is_text c)) both.1).0 }
 
 -- nobody has sent anything: it sees the beginning of its hop
 new_seen : (c : List ℕ) (b : Broker) → session_named c b.records ≡ None → seen [] (new_publisher c) b ≡ hop.start

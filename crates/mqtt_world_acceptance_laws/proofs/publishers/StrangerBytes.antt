@@ -1,5 +1,5 @@
 -- A stranger's bytes, whoever looks on: they are cut into packets, none of which is a CONNECT of an end (MQTT 5.0, 3.1.3.1).
-use Rattle.std.proofs.Common.{◌≡◌, ℕ, zero, suc, Bool, true, false, cond, List, [], ◌∷◌, ◌++◌, length, map, Option, Some, None, bytes_eq, refl, sym, ap, subst, ◌∙◌, inl, inr}
+use Rattle.std.proofs.Common.{◌≡◌, ℕ, zero, suc, Bool, true, false, cond, not, List, [], ◌∷◌, ◌++◌, length, map, Option, Some, None, bytes_eq, refl, sym, ap, subst, ◌∙◌, inl, inr}
 use Rattle.std.specs.Prelude.{option_map, find, is_some, Ok, Err}
 use Rattle.std.specs.List.{AllByRecursion}
 use Rattle.std.proofs.lemmas.Bool.{cases_Bool}
@@ -13,7 +13,7 @@ use Rattle.mqtt_rules.specs.Deeds.{Link, Deed, after_all, rows_of_all}
 use Rattle.mqtt_codec_parts.specs.Faults.{answer_to}
 use Rattle.mqtt_rules.specs.Piece.{Front, begins_connect, code_of, call_by}
 use Rattle.mqtt_rules.specs.Step.{Call, NewLine, Input, BadInput, can_link, at_moment, deeds, stepped}
-use Rattle.mqtt_world_model.specs.World.{Stranger, World, Setting, stranger_named, is_end, calls_if, call_on, held_after, linked_at, comes, call_of_stranger, next_held, answers_rest, held_count, names_end, front_names, bytes_name, bytes_held, is_bad_asking, stranger}
+use Rattle.mqtt_world_model.specs.World.{Stranger, World, Setting, stranger_named, is_end, calls_if, call_on, held_after, linked_at, comes, call_of_stranger, next_held, answers_rest, held_count, names_end, front_names, bytes_name, bytes_held, are_bytes, is_bad_asking, stranger}
 use Rattle.mqtt_world_model.specs.Hops.{IsOthers}
 use Rattle.mqtt_world_model.proofs.others.Frame.{kept_given}
 use Rattle.mqtt_world_model.specs.Run.{read_if, read_rest}
@@ -147,12 +147,19 @@ rest_keeps set name w Keeps next (suc more) v h good unspent =
     let costs = either (read_if spending set call v) (read_rest spending set more name (calls_if set call u)) unspent in
     rest_keeps set name w Keeps next more (calls_if set call u) (next v h both.0 costs.0) (ap (λ (bytes : List ℕ). bytes_name more bytes w) (held_next set name v call) ∙ both.1) costs.1
 
--- none of all that is held then is a CONNECT of an end, if the bytes may be sent
+-- none of all that is held with them is a CONNECT of an end, if the bytes may be sent
+pub good_bytes : (name bytes : List ℕ) (w : World) → is_bad_asking (stranger name bytes) w ≡ false
+    → bytes_name (length (bytes_held (stranger_named name w) ++ bytes)) (bytes_held (stranger_named name w) ++ bytes) w ≡ false
+good_bytes name bytes w good =
+    let all = bytes_held (stranger_named name w) ++ bytes in
+    (either (not (are_bytes bytes)) (bytes_name (length all) all w) good).1
+
+-- nor of all that is held once they are there
 pub good_then : (set : Setting) (name bytes : List ℕ) (w : World) → is_bad_asking (stranger name bytes) w ≡ false
     → bytes_name (held_count (stranger_named name (comes set name bytes w))) (bytes_held (stranger_named name (comes set name bytes w))) w ≡ false
 good_then set name bytes w good =
     let s = stranger_named name (comes set name bytes w) in
-    ap (λ (n : ℕ). bytes_name n (bytes_held s) w) (count_is s) ∙ (ap (λ (xs : List ℕ). bytes_name (length xs) xs w) (comes_held set name bytes w) ∙ good)
+    ap (λ (n : ℕ). bytes_name n (bytes_held s) w) (count_is s) ∙ (ap (λ (xs : List ℕ). bytes_name (length xs) xs w) (comes_held set name bytes w) ∙ good_bytes name bytes w good)
   where
     count_is : (o : Option Stranger) → held_count o ≡ length (bytes_held o)
     count_is None = refl

@@ -10,7 +10,7 @@ use Rattle.mqtt_world_model.specs.Run.{read_if, read_rest, read_first, read_aske
 use Rattle.mqtt_world_acceptance_laws.specs.Spending.{spending}
 use Rattle.mqtt_world_acceptance_laws.proofs.copies.Steady.{linking_spends_none}
 use Rattle.mqtt_world_acceptance_laws.proofs.publishers.Ends.{all_appended}
-use Rattle.mqtt_world_acceptance_laws.proofs.publishers.StrangerBytes.{changed, all_changed, linked_given, packet_outside, same_cost, rest_keeps, good_then, first_good, comes_held}
+use Rattle.mqtt_world_acceptance_laws.proofs.publishers.StrangerBytes.{changed, all_changed, linked_given, packet_outside, same_cost, rest_keeps, good_bytes, good_then, first_good, comes_held}
 use Rattle.mqtt_world_acceptance_laws.proofs.publishers.Around.{IsOutOf, IsFree, OtherStranger, Holds, IsOutside, calls_hold, if_holds, if_there}
 
 -- ---- its bytes change nothing of the broker and of the ends
@@ -120,4 +120,4 @@ stranger_first c name bytes set his accepted w h good unspent =
     let v_holds = comes_holds c set his accepted name bytes w h in
     if_holds c set his accepted (call_of_stranger (stranger_named name v)) v v_holds unspent
     (next_outside c set.limits his accepted name w v v_holds (comes_there c set name bytes w)
-    (ap (λ (xs : List ℕ). front_names (first_of xs) w) (comes_held set name bytes w) ∙ first_good all w good))
+    (ap (λ (xs : List ℕ). front_names (first_of xs) w) (comes_held set name bytes w) ∙ first_good all w (good_bytes name bytes w good)))

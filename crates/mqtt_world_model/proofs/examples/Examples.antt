@@ -52,46 +52,46 @@ sent_count es = length (filter_map output (deeds_over usual (turns es) start))
 
 -- the old line first: the message completes
 pub old_first_completes : fates_after old_first ≡ Some (ended completed ∷ [])
-unfolding varint
+unfolding varint is_utf8 chars encode
 old_first_completes = refl
 
 -- and is accepted once
 pub old_first_accepts : accepted_over p1 usual (turns old_first) start ≡ 0 ∷ []
-unfolding varint
+unfolding varint is_utf8 chars encode
 old_first_accepts = refl
 
 -- what each event tells
 pub old_first_is_told : tellings old_first
     ≡ silent ∷ silent ∷ sends_out 1 ∷ silent ∷ silent ∷ record { reports = Accepted 1 ∷ []; out = 1 } ∷ silent ∷ silent ∷ silent
     ∷ record { reports = Released 1 p1 1 ∷ []; out = 1 } ∷ sends_out 2 ∷ silent ∷ sends_out 1 ∷ silent ∷ []
-unfolding varint
+unfolding varint is_utf8 chars encode
 old_first_is_told = refl
 
 -- and all reports together
 pub old_first_tells : reports_of old_first ≡ Accepted 1 ∷ Released 1 p1 1 ∷ []
-unfolding varint
+unfolding varint is_utf8 chars encode
 old_first_tells = refl
 
 -- the CONNECT first: the message completes
 pub connect_first_completes : fates_after connect_first ≡ Some (ended completed ∷ [])
-unfolding varint
+unfolding varint is_utf8 chars encode
 connect_first_completes = refl
 
 -- and is accepted once
 pub connect_first_accepts : accepted_over p1 usual (turns connect_first) start ≡ 0 ∷ []
-unfolding varint
+unfolding varint is_utf8 chars encode
 connect_first_accepts = refl
 
 -- what each event tells
 pub connect_first_is_told : tellings connect_first
     ≡ silent ∷ silent ∷ sends_out 1 ∷ silent ∷ silent ∷ record { reports = Accepted 1 ∷ []; out = 1 } ∷ silent ∷ silent ∷ silent
     ∷ sends_out 2 ∷ silent ∷ silent ∷ record { reports = Released 1 p1 1 ∷ []; out = 1 } ∷ silent ∷ []
-unfolding varint
+unfolding varint is_utf8 chars encode
 connect_first_is_told = refl
 
 -- CONNACK, PUBREC, DISCONNECT 8E, CONNACK, PUBCOMP
 pub connect_first_sends : sent_count connect_first ≡ 5
-unfolding varint
+unfolding varint is_utf8 chars encode
 connect_first_sends = refl
 
 -- what was under way on the line that was given up is dropped as CONNECT takes the session over (3.1.4)
@@ -100,12 +100,12 @@ old_line es = option_map (λ (p : Publisher). p.line.old) (publisher_named p1 (a
 
 -- a PUBREL is on its way on the old line
 pub a_pubrel_is_under_way : old_line released ≡ Some (shake (PUBREL 1) ∷ [])
-unfolding varint
+unfolding varint is_utf8 chars encode
 a_pubrel_is_under_way = refl
 
 -- a takeover drops it
 pub a_takeover_drops_the_old_line : old_line (released ++ ask (to_broker p1) ∷ []) ≡ Some []
-unfolding varint
+unfolding varint is_utf8 chars encode
 a_takeover_drops_the_old_line = refl
 
 -- ---- a receiver: a stop after the pump's commit, and the resent copy (4.4)
@@ -120,12 +120,12 @@ receiver_after es = receiver_named r1 (after usual (turns es))
 
 -- handed over once
 pub stopped_hands_once : option_map (λ (r : Receiver). map (λ (e : Entry). e.copy) r.ledger) (receiver_after stopped) ≡ Some (Some (record { publication = 1; birth = 1; cause = Direct }) ∷ [])
-unfolding varint
+unfolding varint is_utf8 chars encode
 stopped_hands_once = refl
 
 -- what is told if the broker stops
 pub stopped_tells : reports_of stopped ≡ Accepted 1 ∷ Entered (record { publication = 1; birth = 1; cause = Direct }) r1 ∷ Ended (record { publication = 1; birth = 1; cause = Direct }) r1 Taken ∷ []
-unfolding varint
+unfolding varint is_utf8 chars encode
 stopped_tells = refl
 
 -- ---- a stop before the commit of a PUBLISH, and after it: accepted once in both (4.3.3)
@@ -138,17 +138,17 @@ resent = connect_end p1 false ∷ ask (to_broker p1) ∷ to_end p1 ∷ ask (to_b
 
 -- a stop before the commit
 pub a_stop_before_accepts_once : accepted_over p1 usual (turns (joined ++ stop_before (to_broker p1) ∷ resent)) start ≡ 0 ∷ []
-unfolding varint
+unfolding varint is_utf8 chars encode
 a_stop_before_accepts_once = refl
 
 -- a stop behind it
 pub a_stop_after_accepts_once : accepted_over p1 usual (turns (joined ++ stop_after (to_broker p1) ∷ resent)) start ≡ 0 ∷ []
-unfolding varint
+unfolding varint is_utf8 chars encode
 a_stop_after_accepts_once = refl
 
 -- the message completes in both
 pub both_complete : fates_after (joined ++ stop_before (to_broker p1) ∷ resent) ≡ fates_after (joined ++ stop_after (to_broker p1) ∷ resent)
-unfolding varint
+unfolding varint is_utf8 chars encode
 both_complete = refl
 
 -- ---- a stranger's bytes, in pieces: CONNECT, and a PUBLISH of QoS 2 without a subscriber (2.1)
@@ -181,19 +181,19 @@ lost_answer =
 -- an answer that is lost brings no second copy
 pub a_lost_answer_hands_once : option_map (λ (r : Receiver). map (λ (e : Entry). e.copy) r.ledger) (receiver_after lost_answer)
     ≡ Some (Some (record { publication = 1; birth = 1; cause = Direct }) ∷ [])
-unfolding varint
+unfolding varint is_utf8 chars encode
 a_lost_answer_hands_once = refl
 
 -- ---- a restart in mid-handshake: accepted once, and completed (4.3.3, 4.4)
 
 -- a restart between PUBLISH and answer
 pub a_restart_accepts_once : accepted_over p1 usual (turns (joined ++ ask (to_broker p1) ∷ restart ∷ resent)) start ≡ 0 ∷ []
-unfolding varint
+unfolding varint is_utf8 chars encode
 a_restart_accepts_once = refl
 
 -- the message completes
 pub a_restart_completes : fates_after (joined ++ ask (to_broker p1) ∷ restart ∷ resent) ≡ Some (ended completed ∷ [])
-unfolding varint
+unfolding varint is_utf8 chars encode
 a_restart_completes = refl
 
 -- ---- a Clean Start in mid-handshake: the session ends, and the message is forgotten (3.1.2.4)
@@ -203,17 +203,17 @@ cleaned = joined ++ ask (to_broker p1) ∷ ask (break p1) ∷ connect_end p1 tru
 
 -- a clean start forgets what is under way
 pub a_clean_start_forgets : fates_after cleaned ≡ Some (ended forgotten ∷ [])
-unfolding varint
+unfolding varint is_utf8 chars encode
 a_clean_start_forgets = refl
 
 -- which was accepted
 pub a_clean_start_accepts_once : accepted_over p1 usual (turns cleaned) start ≡ 0 ∷ []
-unfolding varint
+unfolding varint is_utf8 chars encode
 a_clean_start_accepts_once = refl
 
 -- CONNACK with Session Present 0, PUBREC, CONNACK with Session Present 0
 pub a_clean_start_is_told : filter_map output (deeds_over usual (turns cleaned) start) ≡ (1, welcome false) ∷ (1, pubrec 1 0x10) ∷ (2, welcome false) ∷ []
-unfolding varint
+unfolding varint is_utf8 chars encode
 a_clean_start_is_told = refl
 
 -- ---- a late CONNECT on the line that was given up takes the session over (3.1.4)
@@ -225,15 +225,15 @@ late =
 
 -- a CONNECT that comes late takes the session over
 pub a_late_connect_takes_over : filter_map output (deeds_over usual (turns late) start) ≡ (2, welcome false) ∷ (2, pubrec 1 0x10) ∷ (2, disconnect 0x8e) ∷ (1, welcome true) ∷ []
-unfolding varint
+unfolding varint is_utf8 chars encode
 a_late_connect_takes_over = refl
 
 -- with one acceptance
 pub a_late_connect_accepts_once : accepted_over p1 usual (turns (late ++ connect_end p1 false ∷ ask (to_broker p1) ∷ to_end p1 ∷ ask (to_broker p1) ∷ to_end p1 ∷ [])) start ≡ 0 ∷ []
-unfolding varint
+unfolding varint is_utf8 chars encode
 a_late_connect_accepts_once = refl
 
 -- and the message completes
 pub a_late_connect_completes : fates_after (late ++ connect_end p1 false ∷ ask (to_broker p1) ∷ to_end p1 ∷ ask (to_broker p1) ∷ to_end p1 ∷ []) ≡ Some (ended completed ∷ [])
-unfolding varint
+unfolding varint is_utf8 chars encode
 a_late_connect_completes = refl

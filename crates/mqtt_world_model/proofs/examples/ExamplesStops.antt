@@ -31,12 +31,12 @@ pub a_lost_pump_is_told : tellings stopped
     ≡ silent ∷ silent ∷ silent ∷ one_out ∷ silent ∷ silent ∷ one_out ∷ silent ∷ silent ∷ one_out ∷ silent ∷ silent
     ∷ record { reports = Accepted 1 ∷ Entered first_copy r1 ∷ []; out = 1 } ∷ silent ∷ silent ∷ one_out ∷ silent ∷ one_out ∷ silent ∷ one_out ∷ silent
     ∷ record { reports = Ended first_copy r1 Taken ∷ []; out = 0 } ∷ []
-unfolding varint
+unfolding varint is_utf8 chars encode
 a_lost_pump_is_told = refl
 
 -- its copy waits
 pub a_lost_pump_comes_to : comes_to stopped ≡ record { handed = 1 ∷ []; queue = 0; messages = 1; done = 0; publications = 1; sessions = 2 }
-unfolding varint
+unfolding varint is_utf8 chars encode
 a_lost_pump_comes_to = refl
 
 -- ---- the steps that are stopped, in turn
@@ -60,57 +60,57 @@ once_each = record { handed = 1 ∷ []; queue = 0; messages = 1; done = 1; publi
 
 -- without a stop
 pub without_a_stop : comes_to (taken ++ exchange p1) ≡ once_each
-unfolding varint
+unfolding varint is_utf8 chars encode
 without_a_stop = refl
 
 -- the broker stops before it stores a PUBLISH
 pub a_stop_before_a_publish : comes_to (published ++ stop_before (to_broker p1) ∷ goes_on) ≡ once_each
-unfolding varint
+unfolding varint is_utf8 chars encode
 a_stop_before_a_publish = refl
 
 -- and behind that
 pub a_stop_after_a_publish : comes_to (published ++ stop_after (to_broker p1) ∷ goes_on) ≡ once_each
-unfolding varint
+unfolding varint is_utf8 chars encode
 a_stop_after_a_publish = refl
 
 -- before it stores what a pump sends
 pub a_stop_before_a_pump : comes_to (published ++ ask (to_broker p1) ∷ stop_before (pump r1) ∷ goes_on) ≡ once_each
-unfolding varint
+unfolding varint is_utf8 chars encode
 a_stop_before_a_pump = refl
 
 -- and behind that
 pub a_stop_after_a_pump : comes_to (published ++ ask (to_broker p1) ∷ stop_after (pump r1) ∷ goes_on) ≡ once_each
-unfolding varint
+unfolding varint is_utf8 chars encode
 a_stop_after_a_pump = refl
 
 -- before it stores a PUBREC
 pub a_stop_before_a_pubrec : comes_to (pumped ++ stop_before (to_broker r1) ∷ goes_on) ≡ once_each
-unfolding varint
+unfolding varint is_utf8 chars encode
 a_stop_before_a_pubrec = refl
 
 -- and behind that
 pub a_stop_after_a_pubrec : comes_to (pumped ++ stop_after (to_broker r1) ∷ goes_on) ≡ once_each
-unfolding varint
+unfolding varint is_utf8 chars encode
 a_stop_after_a_pubrec = refl
 
 -- before it stores a PUBCOMP
 pub a_stop_before_a_pubcomp : comes_to (received ++ stop_before (to_broker r1) ∷ goes_on) ≡ once_each
-unfolding varint
+unfolding varint is_utf8 chars encode
 a_stop_before_a_pubcomp = refl
 
 -- and behind that
 pub a_stop_after_a_pubcomp : comes_to (received ++ stop_after (to_broker r1) ∷ goes_on) ≡ once_each
-unfolding varint
+unfolding varint is_utf8 chars encode
 a_stop_after_a_pubcomp = refl
 
 -- before it stores a PUBREL
 pub a_stop_before_a_pubrel : comes_to (taken ++ stop_before (to_broker p1) ∷ goes_on) ≡ once_each
-unfolding varint
+unfolding varint is_utf8 chars encode
 a_stop_before_a_pubrel = refl
 
 -- and behind that
 pub a_stop_after_a_pubrel : comes_to (taken ++ stop_after (to_broker p1) ∷ goes_on) ≡ once_each
-unfolding varint
+unfolding varint is_utf8 chars encode
 a_stop_after_a_pubrel = refl
 
 -- ---- what the stopped step sent is read by nobody
@@ -119,7 +119,7 @@ a_stop_after_a_pubrel = refl
 pub nothing_of_a_stopped_step_goes_out :
     comes_to (published ++ ask (to_broker p1) ∷ stop_after (pump r1) ∷ to_end r1 ∷ [])
     ≡ record { handed = []; queue = 1; messages = 1; done = 0; publications = 1; sessions = 2 }
-unfolding varint
+unfolding varint is_utf8 chars encode
 nothing_of_a_stopped_step_goes_out = refl
 
 -- ---- a stop in a stranger's CONNECT and PUBLISH: the first of both alone is committed, or none

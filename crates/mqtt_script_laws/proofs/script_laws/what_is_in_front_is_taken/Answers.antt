@@ -1,4 +1,4 @@
--- By what is under way in a run that can be said.
+-- By what is under way in a run.
 use Rattle.mqtt_script_laws.proofs.Fronts.{script_fronts, script_refuses, start_refuses}
 use Rattle.mqtt_script_laws.proofs.script_laws.what_is_in_front_is_taken.Goals as goal
 

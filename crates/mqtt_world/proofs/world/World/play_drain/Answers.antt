@@ -18,7 +18,7 @@ returns-in-Ok-Some-clause-refused g c =
 
 pub returns-in-Ok-None-clause-refused : goal.returns-in-Ok-None-clause-refused
 returns-in-Ok-None-clause-refused g c =
-    drain_refused g.K.Keep c.args.client.now c.args.stage c.drain.new.self c.args.self.now c.refuse.new.self c.refuse.result c.refuse.ensures.said
+    drain_refused g.K.Keep c.args.client.now c.args.stage c.drain.new.self c.args.self.now c.refuse.new.self c.refuse.result
     (subst (λ (x : Option (Telling × ℕ)). PlaysDrain g.K.Keep c.args.client.now c.args.stage x c.drain.new.self) c.in-Ok-None.field-0-is
     c.in-Ok-None.ensures)
     c.refuse.ensures.fault c.refuse.ensures.goes_on

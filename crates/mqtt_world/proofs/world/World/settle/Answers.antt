@@ -12,5 +12,5 @@ returns-in-Some-clause-happened g c = λ s p.
 
 pub returns-in-None-clause-refused : goal.returns-in-None-clause-refused
 returns-in-None-clause-refused g c = λ s p.
-    refused_here g.K.Keep c.args.event s c.args.stage c.args.self.now _ (Err c.refuse.result) c.refuse.ensures.said
+    refused_here g.K.Keep c.args.event s c.args.stage c.args.self.now _ (Err c.refuse.result)
     (subst (λ (t : Option Telling). Performs g.K.Keep c.args.event s t c.args.stage) c.in-None.is p) (ap Err c.refuse.ensures.fault) c.refuse.ensures.goes_on

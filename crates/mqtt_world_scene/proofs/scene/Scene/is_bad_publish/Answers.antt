@@ -1,6 +1,6 @@
 use Rattle.std.proofs.Common.{◌∙◌, ap, not, sym}
 use Rattle.std.specs.Prelude.{is_none, is_some}
-use Rattle.mqtt_world_model.specs.World.{World, is_input, message_packet, publisher_named}
+use Rattle.mqtt_world_model.specs.World.{World, is_message, publisher_named}
 use Rattle.mqtt_world_peers.specs.Publishers.{draft_of}
 use Rattle.mqtt_world_scene.specs.Events.{world_of}
 use Rattle.mqtt_world_scene.proofs.Unasked.{or_first, or_second, seen}
@@ -11,7 +11,7 @@ returns-then-not-has_publisher g c = λ now ss.
     let named = λ (w : World). publisher_named c.args.client.now w in
     let there = seen (λ (w : World). is_some (named w)) c.args.self.now c.self.inside.engine c.self.inside.clients c.has_publisher.result
     c.self.view_is c.has_publisher.ensures now ss in
-    or_first (is_none (named (world_of now ss c.args.self.now))) (not (is_input (message_packet (draft_of c.args.draft.now))))
+    or_first (is_none (named (world_of now ss c.args.self.now))) (not (is_message (draft_of c.args.draft.now)))
     (not c.has_publisher.result) (ap not there) (ap not c.if-not-has_publisher.true)
 
 pub returns-in_ok-is_message : goal.returns-in_ok-is_message
@@ -19,5 +19,5 @@ returns-in_ok-is_message g c = λ now ss.
     let named = λ (w : World). publisher_named c.args.client.now w in
     let there = seen (λ (w : World). is_some (named w)) c.args.self.now c.self.inside.engine c.self.inside.clients c.has_publisher.result
     c.self.view_is c.has_publisher.ensures now ss in
-    or_second (is_none (named (world_of now ss c.args.self.now))) (not (is_input (message_packet (draft_of c.args.draft.now))))
+    or_second (is_none (named (world_of now ss c.args.self.now))) (not (is_message (draft_of c.args.draft.now)))
     (not c.in_ok-is_message.field-0) (ap not (sym there ∙ c.if-not-has_publisher.false)) (ap not c.in_ok-is_message.ensures)

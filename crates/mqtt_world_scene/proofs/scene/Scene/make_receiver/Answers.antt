@@ -1,24 +1,19 @@
-use Rattle.std.proofs.Common.{◌≡◌, ◌∙◌, List, ap, rules, sym, ℕ}
-use Rattle.mqtt_world_model.specs.World.{Stranger, is_bad, receiver}
-use Rattle.mqtt_world_scene.specs.Events.{world_of}
+use Rattle.std.proofs.Common.{◌≡◌, rules, sym}
+use Rattle.mqtt_world_model.specs.World.{receiver}
 use Rattle.mqtt_world_scene.proofs.Unasked.{done_at, receiver_made, refused}
 use Rattle.mqtt_world_scene.proofs.scene.Scene.make_receiver.Goals as goal
 
 pub returns-then-is_bad_receiver : goal.returns-then-is_bad_receiver
 returns-then-is_bad_receiver g c =
     let s = c.args.self.now in
-    let tells = λ (now : ℕ) (ss : List Stranger). c.is_bad_receiver.ensures now ss
-    ∙ ap (λ (n : List ℕ). is_bad (receiver n c.args.window) (world_of now ss s)) c.as_str.ensures.value in
-    refused g.K.Keep (receiver c.args.client.now c.args.window) s c.is_bad_receiver.result c.requires tells c.if-is_bad_receiver.true
+    refused g.K.Keep (receiver c.args.client.now c.args.window) s c.is_bad_receiver.result c.requires c.is_bad_receiver.ensures c.if-is_bad_receiver.true
 
 pub returns : goal.returns
 returns g c =
     let s = c.args.self.now in
     let o = c.self.inside.clients in
-    let tells = λ (now : ℕ) (ss : List Stranger). c.is_bad_receiver.ensures now ss
-    ∙ ap (λ (n : List ℕ). is_bad (receiver n c.args.window) (world_of now ss s)) c.as_str.ensures.value in
     let same : c.in_ok-client.client ≡ c.args.client.now = search rules in
     done_at g.K.Keep (receiver c.args.client.now c.args.window) s c.self.inside.engine o c.add_receiver.new.self c.is_bad_receiver.result
-    c.silent.result (sym c.self.view_is) tt c.silent.ensures c.requires tells c.if-is_bad_receiver.false
+    c.silent.result (sym c.self.view_is) tt c.silent.ensures c.requires c.is_bad_receiver.ensures c.if-is_bad_receiver.false
     (receiver_made c.args.client.now c.in_ok-client.client c.args.window c.births.result c.self.inside.engine.running.broker o
     c.add_receiver.new.self same c.births.ensures c.in_ok-add_receiver.ensures)
