@@ -2,6 +2,8 @@
 -- 3.1.2.4, 3.1.2.11, 3.3.2.3.3, 4.3).
 use Rattle.std.proofs.Common.{◌≡◌, ℕ, true, List, [], ◌∷◌, ◌++◌, length, map, Option, Some, None, refl}
 use Rattle.std.specs.Prelude.{codes, replicate}
+use Rattle.std.specs.Str.{is_utf8, chars}
+use Rattle.std.proofs.Math.Utf8.{encode}
 use Rattle.mqtt_base.specs.Values.{varint}
 use Rattle.mqtt_base.specs.declared.session.Ending.{Ending}
 use Rattle.mqtt_base.specs.declared.session.Ending.TheVariants.{Taken, Refused, Expired, TooLarge, SessionEnded, Dropped}
@@ -61,12 +63,12 @@ sent_1 = subscribed_at AtLeastOnce ++ at 0 (Input 2 (sends 10)) ∷ at 0 (Pump 1
 
 -- PUBACK with success
 pub a_puback_takes_it : ends sent_1 (at 0 (Input 1 (puback 1 0))) ≡ ended Taken (Sent 1) 1 ∷ []
-unfolding varint
+unfolding varint is_utf8 chars encode
 a_puback_takes_it = refl
 
 -- with an error
 pub a_puback_of_0x80_refuses_it : ends sent_1 (at 0 (Input 1 (puback 1 0x80))) ≡ ended Refused (Sent 1) 1 ∷ []
-unfolding varint
+unfolding varint is_utf8 chars encode
 a_puback_of_0x80_refuses_it = refl
 
 abbrev sent_2 : List Event
@@ -74,17 +76,17 @@ sent_2 = subscribed ++ at 0 (Input 2 (sends 10)) ∷ at 0 (Pump 1) ∷ []
 
 -- PUBREC with success
 pub a_pubrec_ends_none : ends sent_2 (at 0 (Input 1 (pubrec 1 0))) ≡ []
-unfolding varint
+unfolding varint is_utf8 chars encode
 a_pubrec_ends_none = refl
 
 -- with an error
 pub a_pubrec_of_0x80_refuses_it : ends sent_2 (at 0 (Input 1 (pubrec 1 0x80))) ≡ ended Refused (Sent 1) 1 ∷ []
-unfolding varint
+unfolding varint is_utf8 chars encode
 a_pubrec_of_0x80_refuses_it = refl
 
 -- PUBCOMP
 pub a_pubcomp_takes_it : ends (sent_2 ++ at 0 (Input 1 (pubrec 1 0)) ∷ []) (at 0 (Input 1 (pubcomp 1 0))) ≡ ended Taken (Released 1 1) 1 ∷ []
-unfolding varint
+unfolding varint is_utf8 chars encode
 a_pubcomp_takes_it = refl
 
 -- ---- Expired, by a pump and by a tick
@@ -97,17 +99,17 @@ lapsing = subscribed ++ at 0 (Input 2 five_seconds) ∷ []
 
 -- a copy that is late at a pump
 pub a_pump_ends_it_late : ends lapsing (at 5000 (Pump 1)) ≡ ended Expired Waiting 1 ∷ []
-unfolding varint
+unfolding varint is_utf8 chars encode
 a_pump_ends_it_late = refl
 
 -- or at the clock's turn
 pub a_tick_ends_it_late : ends lapsing (at 5000 Tick) ≡ ended Expired Waiting 1 ∷ []
-unfolding varint
+unfolding varint is_utf8 chars encode
 a_tick_ends_it_late = refl
 
 -- and not before its time
 pub no_tick_ends_it_before : ends lapsing (at 4999 Tick) ≡ []
-unfolding varint
+unfolding varint is_utf8 chars encode
 no_tick_ends_it_before = refl
 
 -- ---- TooLarge: it waits, or it was sent on a line that took more
@@ -123,7 +125,7 @@ takes_little = in_line 1 (hello_with (codes "r1") small_one None) ++ at 0 (Input
 
 -- a copy that is too large for its line
 pub a_pump_ends_a_large_one : ends (takes_little ++ at 0 (Input 2 large) ∷ []) (at 0 (Pump 1)) ≡ ended TooLarge Waiting 1 ∷ []
-unfolding varint
+unfolding varint is_utf8 chars encode
 a_pump_ends_a_large_one = refl
 
 abbrev outgrown : List Event
@@ -131,12 +133,12 @@ outgrown = subscribed ++ at 0 (Input 2 large) ∷ at 0 (Pump 1) ∷ at 0 (Lost 1
 
 -- one that became too large in its handshake goes on
 pub a_pump_releases_it : ends outgrown (at 0 (Pump 3)) ≡ []
-unfolding varint
+unfolding varint is_utf8 chars encode
 a_pump_releases_it = refl
 
 -- and ends with it
 pub its_pubcomp_ends_it : ends (outgrown ++ at 0 (Pump 3) ∷ []) (at 0 (Input 3 (pubcomp 1 0))) ≡ ended TooLarge (Oversize 1 1) 1 ∷ []
-unfolding varint
+unfolding varint is_utf8 chars encode
 its_pubcomp_ends_it = refl
 
 -- ---- SessionEnded: by Clean Start, and by its time
@@ -146,7 +148,7 @@ waiting_one = subscribed ++ at 0 (Input 2 (sends 10)) ∷ at 0 (Lost 1) ∷ at 0
 
 -- Clean Start
 pub a_clean_start_ends_it : ends waiting_one (at 0 (Input 3 (clean (codes "r1")))) ≡ ended SessionEnded Waiting 1 ∷ []
-unfolding varint
+unfolding varint is_utf8 chars encode
 a_clean_start_ends_it = refl
 
 abbrev short_stay : List Event
@@ -156,29 +158,29 @@ short_stay =
 
 -- the end of a session's time
 pub its_time_ends_it : ends short_stay (at 5000 Tick) ≡ ended SessionEnded Waiting 1 ∷ []
-unfolding varint
+unfolding varint is_utf8 chars encode
 its_time_ends_it = refl
 
 -- ---- Dropped: the queue is full, and the oldest that waits gives way
 
 -- a full queue that drops
 pub a_full_queue_drops_the_oldest : ends_with (narrow Drop 2) (subscribed ++ at 0 (Input 2 (sends 10)) ∷ at 0 (Input 2 (sends 11)) ∷ []) (at 0 (Input 2 (sends 12))) ≡ ended Dropped Waiting 2 ∷ []
-unfolding varint
+unfolding varint is_utf8 chars encode
 a_full_queue_drops_the_oldest = refl
 
 -- one with room
 pub one_with_room_drops_none : ends_with (narrow Drop 2) (subscribed ++ at 0 (Input 2 (sends 10)) ∷ []) (at 0 (Input 2 (sends 11))) ≡ []
-unfolding varint
+unfolding varint is_utf8 chars encode
 one_with_room_drops_none = refl
 
 -- ---- runs of the world
 
 -- the same of a run
 pub a_run_takes_a_copy : map seen (ends_over usual (turns (pumped ++ exchange r1 ++ ask (to_broker r1) ∷ [])) start) ≡ ended Taken (Released 1 1) 1 ∷ []
-unfolding varint
+unfolding varint is_utf8 chars encode
 a_run_takes_a_copy = refl
 
 -- and of a session's end in it
 pub a_run_ends_a_session : map seen (ends_over usual (turns (published ++ ask (to_broker p1) ∷ ask (break r1) ∷ connect_end r1 true ∷ ask (to_broker r1) ∷ [])) start) ≡ ended SessionEnded Waiting 1 ∷ []
-unfolding varint
+unfolding varint is_utf8 chars encode
 a_run_ends_a_session = refl

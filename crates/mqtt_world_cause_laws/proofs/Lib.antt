@@ -2,7 +2,6 @@
 pub mod Examples
 pub mod Caused
 pub mod Queues
-pub mod Sizes
 pub mod Turning
 pub mod Pumping
 pub mod Answering

@@ -34,12 +34,12 @@ use Rattle.mqtt_rules.specs.State.{Line, Broker, entry_on, is_of, queued_copy, l
 use Rattle.mqtt_rules.specs.Step.{Pump}
 use Rattle.mqtt_rules.proofs.flight.FlightRows.{all_found}
 use Rattle.mqtt_rules.proofs.forms.FormSizes.{copy_by_sizes}
+use Rattle.mqtt_rules_whole_laws.proofs.Large.{IsLarge, is_large}
 use Rattle.mqtt_rules_telling_laws.proofs.Lines.{told_own}
 use Rattle.mqtt_world_cause_laws.specs.Endings.{Asked}
 use Rattle.mqtt_world_cause_laws.specs.Causes.{IsOfItsLine, MayBeTooLarge}
 use Rattle.mqtt_world_cause_laws.proofs.Caused.{Caused, caused_next}
 use Rattle.mqtt_world_cause_laws.proofs.Queues.{Same}
-use Rattle.mqtt_world_cause_laws.proofs.Sizes.{IsLarge, is_large}
 use Rattle.mqtt_world_cause_laws.proofs.Turning.{AreThere, Comes, HasReasonIn, IsFineIn, Turned, has_expired, its_turn, of_line, the_end, turn_turned}
 
 -- ---- what the client of a line takes stays over a pump

@@ -1,8 +1,8 @@
 -- What the broker is asked is lawful, or tells of a fault (MQTT 5.0, 2.1, 4.13).
-use Rattle.std.proofs.Common.{◌≡◌, ◌-◌, ℕ, Bool, List, [], ◌∷◌, ◌++◌, length, map, take, Option, Some, None, refl, arith, inl, inr}
+use Rattle.std.proofs.Common.{◌≡◌, ◌-◌, ℕ, zero, suc, Bool, true, false, nat_lt, List, [], ◌∷◌, ◌++◌, length, map, take, Option, Some, None, refl, arith, inl, inr}
 use Rattle.std.specs.Prelude.{⊤, find, Ok, Err}
 use Rattle.std.specs.List.{AllByRecursion}
-use Rattle.std.proofs.lemmas.Bool.{cases_Bool, cases_lt}
+use Rattle.std.proofs.lemmas.Bool.{cases_Bool, cases_lt, ltb-true}
 use Rattle.std.proofs.lemmas.List.{length-take-le, get_or_append_left, get_or-append_right}
 use Rattle.mqtt_base.proofs.Steps.{IsBytes-drop}
 use Rattle.mqtt_codec.proofs.ShortestLemmas.{spelled_has}
@@ -10,16 +10,17 @@ use Rattle.mqtt_codec.specs.declared.packet.Packet.{Packet}
 use Rattle.mqtt_packet.specs.Front.{first_of}
 use Rattle.mqtt_packet.proofs.Fronts.{first_within}
 use Rattle.mqtt_packet.proofs.Wholes.{first_spells}
+use Rattle.mqtt_rules.proofs.contents.PassedContents.{two}
 use Rattle.mqtt_rules.specs.Contents.{IsTaken, TakesLawful}
 use Rattle.mqtt_rules.specs.Piece.{Front, call_by}
 use Rattle.mqtt_rules.specs.Step.{Call}
 use Rattle.mqtt_world_model.specs.Ends.{Back, Publisher, Receiver, wire, wire_back}
-use Rattle.mqtt_world_model.specs.World.{Stranger, call_of_stranger, call_on, held_after, held_by, input_on, lost_on, pump_on, view_by}
+use Rattle.mqtt_world_model.specs.World.{Stranger, World, are_bytes, call_of_stranger, call_on, held_after, held_by, input_on, is_bad_asking, lost_on, pump_on, stranger, view_by}
 use Rattle.mqtt_rules_spelling_laws.specs.Sending.{TellsFault}
+use Rattle.mqtt_world_single_step_laws.proofs.Good.{good_bytes}
 use Rattle.mqtt_world_single_step_laws.specs.Taken.{HasIdentifier, IsTakenBack, IsTakenFrom, IsTakenFromReceiver}
-use Rattle.mqtt_world_reading_laws.specs.Sayable.{AreBytes}
+use Rattle.mqtt_world_reading_laws.specs.Going.{AreBytes, HoldsBytes, IsFine}
 use Rattle.mqtt_world_reading_laws.specs.UnderWay.{IsViewTaken}
-use Rattle.mqtt_world_reading_laws.proofs.Backs.{IsFine}
 
 -- ---- what may be asked
 
@@ -97,6 +98,16 @@ bytes_append xs ys h k i = elim (cases_lt i (length xs)) [
 pub no_bytes : AreBytes []
 no_bytes i = omega arith
 
+-- what passes the test is bytes
+pub tested_bytes : (bytes : List ℕ) → are_bytes bytes ≡ true → AreBytes bytes
+tested_bytes [] said i = no_bytes i
+tested_bytes (b ∷ bytes) said zero = ltb-true b 256 (two (nat_lt b 256) (are_bytes bytes) said).0
+tested_bytes (b ∷ bytes) said (suc i) = tested_bytes bytes (two (nat_lt b 256) (are_bytes bytes) said).1 i
+
+-- so what is not bad to send is bytes
+pub said_bytes : (name bytes : List ℕ) (w : World) → is_bad_asking (stranger name bytes) w ≡ false → AreBytes bytes
+said_bytes name bytes w good = tested_bytes bytes (good_bytes name bytes w good).0
+
 held_bytes : (f : Front) (bytes : List ℕ) → AreBytes bytes → AreBytes (held_by f bytes)
 held_bytes (Ok None) bytes h = h
 held_bytes (Ok (Some x)) bytes h = IsBytes-drop x.1 bytes h
@@ -122,9 +133,6 @@ first_well line bytes (Err fault) each e = record { taken = tt; tells = (fault, 
 on_line_well : (o : Option ℕ) (held : List ℕ) → AreBytes held → IsWellIf (call_on o held)
 on_line_well None held each = tt
 on_line_well (Some n) held each = first_well n held (first_of held) each refl
-
-abbrev pub HoldsBytes : Stranger → Type 0
-HoldsBytes s = AreBytes s.held
 
 -- a stranger's bytes ask well
 pub stranger_well : (o : Option Stranger) → OnEnd HoldsBytes o → IsWellIf (call_of_stranger o)

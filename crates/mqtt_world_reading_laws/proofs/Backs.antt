@@ -26,15 +26,8 @@ use Rattle.mqtt_world_model.specs.Ends.{Receiver, Wish, answers, asks_for, greet
 use Rattle.mqtt_world_model.specs.Lines.{Down, copy_in, gives_up, joined, left, sent_to}
 use Rattle.mqtt_world_model.specs.World.{asks_wish, receiver_restarted, receiver_told, taken_old, taken_up}
 use Rattle.mqtt_world_single_step_laws.specs.Taken.{HasIdentifier}
-use Rattle.mqtt_world_single_step_laws.proofs.TakenLines.{Carries, gives_carries, goes_carries, joined_carries, left_carries, old_carries, restarted_carries, told_carries, up_carries}
-
-abbrev IsSpelled : Down → Type 0
-IsSpelled d = HasSpelling d.packet
-
--- what comes to it has a spelling, and its answers have identifiers
-pub record IsFine (r : Receiver) : Type 0 where
-  pub line : Carries HasIdentifier r.line
-  pub down : AllByRecursion IsSpelled r.line.down
+use Rattle.mqtt_world_reading_laws.specs.Going.{IsFine, IsSpelled}
+use Rattle.mqtt_world_single_step_laws.proofs.TakenLines.{gives_carries, goes_carries, joined_carries, left_carries, old_carries, restarted_carries, told_carries, up_carries}
 
 -- ---- identifiers
 

@@ -1,5 +1,5 @@
 -- In every run each packet that the broker reads is lawful, and it goes on sending well (MQTT 5.0, 2.1, 2.2.1, 4.3).
-use Rattle.std.proofs.Common.{◌≡◌, ℕ, zero, suc, Bool, true, false, cond, List, [], ◌∷◌, ◌++◌, map, Option, Some, None, bytes_eq, refl, sym, ap, subst, ◌∙◌}
+use Rattle.std.proofs.Common.{◌≡◌, ℕ, zero, suc, Bool, true, false, cond, List, [], ◌∷◌, ◌++◌, map, Option, Some, None, bytes_eq, refl, sym, subst}
 use Rattle.std.specs.Prelude.{is_some}
 use Rattle.std.specs.List.{AllByRecursion}
 use Rattle.mqtt_flow.specs.Receiver.{connect}
@@ -9,32 +9,31 @@ use Rattle.mqtt_rules.specs.declared.Limits.{Limits}
 use Rattle.mqtt_world_model.specs.Ends.{Receiver, answers, new_receiver, receiver_reads}
 use Rattle.mqtt_world_model.specs.Lines.{gives_up, joined, left}
 use Rattle.mqtt_world_model.specs.Run.{Turn, read_asked, read_at, read_first, read_if, read_in, read_opening, read_rest, run, setting, turned}
-use Rattle.mqtt_world_model.specs.World.{Asking, Event, Setting, Stranger, World, answers_rest, ask, asks, asks_wish, before, break, call_of, call_of_stranger, calls, calls_if, clock, comes, connect_end, end_reads, first_step, give_up, happens, held_after, held_count, is_bad, is_open_line, linked_at, links, next_held, next_line, old_to_broker, publish, publisher, publisher_named, pump, receiver, receiver_named, receiver_restarted, receiver_told, restart, restarts, stop_after, stop_before, stranger, stranger_named, subscribe, taken_old, taken_up, tick, to_broker, to_end, unlinked, view_of}
+use Rattle.mqtt_world_model.specs.World.{Asking, Event, Setting, Stranger, World, answers_rest, ask, asks, asks_wish, before, break, call_of, call_of_stranger, calls, calls_if, clock, comes, connect_end, end_reads, first_step, give_up, happens, held_after, held_count, is_bad, is_bad_asking, is_open_line, linked_at, links, next_held, next_line, old_to_broker, publish, publisher, publisher_named, pump, receiver, receiver_named, receiver_restarted, receiver_told, restart, restarts, stop_after, stop_before, stranger, stranger_named, subscribe, taken_old, taken_up, tick, to_broker, to_end, unlinked, view_of}
 use Rattle.mqtt_world_acceptance_laws.specs.Spending.{run_spends, spending}
 use Rattle.mqtt_world_acceptance_laws.proofs.publishers.Runs.{either}
 use Rattle.mqtt_world_acceptance_laws.proofs.copies.Steady.{linking_spends_none}
 use Rattle.mqtt_world_cause_laws.specs.Endings.{Asked, asked_over, the_asked}
-use Rattle.mqtt_world_receiver_laws.proofs.drains.DrainRuns.{run_append}
 use Rattle.mqtt_rules_spelling_laws.specs.Sending.{IsAsked, SendsWell}
 use Rattle.mqtt_rules_spelling_laws.proofs.Steps.{well_reopened, well_spelled, well_stepped}
-use Rattle.mqtt_world_single_step_laws.specs.Taken.{HasTexts, HaveTexts, IsTakenFrom, IsTakenFromReceiver}
-use Rattle.mqtt_world_single_step_laws.proofs.TakenEnds.{publishers_taken, receivers_taken}
-use Rattle.mqtt_world_drain_cause_laws.specs.Fitting.{AllReadLawful, ReadsLawful}
-use Rattle.mqtt_world_reading_laws.specs.Sayable.{AreSayable, BringsBytes, HasBytes}
-use Rattle.mqtt_world_reading_laws.specs.UnderWay.{IsViewTaken, TakesAllUnderWay}
-use Rattle.mqtt_world_reading_laws.proofs.Backs.{IsFine, gives_fine, joined_fine, left_fine, new_fine, old_fine, reads_fine, restarted_fine, told_fine, up_fine, wish_fine}
-use Rattle.mqtt_world_reading_laws.proofs.Asked.{HoldsBytes, IsBackTaken, IsWell, IsWellIf, after_bytes, bytes_append, found, input_well, lost_well, no_bytes, pump_well, stranger_well, view_taken}
+use Rattle.mqtt_world_single_step_laws.specs.Taken.{IsTakenFrom, IsTakenFromReceiver}
+use Rattle.mqtt_world_single_step_laws.proofs.TakenEnds.{from_publishers, from_receivers, nobody_sound, turned_sound}
+use Rattle.mqtt_world_reading_laws.specs.Going.{AreBytes, GoesWell, HoldsBytes, IsFine}
+use Rattle.mqtt_world_reading_laws.specs.Reading.{AllReadLawful, ReadsLawful}
+use Rattle.mqtt_world_reading_laws.specs.UnderWay.{IsUninhabited, IsViewTaken, TakesAllUnderWay}
+use Rattle.mqtt_world_reading_laws.proofs.Backs.{gives_fine, joined_fine, left_fine, new_fine, old_fine, reads_fine, restarted_fine, told_fine, up_fine, wish_fine}
+use Rattle.mqtt_world_reading_laws.proofs.Asked.{IsBackTaken, IsWell, IsWellIf, after_bytes, bytes_append, found, input_well, lost_well, no_bytes, pump_well, said_bytes, stranger_well, view_taken}
 
 -- the broker sends well, what comes to receivers has a spelling, and what strangers hold is bytes
-pub record IsGoing (w : World) : Type 0 where
-  pub sends : SendsWell w.broker
-  pub receivers : AllByRecursion IsFine w.receivers
-  pub strangers : AllByRecursion HoldsBytes w.strangers
+record IsGoing (w : World) : Type 0 where
+  sends : SendsWell w.broker
+  receivers : AllByRecursion IsFine w.receivers
+  strangers : AllByRecursion HoldsBytes w.strangers
 
 -- what ends have under way is taken, if answers have identifiers
-pub record AreTaken (w : World) : Type 0 where
-  pub publishers : AllByRecursion IsTakenFrom w.publishers
-  pub receivers : AllByRecursion IsTakenFromReceiver w.receivers
+record AreTaken (w : World) : Type 0 where
+  publishers : AllByRecursion IsTakenFrom w.publishers
+  receivers : AllByRecursion IsTakenFromReceiver w.receivers
 
 abbrev AllLawful : List Asked → Type 0
 AllLawful xs = AllByRecursion ReadsLawful xs
@@ -105,43 +104,43 @@ module _ (set : Setting) where
     lawful : AllLawful xs
     going : IsGoing v
 
-  comes_going : (name bytes : List ℕ) (w : World) → BringsBytes (stranger name bytes) → IsGoing w → IsGoing (comes set name bytes w)
-  comes_going name bytes w brings h = by (is_some (stranger_named name w))
+  comes_going : (name bytes : List ℕ) (w : World) → AreBytes bytes → IsGoing w → IsGoing (comes set name bytes w)
+  comes_going name bytes w said h = by (is_some (stranger_named name w))
     where
       by : (t : Bool) → IsGoing (linked_at set t name bytes w)
       by true = record {
         sends = h.sends;
         receivers = h.receivers;
-        strangers = each_stranger name (λ s. record s { held = s.held ++ bytes }) (λ s k. bytes_append s.held bytes k brings) w.strangers h.strangers;
+        strangers = each_stranger name (λ s. record s { held = s.held ++ bytes }) (λ s k. bytes_append s.held bytes k said) w.strangers h.strangers;
       }
       by false =
           let x = linking_going w h in
           let s : Stranger = record { name = name; number = cond (can_link w.broker) (Some (suc w.broker.given)) None; held = bytes } in
-          record { sends = x.sends; receivers = x.receivers; strangers = each_append HoldsBytes w.strangers (s ∷ []) h.strangers (brings, tt) }
+          record { sends = x.sends; receivers = x.receivers; strangers = each_append HoldsBytes w.strangers (s ∷ []) h.strangers (said, tt) }
 
-  before_going : (a : Asking) (w : World) → BringsBytes a → IsGoing w → IsGoing (before set a w)
-  before_going (to_broker d) w brings h = record { sends = h.sends; receivers = each_named d (λ r. record r { line = taken_up r.line }) up_fine w.receivers h.receivers; strangers = h.strangers }
-  before_going (old_to_broker d) w brings h = record { sends = h.sends; receivers = each_named d (λ r. record r { line = taken_old r.line }) old_fine w.receivers h.receivers; strangers = h.strangers }
-  before_going (break d) w brings h = h
-  before_going (pump d) w brings h = h
-  before_going tick w brings h = h
-  before_going (stranger name bytes) w brings h = comes_going name bytes w brings h
+  before_going : (a : Asking) (w : World) → is_bad_asking a w ≡ false → IsGoing w → IsGoing (before set a w)
+  before_going (to_broker d) w good h = record { sends = h.sends; receivers = each_named d (λ r. record r { line = taken_up r.line }) up_fine w.receivers h.receivers; strangers = h.strangers }
+  before_going (old_to_broker d) w good h = record { sends = h.sends; receivers = each_named d (λ r. record r { line = taken_old r.line }) old_fine w.receivers h.receivers; strangers = h.strangers }
+  before_going (break d) w good h = h
+  before_going (pump d) w good h = h
+  before_going tick w good h = h
+  before_going (stranger name bytes) w good h = comes_going name bytes w (said_bytes name bytes w good) h
 
-  call_well : (a : Asking) (w : World) → BringsBytes a → AreTaken w → IsGoing w → IsWellIf (call_of set a w)
-  call_well (to_broker d) w brings taken h = let v = view_of d w in input_well v.number v.up (view_well d w taken h).up
-  call_well (old_to_broker d) w brings taken h = let v = view_of d w in input_well v.old_number v.old (view_well d w taken h).old
-  call_well (break d) w brings taken h = lost_well (view_of d w).number
-  call_well (pump d) w brings taken h = pump_well (view_of d w).number
-  call_well tick w brings taken h = record { taken = tt; tells = tt }
-  call_well (stranger name bytes) w brings taken h =
+  call_well : (a : Asking) (w : World) → is_bad_asking a w ≡ false → AreTaken w → IsGoing w → IsWellIf (call_of set a w)
+  call_well (to_broker d) w good taken h = let v = view_of d w in input_well v.number v.up (view_well d w taken h).up
+  call_well (old_to_broker d) w good taken h = let v = view_of d w in input_well v.old_number v.old (view_well d w taken h).old
+  call_well (break d) w good taken h = lost_well (view_of d w).number
+  call_well (pump d) w good taken h = pump_well (view_of d w).number
+  call_well tick w good taken h = record { taken = tt; tells = tt }
+  call_well (stranger name bytes) w good taken h =
       let v = comes set name bytes w in
-      stranger_well (stranger_named name v) (found HoldsBytes (λ s. bytes_eq s.name name) v.strangers (comes_going name bytes w brings h).strangers)
+      stranger_well (stranger_named name v) (found HoldsBytes (λ s. bytes_eq s.name name) v.strangers (comes_going name bytes w (said_bytes name bytes w good) h).strangers)
 
-  first_goes : (a : Asking) (w : World) → BringsBytes a → AreTaken w → read_first spending set a w ≡ false → IsGoing w → Goes (read_first the_asked set a w) (first_step set a w)
-  first_goes a w brings taken unspent h =
-      let well = call_well a w brings taken h in
+  first_goes : (a : Asking) (w : World) → is_bad_asking a w ≡ false → AreTaken w → read_first spending set a w ≡ false → IsGoing w → Goes (read_first the_asked set a w) (first_step set a w)
+  first_goes a w good taken unspent h =
+      let well = call_well a w good taken h in
       let v = before set a w in
-      record { lawful = if_lawful (call_of set a w) v well; going = if_going (call_of set a w) v well unspent (before_going a w brings h) }
+      record { lawful = if_lawful (call_of set a w) v well; going = if_going (call_of set a w) v well unspent (before_going a w good h) }
 
   same_cost : (name : List ℕ) (v : World) (x : Option Call) → read_if spending set x v ≡ false → read_if spending set x (next_held name v) ≡ false
   same_cost name v None e = refl
@@ -164,18 +163,18 @@ module _ (set : Setting) where
       let rest = rest_goes more name u costs.1 (if_going o held well (same_cost name w o costs.0) after) in
       record { lawful = each_append ReadsLawful (read_if the_asked set o w) (read_rest the_asked set more name u) (if_lawful o w well) rest.lawful; going = rest.going }
 
-  asked_goes : (a : Asking) (w : World) → BringsBytes a → AreTaken w → read_asked spending set a w ≡ false → IsGoing w → Goes (read_asked the_asked set a w) (asks set a w)
-  asked_goes (to_broker d) w brings taken unspent h = first_goes (to_broker d) w brings taken unspent h
-  asked_goes (old_to_broker d) w brings taken unspent h = first_goes (old_to_broker d) w brings taken unspent h
-  asked_goes (break d) w brings taken unspent h =
-      let x = first_goes (break d) w brings taken unspent h in
+  asked_goes : (a : Asking) (w : World) → is_bad_asking a w ≡ false → AreTaken w → read_asked spending set a w ≡ false → IsGoing w → Goes (read_asked the_asked set a w) (asks set a w)
+  asked_goes (to_broker d) w good taken unspent h = first_goes (to_broker d) w good taken unspent h
+  asked_goes (old_to_broker d) w good taken unspent h = first_goes (old_to_broker d) w good taken unspent h
+  asked_goes (break d) w good taken unspent h =
+      let x = first_goes (break d) w good taken unspent h in
       let v = first_step set (break d) w in
       record { lawful = x.lawful; going = record { sends = x.going.sends; receivers = each_named d (λ r. record r { line = left r.line }) left_fine v.receivers x.going.receivers; strangers = x.going.strangers } }
-  asked_goes (pump d) w brings taken unspent h = first_goes (pump d) w brings taken unspent h
-  asked_goes tick w brings taken unspent h = first_goes tick w brings taken unspent h
-  asked_goes (stranger name bytes) w brings taken unspent h =
+  asked_goes (pump d) w good taken unspent h = first_goes (pump d) w good taken unspent h
+  asked_goes tick w good taken unspent h = first_goes tick w good taken unspent h
+  asked_goes (stranger name bytes) w good taken unspent h =
       let v = comes set name bytes w in
-      rest_goes (held_count (stranger_named name v)) name v unspent (comes_going name bytes w brings h)
+      rest_goes (held_count (stranger_named name v)) name v unspent (comes_going name bytes w (said_bytes name bytes w good) h)
 
   -- ---- an event
 
@@ -194,81 +193,90 @@ module _ (set : Setting) where
     strangers = subst (AllByRecursion HoldsBytes) (sym ss) h.strangers;
   }
 
-  happens_goes : (e : Event) (w : World) → HasBytes e → AreTaken w → read_in spending set e w ≡ false → IsGoing w → Goes (read_in the_asked set e w) (happens set e w)
-  happens_goes (publisher d) w bytes taken unspent h = record { lawful = tt; going = record { sends = h.sends; receivers = h.receivers; strangers = h.strangers } }
-  happens_goes (receiver d window) w bytes taken unspent h = record {
+  happens_goes : (e : Event) (w : World) → is_bad e w ≡ false → AreTaken w → read_in spending set e w ≡ false → IsGoing w → Goes (read_in the_asked set e w) (happens set e w)
+  happens_goes (publisher d) w good taken unspent h = record { lawful = tt; going = record { sends = h.sends; receivers = h.receivers; strangers = h.strangers } }
+  happens_goes (receiver d window) w good taken unspent h = record {
     lawful = tt;
     going = record { sends = h.sends; receivers = each_append IsFine w.receivers (new_receiver d window w.broker.records.births ∷ []) h.receivers (new_fine d window w.broker.records.births, tt); strangers = h.strangers };
   }
-  happens_goes (connect_end d clean) w bytes taken unspent h = record { lawful = (tt, tt); going = links_going (next_line w.broker) d clean w h }
-  happens_goes (give_up d) w bytes taken unspent h = record {
+  happens_goes (connect_end d clean) w good taken unspent h = record { lawful = (tt, tt); going = links_going (next_line w.broker) d clean w h }
+  happens_goes (give_up d) w good taken unspent h = record {
     lawful = tt;
     going = with_receivers d (λ r. record r { line = gives_up r.line.link r.line }) w (happens set (give_up d) w) gives_fine refl refl refl h;
   }
-  happens_goes (publish d x) w bytes taken unspent h = record { lawful = tt; going = record { sends = h.sends; receivers = h.receivers; strangers = h.strangers } }
-  happens_goes (subscribe d x) w bytes taken unspent h = record {
+  happens_goes (publish d x) w good taken unspent h = record { lawful = tt; going = record { sends = h.sends; receivers = h.receivers; strangers = h.strangers } }
+  happens_goes (subscribe d x) w good taken unspent h = record {
     lawful = tt;
     going = with_receivers d (λ r. asks_wish (is_open_line r.line w) x r) w (happens set (subscribe d x) w) (λ r s. wish_fine (is_open_line r.line w) x r s) refl refl refl h;
   }
-  happens_goes (to_end d) w bytes taken unspent h = record {
+  happens_goes (to_end d) w good taken unspent h = record {
     lawful = tt;
     going = with_receivers d (λ r. receiver_reads (is_open_line r.line w) r.line.down r) w (end_reads d w) (λ r s. reads_fine (is_open_line r.line w) r.line.down r s.down s) refl refl refl h;
   }
-  happens_goes (clock wait) w bytes taken unspent h = record { lawful = tt; going = record { sends = h.sends; receivers = h.receivers; strangers = h.strangers } }
-  happens_goes (ask a) w bytes taken unspent h = asked_goes a w bytes taken unspent h
-  happens_goes restart w bytes taken unspent h = record { lawful = (tt, tt); going = again_going w unspent h }
-  happens_goes (stop_before a) w bytes taken unspent h = record { lawful = (tt, tt); going = again_going (before set a w) unspent (before_going a w bytes h) }
-  happens_goes (stop_after a) w bytes taken unspent h =
+  happens_goes (clock wait) w good taken unspent h = record { lawful = tt; going = record { sends = h.sends; receivers = h.receivers; strangers = h.strangers } }
+  happens_goes (ask a) w good taken unspent h = asked_goes a w good taken unspent h
+  happens_goes restart w good taken unspent h = record { lawful = (tt, tt); going = again_going w unspent h }
+  happens_goes (stop_before a) w good taken unspent h = record { lawful = (tt, tt); going = again_going (before set a w) unspent (before_going a w good h) }
+  happens_goes (stop_after a) w good taken unspent h =
       let v = first_step set a w in
       let costs = either (read_first spending set a w) (read_opening spending set v) unspent in
-      let x = first_goes a w bytes taken costs.0 h in
+      let x = first_goes a w good taken costs.0 h in
       record { lawful = each_append ReadsLawful (read_first the_asked set a w) (read_opening the_asked set v) x.lawful (tt, tt); going = again_going v costs.1 x.going }
 
 -- ---- a turn, and a run
 
-turn_goes : (limits : Limits) (t : Turn) (w : World) → HasBytes t.event → AreTaken w → read_at spending (setting limits t) t.event w ≡ false → IsGoing w → Goes (setting limits t) (read_at the_asked (setting limits t) t.event w) (turned limits t w)
-turn_goes limits t w bytes taken unspent h = by (is_bad t.event w) unspent
+turn_goes : (limits : Limits) (t : Turn) (w : World) → AreTaken w → read_at spending (setting limits t) t.event w ≡ false → IsGoing w → Goes (setting limits t) (read_at the_asked (setting limits t) t.event w) (turned limits t w)
+turn_goes limits t w taken unspent h = by (is_bad t.event w) refl unspent
   where
     set : Setting
     set = setting limits t
 
-    by : (bad : Bool) → cond bad false (read_in spending set t.event w) ≡ false → Goes set (cond bad [] (read_in the_asked set t.event w)) (cond bad w (happens set t.event w))
-    by true u = record { lawful = tt; going = h }
-    by false u = happens_goes set t.event w bytes taken u h
+    by : (bad : Bool) → is_bad t.event w ≡ bad → cond bad false (read_in spending set t.event w) ≡ false → Goes set (cond bad [] (read_in the_asked set t.event w)) (cond bad w (happens set t.event w))
+    by true is u = record { lawful = tt; going = h }
+    by false is u = happens_goes set t.event w is taken u h
+
+taken_of : (w : World) → GoesWell w → AreTaken w
+taken_of w h = record { publishers = from_publishers w h.ends; receivers = from_receivers w h.ends }
+
+going_of : (w : World) → GoesWell w → IsGoing w
+going_of w h = record { sends = h.sends; receivers = h.receivers; strangers = h.strangers }
+
+goes_at : (limits : Limits) (t : Turn) (w : World) → GoesWell w → read_at spending (setting limits t) t.event w ≡ false → Goes (setting limits t) (read_at the_asked (setting limits t) t.event w) (turned limits t w)
+goes_at limits t w h unspent = turn_goes limits t w (taken_of w h) unspent (going_of w h)
+
+-- what an event makes the broker read is lawful
+pub turn_reads : (limits : Limits) (t : Turn) (w : World) → GoesWell w → read_at spending (setting limits t) t.event w ≡ false → AllByRecursion ReadsLawful (read_at the_asked (setting limits t) t.event w)
+turn_reads limits t w h unspent = (goes_at limits t w h unspent).lawful
+
+-- behind an event all goes well still
+pub turn_well : (limits : Limits) (t : Turn) (w : World) → GoesWell w → read_at spending (setting limits t) t.event w ≡ false → GoesWell (turned limits t w)
+turn_well limits t w h unspent =
+    let going = (goes_at limits t w h unspent).going in
+    record { sends = going.sends; ends = turned_sound limits t w h.ends; receivers = going.receivers; strangers = going.strangers }
+
+-- a world in which nobody is goes well, if its broker sends well
+pub nobody_well : (w : World) → IsUninhabited w → SendsWell w.broker → GoesWell w
+nobody_well w none sends = record {
+  sends = sends;
+  ends = nobody_sound w none.publishers none.receivers;
+  receivers = subst (AllByRecursion IsFine) (sym none.receivers) tt;
+  strangers = subst (AllByRecursion HoldsBytes) (sym none.strangers) tt;
+}
+
+-- where all goes well the broker takes whatever is under way from an end
+pub well_taken : (w : World) → GoesWell w → TakesAllUnderWay w
+well_taken w h d = view_well d w (taken_of w h) (going_of w h)
 
 -- a run, and the world that it leaves
 pub record GoesOn (limits : Limits) (ts : List Turn) (w : World) : Type 0 where
   pub lawful : AllReadLawful limits ts w
-  pub going : IsGoing (run limits ts w)
+  pub going : GoesWell (run limits ts w)
 
-have_texts : (ts : List Turn) → AreSayable ts → HaveTexts ts
-have_texts [] say = tt
-have_texts (t ∷ ts) say = (say.0.texts, have_texts ts say.1)
-
-module _ (limits : Limits) (w : World) (ps : w.publishers ≡ []) (rs : w.receivers ≡ []) where
-  taken_at : (xs : List Turn) (v : World) → HaveTexts xs → run limits xs w ≡ v → AreTaken v
-  taken_at xs v texts is = subst AreTaken is (record { publishers = publishers_taken limits xs w ps rs texts; receivers = receivers_taken limits xs w ps rs texts })
-
-  -- these turns come behind those
-  goes_behind : (xs ts : List Turn) (v : World) → HaveTexts xs → run limits xs w ≡ v → AreSayable ts → run_spends limits ts v ≡ false → IsGoing v → GoesOn limits ts v
-  goes_behind xs [] v texts is say unspent h = record { lawful = tt; going = h }
-  goes_behind xs (t ∷ ts) v texts is say unspent h =
-      let u = turned limits t v in
-      let costs = either (read_at spending (setting limits t) t.event v) (run_spends limits ts u) unspent in
-      let first = turn_goes limits t v say.0.bytes (taken_at xs v texts is) costs.0 h in
-      let one = each_append (λ (x : Turn). HasTexts x.event) xs (t ∷ []) texts (say.0.texts, tt) in
-      let here : run limits (xs ++ t ∷ []) w ≡ u = run_append limits xs (t ∷ []) w ∙ ap (turned limits t) is in
-      let rest = goes_behind (xs ++ t ∷ []) ts u one here say.1 costs.1 first.going in
-      record { lawful = each_append ReadsLawful (read_at the_asked (setting limits t) t.event v) (asked_over limits ts u) first.lawful rest.lawful; going = rest.going }
-
--- a run of what can be said goes on sending well
-pub goes_on : (limits : Limits) (ts : List Turn) (w : World) → w.publishers ≡ [] → w.receivers ≡ [] → w.strangers ≡ [] → SendsWell w.broker → AreSayable ts → run_spends limits ts w ≡ false → GoesOn limits ts w
-goes_on limits ts w ps rs ss sends say unspent =
-    goes_behind limits w ps rs [] ts w tt refl say unspent
-    (record { sends = sends; receivers = subst (AllByRecursion IsFine) (sym rs) tt; strangers = subst (AllByRecursion HoldsBytes) (sym ss) tt })
-
--- in such a run the broker takes whatever is under way from an end
-pub all_taken : (limits : Limits) (ts : List Turn) (w : World) → w.publishers ≡ [] → w.receivers ≡ [] → w.strangers ≡ [] → SendsWell w.broker → AreSayable ts → run_spends limits ts w ≡ false → TakesAllUnderWay (run limits ts w)
-all_taken limits ts w ps rs ss sends say unspent =
-    let g = goes_on limits ts w ps rs ss sends say unspent in
-    λ d. view_well d (run limits ts w) (taken_at limits w ps rs ts (run limits ts w) (have_texts ts say) refl) g.going
+-- from where all goes well each run goes on well
+pub goes_on : (limits : Limits) (ts : List Turn) (w : World) → GoesWell w → run_spends limits ts w ≡ false → GoesOn limits ts w
+goes_on limits [] w h unspent = record { lawful = tt; going = h }
+goes_on limits (t ∷ ts) w h unspent =
+    let u = turned limits t w in
+    let costs = either (read_at spending (setting limits t) t.event w) (run_spends limits ts u) unspent in
+    let rest = goes_on limits ts u (turn_well limits t w h costs.0) costs.1 in
+    record { lawful = each_append ReadsLawful (read_at the_asked (setting limits t) t.event w) (asked_over limits ts u) (turn_reads limits t w h costs.0) rest.lawful; going = rest.going }

@@ -2,4 +2,4 @@
 pub mod Backs
 pub mod Asked
 pub mod Goings
-pub mod Scripts
+pub mod Runs

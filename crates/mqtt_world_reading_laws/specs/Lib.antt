@@ -1,3 +1,4 @@
--- What is asked of the events of a run, that the broker reads lawful packets alone; and what is under way then.
-pub mod Sayable
+-- What the broker reads in a run, what is under way to it, and what goes on from event to event.
+pub mod Reading
 pub mod UnderWay
+pub mod Going

@@ -4,6 +4,5 @@
 mod laws;
 
 pub use laws::{
-    each_packet_that_is_read_is_lawful, no_copy_is_too_large_in_any_drain,
-    what_is_under_way_is_taken,
+    each_packet_that_is_read_is_lawful, every_event_goes_well, what_is_under_way_is_taken,
 };

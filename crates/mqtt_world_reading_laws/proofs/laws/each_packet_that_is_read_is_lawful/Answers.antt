@@ -1,5 +1,5 @@
 -- By what each event leaves under way.
-use Rattle.mqtt_world_reading_laws.proofs.Scripts.{reads_lawful, sends_on, start_reads}
+use Rattle.mqtt_world_reading_laws.proofs.Runs.{reads_lawful, sends_on, start_reads}
 use Rattle.mqtt_world_reading_laws.proofs.laws.each_packet_that_is_read_is_lawful.Goals as goal
 
 pub returns-clause-reads : goal.returns-clause-reads

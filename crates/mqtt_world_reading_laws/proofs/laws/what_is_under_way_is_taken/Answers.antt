@@ -1,5 +1,5 @@
 -- By what each event leaves under way.
-use Rattle.mqtt_world_reading_laws.proofs.Scripts.{start_under_way, under_way}
+use Rattle.mqtt_world_reading_laws.proofs.Runs.{start_under_way, under_way}
 use Rattle.mqtt_world_reading_laws.proofs.laws.what_is_under_way_is_taken.Goals as goal
 
 pub returns-clause-taken : goal.returns-clause-taken

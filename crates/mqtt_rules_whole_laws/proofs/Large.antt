@@ -15,7 +15,6 @@ use Rattle.mqtt_rules.specs.Forms.{first_within, form_size, in_form, is_within, 
 use Rattle.mqtt_rules.specs.Packets.{size_of}
 use Rattle.mqtt_rules.specs.State.{queued_copy}
 use Rattle.mqtt_rules.proofs.forms.FormSizes.{copy_in_form}
-use Rattle.mqtt_world_cause_laws.proofs.Queues.{some_is}
 
 -- the first form that is within is within
 first_is : (largest : ℕ) (p : Publish) (fs : List Form) (form : Form) → first_within largest p fs ≡ Some form → is_within largest p form ≡ true
@@ -23,7 +22,7 @@ first_is largest p [] form is = absurd cc
 first_is largest p (f ∷ fs) form is = by (is_within largest p f) refl is (λ e. first_is largest p fs form e)
   where
     by : (t : Bool) → is_within largest p f ≡ t → cond t (Some f) (first_within largest p fs) ≡ Some form → (first_within largest p fs ≡ Some form → is_within largest p form ≡ true) → is_within largest p form ≡ true
-    by true within e more = subst (λ (x : Form). is_within largest p x ≡ true) (some_is f form e) within
+    by true within e more = let same : f ≡ form = cc in subst (λ (x : Form). is_within largest p x ≡ true) same within
     by false within e more = more e
 
 -- in such a form a copy isn't large

@@ -1,0 +1,3 @@
+pub mod Large
+pub mod WholeForms
+pub mod WholePumps
