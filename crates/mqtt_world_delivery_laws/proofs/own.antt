@@ -8,6 +8,6 @@ pub mod OwnConnects
 pub mod Pumping
 pub mod Reading
 pub mod Replies
+pub mod Sizes
 pub mod Taking
-pub mod Untold
 pub mod Wishes

@@ -13,11 +13,13 @@ ghost use Rattle.mqtt_world_model.specs.Laws.{copies_in, handed_count, released_
 ghost use Rattle.mqtt_world_model.specs.Run.{Turn, begins_clean, run};
 ghost use Rattle.mqtt_world_model.specs.World.{Setting, World, happens, is_bad, old_to_broker, receiver, receiver_named, start, to_broker};
 ghost use Rattle.mqtt_records.specs.declared.records.Records.{Records};
+ghost use Rattle.mqtt_rules.specs.Contents.{HasLawfulContents};
 ghost use Rattle.mqtt_rules.specs.Flight.{HasDistinctIdentifiers};
 ghost use Rattle.mqtt_rules.specs.Laws.{AreWithin};
 ghost use Rattle.mqtt_rules.specs.State.{MemberChoice, session_named};
 ghost use Rattle.mqtt_rules.specs.Step.{is_opening_spent};
 ghost use Rattle.mqtt_rules.specs.declared.Limits.{Limits};
+ghost use Rattle.mqtt_rules_spelling_laws.specs.Sending.{HaveSentPhases};
 ghost use Rattle.mqtt_world_acceptance_laws.specs.Copies.{entered_from};
 ghost use Rattle.mqtt_world_acceptance_laws.specs.Fair.{IsFair, MayOpen, opened_world};
 ghost use Rattle.mqtt_world_acceptance_laws.specs.Spending.{run_spends};
@@ -56,14 +58,14 @@ pub fn every_run_hands_over_once()
         → WasHandedOver r (run limits ts w).broker }
 {}
 
-/// So a world may begin: with nothing stored, or opened on tables in order, if no two copies in flight have one identifier
-/// and no two retained messages are of one publication; such are those that any run of such a world leaves, under whatever
-/// limits. More sessions may stand than the limit, and queues may be longer, if they were stored under larger ones (4.1).
+/// So a world may begin: with nothing stored, or opened on tables in order, if no two copies in flight have one identifier,
+/// no two retained messages are of one publication, what is stored is what packets can carry, and identifiers in flight have
+/// two bytes; such are those that any run of such a world leaves, under whatever limits. More sessions may stand than the limit, and queues may be longer, if they were stored under larger ones (4.1).
 pub fn a_world_may_begin_untouched()
     ensures empty { (limits : Limits) → AreWithin limits → IsUntouched limits start }
     ensures stored { (limits : Limits) (choice : MemberChoice) (now : ℕ) (r : Records)
         → AreWithin limits → MayOpen limits choice now r → HasDistinctIdentifiers r → AreRetainedOnce r
-        → IsUntouched limits (opened_world limits choice now r) }
+        → HasLawfulContents r → HaveSentPhases r → IsUntouched limits (opened_world limits choice now r) }
     ensures again { (limits : Limits) (ts : List Turn) (choice : MemberChoice) (now : ℕ) (w : World)
         → IsUntouched limits w → IsFair limits ts w
         → is_opening_spent limits choice now (run limits ts w).broker.records ≡ false

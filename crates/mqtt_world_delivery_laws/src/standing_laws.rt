@@ -9,7 +9,7 @@ ghost use Rattle.mqtt_world_model.specs.World.{Asking, Setting, World, asks, bef
 ghost use Rattle.mqtt_rules.specs.Flight.{HasDistinctIdentifiers};
 ghost use Rattle.mqtt_rules.specs.State.{Line, line_at};
 ghost use Rattle.mqtt_world_acceptance_laws.specs.Spending.{spending};
-ghost use Rattle.mqtt_world_untold_laws.specs.Untold.{IsUntold};
+ghost use Rattle.mqtt_world_receiver_laws.specs.WorldRounds.{QueueFits};
 
 /// Whatever an end does leaves a receiver standing, be it the receiver itself or another, with the same copies and
 /// lines: ends come, give a line up, publish, ask for subscriptions and read, and time passes (3.1.2.4, 4.3, 4.4).
@@ -97,13 +97,13 @@ pub fn a_stop_after_the_commit_leaves_a_receiver_standing()
 {}
 
 /// The broker sends what waits for a receiver on its own line, or nothing if nobody is connected there: the receiver
-/// stands as before. Asked: that line has the Maximum Packet Size of its hop, and nothing was told on it by aliases; and no
-/// two copies in flight have one identifier, as after each step (4.4, 4.6, 4.9).
+/// stands as before. Asked: that line has the Maximum Packet Size of its hop, and no copy that waits is larger, with its whole
+/// topic; and no two copies in flight have one identifier, as after each step (3.1.2.11.4, 4.4, 4.6, 4.9).
 pub fn sending_leaves_a_receiver_standing()
     ensures sends { (first : List CopyId) (client : List ℕ) (largest : ℕ) (set : Setting) (r : Receiver) (w : World)
         → Stands first client largest set.limits w → receiver_named client w ≡ Some r → HasDistinctIdentifiers w.broker.records
         → ((n : ℕ) (l : Line) (birth : ℕ) → r.line.number ≡ Some n → line_at n w.broker ≡ Some l
-        → l.session ≡ Some birth → (l.largest ≡ largest) × IsUntold n w.broker)
+        → l.session ≡ Some birth → (l.largest ≡ largest) × QueueFits largest birth w.broker)
         → read_first spending set (pump client) w ≡ false → Stands first client largest set.limits (asks set (pump client) w) }
 {}
 

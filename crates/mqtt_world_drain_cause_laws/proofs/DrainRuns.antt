@@ -33,7 +33,6 @@ use Rattle.mqtt_world_delivery_laws.specs.Standing.{IsPlaced, IsSeen}
 use Rattle.mqtt_world_delivery_laws.specs.Taking.{any_size}
 use Rattle.mqtt_world_delivery_laws.specs.Untouched.{IsUntouched}
 use Rattle.mqtt_world_delivery_laws.proofs.drains.Drains.{round_carried}
-use Rattle.mqtt_world_delivery_laws.proofs.own.Untold.{untold_there}
 use Rattle.mqtt_world_delivery_laws.proofs.whole.EveryRun.{carried_append, fair_run_kept, spent_append}
 use Rattle.mqtt_world_delivery_laws.proofs.whole.Ledgers.{run_remains}
 use Rattle.mqtt_world_delivery_laws.proofs.broker.Untouched.{start_untouched}
@@ -70,23 +69,16 @@ if_moment : (set : Setting) (o : Option Call) (w : World) → moment_of (calls_i
 if_moment set None w = refl
 if_moment set (Some call) w = call_moment set call w
 
--- what is known of a world beside, as long as something is so of each step: by it the receiver's copies fit, but if this holds
-pub record Knows (large : Type 0) (client : List ℕ) (limits : Limits) (K : World → Type 0) (S : Asked → Type 0) : Type 0 where
-  pub fits : (w : World) (r : Receiver) → IsKept [] client limits w → K w → receiver_named client w ≡ Some r → HasFit large r w.broker
-  pub keeps : (t : Turn) (w : World) → IsKept [] client limits w → read_at spending (setting limits t) t.event w ≡ false → AllByRecursion S (read_at the_asked (setting limits t) t.event w) → K w → K (turned limits t w)
+-- the receiver's copies fit wherever it stands, but if this holds
+abbrev pub FitsWherever : Type 0 → List ℕ → Limits → Type 0
+FitsWherever large client limits = (w : World) (r : Receiver) → IsKept [] client limits w → receiver_named client w ≡ Some r → HasFit large r w.broker
 
 -- the receiver stands, is there, and says that all is well
-record IsReady (client : List ℕ) (limits : Limits) (K : World → Type 0) (moment : ℕ) (w : World) : Type 0 where
+record IsReady (client : List ℕ) (limits : Limits) (moment : ℕ) (w : World) : Type 0 where
   kept : IsKept [] client limits w
   there : is_some (receiver_named client w) ≡ true
   says : AllSay w
   at : moment_of w ≡ moment
-  known : K w
-
--- what holds of two lists of steps holds of each
-pub first_steps : (S : Asked → Type 0) (xs ys : List Asked) → AllByRecursion S (xs ++ ys) → AllByRecursion S xs × AllByRecursion S ys
-first_steps S [] ys h = (tt, h)
-first_steps S (x ∷ xs) ys h = let rest = first_steps S xs ys h.1 in ((h.0, rest.0), rest.1)
 
 -- two lists of turns ask what both ask
 pub asked_append : (limits : Limits) (xs ys : List Turn) (w : World) → asked_over limits (xs ++ ys) w ≡ asked_over limits xs w ++ asked_over limits ys (run limits xs w)
@@ -96,11 +88,7 @@ asked_append limits (t ∷ xs) ys w =
     let v = turned limits t w in
     ap (λ (zs : List Asked). first ++ zs) (asked_append limits xs ys v) ∙ sym (append_assoc first (asked_over limits xs v) (asked_over limits ys (run limits xs v)))
 
--- what holds of their steps holds of each one's
-pub steps_parts : (S : Asked → Type 0) (limits : Limits) (xs ys : List Turn) (w : World) → AllByRecursion S (asked_over limits (xs ++ ys) w) → AllByRecursion S (asked_over limits xs w) × AllByRecursion S (asked_over limits ys (run limits xs w))
-steps_parts S limits xs ys w h = first_steps S (asked_over limits xs w) (asked_over limits ys (run limits xs w)) (subst (AllByRecursion S) (asked_append limits xs ys w) h)
-
-module _ (large : Type 0) (client : List ℕ) (limits : Limits) (K : World → Type 0) (S : Asked → Type 0) (knows : Knows large client limits K S) (choice : MemberChoice) (moment : ℕ) where
+module _ (large : Type 0) (client : List ℕ) (limits : Limits) (fits : FitsWherever large client limits) (choice : MemberChoice) (moment : ℕ) where
   abbrev set : Setting
   set = record { limits = limits; choice = choice }
 
@@ -118,7 +106,7 @@ module _ (large : Type 0) (client : List ℕ) (limits : Limits) (K : World → T
   named_client : (r : Receiver) (w : World) → receiver_named client w ≡ Some r → r.client ≡ client
   named_client r w e = (bytes_eq-Decides r.client client).0 (found_passes (λ (q : Receiver). bytes_eq q.client client) r w.receivers e)
 
-  module _ (w : World) (ready : IsReady client limits K moment w) (r : Receiver) (e : receiver_named client w ≡ Some r) where
+  module _ (w : World) (ready : IsReady client limits moment w) (r : Receiver) (e : receiver_named client w ≡ Some r) where
     placed : IsPlaced any_size ready.kept.stands.ids ready.kept.stands.ns r w.broker
     placed = subst (IsSeen any_size ready.kept.stands.ids ready.kept.stands.ns w.broker) e ready.kept.stands.standing.seen
 
@@ -131,8 +119,7 @@ module _ (large : Type 0) (client : List ℕ) (limits : Limits) (K : World → T
         let same : Pump n ≡ call = cc in
         subst (λ (x : Call). AreOwn large client (Some x) (deeds limits choice w.now x w.broker)) same
         (subst (λ (c : List ℕ). AreOwn large c (Some (Pump n)) (deeds limits choice w.now (Pump n) w.broker)) (named_client r w e)
-        (pump_own large limits choice w.now r w.broker (knows.fits w r ready.kept ready.known e) any_size ready.kept.stands.ids ready.kept.stands.ns placed n is
-        (untold_there client r n w ready.kept.fit.untold e is) ready.kept.stands.standing.around.steady.coherent.ordered))
+        (pump_own large limits choice w.now r w.broker (fits w r ready.kept e) any_size ready.kept.stands.ids ready.kept.stands.ns placed n is))
 
     read : (number : Option ℕ) (up : List Back) → r.line.number ≡ number → r.line.up ≡ up → AllByRecursion SaysWell up → (call : Call) → input_on number (map (wire_back r.client r.window) up) ≡ Some call
         → AreOwn large client (Some call) (deeds limits choice w.now call w.broker)
@@ -142,7 +129,7 @@ module _ (large : Type 0) (client : List ℕ) (limits : Limits) (K : World → T
         let same : Input n (wire_back r.client r.window x) ≡ call = cc in
         subst (λ (y : Call). AreOwn large client (Some y) (deeds limits choice w.now y w.broker)) same
         (subst (λ (c : List ℕ). AreOwn large c (Some (Input n (wire_back r.client r.window x))) (deeds limits choice w.now (Input n (wire_back r.client r.window x)) w.broker)) (named_client r w e)
-        (input_own large limits choice w.now r w.broker (knows.fits w r ready.kept ready.known e) any_size ready.kept.stands.ids ready.kept.stands.ns placed n x rest is ups says.0))
+        (input_own large limits choice w.now r w.broker (fits w r ready.kept e) any_size ready.kept.stands.ids ready.kept.stands.ns placed n x rest is ups says.0))
 
     pump_its : AreIts large client moment (read_in the_asked set (ask (pump client)) w)
     pump_its =
@@ -158,10 +145,10 @@ module _ (large : Type 0) (client : List ℕ) (limits : Limits) (K : World → T
   -- ---- a turn
 
   record IsRight (e : Event) : Type 0 where
-    ends : (w : World) → IsReady client limits K moment w → AreIts large client moment (read_in the_asked set e w)
+    ends : (w : World) → IsReady client limits moment w → AreIts large client moment (read_in the_asked set e w)
     stands : (w : World) → moment_of (happen set e w) ≡ moment_of w
 
-  with_receiver_there : (w : World) → IsReady client limits K moment w → (P : Type 0) → ((r : Receiver) → receiver_named client w ≡ Some r → P) → P
+  with_receiver_there : (w : World) → IsReady client limits moment w → (P : Type 0) → ((r : Receiver) → receiver_named client w ≡ Some r → P) → P
   with_receiver_there w ready P h = by (receiver_named client w) refl ready.there
     where
       by : (o : Option Receiver) → receiver_named client w ≡ o → is_some o ≡ true → P
@@ -183,7 +170,7 @@ module _ (large : Type 0) (client : List ℕ) (limits : Limits) (K : World → T
   end_right : IsRight (to_end client)
   end_right = record { ends = λ w ready. tt; stands = λ w. refl }
 
-  turn_its : (e : Event) (w : World) → IsRight e → IsReady client limits K moment w → AreIts large client moment (read_at the_asked (setting limits (its e)) e w)
+  turn_its : (e : Event) (w : World) → IsRight e → IsReady client limits moment w → AreIts large client moment (read_at the_asked (setting limits (its e)) e w)
   turn_its e w right ready = by (is_bad e w)
     where
       by : (bad : Bool) → AreIts large client moment (cond bad [] (read_in the_asked set e w))
@@ -204,13 +191,12 @@ module _ (large : Type 0) (client : List ℕ) (limits : Limits) (K : World → T
       by true = refl
       by false = right.stands w
 
-  ready_after : (e : Event) (w : World) → IsRight e → begins_clean e w ≡ true → IsReady client limits K moment w → run_spends limits (its e ∷ []) w ≡ false → AllByRecursion S (asked_over limits (its e ∷ []) w) → IsReady client limits K moment (turned limits (its e) w)
-  ready_after e w right clean ready unspent steps = record {
+  ready_after : (e : Event) (w : World) → IsRight e → begins_clean e w ≡ true → IsReady client limits moment w → run_spends limits (its e ∷ []) w ≡ false → IsReady client limits moment (turned limits (its e) w)
+  ready_after e w right clean ready unspent = record {
     kept = turn_kept [] client limits (its e) w ready.kept clean (either (read_at spending (setting limits (its e)) e w) false unspent).0;
     there = stays_there (its e ∷ []) w ready.there;
     says = turned_say limits (its e) w ready.says;
     at = moment_after e w right ∙ ready.at;
-    known = knows.keeps (its e) w ready.kept (either (read_at spending (setting limits (its e)) e w) false unspent).0 (first_steps S (read_at the_asked (setting limits (its e)) e w) [] steps).0 ready.known;
   }
 
   -- ---- some turns, in the end
@@ -218,31 +204,30 @@ module _ (large : Type 0) (client : List ℕ) (limits : Limits) (K : World → T
   -- their ends, and where they come to
   record Goes (ts : List Turn) (w : World) : Type 0 where
     ends : AreIts large client moment (asked_over limits ts w)
-    ready : IsReady client limits K moment (run limits ts w)
+    ready : IsReady client limits moment (run limits ts w)
 
   go_on : (xs ys : List Turn) (w : World) → Goes xs w → Goes ys (run limits xs w) → Goes (xs ++ ys) w
   go_on xs ys w p q = record {
     ends = subst (AreIts large client moment) (sym (asked_append limits xs ys w)) (both_its large client moment (asked_over limits xs w) (asked_over limits ys (run limits xs w)) p.ends q.ends);
-    ready = subst (IsReady client limits K moment) (sym (run_append limits xs ys w)) q.ready;
+    ready = subst (IsReady client limits moment) (sym (run_append limits xs ys w)) q.ready;
   }
 
-  one_goes : (e : Event) (w : World) → IsRight e → ((v : World) → begins_clean e v ≡ true) → IsReady client limits K moment w → run_spends limits (its e ∷ []) w ≡ false → AllByRecursion S (asked_over limits (its e ∷ []) w) → Goes (its e ∷ []) w
-  one_goes e w right clean ready unspent steps = record {
+  one_goes : (e : Event) (w : World) → IsRight e → ((v : World) → begins_clean e v ≡ true) → IsReady client limits moment w → run_spends limits (its e ∷ []) w ≡ false → Goes (its e ∷ []) w
+  one_goes e w right clean ready unspent = record {
     ends = both_its large client moment (read_at the_asked (setting limits (its e)) e w) [] (turn_its e w right ready) tt;
-    ready = ready_after e w right (clean w) ready unspent steps;
+    ready = ready_after e w right (clean w) ready unspent;
   }
 
-  times_go : (n : ℕ) (e : Event) (w : World) → IsRight e → ((v : World) → begins_clean e v ≡ true) → IsReady client limits K moment w → run_spends limits (times n (its e)) w ≡ false → AllByRecursion S (asked_over limits (times n (its e)) w) → Goes (times n (its e)) w
-  times_go zero e w right clean ready unspent steps = record { ends = tt; ready = ready }
-  times_go (suc n) e w right clean ready unspent steps =
-      let parts = steps_parts S limits (its e ∷ []) (times n (its e)) w steps in
+  times_go : (n : ℕ) (e : Event) (w : World) → IsRight e → ((v : World) → begins_clean e v ≡ true) → IsReady client limits moment w → run_spends limits (times n (its e)) w ≡ false → Goes (times n (its e)) w
+  times_go zero e w right clean ready unspent = record { ends = tt; ready = ready }
+  times_go (suc n) e w right clean ready unspent =
       let costs = spent_append limits (its e ∷ []) (times n (its e)) w unspent in
-      let first = one_goes e w right clean ready costs.0 parts.0 in
-      go_on (its e ∷ []) (times n (its e)) w first (times_go n e (turned limits (its e) w) right clean first.ready costs.1 parts.1)
+      let first = one_goes e w right clean ready costs.0 in
+      go_on (its e ∷ []) (times n (its e)) w first (times_go n e (turned limits (its e) w) right clean first.ready costs.1)
 
-  round_goes : (w : World) → IsReady client limits K moment w → run_spends limits (round_turns limits choice client w) w ≡ false → AllByRecursion S (asked_over limits (round_turns limits choice client w) w)
+  round_goes : (w : World) → IsReady client limits moment w → run_spends limits (round_turns limits choice client w) w ≡ false
       → Goes (round_turns limits choice client w) w
-  round_goes w ready unspent steps =
+  round_goes w ready unspent =
       let sends : List Turn = its (ask (pump client)) ∷ [] in
       let sent = run limits sends w in
       let reads = all_to_end choice client sent in
@@ -250,11 +235,9 @@ module _ (large : Type 0) (client : List ℕ) (limits : Limits) (K : World → T
       let answers = all_to_broker choice client then_ in
       let costs = spent_append limits sends (reads ++ answers) w unspent in
       let later = spent_append limits reads answers sent costs.1 in
-      let parts = steps_parts S limits sends (reads ++ answers) w steps in
-      let others = steps_parts S limits reads answers sent parts.1 in
-      let one = one_goes (ask (pump client)) w pump_right (λ v. refl) ready costs.0 parts.0 in
-      let two = times_go (downs_by (receiver_named client sent)) (to_end client) sent end_right (λ v. refl) one.ready later.0 others.0 in
-      let three = times_go (ups_by (receiver_named client then_)) (ask (to_broker client)) then_ read_right (λ v. refl) two.ready later.1 others.1 in
+      let one = one_goes (ask (pump client)) w pump_right (λ v. refl) ready costs.0 in
+      let two = times_go (downs_by (receiver_named client sent)) (to_end client) sent end_right (λ v. refl) one.ready later.0 in
+      let three = times_go (ups_by (receiver_named client then_)) (ask (to_broker client)) then_ read_right (λ v. refl) two.ready later.1 in
       go_on sends (reads ++ answers) w one (go_on reads answers sent two three)
 
   -- if a drain goes on its receiver is there
@@ -270,35 +253,24 @@ module _ (large : Type 0) (client : List ℕ) (limits : Limits) (K : World → T
       by None e = none (is_none_left (copies_left client w)) (sym (ap (λ (o : Option Receiver). is_none_left (copies_left client w) || not (line_stands o w)) e) ∙ on)
 
   -- in a drain that spends no number only the receiver's copies end, for what ends them in a drain
-  pub drain_its : (most : ℕ) (w : World) → IsKept [] client limits w → AllSay w → moment_of w ≡ moment → K w → run_spends limits (drain_turns limits choice client most w) w ≡ false
-      → AllByRecursion S (asked_over limits (drain_turns limits choice client most w) w) → AreIts large client moment (asked_over limits (drain_turns limits choice client most w) w)
-  drain_its zero w kept says at known unspent steps = tt
-  drain_its (suc most) w kept says at known unspent steps = by (is_over client w) refl unspent steps (λ v k s a n u more. drain_its most v k s a n u more)
+  pub drain_its : (most : ℕ) (w : World) → IsKept [] client limits w → AllSay w → moment_of w ≡ moment → run_spends limits (drain_turns limits choice client most w) w ≡ false
+      → AreIts large client moment (asked_over limits (drain_turns limits choice client most w) w)
+  drain_its zero w kept says at unspent = tt
+  drain_its (suc most) w kept says at unspent = by (is_over client w) refl unspent (λ v k s a u. drain_its most v k s a u)
     where
-      by : (over : Bool) → is_over client w ≡ over → run_spends limits (drain_by over (round_turns limits choice client w) (drain_turns limits choice client most (after_round limits choice client w))) w ≡ false → AllByRecursion S (asked_over limits (drain_by over (round_turns limits choice client w) (drain_turns limits choice client most (after_round limits choice client w))) w)
-          → ((u : World) → IsKept [] client limits u → AllSay u → moment_of u ≡ moment → K u → run_spends limits (drain_turns limits choice client most u) u ≡ false → AllByRecursion S (asked_over limits (drain_turns limits choice client most u) u)
+      by : (over : Bool) → is_over client w ≡ over → run_spends limits (drain_by over (round_turns limits choice client w) (drain_turns limits choice client most (after_round limits choice client w))) w ≡ false
+          → ((u : World) → IsKept [] client limits u → AllSay u → moment_of u ≡ moment → run_spends limits (drain_turns limits choice client most u) u ≡ false
           → AreIts large client moment (asked_over limits (drain_turns limits choice client most u) u)) → AreIts large client moment (asked_over limits (drain_by over (round_turns limits choice client w) (drain_turns limits choice client most (after_round limits choice client w))) w)
-      by true is u done next = tt
-      by false is u done next =
+      by true is u next = tt
+      by false is u next =
           let xs = round_turns limits choice client w in
           let v = after_round limits choice client w in
           let ys = drain_turns limits choice client most v in
           let costs = spent_append limits xs ys w u in
-          let parts = steps_parts S limits xs ys w done in
-          let first = round_goes w (record { kept = kept; there = has_receiver w is; says = says; at = at; known = known }) costs.0 parts.0 in
-          subst (AreIts large client moment) (sym (asked_append limits xs ys w)) (both_its large client moment (asked_over limits xs w) (asked_over limits ys v) first.ends (next v first.ready.kept first.ready.says first.ready.at first.ready.known costs.1 parts.1))
+          let first = round_goes w (record { kept = kept; there = has_receiver w is; says = says; at = at }) costs.0 in
+          subst (AreIts large client moment) (sym (asked_append limits xs ys w)) (both_its large client moment (asked_over limits xs w) (asked_over limits ys v) first.ends (next v first.ready.kept first.ready.says first.ready.at costs.1))
 
--- ---- if nothing is known beside
-
-abbrev Anywhere : World → Type 0
-Anywhere w = ⊤
-
-abbrev Anyhow : Asked → Type 0
-Anyhow x = ⊤
-
-any_steps : (xs : List Asked) → AllByRecursion Anyhow xs
-any_steps [] = tt
-any_steps (x ∷ xs) = (tt, any_steps xs)
+-- ---- whatever their sizes
 
 any_phase : (phase : Phase) → IsFitPhase ⊤ phase
 any_phase Waiting = tt
@@ -310,11 +282,8 @@ all_fit : (largest : ℕ) (es : List FlowEntry) → AreFit ⊤ largest es
 all_fit largest [] = tt
 all_fit largest (e ∷ es) = (record { released = any_phase e.phase; above = λ h. tt }, all_fit largest es)
 
-knows_nothing : (client : List ℕ) (limits : Limits) → Knows ⊤ client limits Anywhere Anyhow
-knows_nothing client limits = record {
-  fits = λ w r kept known e n l birth s number at on there its. all_fit l.largest (queue_on l.went s);
-  keeps = λ t w kept unspent steps known. tt;
-}
+any_fit : (client : List ℕ) (limits : Limits) → FitsWherever ⊤ client limits
+any_fit client limits w r kept e n l birth s number at on there its = all_fit l.largest (queue_on l.went s)
 
 -- ---- with their causes
 
@@ -370,7 +339,7 @@ drain_ends limits ts choice client most w u fair unspent =
     let caused = run_caused limits (ts ++ turns) w u.new all in
     let causes = last_of (ends_over limits ts w) (ends_over limits turns v) (subst (AllByRecursion HasCause) (ends_append limits ts turns w) caused) in
     let its = joined_its ⊤ client (moment_of v) (asked_over limits turns v)
-    (drain_its ⊤ client limits Anywhere Anyhow (knows_nothing client limits) choice (moment_of v) most v (fair_run_kept limits ts w u fair client) (run_say limits ts w (none_say w u.new.receivers)) refl tt unspent (any_steps (asked_over limits turns v))) in
+    (drain_its ⊤ client limits (any_fit client limits) choice (moment_of v) most v (fair_run_kept limits ts w u fair client) (run_say limits ts w (none_say w u.new.receivers)) refl unspent) in
     with_causes client (moment_of v) (ends_over limits turns v) its causes
 
 -- ---- of scripts

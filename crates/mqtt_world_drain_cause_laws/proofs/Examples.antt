@@ -1,5 +1,7 @@
 -- Worked drains: whose the copies are that end, by what, and for which packet (MQTT 5.0, 3.1.2.4, 4.3).
 use Rattle.std.proofs.Common.{◌≡◌, ℕ, true, false, Bool, List, [], ◌∷◌, ◌++◌, map, Option, Some, refl}
+use Rattle.std.specs.Str.{is_utf8, chars}
+use Rattle.std.proofs.Math.Utf8.{encode}
 use Rattle.mqtt_base.specs.Values.{varint}
 use Rattle.mqtt_base.specs.declared.session.Ending.{Ending}
 use Rattle.mqtt_base.specs.declared.session.Ending.TheVariants.{Taken, SessionEnded}
@@ -45,10 +47,10 @@ ended by clean = record { client = r1; by = by; clean = clean }
 
 -- two copies that wait are taken
 pub they_are_taken : drain_after 5 two_wait ≡ ended Taken false ∷ ended Taken false ∷ []
-unfolding varint
+unfolding varint is_utf8 chars encode
 they_are_taken = refl
 
 -- one was sent, and a CONNECT with Clean Start is under way
 pub a_clean_start_ends_both : drain_after 5 (two_wait ++ round r1 ++ give_up r1 ∷ connect_end r1 true ∷ []) ≡ ended SessionEnded true ∷ ended SessionEnded true ∷ []
-unfolding varint
+unfolding varint is_utf8 chars encode
 a_clean_start_ends_both = refl

@@ -1,22 +1,19 @@
 -- The copies of a receiver fit on its line: none was released as too large, and none is above what it takes (MQTT 5.0, 2.1.4,
 -- 3.1.2.11.4).
-use Rattle.std.proofs.Common.{◌≡◌, ℕ, ◌^◌, true, List, [], ◌∷◌, map, Option, Some, None, nat_lt, refl, inl, sym, subst, arith}
+use Rattle.std.proofs.Common.{◌≡◌, ℕ, true, List, [], ◌∷◌, map, Option, Some, None, nat_lt, refl, inl, sym, subst, arith}
 use Rattle.std.specs.Prelude.{⊤}
 use Rattle.std.specs.List.{AllByRecursion}
 use Rattle.std.proofs.lemmas.Bool.{ltb-true}
-use Rattle.mqtt_base.proofs.Varints.{size_fourth, varint_sizes}
 use Rattle.mqtt_base.specs.declared.session.Phase.{Phase}
 use Rattle.mqtt_base.specs.declared.session.Phase.TheVariants.{Waiting, Sent, Released, Oversize}
 use Rattle.mqtt_flow.specs.OutboundWorld.{Lot, past, renewed, standing}
 use Rattle.mqtt_flow.specs.declared.entry.Entry.{Entry as FlowEntry}
-use Rattle.mqtt_records_message.specs.Queue.{CopyRow, remaining}
+use Rattle.mqtt_records_message.specs.Queue.{CopyRow}
 use Rattle.mqtt_records_message.specs.declared.message.MessageCopy.{MessageCopy}
 use Rattle.mqtt_records.specs.Session.{birth_of}
 use Rattle.mqtt_records.specs.declared.session.Session.{Session}
-use Rattle.mqtt_rules.proofs.contents.CopySizes.{first_size}
 use Rattle.mqtt_rules.proofs.fit.FitLaw.{all_among}
 use Rattle.mqtt_rules.proofs.acts.Leads.{row_among}
-use Rattle.mqtt_rules.proofs.contents.SpelledContents.{copy_spelled, rows_are}
 use Rattle.mqtt_rules.specs.Contents.{HasContentsOf, IsCopiedOf, of_rows}
 use Rattle.mqtt_rules.specs.Laws.{IsAmong}
 use Rattle.mqtt_rules.specs.State.{Broker, entry_on, queue_on, queued_copy}
@@ -32,26 +29,19 @@ use Rattle.mqtt_world_delivery_laws.specs.Standing.{IsPlaced, IsSeen}
 use Rattle.mqtt_world_delivery_laws.specs.Taking.{any_size}
 use Rattle.mqtt_world_delivery_laws.proofs.others.Runs.{IsKept}
 use Rattle.mqtt_world_delivery_laws.proofs.others.Standings.{runs_so}
+use Rattle.mqtt_world_delivery_laws.proofs.own.Sizes.{is_small}
 use Rattle.mqtt_world_delivery_laws.proofs.own.Taking.{takes_there}
 use Rattle.mqtt_world_delivery_laws.proofs.contents.WayTags.{IsThere, own_there}
-use Rattle.mqtt_world_drain_cause_laws.proofs.Contents.{IsContentful, turn_contents}
-use Rattle.mqtt_world_drain_cause_laws.proofs.DrainRuns.{Knows}
 use Rattle.mqtt_world_drain_cause_laws.proofs.OwnCalls.{HasFit}
 use Rattle.mqtt_world_drain_cause_laws.proofs.OwnEnds.{AreFit, IsFit, IsFitPhase}
-use Rattle.mqtt_world_drain_cause_laws.specs.Fitting.{ReadsLawful}
 
 -- ---- sizes: no packet has as many bytes as a receiver takes
 
--- a copy of a lawful content is within the greatest size
-pub is_small : (copy : MessageCopy) → IsCopiedOf of_rows copy → nat_lt any_size (queued_copy copy).size ≡ true → ⊥
-is_small copy h above =
-    let n = remaining copy in
-    let short = (copy_spelled of_rows rows_are copy h).short in
-    let most = varint_sizes n (2 ^ 28) (omega (arith, short)) in
-    let four = size_fourth (2 ^ 28) (omega arith) in
-    let is = first_size copy in
+above_none : (copy : MessageCopy) → IsCopiedOf of_rows copy → nat_lt any_size (queued_copy copy).size ≡ true → ⊥
+above_none copy h above =
+    let within = is_small copy h in
     let more = ltb-true any_size (queued_copy copy).size above in
-    omega (arith, short, most, four, is, more)
+    omega (arith, within, more)
 
 -- ---- phases: one that was released as too large is above that
 
@@ -99,27 +89,27 @@ queue_over lots s b unsent queued = by (went_in s.birth b) queued
 
 module _ (client : List ℕ) (limits : Limits) where
   fit_row : (went : List ℕ) (row : CopyRow) → IsCopiedOf of_rows row.copy → RowOver row → IsFit ⊥ any_size row.phase (queued_copy row.copy).size
-  fit_row went row copied over = record { released = by row.phase over; above = is_small row.copy copied }
+  fit_row went row copied over = record { released = by row.phase over; above = above_none row.copy copied }
     where
       by : (phase : Phase) → OverBy phase (queued_copy row.copy).size → IsFitPhase ⊥ phase
       by Waiting h = tt
       by (Sent i) h = tt
       by (Released i order) h = tt
-      by (Oversize i order) h = is_small row.copy copied h
+      by (Oversize i order) h = above_none row.copy copied h
 
   fit_rows : (went : List ℕ) (rows : List CopyRow) → AllByRecursion (λ (row : CopyRow). IsCopiedOf of_rows row.copy) rows → AllByRecursion RowOver rows → AreFit ⊥ any_size (map (entry_on went) rows)
   fit_rows went [] copied over = tt
   fit_rows went (row ∷ rows) copied over = (fit_row went row copied.0 over.0, fit_rows went rows copied.1 over.1)
 
-  -- a receiver's copies fit on its line, if contents are lawful
-  pub its_fit : (w : World) (r : Receiver) → IsKept [] client limits w → IsContentful w → receiver_named client w ≡ Some r → HasFit ⊥ r w.broker
-  its_fit w r kept contents e n l birth s number at on there its =
+  -- a receiver's copies fit on its line, since contents are lawful wherever a run comes to
+  pub its_fit : (w : World) (r : Receiver) → IsKept [] client limits w → receiver_named client w ≡ Some r → HasFit ⊥ r w.broker
+  its_fit w r kept e n l birth s number at on there its =
       let b = w.broker in
       let st = kept.stands in
       let placed = subst (IsSeen any_size st.ids st.ns b) e st.standing.seen in
       let x = runs_so client any_size limits st.ids st.ns r w st.standing e in
       let largest : l.largest ≡ any_size = (takes_there client r n birth l w kept.fit.takes e number at on).1 in
-      let has = all_among (HasContentsOf of_rows) s b.records.sessions contents.stored.sessions (row_among birth_of birth s b.records.sessions there) in
+      let has = all_among (HasContentsOf of_rows) s b.records.sessions kept.fit.well.sends.contents.stored.sessions (row_among birth_of birth s b.records.sessions there) in
       subst (λ (k : ℕ). AreFit ⊥ k (queue_on l.went s)) (sym largest) (fit_rows l.went s.queue has.queue (overs placed x.after x.run_is))
     where
       overs : IsPlaced any_size kept.stands.ids kept.stands.ns r w.broker → (lots : List Lot) → IsRun (place_of kept.stands.ids) any_size lots r w.broker → AllByRecursion RowOver s.queue
@@ -142,7 +132,3 @@ module _ (client : List ℕ) (limits : Limits) where
               }
               in
               queue_over lots s w.broker unsent (subst (λ (o : Option Session). AreQueued lots o w.broker) (own_there any_size kept.stands.ids kept.stands.ns r w.broker n row.copy.id placed number here) run_is.queue_is)
-
-  -- so much is known at each step of a run with lawful packets
-  pub knows_fit : Knows ⊥ client limits IsContentful ReadsLawful
-  knows_fit = record { fits = its_fit; keeps = λ t w kept unspent steps known. turn_contents limits t w known steps }

@@ -1,5 +1,5 @@
--- No copy ends as too large in a drain, if what is stored came in packets (MQTT 5.0, 2.1.4, 3.1.2.11.4).
-use Rattle.std.proofs.Common.{◌≡◌, ℕ, Bool, true, false, cond, List, [], ◌∷◌, ◌++◌, refl, subst}
+-- No copy ends as too large in a drain, since what is stored came in packets (MQTT 5.0, 2.1.4, 3.1.2.11.4).
+use Rattle.std.proofs.Common.{◌≡◌, ℕ, Bool, true, false, cond, List, [], ◌∷◌, refl, subst}
 use Rattle.std.specs.List.{AllByRecursion}
 use Rattle.mqtt_rules.specs.State.{MemberChoice}
 use Rattle.mqtt_rules.specs.declared.Limits.{Limits}
@@ -14,10 +14,9 @@ use Rattle.mqtt_world_delivery_laws.proofs.whole.EveryRun.{carried_append, fair_
 use Rattle.mqtt_world_delivery_laws.proofs.others.Runs.{IsKept, run_kept}
 use Rattle.mqtt_world_delivery_laws.proofs.broker.Untouched.{start_untouched}
 use Rattle.mqtt_world_drain_cause_laws.specs.DrainEnds.{moment_of}
-use Rattle.mqtt_world_drain_cause_laws.specs.Fitting.{AllDrainsFit, AllReadLawful, FitWhere, IsNotTooLarge, NoneTooLarge, ReadsLawful}
-use Rattle.mqtt_world_drain_cause_laws.proofs.Contents.{IsContentful, run_contents}
-use Rattle.mqtt_world_drain_cause_laws.proofs.DrainRuns.{drain_its, joined_its, steps_parts}
-use Rattle.mqtt_world_drain_cause_laws.proofs.Fits.{knows_fit}
+use Rattle.mqtt_world_drain_cause_laws.specs.Fitting.{AllDrainsFit, FitWhere, IsNotTooLarge, NoneTooLarge}
+use Rattle.mqtt_world_drain_cause_laws.proofs.DrainRuns.{drain_its, joined_its}
+use Rattle.mqtt_world_drain_cause_laws.proofs.Fits.{its_fit}
 use Rattle.mqtt_world_drain_cause_laws.proofs.OwnEnds.{Ends, IsIts}
 use Rattle.mqtt_world_drain_cause_laws.proofs.Sayings.{AllSay, none_say, run_say}
 
@@ -27,50 +26,45 @@ none_of client moment (x ∷ xs) h = ((λ is. subst (Ends ⊥ client x.asked.cal
 
 -- ---- a drain from where its receiver stands
 
-fits_at : (limits : Limits) (choice : MemberChoice) (c : List ℕ) (most : ℕ) (v : World) → IsKept [] c limits v → AllSay v → IsContentful v → run_spends limits (drain_turns limits choice c most v) v ≡ false
-    → AllReadLawful limits (drain_turns limits choice c most v) v → NoneTooLarge limits (drain_turns limits choice c most v) v
-fits_at limits choice c most v kept says contents unspent reads =
+fits_at : (limits : Limits) (choice : MemberChoice) (c : List ℕ) (most : ℕ) (v : World) → IsKept [] c limits v → AllSay v → run_spends limits (drain_turns limits choice c most v) v ≡ false → NoneTooLarge limits (drain_turns limits choice c most v) v
+fits_at limits choice c most v kept says unspent =
     let turns = drain_turns limits choice c most v in
     none_of c (moment_of v) (ends_over limits turns v)
-    (joined_its ⊥ c (moment_of v) (asked_over limits turns v) (drain_its ⊥ c limits IsContentful ReadsLawful (knows_fit c limits) choice (moment_of v) most v kept says refl contents unspent reads))
+    (joined_its ⊥ c (moment_of v) (asked_over limits turns v) (drain_its ⊥ c limits (its_fit c limits) choice (moment_of v) most v kept says refl unspent))
 
 -- in a drain no copy is too large
-pub drain_fits : (limits : Limits) (ts : List Turn) (choice : MemberChoice) (client : List ℕ) (most : ℕ) (w : World) → IsUntouched limits w → IsContentful w → IsFair limits ts w
-    → run_spends limits (drain_turns limits choice client most (run limits ts w)) (run limits ts w) ≡ false → AllReadLawful limits (ts ++ drain_turns limits choice client most (run limits ts w)) w
-    → NoneTooLarge limits (drain_turns limits choice client most (run limits ts w)) (run limits ts w)
-drain_fits limits ts choice client most w u contents fair unspent reads =
-    let v = run limits ts w in
-    let parts = steps_parts ReadsLawful limits ts (drain_turns limits choice client most v) w reads in
-    fits_at limits choice client most v (fair_run_kept limits ts w u fair client) (run_say limits ts w (none_say w u.new.receivers)) (run_contents limits ts w contents parts.0) unspent parts.1
+pub drain_fits : (limits : Limits) (ts : List Turn) (choice : MemberChoice) (client : List ℕ) (most : ℕ) (w : World) → IsUntouched limits w → IsFair limits ts w
+    → run_spends limits (drain_turns limits choice client most (run limits ts w)) (run limits ts w) ≡ false → NoneTooLarge limits (drain_turns limits choice client most (run limits ts w)) (run limits ts w)
+drain_fits limits ts choice client most w u fair unspent =
+    fits_at limits choice client most (run limits ts w) (fair_run_kept limits ts w u fair client) (run_say limits ts w (none_say w u.new.receivers)) unspent
 
 -- ---- of scripts
 
-doing_fits : (limits : Limits) (d : Doing) (v : World) → ((c : List ℕ) → IsKept [] c limits v) → AllSay v → IsContentful v → run_spends limits (turns_of limits d v) v ≡ false → AllReadLawful limits (turns_of limits d v) v → FitWhere limits d v
-doing_fits limits (happens t) v k says contents unspent reads = tt
-doing_fits limits (drains choice c most) v k says contents unspent reads = by (is_bad_drain c v) unspent reads
+doing_fits : (limits : Limits) (d : Doing) (v : World) → ((c : List ℕ) → IsKept [] c limits v) → AllSay v → run_spends limits (turns_of limits d v) v ≡ false → FitWhere limits d v
+doing_fits limits (happens t) v k says unspent = tt
+doing_fits limits (drains choice c most) v k says unspent = by (is_bad_drain c v) unspent
   where
-    by : (bad : Bool) → run_spends limits (cond bad [] (drain_turns limits choice c most v)) v ≡ false → AllReadLawful limits (cond bad [] (drain_turns limits choice c most v)) v → NoneTooLarge limits (cond bad [] (drain_turns limits choice c most v)) v
-    by true u all = tt
-    by false u all = fits_at limits choice c most v (k c) says contents u all
+    by : (bad : Bool) → run_spends limits (cond bad [] (drain_turns limits choice c most v)) v ≡ false → NoneTooLarge limits (cond bad [] (drain_turns limits choice c most v)) v
+    by true u = tt
+    by false u = fits_at limits choice c most v (k c) says u
 
-all_fit : (limits : Limits) (ds : List Doing) (v : World) → ((c : List ℕ) → IsKept [] c limits v) → AllSay v → IsContentful v → run_spends limits (all_turns limits ds v) v ≡ false → are_beginnings_clean limits (all_turns limits ds v) v ≡ true
-    → AllReadLawful limits (all_turns limits ds v) v → AllDrainsFit limits ds v
-all_fit limits [] v k says contents unspent clean reads = tt
-all_fit limits (d ∷ ds) v k says contents unspent clean reads =
+all_fit : (limits : Limits) (ds : List Doing) (v : World) → ((c : List ℕ) → IsKept [] c limits v) → AllSay v → run_spends limits (all_turns limits ds v) v ≡ false → are_beginnings_clean limits (all_turns limits ds v) v ≡ true
+    → AllDrainsFit limits ds v
+all_fit limits [] v k says unspent clean = tt
+all_fit limits (d ∷ ds) v k says unspent clean =
     let turns = turns_of limits d v in
     let z = run limits turns v in
     let rest = all_turns limits ds z in
     let costs = spent_append limits turns rest v unspent in
-    let begins = carried_append limits turns rest v clean in
-    let parts = steps_parts ReadsLawful limits turns rest v reads in (
-      doing_fits limits d v k says contents costs.0 parts.0,
-      all_fit limits ds z (λ c. run_kept [] c limits turns v (k c) costs.0 begins.0) (run_say limits turns v says) (run_contents limits turns v contents parts.0) costs.1 begins.1 parts.1,
+    let begins = carried_append limits turns rest v clean in (
+      doing_fits limits d v k says costs.0,
+      all_fit limits ds z (λ c. run_kept [] c limits turns v (k c) costs.0 begins.0) (run_say limits turns v says) costs.1 begins.1,
     )
 
 -- so in all drains of a script
-pub script_fits : (limits : Limits) (ds : List Doing) (w : World) → IsUntouched limits w → IsContentful w → IsFair limits (all_turns limits ds w) w → AllReadLawful limits (all_turns limits ds w) w → AllDrainsFit limits ds w
-script_fits limits ds w u contents fair reads = all_fit limits ds w (λ c. untouched_kept c limits w fair.within u) (none_say w u.new.receivers) contents fair.unspent fair.clean reads
+pub drains_fit : (limits : Limits) (ds : List Doing) (w : World) → IsUntouched limits w → IsFair limits (all_turns limits ds w) w → AllDrainsFit limits ds w
+drains_fit limits ds w u fair = all_fit limits ds w (λ c. untouched_kept c limits w fair.within u) (none_say w u.new.receivers) fair.unspent fair.clean
 
 -- also from the start
-pub start_fits : (limits : Limits) (ds : List Doing) → IsFair limits (all_turns limits ds start) start → AllReadLawful limits (all_turns limits ds start) start → AllDrainsFit limits ds start
-start_fits limits ds fair reads = script_fits limits ds start (start_untouched limits fair.within) (record { stored = record { sessions = tt; retained = tt }; lines = tt }) fair reads
+pub start_drains_fit : (limits : Limits) (ds : List Doing) → IsFair limits (all_turns limits ds start) start → AllDrainsFit limits ds start
+start_drains_fit limits ds fair = drains_fit limits ds start (start_untouched limits fair.within) fair

@@ -2,9 +2,9 @@
 pub mod Examples
 pub mod OwnEnds
 pub mod OwnWishes
+pub mod FormsFit
 pub mod OwnCalls
 pub mod Sayings
 pub mod DrainRuns
-pub mod Contents
 pub mod Fits
 pub mod Fitting

@@ -13,7 +13,6 @@ use Rattle.mqtt_flow.specs.Outbound as rules
 use Rattle.mqtt_flow.specs.Queue.{holder, is_holder, next_order}
 use Rattle.mqtt_flow.specs.Receiver.{connect, puback, pubcomp, pubrec}
 use Rattle.mqtt_flow.specs.declared.entry.Entry.{Entry as FlowEntry}
-use Rattle.mqtt_flow.specs.declared.entry.Turn.{Turn}
 use Rattle.mqtt_flow.specs.declared.entry.Turn.TheVariants as turns
 use Rattle.mqtt_flow_inbound.specs.Identifiers.{is_among}
 use Rattle.mqtt_records_message.specs.Queue.{CopyRow}
@@ -27,8 +26,6 @@ use Rattle.mqtt_world_model.proofs.seats.OwnSeats.{line_of_on}
 use Rattle.mqtt_world_model.proofs.own.OwnStep.{heard_of, input_is}
 use Rattle.mqtt_world_model.proofs.own.Publishes.{act_none, drop_is}
 use Rattle.mqtt_world_model.proofs.seats.Seats.{kept_of}
-use Rattle.mqtt_records.specs.Session.{birth_of, copy_place}
-use Rattle.mqtt_records_rows.specs.Order.{IsAscending}
 use Rattle.mqtt_records.specs.declared.records.Records.{Records}
 use Rattle.mqtt_records.specs.declared.session.Session.{Session}
 use Rattle.mqtt_rules.proofs.numbers.Copies.{each_append}
@@ -39,19 +36,17 @@ use Rattle.mqtt_rules.specs.Deeds.{Act, At, Deed, Finish, Gone, Leave, Send, aft
 use Rattle.mqtt_rules.specs.Inbound.{on_answer, pump_deeds}
 use Rattle.mqtt_rules.specs.Outbound.{all_turn_deeds, way_of}
 use Rattle.mqtt_rules.specs.Packets.{connack}
-use Rattle.mqtt_rules.specs.State.{Line as BrokerLine, Broker, Env, MemberChoice, is_of, line_at, line_of, queue_on, session_at, session_named}
+use Rattle.mqtt_rules.specs.State.{Line as BrokerLine, Broker, Env, MemberChoice, is_of, line_at, line_of, queue_on, session_at, session_named, told_on}
 use Rattle.mqtt_rules.specs.Step.{Call, Input, Pump, at_moment, deeds, env_of, next_packet, on_pump}
 use Rattle.mqtt_rules.specs.declared.Limits.{Limits}
-use Rattle.mqtt_rules.specs.Laws.{HasTables, IsOrdered}
-use Rattle.mqtt_rules.proofs.flight.FlightRows.{all_at}
-use Rattle.mqtt_rules_fitting_laws.proofs.Untold.{plain_pumps}
-use Rattle.mqtt_world_untold_laws.specs.Untold.{IsUntold}
+use Rattle.mqtt_rules.specs.Fitting.{fitted, pump_turns, size_at, sized}
 use Rattle.mqtt_world_receiver_laws.proofs.queue.Pumps.{its_session}
 use Rattle.mqtt_world_receiver_laws.proofs.connects.Resuming.{call_is, greeting}
 use Rattle.mqtt_world_delivery_laws.specs.Standing.{IsPlaced, line_like}
 use Rattle.mqtt_world_delivery_laws.proofs.own.Fronts.{Connects, IsJoined, front}
 use Rattle.mqtt_world_drain_cause_laws.specs.DrainEnds.{StartsClean}
 use Rattle.mqtt_world_drain_cause_laws.proofs.OwnEnds.{AreFit, AreOwn, IsFit, IsOwn, IsWellAnswer, own_cond, own_turn, own_turns, pump_well, puback_well, pubcomp_well, pubrec_well}
+use Rattle.mqtt_world_drain_cause_laws.proofs.FormsFit.{forms_fit}
 use Rattle.mqtt_world_drain_cause_laws.proofs.OwnWishes.{subscribe_own}
 
 -- an answer of a receiver says that all is well
@@ -253,12 +248,13 @@ module _ (large : Type 0) (limits : Limits) (choice : MemberChoice) (now : ℕ) 
     abbrev c : Broker
     c = at_moment now b
 
-    -- its client was told nothing, so each copy is too large or not by its whole topic
-    own_pump : (n : ℕ) (l : BrokerLine) (s : Session) → s.client ≡ r.client → AreFit large l.largest (queue_on l.went s) → IsUntold l.number b → IsAscending copy_place s.queue → AreOwn large r.client (Some (Pump n)) (pump_deeds l c s)
-    own_pump n l s its fit untold up =
-        let rows = queue_on l.went s in
-        subst (λ (ts : List Turn). AreOwn large r.client (Some (Pump n)) (all_turn_deeds c.now l.number s ts)) (sym (plain_pumps l c s untold up))
-        (own_turns large r.client (Some (Pump n)) c.now l.number s (rules.pump (way_of l c.now) rows) its (pump_well large r.client (Some (Pump n)) (way_of l c.now) rows (pace (way_of l c.now) rows) fit))
+    -- whatever its client was told, rows that fit with whole topics fit by forms
+    own_pump : (n : ℕ) (l : BrokerLine) (s : Session) → s.client ≡ r.client → AreFit large l.largest (queue_on l.went s) → AreOwn large r.client (Some (Pump n)) (pump_deeds l c s)
+    own_pump n l s its fit =
+        let told = told_on l.number c.tellings in
+        let rows = map (sized (size_at (fitted l c.now told s.queue)) l.went) s.queue in
+        own_turns large r.client (Some (Pump n)) c.now l.number s (pump_turns l c s) its
+        (pump_well large r.client (Some (Pump n)) (way_of l c.now) rows (pace (way_of l c.now) rows) (forms_fit large l c.now told s fit))
 
     its_line : (n : ℕ) (l : BrokerLine) (birth : ℕ) (s : Session) → r.line.number ≡ Some n → line_at n b ≡ Some l → l.session ≡ Some birth → session_at birth b.records ≡ Some s → s.client ≡ r.client
     its_line n l birth s number at on there = by placed.seat.present
@@ -294,8 +290,8 @@ module _ (large : Type 0) (limits : Limits) (choice : MemberChoice) (now : ℕ) 
             ap (λ (y : Session). y.client) it ∙ k.2.name
 
     -- by a turn of sending on its line only a receiver's own copies end, for what ends them in a drain
-    pub pump_own : (n : ℕ) → r.line.number ≡ Some n → IsUntold n b → IsOrdered b.records → IsOwnCall (Pump n)
-    pump_own n number untold ordered = on_line (line_at n b) refl
+    pub pump_own : (n : ℕ) → r.line.number ≡ Some n → IsOwnCall (Pump n)
+    pump_own n number = on_line (line_at n b) refl
       where
         on_line : (o : Option BrokerLine) → line_at n b ≡ o → AreOwn large r.client (Some (Pump n)) (with_line o (λ l. on_pump l l.session) (at_moment now b))
         on_line None at = tt
@@ -309,6 +305,4 @@ module _ (large : Type 0) (limits : Limits) (choice : MemberChoice) (now : ℕ) 
                 found None there = tt
                 found (Some s) there =
                     let its = its_line n l birth s number at on there in
-                    let same : l.number ≡ n = eqb-true l.number n (found_passes (λ (x : BrokerLine). nat_eq x.number n) l b.lines at) in
-                    let tables = all_at birth_of HasTables birth s b.records.sessions ordered.each there in
-                    own_pump n l s its (fits n l birth s number at on there its) (subst (λ (m : ℕ). IsUntold m b) (sym same) untold) tables.queue.ascending
+                    own_pump n l s its (fits n l birth s number at on there its)

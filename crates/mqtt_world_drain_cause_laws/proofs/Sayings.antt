@@ -20,7 +20,8 @@ use Rattle.mqtt_world_model.specs.Ends.{Back, Receiver, answers, asks_for, greet
 use Rattle.mqtt_world_model.specs.Lines.{Down, Line, gives_up, joined, left}
 use Rattle.mqtt_world_model.specs.Run.{Turn, run, setting, turned}
 use Rattle.mqtt_world_model.specs.World.{Asking, Event, Setting, World, answers_rest, ask, asks, asks_wish, before, break, call_of, call_of_stranger, calls, calls_if, clock, comes, connect_end, first_step, give_up, happens, held_count, is_bad, is_open_line, linked_at, links, next_held, next_line, old_to_broker, publish, publisher, pump, receiver, receiver_named, receiver_restarted, receiver_told, restart, restarts, stop_after, stop_before, stranger, stranger_named, subscribe, taken_old, taken_up, tick, to_broker, to_end}
-use Rattle.mqtt_world_single_step_laws.proofs.TakenLines.{Carries, gives_carries, goes_carries, joined_carries, left_carries, old_carries, restarted_carries, told_carries, up_carries}
+use Rattle.mqtt_world_single_step_laws.specs.Sound.{Carries}
+use Rattle.mqtt_world_single_step_laws.proofs.TakenLines.{gives_carries, goes_carries, joined_carries, left_carries, old_carries, restarted_carries, told_carries, up_carries}
 use Rattle.mqtt_world_drain_cause_laws.proofs.OwnCalls.{SaysWell}
 
 abbrev Says : Receiver → Type 0

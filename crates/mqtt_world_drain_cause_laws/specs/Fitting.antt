@@ -1,27 +1,13 @@
 -- That no copy is too large for a receiver: it names no Maximum Packet Size, and what is stored came in packets (MQTT 5.0, 2.1.4,
 -- 3.1.2.11.4).
-use Rattle.std.specs.Prelude.{◌≢◌, ⊤, List, [], ◌∷◌, Option, Some, None}
+use Rattle.std.specs.Prelude.{◌≢◌, ⊤, List, [], ◌∷◌}
 use Rattle.std.specs.List.{AllByRecursion}
 use Rattle.mqtt_base.specs.declared.session.Ending.TheVariants.{TooLarge}
-use Rattle.mqtt_rules.specs.Contents.{TakesLawful}
-use Rattle.mqtt_rules.specs.Step.{Call}
 use Rattle.mqtt_rules.specs.declared.Limits.{Limits}
 use Rattle.mqtt_world_model.specs.Run.{Turn, run}
 use Rattle.mqtt_world_model.specs.World.{World}
 use Rattle.mqtt_world_receiver_laws.specs.Drains.{Doing, drains, happens, turns_of}
-use Rattle.mqtt_world_cause_laws.specs.Endings.{Asked, EndAt, asked_over, ends_over}
-
--- a packet that is read has a spelling, and is no longer than a packet may be
-abbrev pub TakesAsked : Option Call → Type 0
-TakesAsked None = ⊤
-TakesAsked (Some call) = TakesLawful call
-
-abbrev pub ReadsLawful : Asked → Type 0
-ReadsLawful x = TakesAsked x.call
-
--- so is each that a run reads
-abbrev pub AllReadLawful : Limits → List Turn → World → Type 0
-AllReadLawful limits ts w = AllByRecursion ReadsLawful (asked_over limits ts w)
+use Rattle.mqtt_world_cause_laws.specs.Endings.{EndAt, ends_over}
 
 -- no copy ends as too large
 abbrev pub IsNotTooLarge : EndAt → Type 0

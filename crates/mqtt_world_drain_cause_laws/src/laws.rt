@@ -1,12 +1,11 @@
 //! The laws of the ends of copies in a drain (2.1.4, 3.1.2.4, 3.1.2.11, 3.3.2.3.3, 4.3).
-ghost use Rattle.std.specs.Prelude.{◌≡◌, ◌++◌, ℕ, List, false};
+ghost use Rattle.std.specs.Prelude.{◌≡◌, ℕ, List, false};
 ghost use Rattle.mqtt_world_drain_cause_laws.specs.DrainEnds.{AllDrainsEndSo, EndOfDrain};
-ghost use Rattle.mqtt_world_drain_cause_laws.specs.Fitting.{AllDrainsFit, AllReadLawful, NoneTooLarge};
+ghost use Rattle.mqtt_world_drain_cause_laws.specs.Fitting.{AllDrainsFit, NoneTooLarge};
 ghost use Rattle.mqtt_world_delivery_laws.specs.Untouched.{IsUntouched};
 ghost use Rattle.mqtt_world_receiver_laws.specs.Drains.{Doing, all_turns, drain_turns};
 ghost use Rattle.mqtt_world_model.specs.Run.{Turn, run};
 ghost use Rattle.mqtt_world_model.specs.World.{World, start};
-ghost use Rattle.mqtt_rules.specs.Contents.{AreContentsLawful};
 ghost use Rattle.mqtt_rules.specs.State.{MemberChoice};
 ghost use Rattle.mqtt_rules.specs.declared.Limits.{Limits};
 ghost use Rattle.mqtt_world_acceptance_laws.specs.Fair.{IsFair};
@@ -29,18 +28,16 @@ pub fn copies_of_a_drain_end_by_its_causes()
 {}
 
 /// No copy ends as too large in a drain: a receiver names no Maximum Packet Size, so its line takes 4,294,967,295 bytes, and
-/// no PUBLISH of a copy that is stored has as many, since its Remaining Length is a Variable Byte Integer. Asked beside: that
-/// what is stored at the beginning has lawful contents, as lawful records have, and that each packet that the broker reads
-/// has a spelling and is no longer than a packet may be (2.1.4, 3.1.2.11.4).
+/// no PUBLISH of a copy that is stored has as many, since its Remaining Length is a Variable Byte Integer: what is stored at
+/// the beginning is what packets can carry, and so it is with what the broker reads. So it is in all drains of a fair script
+/// (2.1.4, 3.1.2.11.4).
 pub fn no_copy_is_too_large_in_a_drain()
     ensures ends { (limits : Limits) (ts : List Turn) (choice : MemberChoice) (client : List ℕ) (most : ℕ) (w : World)
-        → IsUntouched limits w → AreContentsLawful w.broker → IsFair limits ts w
+        → IsUntouched limits w → IsFair limits ts w
         → run_spends limits (drain_turns limits choice client most (run limits ts w)) (run limits ts w) ≡ false
-        → AllReadLawful limits (ts ++ drain_turns limits choice client most (run limits ts w)) w
         → NoneTooLarge limits (drain_turns limits choice client most (run limits ts w)) (run limits ts w) }
     ensures of_scripts { (limits : Limits) (ds : List Doing) (w : World) → IsUntouched limits w
-        → AreContentsLawful w.broker → IsFair limits (all_turns limits ds w) w
-        → AllReadLawful limits (all_turns limits ds w) w → AllDrainsFit limits ds w }
+        → IsFair limits (all_turns limits ds w) w → AllDrainsFit limits ds w }
     ensures from_nothing { (limits : Limits) (ds : List Doing) → IsFair limits (all_turns limits ds start) start
-        → AllReadLawful limits (all_turns limits ds start) start → AllDrainsFit limits ds start }
+        → AllDrainsFit limits ds start }
 {}

@@ -35,7 +35,7 @@ module _ (c : List ℕ) (limits : Limits) (choice : MemberChoice) where
       let before = taken_off limits choice c w in
       let later = calls set call before in
       let q = record r { line = taken_up r.line } in
-      let y = wish_at number any_size x.window x.ids x.birth x.ns limits choice w.now u rest r w.broker k tidy x.told x.here.up in
+      let y = wish_at number any_size x.window x.ids x.birth x.ns limits choice w.now u rest r w.broker k tidy x.told x.brings.0 x.here.up in
       let found : receiver_named c before ≡ Some q = receiver_changed c (λ (s : Receiver). record s { line = taken_up s.line }) r w.receivers (λ s. refl) x.here.named in
       let last = receiver_told later.broker (told limits choice w.now call w.broker) q in
       subst (IsOnWith c rest) (sym (back_is limits choice c w r n (asks_for u) rest x.here.named x.here.alone k.number x.here.up)) (record {

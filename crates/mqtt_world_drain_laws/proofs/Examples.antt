@@ -1,5 +1,7 @@
 -- Worked drains that are not bad: what is left after enough rounds, and after more (MQTT 5.0, 3.1.2.4, 3.8.4, 4.3, 4.4).
 use Rattle.std.proofs.Common.{◌≡◌, ℕ, ◌+◌, Bool, true, false, List, [], ◌∷◌, ◌++◌, refl}
+use Rattle.std.specs.Str.{is_utf8, chars}
+use Rattle.std.proofs.Math.Utf8.{encode}
 use Rattle.mqtt_base.specs.Values.{varint}
 use Rattle.mqtt_flow.specs.declared.entry.Full.TheVariants.{Drop}
 use Rattle.mqtt_rules.specs.declared.Limits.{Limits}
@@ -44,7 +46,7 @@ both_wait window =
 
 -- two copies through a window of one
 pub through_a_window_of_one : drains_after (both_wait 1) ≡ record { enough = 5; rounds = 4; left = 0; bad = false; rounds_of_more = 4 }
-unfolding varint
+unfolding varint is_utf8 chars encode
 through_a_window_of_one = refl
 
 -- ---- its CONNECT is under way: the session is resumed, or with Clean Start another begins instead of it
@@ -54,7 +56,7 @@ comes_again clean = both_wait 10 ++ round r1 ++ give_up r1 ∷ connect_end r1 cl
 
 -- a receiver that resumes
 pub resumed_it_is_emptied : drains_after (comes_again false) ≡ record { enough = 5; rounds = 3; left = 0; bad = false; rounds_of_more = 3 }
-unfolding varint
+unfolding varint is_utf8 chars encode
 resumed_it_is_emptied = refl
 
 -- each of the rounds that are enough may be needed: one for CONNECT, and two for each copy
@@ -63,17 +65,17 @@ one_by_one = both_wait 1 ++ give_up r1 ∷ connect_end r1 false ∷ []
 
 -- a queue that needs each round
 pub each_round_is_needed : drains_after one_by_one ≡ record { enough = 5; rounds = 5; left = 0; bad = false; rounds_of_more = 5 }
-unfolding varint
+unfolding varint is_utf8 chars encode
 each_round_is_needed = refl
 
 -- and is not empty before
 pub four_rounds_are_too_few : waiting_for r1 (drained usual first r1 4 (after usual (turns one_by_one))) ≡ 1
-unfolding varint
+unfolding varint is_utf8 chars encode
 four_rounds_are_too_few = refl
 
 -- a receiver that starts clean
 pub renewed_it_is_emptied : drains_after (comes_again true) ≡ record { enough = 5; rounds = 1; left = 0; bad = false; rounds_of_more = 1 }
-unfolding varint
+unfolding varint is_utf8 chars encode
 renewed_it_is_emptied = refl
 
 -- ---- its SUBSCRIBE is under way, and its filter brings a copy more, for which the oldest that waits makes way
@@ -91,7 +93,7 @@ asks_while_full =
 
 -- a copy that a subscription brings meanwhile
 pub with_one_brought : drains_from dropping (after dropping (turns asks_while_full)) ≡ record { enough = 7; rounds = 4; left = 0; bad = false; rounds_of_more = 4 }
-unfolding varint
+unfolding varint is_utf8 chars encode
 with_one_brought = refl
 
 -- ---- there is no place for its session: its queue is empty, its CONNECT isn't read, and its line stands
@@ -104,10 +106,10 @@ no_place = receiver r1 10 ∷ publisher p1 ∷ joins p1 false ++ connect_end r1 
 
 -- a receiver without a session
 pub without_a_session_nothing_is_read : drains_from full_house (after full_house (turns no_place)) ≡ record { enough = 1; rounds = 0; left = 0; bad = false; rounds_of_more = 0 }
-unfolding varint
+unfolding varint is_utf8 chars encode
 without_a_session_nothing_is_read = refl
 
 -- once it is read the line is closed, and the drain is bad
 pub once_refused_it_is_bad : is_bad_drain r1 (after full_house (turns (no_place ++ ask (to_broker r1) ∷ []))) ≡ true
-unfolding varint
+unfolding varint is_utf8 chars encode
 once_refused_it_is_bad = refl

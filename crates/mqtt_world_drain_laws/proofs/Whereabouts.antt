@@ -1,6 +1,7 @@
 -- Where a receiver is whose line stands: its session is connected there, or its CONNECT is under way (MQTT 5.0, 3.1, 3.1.4).
 use Rattle.std.proofs.Common.{◌≡◌, ℕ, ◌≤◌, Bool, true, false, not, ◌⊎◌, List, [], ◌∷◌, Option, Some, None, refl, sym, ap, subst, ◌∙◌, inl, inr}
 use Rattle.std.specs.Prelude.{filter_map, is_some}
+use Rattle.std.specs.List.{AllByRecursion}
 use Rattle.mqtt_base.specs.declared.session.Cause.{Cause}
 use Rattle.mqtt_base.specs.declared.session.CopyId.{CopyId}
 use Rattle.mqtt_flow.specs.OutboundWorld.{World as Hop}
@@ -19,7 +20,7 @@ use Rattle.mqtt_world_acceptance_laws.proofs.publishers.Ends.{named_receiver}
 use Rattle.mqtt_world_receiver_laws.specs.Apart.{HasCome}
 use Rattle.mqtt_world_receiver_laws.specs.Drains.{is_bad_drain, line_stands}
 use Rattle.mqtt_world_receiver_laws.specs.Seen.{Numbering, seen}
-use Rattle.mqtt_world_receiver_laws.specs.WorldRounds.{AreTold, IsOlder}
+use Rattle.mqtt_world_receiver_laws.specs.WorldRounds.{AllBringNoLarger, AreTold, IsOlder}
 use Rattle.mqtt_world_receiver_laws.proofs.queue.Numbers.{place_of, places_number}
 use Rattle.mqtt_world_receiver_laws.proofs.drains.WorldRoundSteps.{is_linked_now}
 use Rattle.mqtt_world_receiver_laws.proofs.drains.WorldRounds.{Here}
@@ -28,6 +29,7 @@ use Rattle.mqtt_world_delivery_laws.specs.Taking.{any_size}
 use Rattle.mqtt_world_delivery_laws.proofs.drains.Drains.{connection_of}
 use Rattle.mqtt_world_delivery_laws.proofs.whole.EveryRun.{takes_some}
 use Rattle.mqtt_world_delivery_laws.proofs.own.Fronts.{Awaits, IsJoined, front}
+use Rattle.mqtt_world_delivery_laws.proofs.own.Sizes.{asked_small}
 use Rattle.mqtt_world_delivery_laws.proofs.others.Like.{closed_stands, connect_like, connected_linked, none_stands}
 use Rattle.mqtt_world_delivery_laws.proofs.others.Runs.{IsKept}
 
@@ -57,7 +59,8 @@ pub record MayEmpty (c : List ℕ) (w : World) : Type 0 where
   pub good : is_bad_drain c w ≡ false
   pub session : is_some (session_named c w.broker.records) ≡ true
 
--- receiver and broker in step and connected, with this under way from it, and its copies told apart
+-- receiver and broker in step and connected, with this under way from it, which brings nothing that is too large, and its copies
+-- told apart
 pub record Connected (c : List ℕ) (up : List Back) (w : World) : Type 0 where
   pub window : ℕ
   pub ids : List CopyId
@@ -66,6 +69,7 @@ pub record Connected (c : List ℕ) (up : List Back) (w : World) : Type 0 where
   pub hop : Hop
   pub here : Here (place_of ids) any_size window ids birth ns c up hop w
   pub told : AreTold ids w.broker
+  pub brings : AllByRecursion (AllBringNoLarger any_size w.broker.records.retained) up
 
 stood : (t : Bool) → not t ≡ false → t ≡ true
 stood true h = refl
@@ -165,7 +169,7 @@ module _ (c : List ℕ) (limits : Limits) (w : World) (kept : IsKept [] c limits
     pub connected_of : Connected c x.receiver.line.up w
     connected_of =
         let j = joined_there in
-        let k = connection_of c any_size limits s.ids s.ns r w s.standing x.named kept.fit.distinct (takes_some c w kept.fit.takes kept.fit.untold) placed j.birth j.own j.at j.there in
+        let k = connection_of c any_size limits s.ids s.ns r w s.standing x.named kept.fit.distinct (takes_some c w kept.fit.takes kept.fit.well.sends) placed j.birth j.own j.at j.there in
         let y = k.connected.in_step.runs (place_of s.ids) (places_number s.ids placed.told.differ) in
         record {
           window = k.window;
@@ -185,4 +189,5 @@ module _ (c : List ℕ) (limits : Limits) (w : World) (kept : IsKept [] c limits
             older = all_more (HasCome w.broker.records.publications w.broker.records.subscribes) (IsOlder w.broker.records.subscribes) s.ids (older w.broker.records.publications w.broker.records.subscribes) placed.told.come;
             retained = kept.fit.once;
           };
+          brings = asked_small c r w kept.fit.well x.named;
         }

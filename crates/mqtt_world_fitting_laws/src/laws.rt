@@ -1,52 +1,20 @@
 //! Laws of copies that fit with their whole topics (3.1.2.11.4, 3.3.2.3.4).
-ghost use Rattle.std.specs.Prelude.{◌≡◌, ◌≤◌, ℕ, List, map};
-ghost use Rattle.std.specs.List.{AllByRecursion};
-ghost use Rattle.mqtt_topic_aliases.specs.Told.{ToldTopics};
-ghost use Rattle.mqtt_flow.specs.Outbound.{pump};
-ghost use Rattle.mqtt_records.specs.declared.session.Session.{Session};
-ghost use Rattle.mqtt_records_message.specs.Queue.{CopyRow, IsSpelled};
-ghost use Rattle.mqtt_records_message.specs.declared.message.MessageCopy.{MessageCopy};
-ghost use Rattle.mqtt_rules.specs.Fitting.{fitted_size, form_of, pump_turns, sized};
-ghost use Rattle.mqtt_rules.specs.Outbound.{way_of};
-ghost use Rattle.mqtt_rules.specs.State.{Broker, Line, queue_on, queued_copy};
+ghost use Rattle.std.specs.Prelude.{ℕ, List};
 ghost use Rattle.mqtt_rules.specs.declared.Limits.{Limits};
-ghost use Rattle.mqtt_rules_spelling_laws.specs.Sending.{SendsWell};
 ghost use Rattle.mqtt_world_model.specs.Run.{Turn, run};
 ghost use Rattle.mqtt_world_model.specs.World.{World, start};
 ghost use Rattle.mqtt_world_acceptance_laws.specs.Fair.{IsFair};
 ghost use Rattle.mqtt_world_delivery_laws.specs.Untouched.{IsUntouched};
-ghost use Rattle.mqtt_world_reading_laws.specs.Sayable.{AreSayable};
-ghost use Rattle.mqtt_world_fitting_laws.specs.Whole.{FitsWhole, GoesOut, ItsCopiesFit, ItsPumpsAreWhole};
+ghost use Rattle.mqtt_world_fitting_laws.specs.Whole.{ItsCopiesFit, ItsPumpsAreWhole};
 
-/// A copy that has a spelling and fits with its whole topic goes out in some form that fits, whatever its client was
-/// told of topics; and in the form in which it goes out it is no larger than the client takes (2.1.4, 3.1.2.11.4, 3.3.2.3.4).
-pub fn what_fits_whole_goes_out()
-    ensures goes_out { (largest : ℕ) (told : ToldTopics) (copy : MessageCopy) → IsSpelled copy
-        → (queued_copy copy).size ≤ largest → GoesOut largest told copy }
-    ensures within { (largest : ℕ) (told : ToldTopics) (copy : MessageCopy)
-        → (queued_copy copy).size ≤ largest → fitted_size (form_of largest told copy) copy ≤ largest }
-{}
-
-/// If all copies of a session fit with their whole topics on its line, its pump, which looks at forms, has the turns of the
-/// one that looks at whole topics, whatever its client was told. So it is with whatever sizes that fit, since a pump looks at
-/// sizes for what is too large alone (3.1.2.11.4).
-pub fn a_pump_in_forms_is_a_pump()
-    ensures forms { (l : Line) (b : Broker) (s : Session) → FitsWhole l s
-        → pump_turns l b s ≡ pump (way_of l b.now) (queue_on l.went s) }
-    ensures sizes { (size : CopyRow → ℕ) (l : Line) (now : ℕ) (s : Session)
-        → AllByRecursion (λ (e : CopyRow). size e ≤ l.largest) s.queue → FitsWhole l s
-        → pump (way_of l now) (map (sized size l.went) s.queue) ≡ pump (way_of l now) (queue_on l.went s) }
-{}
-
-/// Wherever a fair run comes to, the copies of each receiver fit with their whole topics on its line: what is stored came in
-/// packets, and its CONNECT names no Maximum Packet Size. So a pump of its session goes by whole topics. Asked: the broker
-/// sends well at the beginning, and the texts that events bring are texts, and what strangers send is bytes (1.5.4, 2.1.4,
+/// Wherever a fair run comes to, the copies of each receiver fit with their whole topics on its line: what is stored is what
+/// packets can carry, and its CONNECT names no Maximum Packet Size. So a pump of its session goes by whole topics (2.1.4,
 /// 3.1.2.11.4).
 pub fn whole_copies_fit_in_every_run()
     ensures runs { (limits : Limits) (ts : List Turn) (w : World) (client : List ℕ) → IsUntouched limits w
-        → SendsWell w.broker → IsFair limits ts w → AreSayable ts → ItsCopiesFit client (run limits ts w) }
+        → IsFair limits ts w → ItsCopiesFit client (run limits ts w) }
     ensures from_nothing { (limits : Limits) (ts : List Turn) (client : List ℕ) → IsFair limits ts start
-        → AreSayable ts → ItsCopiesFit client (run limits ts start) }
+        → ItsCopiesFit client (run limits ts start) }
     ensures pumps { (limits : Limits) (ts : List Turn) (w : World) (client : List ℕ) → IsUntouched limits w
-        → SendsWell w.broker → IsFair limits ts w → AreSayable ts → ItsPumpsAreWhole client (run limits ts w) }
+        → IsFair limits ts w → ItsPumpsAreWhole client (run limits ts w) }
 {}

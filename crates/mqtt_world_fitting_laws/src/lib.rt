@@ -4,6 +4,4 @@
 
 mod laws;
 
-pub use laws::{
-    a_pump_in_forms_is_a_pump, what_fits_whole_goes_out, whole_copies_fit_in_every_run,
-};
+pub use laws::whole_copies_fit_in_every_run;

@@ -3,8 +3,10 @@ pub mod DrainCauses
 pub mod DrainRuns
 pub mod Further
 pub mod HopRounds
+pub mod RoundFits
 pub mod RoundFurther
 pub mod RoundPhases
+pub mod WishFits
 pub mod WorldRoundConnects
 pub mod WorldRoundLines
 pub mod WorldRoundReads

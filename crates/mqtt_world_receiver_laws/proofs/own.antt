@@ -10,4 +10,3 @@ pub mod OwnCalls
 pub mod OwnDoings
 pub mod OwnOthers
 pub mod OwnSubscribes
-pub mod Untold

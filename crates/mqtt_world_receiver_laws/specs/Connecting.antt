@@ -7,13 +7,13 @@ use Rattle.mqtt_flow.specs.Receiver.{connect}
 use Rattle.mqtt_world_model.specs.Ends.{Receiver, answers, wire_back}
 use Rattle.mqtt_world_model.specs.Lines.{is_one_of}
 use Rattle.mqtt_world_model.specs.World.{World, publisher_named, receiver_named}
-use Rattle.mqtt_topic_aliases.specs.Told.{none_told}
 use Rattle.mqtt_records.specs.declared.session.Session.{Session}
 use Rattle.mqtt_rules.specs.Flight.{HasDistinctIdentifiers}
 use Rattle.mqtt_rules.specs.Laws.{AreWithin, IsOrdered}
-use Rattle.mqtt_rules.specs.State.{Line as BrokerLine, MemberChoice, told_on}
+use Rattle.mqtt_rules.specs.State.{Line as BrokerLine, MemberChoice, session_named}
 use Rattle.mqtt_rules.specs.Step.{Input, is_step_spent}
 use Rattle.mqtt_rules.specs.declared.Limits.{Limits}
+use Rattle.mqtt_rules_whole_laws.specs.Whole.{AreNoLarger}
 use Rattle.mqtt_world_acceptance_laws.specs.Fair.{IsSteady}
 use Rattle.mqtt_world_receiver_laws.specs.Calls.{IsRenewing, IsResuming}
 use Rattle.mqtt_world_receiver_laws.specs.Handing.{IsRun}
@@ -26,7 +26,8 @@ abbrev pub any_size : ℕ
 any_size = 0xffffffff
 
 -- it is the receiver of this name, which no publisher has; its CONNECT is all that is under way from it, and nothing is under way
--- to it; lines and tables are in order, nothing was told on its line, and reading the CONNECT spends no number
+-- to it; lines and tables are in order, what its session has queued fits with whole topics, and reading the CONNECT spends no
+-- number
 pub record IsJoining (limits : Limits) (choice : MemberChoice) (clean : Bool) (client : List ℕ) (r : Receiver) (l : BrokerLine)
     (w : World) : Type 0 where
   pub named : receiver_named client w ≡ Some r
@@ -39,7 +40,7 @@ pub record IsJoining (limits : Limits) (choice : MemberChoice) (clean : Bool) (c
   pub steady : IsSteady w.broker
   pub ordered : IsOrdered w.broker.records
   pub distinct : HasDistinctIdentifiers w.broker.records
-  pub untold : told_on l.number w.broker.tellings ≡ none_told 0
+  pub fits : (s : Session) → session_named client w.broker.records ≡ Some s → AreNoLarger any_size s.queue
   pub unspent :
       is_step_spent limits choice w.now (Input l.number (wire_back r.client r.window (answers (connect clean)))) w.broker ≡ false
 

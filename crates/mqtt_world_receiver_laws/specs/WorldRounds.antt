@@ -9,15 +9,17 @@ use Rattle.mqtt_flow.specs.OutboundWorld.{Lot, World as Hop, past, standing}
 use Rattle.mqtt_world_model.specs.Ends.{Back, Receiver, answers, asks_for}
 use Rattle.mqtt_world_model.specs.Lines.{is_one_of}
 use Rattle.mqtt_world_model.specs.World.{World, publisher_named, receiver_named}
-use Rattle.mqtt_topic_aliases.specs.Told.{none_told}
 use Rattle.mqtt_records_message.specs.declared.message.RetainedMessage.{RetainedMessage}
+use Rattle.mqtt_records.specs.declared.session.Session.{Session}
 use Rattle.mqtt_records_rows.specs.Distinct.{AllDiffer}
 use Rattle.mqtt_rules.specs.Flight.{HasDistinctIdentifiers}
 use Rattle.mqtt_rules.specs.Laws.{IsOrdered}
 use Rattle.mqtt_rules.specs.Lines.{HasUniqueLines}
-use Rattle.mqtt_rules.specs.State.{Line as BrokerLine, Broker, MemberChoice, line_at, told_on}
+use Rattle.mqtt_rules.specs.State.{Line as BrokerLine, Broker, MemberChoice, line_at, queued_copy, session_at}
 use Rattle.mqtt_rules.specs.Step.{at_moment}
+use Rattle.mqtt_rules.specs.Subscribe.{Wish, retained_copy}
 use Rattle.mqtt_rules.specs.declared.Limits.{Limits}
+use Rattle.mqtt_rules_whole_laws.specs.Whole.{AreNoLarger}
 use Rattle.mqtt_world_receiver_laws.specs.Drains.{after_round, copies_left}
 use Rattle.mqtt_world_receiver_laws.specs.Handing.{IsRun}
 use Rattle.mqtt_world_receiver_laws.specs.Own.{IsBroughtCopy, IsInStep}
@@ -33,6 +35,10 @@ abbrev pub IsAnswer : Back → Type 0
 IsAnswer (answers a) = ⊤
 IsAnswer (asks_for w) = ⊥
 
+-- each copy that the session of this birth has queued is no larger than so many bytes, with its whole topic
+abbrev pub QueueFits : ℕ → ℕ → Broker → Type 0
+QueueFits largest birth b = (s : Session) → session_at birth b.records ≡ Some s → AreNoLarger largest s.queue
+
 -- the two are in step, and its line is connected, with this Receive Maximum and Maximum Packet Size; lines and sessions are
 -- in order
 pub record IsConnected (largest window : ℕ) (ids : List CopyId) (birth : ℕ) (ns : List ℕ) (r : Receiver) (b : Broker)
@@ -44,8 +50,8 @@ pub record IsConnected (largest window : ℕ) (ids : List CopyId) (birth : ℕ) 
   pub connected : line.session ≡ Some birth
   pub window_is : line.window ≡ window
   pub largest_is : line.largest ≡ largest
-  -- its client takes no alias, and was told nothing
-  pub untold : told_on line.number b.tellings ≡ none_told 0
+  -- whatever its client was told, what waits for it fits with whole topics
+  pub fits : QueueFits largest birth b
   -- the line that it gave up is another one
   pub apart : is_one_of r.line.old_number (line.number ∷ []) ≡ false
   pub unique : HasUniqueLines b
@@ -78,7 +84,17 @@ pub record AreTold (ids : List CopyId) (b : Broker) : Type 0 where
   pub older : AllByRecursion (IsOlder b.records.subscribes) ids
   pub retained : AllDiffer (map (λ (k : RetainedMessage). k.publication) b.records.retained)
 
--- as `MayDrain`, but that a SUBSCRIBE may be under way
+-- what a retained message brings for a wish with this Subscription Identifier, or without one, is no larger than so many bytes
+abbrev pub BringsNoLarger : ℕ → Option ℕ → RetainedMessage → Type 0
+BringsNoLarger largest identifier k =
+    (birth number : ℕ) (w : Wish) → w.identifier ≡ identifier → (queued_copy (retained_copy birth number w k)).size ≤ largest
+
+-- so it is with each of these retained messages, if it is a SUBSCRIBE
+abbrev pub AllBringNoLarger : ℕ → List RetainedMessage → Back → Type 0
+AllBringNoLarger largest ks (answers a) = ⊤
+AllBringNoLarger largest ks (asks_for w) = AllByRecursion (BringsNoLarger largest w.identifier) ks
+
+-- as `MayDrain`, but that a SUBSCRIBE may be under way, which brings nothing that is too large
 pub record MayAsk (limits : Limits) (largest window : ℕ) (ids : List CopyId) (birth : ℕ) (ns : List ℕ)
     (client : List ℕ) (r : Receiver) (w : World) : Type 0 where
   pub named : receiver_named client w ≡ Some r
@@ -87,6 +103,7 @@ pub record MayAsk (limits : Limits) (largest window : ℕ) (ids : List CopyId) (
   pub tidy : IsTidy limits w.broker
   pub told : AreTold ids w.broker
   pub asking : AsksOnce r.line.up
+  pub brings : AllByRecursion (AllBringNoLarger largest w.broker.records.retained) r.line.up
 
 -- it may be drained, with the copies that a filter brought behind those that entered before, or with none more; no more stand
 -- than so many, and those that it brought

@@ -6,22 +6,22 @@ ghost use Rattle.mqtt_world_receiver_laws.specs.Calls.{IsBeginning, IsLingering,
 ghost use Rattle.mqtt_world_receiver_laws.specs.Handing.{IsListening, IsRun, RunsOn, after_answer, reads_answer};
 ghost use Rattle.mqtt_world_receiver_laws.specs.Seen.{Numbering};
 ghost use Rattle.mqtt_world_model.specs.Ends.{Back, Receiver, answers};
-ghost use Rattle.mqtt_topic_aliases.specs.Told.{none_told};
 ghost use Rattle.mqtt_records.specs.declared.session.Session.{Session};
 ghost use Rattle.mqtt_rules.specs.Flight.{HasDistinctIdentifiers};
-ghost use Rattle.mqtt_rules.specs.State.{Broker, Line, MemberChoice, told_on};
+ghost use Rattle.mqtt_rules.specs.State.{Broker, Line, MemberChoice};
 ghost use Rattle.mqtt_rules.specs.Step.{Pump, stepped};
 ghost use Rattle.mqtt_rules.specs.declared.Limits.{Limits};
+ghost use Rattle.mqtt_rules_whole_laws.specs.Whole.{FitsWhole};
 
 /// The broker sends what waits for a receiver whose session is connected on its line: whichever copies expire,
-/// are too large, are sent, or are sent again, what the receiver and its session see of the world stays a run
-/// of their hop, with the same copies; each PUBLISH is tagged with the copy that it carries. Asked: nothing was told
-/// on the line by aliases, as on those of all ends (4.4, 4.6, 4.9).
+/// are sent, or are sent again, what the receiver and its session see of the world stays a run of their hop, with
+/// the same copies; each PUBLISH is tagged with the copy that it carries. Asked: each copy of the queue is, with its
+/// whole topic, no larger than the line's client takes, whatever that was told (3.1.2.11.4, 4.4, 4.6, 4.9).
 pub fn sending_is_a_step_of_the_hop()
     ensures sends { (number : Numbering) (largest : ℕ) (copies : List Lot) (limits : Limits)
         → (choice : MemberChoice) (now : ℕ) (r : Receiver) (l : Line) (s : Session) (b : Broker)
         → IsRun number largest copies r b → IsListening r l s b
-        → l.largest ≡ largest → told_on l.number b.tellings ≡ none_told 0 → HasDistinctIdentifiers b.records
+        → l.largest ≡ largest → FitsWhole l s → HasDistinctIdentifiers b.records
         → RunsOn number largest copies (receiver_called limits choice now (Pump l.number) r b)
         (stepped limits choice now (Pump l.number) b) }
 {}

@@ -10,14 +10,14 @@ ghost use Rattle.mqtt_world_receiver_laws.specs.Served.{IsCallOfOthers, IsOverdu
 ghost use Rattle.mqtt_world_model.specs.Ends.{Back, Receiver, Wish, answers, asks_for, wire_back};
 ghost use Rattle.mqtt_world_model.specs.Lines.{is_one_of};
 ghost use Rattle.mqtt_records.specs.Session.{auto};
-ghost use Rattle.mqtt_topic_aliases.specs.Told.{none_told};
 ghost use Rattle.mqtt_records.specs.declared.session.Session.{Session};
 ghost use Rattle.mqtt_rules.specs.Flight.{HasDistinctIdentifiers};
 ghost use Rattle.mqtt_rules.specs.Laws.{IsOrdered};
 ghost use Rattle.mqtt_rules.specs.Lines.{HasUniqueLines};
-ghost use Rattle.mqtt_rules.specs.State.{Broker, Line, MemberChoice, line_at, told_on};
+ghost use Rattle.mqtt_rules.specs.State.{Broker, Line, MemberChoice, line_at};
 ghost use Rattle.mqtt_rules.specs.Step.{Call, Input, Lost, Pump, Tick, at_moment, stepped};
 ghost use Rattle.mqtt_rules.specs.declared.Limits.{Limits};
+ghost use Rattle.mqtt_rules_whole_laws.specs.Whole.{FitsWhole};
 
 /// The broker reads a receiver's answer on the line that its session is connected on, be it the receiver's own or the one
 /// that it gave up: the two stay in step, with the same copies, session and lines (4.3.2, 4.3.3, 4.13).
@@ -37,12 +37,13 @@ pub fn answers_leave_a_receiver_in_step()
 {}
 
 /// The broker sends what waits for a receiver, or loses the line that its session is connected on, and the receiver
-/// leaves that line: the two stay in step, with the same copies, session and lines (4.4, 4.6, 4.9).
+/// leaves that line: the two stay in step, with the same copies, session and lines. Asked of sending: each copy of the queue
+/// is, with its whole topic, no larger than the line's client takes (3.1.2.11.4, 4.4, 4.6, 4.9).
 pub fn its_line_leaves_a_receiver_in_step()
     ensures sends { (largest : ℕ) (ids : List CopyId) (birth : ℕ) (ns : List ℕ) (limits : Limits) (choice : MemberChoice)
         → (now : ℕ) (r : Receiver) (l : Line) (s : Session) (b : Broker)
-        → IsInStep largest ids birth ns r b → IsListening r l s b → l.largest ≡ largest
-        → told_on l.number b.tellings ≡ none_told 0 → HasDistinctIdentifiers b.records
+        → IsInStep largest ids birth ns r b → IsListening r l s b → l.largest ≡ largest → FitsWhole l s
+        → HasDistinctIdentifiers b.records
         → IsInStep largest ids birth ns (receiver_called limits choice now (Pump l.number) r b)
         (stepped limits choice now (Pump l.number) b) }
     ensures loses { (largest : ℕ) (ids : List CopyId) (birth : ℕ) (ns : List ℕ) (limits : Limits) (choice : MemberChoice)

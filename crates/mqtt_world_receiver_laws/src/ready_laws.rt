@@ -7,21 +7,22 @@ ghost use Rattle.mqtt_world_receiver_laws.specs.Entering.{IsReceiving, Receives}
 ghost use Rattle.mqtt_world_receiver_laws.specs.Handing.{IsListening, IsRun, after_answer, reads_answer, receiver_lost};
 ghost use Rattle.mqtt_world_receiver_laws.specs.Seen.{Numbering};
 ghost use Rattle.mqtt_world_model.specs.Ends.{Back, Receiver, answers};
-ghost use Rattle.mqtt_topic_aliases.specs.Told.{none_told};
 ghost use Rattle.mqtt_records.specs.declared.session.Session.{Session};
 ghost use Rattle.mqtt_rules.specs.Flight.{HasDistinctIdentifiers};
-ghost use Rattle.mqtt_rules.specs.State.{Broker, Line, MemberChoice, told_on};
+ghost use Rattle.mqtt_rules.specs.State.{Broker, Line, MemberChoice};
 ghost use Rattle.mqtt_rules.specs.Step.{Lost, Pump, stepped};
 ghost use Rattle.mqtt_rules.specs.declared.Limits.{Limits};
+ghost use Rattle.mqtt_rules_whole_laws.specs.Whole.{FitsWhole};
 
 /// If what went out on the line of a receiver's session are copies that stand in its queue, so that it may
 /// receive more, it is so again after the broker has sent what waits for it, has read its answer on that line or on
-/// the one that it gave up, or has lost its line (4.4, 4.6, 4.9).
+/// the one that it gave up, or has lost its line. Asked of sending: each copy of the queue is, with its whole topic, no
+/// larger than the line's client takes (3.1.2.11.4, 4.4, 4.6, 4.9).
 pub fn a_receivers_session_may_receive_more()
     ensures sends { (number : Numbering) (largest : ℕ) (copies : List Lot) (limits : Limits)
         → (choice : MemberChoice) (now : ℕ) (r : Receiver) (l : Line) (s : Session) (b : Broker)
         → IsRun number largest copies r b → IsListening r l s b → IsReceiving r s b
-        → l.largest ≡ largest → told_on l.number b.tellings ≡ none_told 0 → HasDistinctIdentifiers b.records
+        → l.largest ≡ largest → FitsWhole l s → HasDistinctIdentifiers b.records
         → Receives (receiver_called limits choice now (Pump l.number) r b)
         (stepped limits choice now (Pump l.number) b) }
     ensures answers { (number : Numbering) (largest : ℕ) (copies : List Lot) (limits : Limits) (choice : MemberChoice)

@@ -15,8 +15,9 @@ ghost use Rattle.mqtt_rules.specs.State.{MemberChoice};
 ghost use Rattle.mqtt_rules.specs.declared.Limits.{Limits};
 
 /// A round of a drain of the world is, as the receiver sees it, a round of a drain of its hop: if the two are in step, its
-/// line is connected, and only answers are under way from it. The hop's round is taken at the moment of the world, through
-/// the receiver's window, and all of that is so again after it, with the same copies (4.3, 4.4, 4.9).
+/// line is connected, what its session has queued fits there with whole topics, and only answers are under way from it. The
+/// hop's round is taken at the moment of the world, through the receiver's window, and all of that is so again after it,
+/// with the same copies (3.1.2.11.4, 4.3, 4.4, 4.9).
 pub fn a_round_of_a_drain_is_one_of_the_hop()
     ensures is_round { (number : Numbering) (largest window : ℕ) (ids : List CopyId) (birth : ℕ) (ns : List ℕ)
         → (limits : Limits) (choice : MemberChoice) (client : List ℕ) (copies : List Lot) (r : Receiver) (w : World)
@@ -58,11 +59,12 @@ pub fn a_drain_ends()
         → is_over client (drained limits choice client most w) ≡ true }
 {}
 
-/// If one SUBSCRIBE is under way from it too, a receiver that is in step and connected may be drained after the first
-/// round, and the copies of retained messages that the filter brings stand behind those that entered before; no two copies
-/// are one, if none were and no two retained messages are of one publication. So of the copies that stand after the
-/// first round, twice their number and one of rounds are enough: then its queue is empty, or the broker has closed its line.
-/// Those are no more than the copies that stood at the start and those that the filter brings (3.3.1.3, 3.8.4).
+/// If one SUBSCRIBE is under way from it too, for which no retained message brings a copy that is larger with its whole
+/// topic than it takes, a receiver that is in step and connected may be drained after the first round, and the copies of
+/// retained messages that the filter brings stand behind those that entered before; no two copies are one, if none were
+/// and no two retained messages are of one publication. So of the copies that stand after the first round, twice their
+/// number and one of rounds are enough: then its queue is empty, or the broker has closed its line. Those are no more
+/// than the copies that stood at the start and those that the filter brings (3.3.1.3, 3.8.4).
 pub fn a_drain_with_a_subscribe_ends()
     ensures first { (largest window : ℕ) (ids : List CopyId) (birth : ℕ) (ns : List ℕ) (limits : Limits)
         → (choice : MemberChoice) (client : List ℕ) (r : Receiver) (w : World)

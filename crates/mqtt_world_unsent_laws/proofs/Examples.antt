@@ -77,12 +77,12 @@ crowded =
 
 -- one that makes way
 pub the_one_that_made_way_is_never_handed_over : came dropping crowded ≡ ended 1 Dropped 0 ∷ ended 2 Taken 1 ∷ []
-unfolding varint
+unfolding varint is_utf8 chars encode
 the_one_that_made_way_is_never_handed_over = refl
 
 -- in a fair run
 pub crowded_is_fair : IsFair dropping (turns crowded) start
-unfolding varint
+unfolding varint is_utf8 chars encode
 crowded_is_fair = record { within = record { queue = omega arith; sessions = omega arith; retained = omega arith }; unspent = refl; clean = refl }
 
 -- so the law holds of it
@@ -96,5 +96,5 @@ begun_anew = pumped ++ ask (break r1) ∷ connect_end r1 true ∷ ask (to_broker
 
 -- one that was sent, and whose session ends
 pub one_that_was_sent_was_handed_over : came usual begun_anew ≡ ended 1 SessionEnded 1 ∷ []
-unfolding varint
+unfolding varint is_utf8 chars encode
 one_that_was_sent_was_handed_over = refl

@@ -1,11 +1,12 @@
 -- How a world may begin: with nothing stored, or opened on what a broker left (MQTT 5.0, 4.1).
-use Rattle.std.proofs.Common.{ℕ, ◌≤◌, refl}
+use Rattle.std.proofs.Common.{ℕ, ◌≤◌}
 use Rattle.mqtt_base.specs.declared.session.Cause.TheVariants.{Direct}
 use Rattle.mqtt_base.specs.declared.session.CopyId.{CopyId}
 use Rattle.mqtt_records.specs.declared.records.Records.{Records}
 use Rattle.mqtt_world_model.specs.World.{start}
 use Rattle.mqtt_rules.proofs.numbers.Copies.{each_more}
 use Rattle.mqtt_rules.proofs.flight.FlightStep.{opening_keeps}
+use Rattle.mqtt_rules.specs.Contents.{HasLawfulContents}
 use Rattle.mqtt_rules.specs.Flight.{HasDistinctIdentifiers}
 use Rattle.mqtt_rules.specs.Laws.{AreWithin, IsCoherentMessage}
 use Rattle.mqtt_rules.specs.State.{MemberChoice}
@@ -15,7 +16,9 @@ use Rattle.mqtt_world_acceptance_laws.specs.Fair.{MayOpen, opened_world}
 use Rattle.mqtt_world_acceptance_laws.proofs.copies.Entries.{opening_counted}
 use Rattle.mqtt_world_acceptance_laws.proofs.publishers.Runs.{opened_new, start_new}
 use Rattle.mqtt_world_receiver_laws.proofs.connects.Stopping.{opening_tidy}
-use Rattle.mqtt_world_untold_laws.proofs.Calls.{opened_untold}
+use Rattle.mqtt_rules_spelling_laws.proofs.Steps.{well_reopened}
+use Rattle.mqtt_rules_spelling_laws.specs.Sending.{HaveSentPhases}
+use Rattle.mqtt_world_reading_laws.proofs.Runs.{start_sends}
 use Rattle.mqtt_world_delivery_laws.specs.Untouched.{IsUntouched}
 use Rattle.mqtt_world_delivery_laws.specs.Retaining.{AreRetainedOnce}
 use Rattle.mqtt_world_delivery_laws.proofs.broker.Unused.{opening_unused}
@@ -29,13 +32,13 @@ start_untouched limits within =
       distinct = tt;
       retained = tt;
       unused = tt;
-      untold = λ n less. refl;
+      sends = start_sends limits within;
     }
 
 -- so is one that opens over what was stored
-pub opened_untouched : (limits : Limits) (choice : MemberChoice) (now : ℕ) (r : Records) → AreWithin limits → MayOpen limits choice now r → HasDistinctIdentifiers r → AreRetainedOnce r
+pub opened_untouched : (limits : Limits) (choice : MemberChoice) (now : ℕ) (r : Records) → AreWithin limits → MayOpen limits choice now r → HasDistinctIdentifiers r → AreRetainedOnce r → HasLawfulContents r → HaveSentPhases r
     → IsUntouched limits (opened_world limits choice now r)
-opened_untouched limits choice now r within may distinct once = record {
+opened_untouched limits choice now r within may distinct once contents phases = record {
   new = opened_new limits choice now r within may;
   tidy = opening_tidy limits choice now (unopened now r) (record { ordered = may.coherent.ordered; within = within.queue });
   distinct = opening_keeps limits choice now r distinct;
@@ -44,7 +47,7 @@ opened_untouched limits choice now r within may distinct once = record {
     differ = once;
   })).kept.differ;
   unused = opening_unused limits choice now r;
-  untold = λ n less. opened_untold limits choice now r n;
+  sends = well_reopened limits choice now (unopened now r) may.unspent (record { contents = record { stored = contents; lines = tt }; ordered = may.coherent.ordered; phases = phases });
 }
   where
     any_copy : CopyId

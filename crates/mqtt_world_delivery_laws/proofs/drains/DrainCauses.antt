@@ -46,7 +46,7 @@ use Rattle.mqtt_world_delivery_laws.specs.Standing.{BeginWith, GoesAlong, IsPlac
 use Rattle.mqtt_world_delivery_laws.specs.Taking.{EachTakes, ReceiverTakes, any_size}
 use Rattle.mqtt_world_delivery_laws.specs.Untouched.{IsUntouched}
 use Rattle.mqtt_world_delivery_laws.proofs.drains.Drains.{MayBeDrained, connection_of, over_if}
-use Rattle.mqtt_world_delivery_laws.proofs.own.Untold.{untold_there}
+use Rattle.mqtt_world_delivery_laws.proofs.own.Sizes.{asked_small, named_fits}
 use Rattle.mqtt_world_delivery_laws.proofs.whole.EveryRun.{fair_run_kept, over_or_drained, takes_some}
 use Rattle.mqtt_world_delivery_laws.proofs.own.Fronts.{Awaits, calm_front, front}
 use Rattle.mqtt_world_delivery_laws.proofs.own.Greetings.{may_renew, may_resume, spared_left}
@@ -192,7 +192,7 @@ module _ (c : List ℕ) (limits : Limits) (choice : MemberChoice) (v : World) (k
   -- its session is connected on its line
   ends_connected : (birth : ℕ) → placed.birth ≡ Some birth → r.line.number ≡ Some placed.line → connected_at placed.line v.broker.lines ≡ Some (Some birth) → is_over c v ≡ false → AsksOnce r.line.up → Ends (course_of r.line.up) last
   ends_connected birth own at there over once =
-      let k = connection_of c any_size limits s.ids s.ns r v s.standing e kept.fit.distinct (takes_some c v kept.fit.takes kept.fit.untold) placed birth own at there in
+      let k = connection_of c any_size limits s.ids s.ns r v s.standing e kept.fit.distinct (takes_some c v kept.fit.takes kept.fit.well.sends) placed birth own at there in
       let x = run_now in
       let calm = calm_up (place_of s.ids) any_size x.after r v.broker x.run_is (connected_linked placed.line birth r.line.number v.broker at there) in
       elim (courses r.line.up calm) [
@@ -210,6 +210,7 @@ module _ (c : List ℕ) (limits : Limits) (choice : MemberChoice) (v : World) (k
                 retained = kept.fit.once;
               };
               asking = once;
+              brings = asked_small c r v kept.fit.well e;
             } in
             subst (λ (course : Course). Ends course last) (sym asks) (ends_dropped k.window birth (suc v.broker.records.subscribes) (copies_left c v) (subscribe_is_drained (place_of s.ids) any_size k.window s.ids birth s.ns limits choice c x.after most r v k.room may x.same x.run_is over))
       ]
@@ -234,7 +235,7 @@ module _ (c : List ℕ) (limits : Limits) (choice : MemberChoice) (v : World) (k
       steady = s.standing.around.steady;
       ordered = s.standing.around.steady.coherent.ordered;
       distinct = kept.fit.distinct;
-      untold = untold_there c r l.number v kept.fit.untold e here.number;
+      fits = named_fits c v.broker kept.fit.well.sends.contents;
       unspent = connect_unspent c limits choice clean v r l e alone here up down unspent;
     }
 

@@ -19,10 +19,9 @@ use Rattle.mqtt_rules.specs.declared.Limits.{Limits}
 use Rattle.mqtt_world_acceptance_laws.proofs.publishers.Ends.{find_receiver, only_receiver}
 use Rattle.mqtt_world_acceptance_laws.proofs.publishers.Runs.{both_true}
 use Rattle.mqtt_world_receiver_laws.specs.Drains.{after_round, all_to_broker, all_to_end, copies_left, count_by_end, downs_by, drain_by, drain_turns, drained, enough_rounds, is_none_left, is_over, line_stands, round_turns, rounds_taken, times, turn_of, ups_by}
-use Rattle.mqtt_world_receiver_laws.specs.WorldRounds.{IsAnswer, IsConnected, MayDrain}
+use Rattle.mqtt_world_receiver_laws.specs.WorldRounds.{IsAnswer, IsConnected, MayDrain, QueueFits}
 use Rattle.mqtt_world_receiver_laws.proofs.drains.DrainRuns.{run_append}
 use Rattle.mqtt_world_receiver_laws.proofs.drains.WorldRounds.{drain_over_later, drain_within_later}
-use Rattle.mqtt_world_untold_laws.specs.Untold.{IsUntold}
 use Rattle.mqtt_world_delivery_laws.specs.Standing.{GoesAlong, IsPlaced, IsSeen, Stands, StandsWith, line_like, packet_like}
 use Rattle.mqtt_world_delivery_laws.proofs.others.Around.{changed_its, on_back}
 use Rattle.mqtt_world_delivery_laws.proofs.others.Like.{closed_stands, none_stands}
@@ -158,9 +157,9 @@ pub record MayBeDrained (c : List ℕ) (largest : ℕ) (v : World) : Type 0 wher
   pub receiver : Receiver
   pub may : MayDrain largest window ids birth ns c receiver v
 
--- its connected line has this Maximum Packet Size, and a Receive Maximum, and nothing was told on it
+-- its connected line has this Maximum Packet Size, and a Receive Maximum, and what waits for it is no larger
 abbrev pub TakesSome : List ℕ → ℕ → World → Type 0
-TakesSome c largest v = (r : Receiver) (n birth : ℕ) (l : BrokerLine) → receiver_named c v ≡ Some r → r.line.number ≡ Some n → line_at n v.broker ≡ Some l → l.session ≡ Some birth → (l.largest ≡ largest) × (1 ≤ l.window) × IsUntold n v.broker
+TakesSome c largest v = (r : Receiver) (n birth : ℕ) (l : BrokerLine) → receiver_named c v ≡ Some r → r.line.number ≡ Some n → line_at n v.broker ≡ Some l → l.session ≡ Some birth → (l.largest ≡ largest) × (1 ≤ l.window) × QueueFits largest birth v.broker
 
 -- a drain is over if one of its two reasons holds
 pub over_if : (a b : Bool) → b ≡ false → (a || not b) ≡ true
@@ -194,7 +193,7 @@ connection_of c largest limits ids ns r v s e distinct takes placed birth own at
         connected = x.2;
         window_is = refl;
         largest_is = size.0;
-        untold = size.2;
+        fits = size.2;
         apart = not_among r.line.old_number l.number (λ f. placed.apart l.number number f);
         unique = s.around.steady.lines;
         ordered = s.around.steady.coherent.ordered;

@@ -11,7 +11,7 @@ use Rattle.mqtt_rules.specs.Flight.{HasDistinctIdentifiers}
 use Rattle.mqtt_rules.specs.Step.{Call}
 use Rattle.mqtt_world_acceptance_laws.specs.Spending.{spending}
 use Rattle.mqtt_world_acceptance_laws.proofs.publishers.Changes.{with_end}
-use Rattle.mqtt_world_untold_laws.specs.Untold.{HasUntoldEnds}
+use Rattle.mqtt_world_reading_laws.specs.Going.{GoesWell}
 use Rattle.mqtt_world_delivery_laws.specs.Alone.{HaveSentNothing}
 use Rattle.mqtt_world_delivery_laws.specs.Retaining.{AreRetainedOnce}
 use Rattle.mqtt_world_delivery_laws.specs.Standing.{IsPlaced, IsSeen, Stands}
@@ -28,7 +28,7 @@ use Rattle.mqtt_world_delivery_laws.proofs.others.Restarts.{MayRestart, may_rest
 use Rattle.mqtt_world_delivery_laws.proofs.others.Stops.{after_rests}
 use Rattle.mqtt_world_delivery_laws.proofs.others.Strangers.{stranger_stands}
 use Rattle.mqtt_world_delivery_laws.proofs.own.Taking.{takes_there}
-use Rattle.mqtt_world_delivery_laws.proofs.own.Untold.{untold_there}
+use Rattle.mqtt_world_delivery_laws.proofs.own.Sizes.{queue_fits}
 use Rattle.mqtt_world_delivery_laws.proofs.others.Ticks.{ticked_stands}
 use Rattle.mqtt_world_delivery_laws.proofs.own.Wishes.{old_wished_stands, wished_stands}
 
@@ -72,13 +72,13 @@ module _ (first : List CopyId) (c : List ℕ) (largest : ℕ) (set : Setting) (r
 -- ---- what the laws of its own packets ask of the world, besides that it stands
 
 -- what is asked of a world beside the receiver's place: what went out, identifiers, retained messages, what its line takes, and
--- that nothing was told to ends by aliases
+-- that all goes well, so that what is stored is lawful
 pub record IsFit (c : List ℕ) (w : World) : Type 0 where
   pub unused : HaveSentNothing w.broker
   pub distinct : HasDistinctIdentifiers w.broker.records
   pub once : AreRetainedOnce w.broker.records
   pub takes : ItsLineTakes c w
-  pub untold : HasUntoldEnds w
+  pub well : GoesWell w
 
 module _ (first : List CopyId) (c : List ℕ) (set : Setting) (w : World) (s : Stands first c any_size set.limits w) (fit : IsFit c w) where
   reads_own : (r : Receiver) → receiver_named c w ≡ Some r → read_first spending set (to_broker c) w ≡ false → Stands first c any_size set.limits (asks set (to_broker c) w)
@@ -120,7 +120,7 @@ module _ (first : List CopyId) (c : List ℕ) (set : Setting) (w : World) (s : S
   sends_stands : (d : List ℕ) → read_first spending set (pump d) w ≡ false → Stands first c any_size set.limits (asks set (pump d) w)
   sends_stands d unspent = elim (whose_name c d w) [
     | inr not_its ↦ other_pumped first c d any_size set w s not_its unspent
-    | inl own ↦ subst (λ (x : List ℕ). Stands first c any_size set.limits (asks set (pump x) w)) (sym own.2) (sent_stands first c any_size set own.0 w s own.1 fit.distinct (λ n l birth is at on. ((takes_there c own.0 n birth l w fit.takes own.1 is at on).1, untold_there c own.0 n w fit.untold own.1 is)) (subst (λ (x : List ℕ). read_first spending set (pump x) w ≡ false) own.2 unspent))
+    | inl own ↦ subst (λ (x : List ℕ). Stands first c any_size set.limits (asks set (pump x) w)) (sym own.2) (sent_stands first c any_size set own.0 w s own.1 fit.distinct (λ n l birth is at on. ((takes_there c own.0 n birth l w fit.takes own.1 is at on).1, queue_fits birth w.broker fit.well.sends.contents)) (subst (λ (x : List ℕ). read_first spending set (pump x) w ≡ false) own.2 unspent))
   ]
 
   -- whatever the broker is asked for, the receiver stands after it

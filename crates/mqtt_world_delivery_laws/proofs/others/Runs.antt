@@ -7,7 +7,7 @@ use Rattle.mqtt_rules.specs.declared.Limits.{Limits}
 use Rattle.mqtt_world_acceptance_laws.specs.Spending.{run_spends, spending}
 use Rattle.mqtt_world_acceptance_laws.proofs.publishers.Runs.{both_true, either}
 use Rattle.mqtt_world_acceptance_laws.proofs.copies.Walks.{turn_goes}
-use Rattle.mqtt_world_untold_laws.proofs.Worlds.{run_untold}
+use Rattle.mqtt_world_reading_laws.proofs.Goings.{turn_well}
 use Rattle.mqtt_world_delivery_laws.specs.Alone.{Carries, HaveSentNothing}
 use Rattle.mqtt_world_delivery_laws.specs.Standing.{Stands, StandsWith, BeginWith}
 use Rattle.mqtt_world_delivery_laws.specs.Taking.{any_size}
@@ -54,7 +54,7 @@ fit_after first c limits t w s f unspent =
       distinct = (turn_goes (Carries Distinct) limits (carrying Distinct limits (distinct_kept limits)) t w a.within a.steady unspent).said f.distinct;
       once = turn_retains limits t w a.within a.steady unspent f.once;
       takes = turn_takes first c any_size limits t w s f.takes;
-      untold = run_untold limits (t ∷ []) w f.untold;
+      well = turn_well limits t w f.well unspent;
     }
 
 -- it stands, in a world that is as the laws of its own packets ask

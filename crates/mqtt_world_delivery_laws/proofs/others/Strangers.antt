@@ -11,7 +11,7 @@ use Rattle.mqtt_rules.specs.declared.Limits.{Limits}
 use Rattle.mqtt_world_acceptance_laws.specs.Spending.{spending}
 use Rattle.mqtt_world_acceptance_laws.proofs.copies.Steady.{linking_spends_none}
 use Rattle.mqtt_world_acceptance_laws.proofs.publishers.Ends.{all_appended}
-use Rattle.mqtt_world_acceptance_laws.proofs.publishers.StrangerBytes.{changed, all_changed, linked_given, comes_held, packet_outside, same_cost, rest_keeps, good_then, first_good}
+use Rattle.mqtt_world_acceptance_laws.proofs.publishers.StrangerBytes.{changed, all_changed, linked_given, comes_held, packet_outside, same_cost, rest_keeps, good_bytes, good_then, first_good}
 use Rattle.mqtt_world_delivery_laws.specs.Standing.{IsAnothers, IsOtherStranger, IsOutOf, Stands, StandsWith, BeginWith}
 use Rattle.mqtt_world_delivery_laws.proofs.others.Outside.{IsOutside, called_copies, fresh_unlisted, if_stands, if_there}
 use Rattle.mqtt_world_delivery_laws.proofs.order.Growing.{begin_then}
@@ -130,7 +130,7 @@ pub first_outside : (first : List CopyId) (c : List ℕ) (largest : ℕ) (set : 
 first_outside first c largest set name bytes w h good =
     let all = bytes_held (stranger_named name w) ++ bytes in
     next_outside first c largest set.limits name w (comes set name bytes w) h (comes_there c set name bytes w)
-    (ap (λ (xs : List ℕ). front_names (first_of xs) w) (comes_held set name bytes w) ∙ first_good all w good)
+    (ap (λ (xs : List ℕ). front_names (first_of xs) w) (comes_held set name bytes w) ∙ first_good all w (good_bytes name bytes w good))
 
 -- or only the first packet
 pub stranger_first : (first : List CopyId) (c name bytes : List ℕ) (largest : ℕ) (set : Setting) (w : World) → Stands first c largest set.limits w → is_bad_asking (stranger name bytes) w ≡ false → read_first spending set (stranger name bytes) w ≡ false

@@ -12,14 +12,15 @@ use Rattle.mqtt_rules.specs.Flight.{HasDistinctIdentifiers}
 use Rattle.mqtt_rules.specs.State.{Line as BrokerLine, Broker, MemberChoice, line_at}
 use Rattle.mqtt_rules.specs.Step.{Pump, stepped}
 use Rattle.mqtt_rules.specs.declared.Limits.{Limits}
+use Rattle.mqtt_rules_whole_laws.specs.Whole.{AreNoLarger, FitsWhole}
 use Rattle.mqtt_world_acceptance_laws.specs.Fair.{IsSteady}
 use Rattle.mqtt_world_acceptance_laws.specs.Spending.{spending}
 use Rattle.mqtt_world_receiver_laws.specs.Calls.{receiver_called}
 use Rattle.mqtt_world_receiver_laws.specs.Own.{IsInStep, Listens}
+use Rattle.mqtt_world_receiver_laws.specs.WorldRounds.{QueueFits}
 use Rattle.mqtt_world_receiver_laws.proofs.others.IdleLines.{idle_pump_awaiting, idle_pump_in_step}
 use Rattle.mqtt_world_receiver_laws.proofs.own.Listening.{listens_in_step}
 use Rattle.mqtt_world_receiver_laws.proofs.own.OwnCalls.{pump_in_step}
-use Rattle.mqtt_world_untold_laws.specs.Untold.{IsUntold}
 use Rattle.mqtt_world_delivery_laws.specs.Standing.{GoesAlong, IsPlaced, Stands, line_like}
 use Rattle.mqtt_world_delivery_laws.proofs.others.Like.{seat_of_others}
 use Rattle.mqtt_world_delivery_laws.proofs.others.Outside.{GoesFurther, calls_with, placed_on}
@@ -31,7 +32,7 @@ idle_sent None largest ids ns limits choice now n r b along idle = idle_pump_awa
 idle_sent (Some birth) largest ids ns limits choice now n r b along idle = idle_pump_in_step largest ids birth ns limits choice now n r b along idle
 
 sent_along : (o : Option ℕ) (largest : ℕ) (ids : List CopyId) (ns : List ℕ) (limits : Limits) (choice : MemberChoice) (now n k : ℕ) (r : Receiver) (b : Broker) → GoesAlong o largest ids ns r b → IsSteady b → HasDistinctIdentifiers b.records
-    → r.line.number ≡ Some n → ((l : BrokerLine) (birth : ℕ) → line_at n b ≡ Some l → l.session ≡ Some birth → (l.largest ≡ largest) × IsUntold n b) → ((m : ℕ) → r.line.number ≡ Some m → r.line.old_number ≡ Some m → ⊥) → Present o k (line_like r.line) b
+    → r.line.number ≡ Some n → ((l : BrokerLine) (birth : ℕ) → line_at n b ≡ Some l → l.session ≡ Some birth → (l.largest ≡ largest) × QueueFits largest birth b) → ((m : ℕ) → r.line.number ≡ Some m → r.line.old_number ≡ Some m → ⊥) → Present o k (line_like r.line) b
     → GoesAlong o largest ids ns (receiver_called limits choice now (Pump n) r b) (stepped limits choice now (Pump n) b)
 sent_along o largest ids ns limits choice now n k r b along steady distinct is fits apart (absent none up) = let clash : None ≡ Some n = sym none ∙ is in absurd cc
 sent_along o largest ids ns limits choice now n k r b along steady distinct is fits apart (closed m at up idle none) =
@@ -47,8 +48,8 @@ sent_along o largest ids ns limits choice now n k r b along steady distinct is f
     let step = subst (λ (z : Option ℕ). GoesAlong z largest ids ns r b) own along in
     let listens : Listens r x.0 birth b = listens_in_step largest ids birth ns k birth r x.0 b step steady.lines steady.coherent.ordered at x.1 x.2 (not_among r.line.old_number k (λ e. apart k at e)) in
     let size = fits x.0 birth (ap (λ (m : ℕ). line_at m b) (sym same) ∙ x.1) x.2 in
-    let untold = subst (λ (m : ℕ). IsUntold m b) (sym (x.3 ∙ same)) size.1 in
-    let sent = pump_in_step largest ids birth ns limits choice now r x.0 listens.session b step listens.listening size.0 untold distinct in
+    let fit : FitsWhole x.0 listens.session = subst (λ (m : ℕ). AreNoLarger m listens.session.queue) (sym size.0) (subst (λ (z : ℕ). QueueFits largest z b) (sym listens.birth_is) size.1 listens.session listens.listening.session) in
+    let sent = pump_in_step largest ids birth ns limits choice now r x.0 listens.session b step listens.listening size.0 fit distinct in
     subst (λ (z : Option ℕ). GoesAlong z largest ids ns (receiver_called limits choice now (Pump n) r b) (stepped limits choice now (Pump n) b)) (sym own)
     (subst (λ (z : ℕ). IsInStep largest ids birth ns (receiver_called limits choice now (Pump z) r b) (stepped limits choice now (Pump z) b)) (x.3 ∙ same) sent)
 
@@ -57,7 +58,7 @@ off_pump None n = tt
 off_pump (Some m) n = tt
 
 sent_placed : (largest : ℕ) (ids : List CopyId) (ns : List ℕ) (limits : Limits) (choice : MemberChoice) (now n : ℕ) (r : Receiver) (b : Broker) → IsPlaced largest ids ns r b → IsSteady b → HasDistinctIdentifiers b.records
-    → r.line.number ≡ Some n → ((l : BrokerLine) (birth : ℕ) → line_at n b ≡ Some l → l.session ≡ Some birth → (l.largest ≡ largest) × IsUntold n b)
+    → r.line.number ≡ Some n → ((l : BrokerLine) (birth : ℕ) → line_at n b ≡ Some l → l.session ≡ Some birth → (l.largest ≡ largest) × QueueFits largest birth b)
     → GoesFurther largest ids ns (receiver_called limits choice now (Pump n) r b) (stepped limits choice now (Pump n) b)
 sent_placed largest ids ns limits choice now n r b placed steady distinct is fits =
     let q = receiver_called limits choice now (Pump n) r b in
@@ -73,7 +74,7 @@ sent_placed largest ids ns limits choice now n r b placed steady distinct is fit
 
 -- and a pump
 pub sent_stands : (first : List CopyId) (c : List ℕ) (largest : ℕ) (set : Setting) (r : Receiver) (w : World) → Stands first c largest set.limits w → receiver_named c w ≡ Some r → HasDistinctIdentifiers w.broker.records
-    → ((n : ℕ) (l : BrokerLine) (birth : ℕ) → r.line.number ≡ Some n → line_at n w.broker ≡ Some l → l.session ≡ Some birth → (l.largest ≡ largest) × IsUntold n w.broker)
+    → ((n : ℕ) (l : BrokerLine) (birth : ℕ) → r.line.number ≡ Some n → line_at n w.broker ≡ Some l → l.session ≡ Some birth → (l.largest ≡ largest) × QueueFits largest birth w.broker)
     → read_first spending set (pump c) w ≡ false → Stands first c largest set.limits (asks set (pump c) w)
 sent_stands first c largest set r w s e distinct fits unspent = subst (λ (o : Option ℕ). read_if spending set (pump_on o) w ≡ false → Goal o) (sym view) (by r.line.number refl) unspent
   where

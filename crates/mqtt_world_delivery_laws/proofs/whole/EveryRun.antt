@@ -21,7 +21,8 @@ use Rattle.mqtt_world_receiver_laws.specs.Drains.{after_round, copies_left, drai
 use Rattle.mqtt_records_rows.specs.Distinct.{AllDiffer}
 use Rattle.mqtt_world_receiver_laws.specs.Tags.{id_of}
 use Rattle.mqtt_world_receiver_laws.proofs.drains.DrainRuns.{run_append}
-use Rattle.mqtt_world_untold_laws.specs.Untold.{HasUntoldEnds}
+use Rattle.mqtt_rules_spelling_laws.specs.Sending.{SendsWell}
+use Rattle.mqtt_world_reading_laws.proofs.Goings.{nobody_well}
 use Rattle.mqtt_world_delivery_laws.specs.Acknowledging.{AreRead}
 use Rattle.mqtt_world_delivery_laws.specs.HandedOver.{AreHandedInOrder, CarryQueued, WasHandedOver, queued_by}
 use Rattle.mqtt_world_delivery_laws.specs.Standing.{IsPlaced, IsSeen}
@@ -37,7 +38,7 @@ use Rattle.mqtt_world_delivery_laws.proofs.order.QueueOrder.{handed_in_queue_ord
 use Rattle.mqtt_world_delivery_laws.proofs.others.Runs.{IsKept, run_kept}
 use Rattle.mqtt_world_delivery_laws.proofs.others.Standings.{handed_in_order, new_stands, runs_so}
 use Rattle.mqtt_world_delivery_laws.proofs.own.Taking.{new_takes, takes_there}
-use Rattle.mqtt_world_delivery_laws.proofs.own.Untold.{untold_begins, untold_there}
+use Rattle.mqtt_world_delivery_laws.proofs.own.Sizes.{queue_fits}
 use Rattle.mqtt_world_delivery_laws.proofs.broker.Untouched.{opened_untouched}
 
 -- ---- the run
@@ -46,7 +47,13 @@ use Rattle.mqtt_world_delivery_laws.proofs.broker.Untouched.{opened_untouched}
 pub untouched_kept : (c : List ℕ) (limits : Limits) (w : World) → AreWithin limits → IsUntouched limits w → IsKept [] c limits w
 untouched_kept c limits w within u = record {
   stands = new_stands c any_size limits w within u.tidy u.new;
-  fit = record { unused = u.unused; distinct = u.distinct; once = u.retained; takes = new_takes c w u.new; untold = untold_begins w u.new u.untold };
+  fit = record {
+    unused = u.unused;
+    distinct = u.distinct;
+    once = u.retained;
+    takes = new_takes c w u.new;
+    well = nobody_well w (record { publishers = u.new.publishers; receivers = u.new.receivers; strangers = u.new.strangers }) u.sends;
+  };
 }
 
 -- so does every fair run
@@ -59,7 +66,7 @@ pub run_opens_under : (limits others : Limits) (ts : List Turn) (choice : Member
 run_opens_under limits others ts choice now w u fair within unspent =
     let k = fair_run_kept limits ts w u fair [] in
     let a = k.stands.standing.around in
-    opened_untouched others choice now (run limits ts w).broker.records within (record { coherent = a.steady.coherent; unspent = unspent }) k.fit.distinct k.fit.once
+    opened_untouched others choice now (run limits ts w).broker.records within (record { coherent = a.steady.coherent; unspent = unspent }) k.fit.distinct k.fit.once k.fit.well.sends.contents.stored k.fit.well.sends.phases
 
 -- and so under its own
 pub run_opens_again : (limits : Limits) (ts : List Turn) (choice : MemberChoice) (now : ℕ) (w : World) → IsUntouched limits w → IsFair limits ts w → is_opening_spent limits choice now (run limits ts w).broker.records ≡ false
@@ -169,14 +176,14 @@ run_acknowledges_there limits ts choice w u fair c i code rest r e old = acknowl
 
 -- ---- a drain
 
--- its line takes packets, and nothing was told on it
-pub takes_some : (c : List ℕ) (w : World) → ItsLineTakes c w → HasUntoldEnds w → TakesSome c any_size w
-takes_some c w takes untold r n birth l e is at on =
+-- its line takes packets, and what waits for it is no larger than it takes
+pub takes_some : (c : List ℕ) (w : World) → ItsLineTakes c w → SendsWell w.broker → TakesSome c any_size w
+takes_some c w takes sends r n birth l e is at on =
     let x = takes_there c r n birth l w takes e is at on in
     let its : ReceiverTakes r w.broker = subst (λ (o : _). EachTakes o w.broker) e takes in
     let above = ltb-true 0 r.window (both_true (nat_lt 0 r.window) _ its.window).0 in
     let same = x.0 in
-    (x.1, omega (arith, above, same), untold_there c r n w untold e is)
+    (x.1, omega (arith, above, same), queue_fits birth w.broker sends.contents)
 
 -- after a round that spends no number
 pub over_or_drained : (limits : Limits) (choice : MemberChoice) (c : List ℕ) (v : World) → IsKept [] c limits v → run_spends limits (round_turns limits choice c v) v ≡ false
@@ -184,7 +191,7 @@ pub over_or_drained : (limits : Limits) (choice : MemberChoice) (c : List ℕ) (
 over_or_drained limits choice c v kept unspent =
     let k = run_kept [] c limits (round_turns limits choice c v) v kept unspent (round_carried c limits choice v) in
     let later = after_round limits choice c v in
-    over_or_drains [] c any_size limits later k.stands k.fit.distinct (takes_some c later k.fit.takes k.fit.untold) (none_after c limits choice v)
+    over_or_drains [] c any_size limits later k.stands k.fit.distinct (takes_some c later k.fit.takes k.fit.well.sends) (none_after c limits choice v)
 
 -- a drain ends within its bound
 pub drain_within : (limits : Limits) (ts : List Turn) (choice : MemberChoice) (c : List ℕ) (most : ℕ) (w : World) → IsUntouched limits w → IsFair limits ts w

@@ -42,10 +42,10 @@ use Rattle.mqtt_world_receiver_laws.proofs.connects.Beginning.{cut_ids}
 use Rattle.mqtt_world_receiver_laws.proofs.queue.Entering.{long_is, long_renewed}
 use Rattle.mqtt_world_receiver_laws.proofs.connects.Greetings.{HasGreeted, greeted_on, renewed_line, resumed_line}
 use Rattle.mqtt_world_receiver_laws.proofs.queue.Numbers.{place_of, places_number}
-use Rattle.mqtt_world_receiver_laws.proofs.own.Untold.{back_takes, untold_step}
 use Rattle.mqtt_world_receiver_laws.proofs.connects.OwnConnects.{renewal_in_step, resume_in_step}
 use Rattle.mqtt_world_receiver_laws.proofs.connects.Renewing.{renewal_is_run}
 use Rattle.mqtt_world_receiver_laws.proofs.connects.Resuming.{connect_is_run, renewed_ids}
+use Rattle.mqtt_world_receiver_laws.proofs.drains.RoundFits.{LotsFit, cut_fit, lots_of, queue_fits, renewed_fit}
 use Rattle.mqtt_world_receiver_laws.proofs.drains.WorldRoundLines.{moment_again, way_on}
 use Rattle.mqtt_world_receiver_laws.proofs.drains.WorldRoundSteps.{connected_there}
 use Rattle.mqtt_world_receiver_laws.proofs.drains.WorldRounds.{back_is, drain_is, drain_over_later, drain_within_later, left_of, more_rounds, none_changed, publisher_called_is, pump_is, receiver_called_is, receiver_changed, round_moment, taken_off}
@@ -166,14 +166,15 @@ module _ (limits : Limits) (choice : MemberChoice) (clean : Bool) (client : List
       → IsInStep any_size ids birth ns (reads_answer limits choice w.now l.number (connect clean) r w.broker) (after_answer limits choice w.now l.number (connect clean) r w.broker)
       → HasGreeted l.number birth r.window (after_answer limits choice w.now l.number (connect clean) r w.broker)
       → IsRun number any_size copies (reads_answer limits choice w.now l.number (connect clean) r w.broker) (after_answer limits choice w.now l.number (connect clean) r w.broker)
+      → LotsFit any_size copies
       → DrainsFrom number r.window ids birth ns client copies (after_round limits choice client w)
-  joined_round number ids birth ns copies k g run_is =
+  joined_round number ids birth ns copies k g run_is fit =
       let d = after_answer limits choice w.now n (connect clean) r b in
       let p = reads_answer limits choice w.now n (connect clean) r b in
       let linked : is_linked p.line.number d ≡ true = ap (λ (o : Option ℕ). is_linked o d) number_is ∙ (linked_is n d ∙ ap linked_of (greeted_on n birth r.window d g)) in
       let c : IsConnected any_size r.window ids birth ns p d =
       connected_there number any_size r.window ids birth ns ids n p d k number_is j.apart linked (greeted_goes n birth r.window d g)
-      (untold_step limits choice w.now n call b j.untold (back_takes r.client r.window n n (answers (connect clean)))) (steady_step limits choice w.now call b j.within j.steady j.unspent).lines
+      (queue_fits any_size birth ns number copies p d k.served run_is fit) (steady_step limits choice w.now call b j.within j.steady j.unspent).lines
       (step-ordered limits choice w.now call b j.ordered) (step_keeps limits choice w.now call b j.distinct) in
       let closed = is_one_of r.line.number (told limits choice w.now call b).closed in
       let z : DrainsFrom number r.window ids birth ns client copies came = record {
@@ -197,9 +198,12 @@ resumed_round number ids birth ns limits choice client copies r l s w m h =
     let a = m.resuming in
     let b = w.broker in
     let its : s.birth ≡ birth = (all_at birth_of (IsOurs r.client birth) s.birth s b.records.sessions m.in_step.served.sessions a.kept.session).named a.kept.name in
+    let name : r.client ≡ client = named_receiver client r w j.named in
+    let own : session_named r.client b.records ≡ Some s = named_is r.client s.birth b.records s a.kept.only a.kept.session a.kept.name in
     joined_round limits choice false client r l w j a.number a.line a.waits number ids birth ns (map renewed copies) (resume_in_step any_size ids birth ns limits choice w.now [] r l s b m.in_step a j.up)
     (subst (λ (k : ℕ). HasGreeted l.number k r.window (after_answer limits choice w.now l.number (connect false) r b)) its (resumed_line limits choice w.now r l s b a))
     (connect_is_run number any_size copies limits choice w.now [] r l s b h a j.up)
+    (renewed_fit any_size copies (lots_of any_size (went_in s.birth b) copies s.queue (subst (λ (o : Option Session). AreQueued copies o b) own h.queue_is) (j.fits s (ap (λ (c : List ℕ). session_named c b.records) (sym name) ∙ own))))
 
 -- so is one that begins with a Clean Start
 pub renewed_round : (number : Numbering) (ids : List CopyId) (birth : ℕ) (ns : List ℕ) (limits : Limits) (choice : MemberChoice) (client : List ℕ) (copies : List Lot) (r : Receiver) (l : BrokerLine) (s : Session) (w : World)
@@ -212,6 +216,7 @@ renewed_round number ids birth ns limits choice client copies r l s w m h =
     joined_round limits choice true client r l w j a.resuming.number a.resuming.line a.resuming.waits number ids (suc b.records.births) ns (map cut copies) (renewal_in_step any_size ids birth ns limits choice w.now [] r l s b m.in_step a j.up)
     (renewed_line limits choice w.now r l s b a)
     (renewal_is_run number any_size copies limits choice w.now [] r l s b h a j.up)
+    (cut_fit any_size copies)
 
 -- ---- how many copies stand
 

@@ -215,7 +215,7 @@ reads_at number largest window ids birth ns P grows hop r b x =
     let linked : is_linked q.line.number b ≡ true = ap (λ (w : Hop). w.linked) y.seen_is ∙ (ends_back largest hop (reached number largest window ids birth ns hop r b x) (hop_linked number largest window ids birth ns hop r b x)).0 in
     record {
       at = record {
-        connected = connected_again number largest window ids birth ns ids r q b b c y.in_step (same_number q.line.number y.number_is linked) (apart q.line.old_number y.old_number) linked refl c.untold c.unique c.ordered c.distinct;
+        connected = connected_again number largest window ids birth ns ids r q b b c y.in_step (same_number q.line.number y.number_is linked) (apart q.line.old_number y.old_number) linked refl c.fits c.unique c.ordered c.distinct;
         copies = y.copies;
         same = y.same;
         run_is = y.run_is;

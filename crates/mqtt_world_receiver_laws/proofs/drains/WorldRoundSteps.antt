@@ -13,7 +13,6 @@ use Rattle.mqtt_world_model.specs.Lines.{is_one_of, unless_closed}
 use Rattle.mqtt_world_model.specs.Seen.{has_session, is_linked}
 use Rattle.mqtt_world_model.proofs.others.Lists.{all_find}
 use Rattle.mqtt_world_model.proofs.own.OwnStep.{heard_of, input_is}
-use Rattle.mqtt_topic_aliases.specs.Told.{none_told}
 use Rattle.mqtt_records.specs.declared.session.Session.{Session}
 use Rattle.mqtt_rules.proofs.numbers.Copies.{each_append}
 use Rattle.mqtt_rules.proofs.flight.FlightStep.{step_keeps}
@@ -27,23 +26,23 @@ use Rattle.mqtt_rules.specs.Fitting.{pump_turns}
 use Rattle.mqtt_rules.specs.Inbound.{on_answer}
 use Rattle.mqtt_rules.specs.Laws.{IsOrdered}
 use Rattle.mqtt_rules.specs.Lines.{HasUniqueLines}
-use Rattle.mqtt_rules.specs.State.{Line as BrokerLine, Broker, Env, MemberChoice, line_at, queue_on, told_on}
+use Rattle.mqtt_rules.specs.State.{Line as BrokerLine, Broker, Env, MemberChoice, line_at, queue_on, session_at}
 use Rattle.mqtt_rules.specs.Step.{Call, Input, Pump, at_moment, deeds, env_of, next_packet, stepped}
 use Rattle.mqtt_rules.specs.declared.Limits.{Limits}
-use Rattle.mqtt_rules_granting_laws.specs.Granting.{TakesWithin}
+use Rattle.mqtt_rules_whole_laws.specs.Whole.{AreNoLarger, FitsWhole}
 use Rattle.mqtt_world_receiver_laws.specs.Calls.{receiver_called}
 use Rattle.mqtt_world_receiver_laws.specs.Handing.{IsListening, IsRun, after_answer, reads_answer}
 use Rattle.mqtt_world_receiver_laws.specs.Own.{IsInStep, Listens}
 use Rattle.mqtt_world_receiver_laws.specs.Seen.{Numbering, answered, seen}
 use Rattle.mqtt_world_receiver_laws.specs.Served.{IsOwnLine}
 use Rattle.mqtt_world_receiver_laws.specs.Tags.{id_of}
-use Rattle.mqtt_world_receiver_laws.specs.WorldRounds.{IsConnected}
+use Rattle.mqtt_world_receiver_laws.specs.WorldRounds.{IsConnected, QueueFits}
 use Rattle.mqtt_world_receiver_laws.proofs.own.Answering.{reply_to, answered_by, answer_comes, answers_follow, shut_by}
 use Rattle.mqtt_world_receiver_laws.proofs.queue.Follows.{Follows, run_follows}
 use Rattle.mqtt_world_receiver_laws.proofs.drains.Further.{Reached, heard_up}
 use Rattle.mqtt_world_receiver_laws.proofs.own.Listening.{listens_in_step}
 use Rattle.mqtt_world_receiver_laws.proofs.own.OwnCalls.{answers_in_step, pump_in_step}
-use Rattle.mqtt_world_receiver_laws.proofs.own.Untold.{back_takes, untold_step}
+use Rattle.mqtt_world_receiver_laws.proofs.drains.RoundFits.{turns_fit}
 use Rattle.mqtt_world_receiver_laws.proofs.drains.RoundPhases.{turns_linked, up_linked}
 use Rattle.mqtt_world_receiver_laws.proofs.queue.Sending.{pump_follows, pump_is}
 use Rattle.mqtt_world_receiver_laws.proofs.drains.WorldRoundLines.{HasSame, IsOfTurn, call_same, none_closed, of_turn, of_turns, quiet_unique, quiet_way, way_on}
@@ -102,8 +101,8 @@ module _ (number : Numbering) (largest window : ℕ) (ids : List CopyId) (birth 
 
   -- whoever is in step and connected on a line with this Receive Maximum and Maximum Packet Size
   pub connected_there : (later : List CopyId) (n : ℕ) (q : Receiver) (d : Broker) → IsInStep largest later birth ns q d → q.line.number ≡ Some n → is_one_of q.line.old_number (n ∷ []) ≡ false
-      → is_linked q.line.number d ≡ true → way_on n d.lines ≡ Some (window, largest) → told_on n d.tellings ≡ none_told 0 → HasUniqueLines d → IsOrdered d.records → HasDistinctIdentifiers d.records → IsConnected largest window later birth ns q d
-  connected_there later n q d k number apart linked way untold unique ordered distinct =
+      → is_linked q.line.number d ≡ true → way_on n d.lines ≡ Some (window, largest) → QueueFits largest birth d → HasUniqueLines d → IsOrdered d.records → HasDistinctIdentifiers d.records → IsConnected largest window later birth ns q d
+  connected_there later n q d k number apart linked way fits unique ordered distinct =
       let x = line_there (line_at n d) (ap (λ (o : Option ℕ). is_linked o d) (sym number) ∙ linked) in
       let l = x.0 in
       let at = x.1 in
@@ -119,7 +118,7 @@ module _ (number : Numbering) (largest window : ℕ) (ids : List CopyId) (birth 
         connected = x.3 ∙ ap Some mine;
         window_is = ap window_in ways;
         largest_is = ap largest_in ways;
-        untold = ap (λ (j : ℕ). told_on j d.tellings) is ∙ untold;
+        fits = fits;
         apart = ap (λ (j : ℕ). is_one_of q.line.old_number (j ∷ [])) is ∙ apart;
         unique = unique;
         ordered = ordered;
@@ -129,9 +128,9 @@ module _ (number : Numbering) (largest window : ℕ) (ids : List CopyId) (birth 
   -- another receiver on the same line, or the same broker later
   pub connected_again : (later : List CopyId) (r q : Receiver) (b d : Broker) (c : IsConnected largest window ids birth ns r b) → IsInStep largest later birth ns q d → q.line.number ≡ r.line.number
       → is_one_of q.line.old_number (c.line.number ∷ []) ≡ false → is_linked q.line.number d ≡ true → way_on c.line.number d.lines ≡ way_on c.line.number b.lines
-      → told_on c.line.number d.tellings ≡ none_told 0 → HasUniqueLines d → IsOrdered d.records → HasDistinctIdentifiers d.records → IsConnected largest window later birth ns q d
-  connected_again later r q b d c k same apart linked way untold unique ordered distinct =
-      connected_there later c.line.number q d k (same ∙ c.number) apart linked (way ∙ (ap way_by c.there ∙ λ i. Some (c.window_is i, c.largest_is i))) untold unique ordered distinct
+      → QueueFits largest birth d → HasUniqueLines d → IsOrdered d.records → HasDistinctIdentifiers d.records → IsConnected largest window later birth ns q d
+  connected_again later r q b d c k same apart linked way fits unique ordered distinct =
+      connected_there later c.line.number q d k (same ∙ c.number) apart linked (way ∙ (ap way_by c.there ∙ λ i. Some (c.window_is i, c.largest_is i))) fits unique ordered distinct
 
   -- ---- a call that closes no line and connects nobody
 
@@ -142,10 +141,10 @@ module _ (number : Numbering) (largest window : ℕ) (ids : List CopyId) (birth 
 
     -- after a quiet call a connected receiver in step is connected again
     pub called_again : (later : List CopyId) (q : Receiver) (c : IsConnected largest window ids birth ns r b) → IsInStep largest later birth ns q (stepped limits choice now call b) → q.line.number ≡ r.line.number → q.line.old_number ≡ r.line.old_number
-        → is_linked q.line.number (stepped limits choice now call b) ≡ true → TakesWithin c.line.number 0 call → IsConnected largest window later birth ns q (stepped limits choice now call b)
-    called_again later q c k same old linked takes =
+        → is_linked q.line.number (stepped limits choice now call b) ≡ true → QueueFits largest birth (stepped limits choice now call b) → IsConnected largest window later birth ns q (stepped limits choice now call b)
+    called_again later q c k same old linked fits =
         connected_again later r q b (stepped limits choice now call b) c k same (ap (λ (o : Option ℕ). is_one_of o (c.line.number ∷ [])) old ∙ c.apart) linked
-        (quiet_way c.line.number limits choice now call b quiet) (untold_step limits choice now c.line.number call b c.untold takes) (quiet_unique limits choice now call b quiet c.unique) (step-ordered limits choice now call b c.ordered) (step_keeps limits choice now call b c.distinct)
+        (quiet_way c.line.number limits choice now call b quiet) fits (quiet_unique limits choice now call b quiet c.unique) (step-ordered limits choice now call b c.ordered) (step_keeps limits choice now call b c.distinct)
 
   -- ---- the broker sends
 
@@ -156,14 +155,23 @@ module _ (number : Numbering) (largest window : ℕ) (ids : List CopyId) (birth 
       let first = at_moment now b in
       subst (λ (ds : List Deed). AreGood IsQuiet ds first) (sym (pump_is limits choice now c.line s b a.listening.line a.listening.connected a.listening.session)) (quiet_pump c.line s first)
 
-  -- a turn of sending leaves retained messages and granted filters as they are
-  pub pump_same : (limits : Limits) (choice : MemberChoice) (now : ℕ) (r : Receiver) (b : Broker) (c : IsConnected largest window ids birth ns r b) → HasSame b (stepped limits choice now (Pump c.line.number) b)
-  pump_same limits choice now r b c =
+  -- its copies fit on its line with whole topics
+  pub whole_now : (r : Receiver) (b : Broker) (c : IsConnected largest window ids birth ns r b) → FitsWhole c.line (listens_now r b c).session
+  whole_now r b c =
+      let a = listens_now r b c in
+      let at : session_at birth b.records ≡ Some a.session = ap (λ (k : ℕ). session_at k b.records) (sym a.birth_is) ∙ a.listening.session in
+      subst (λ (k : ℕ). AreNoLarger k a.session.queue) (sym c.largest_is) (c.fits a.session at)
+
+  sending_turns : (limits : Limits) (choice : MemberChoice) (now : ℕ) (r : Receiver) (b : Broker) (c : IsConnected largest window ids birth ns r b) → AllByRecursion IsOfTurn (deeds limits choice now (Pump c.line.number) b)
+  sending_turns limits choice now r b c =
       let a = listens_now r b c in
       let s = a.session in
       let first = at_moment now b in
-      call_same limits choice now (Pump c.line.number) b
-      (subst (AllByRecursion IsOfTurn) (sym (pump_is limits choice now c.line s b a.listening.line a.listening.connected a.listening.session)) (of_turns first.now c.line.number s (pump_turns c.line first s)))
+      subst (AllByRecursion IsOfTurn) (sym (pump_is limits choice now c.line s b a.listening.line a.listening.connected a.listening.session)) (of_turns first.now c.line.number s (pump_turns c.line first s))
+
+  -- a turn of sending leaves retained messages and granted filters as they are
+  pub pump_same : (limits : Limits) (choice : MemberChoice) (now : ℕ) (r : Receiver) (b : Broker) (c : IsConnected largest window ids birth ns r b) → HasSame b (stepped limits choice now (Pump c.line.number) b)
+  pump_same limits choice now r b c = call_same limits choice now (Pump c.line.number) b (sending_turns limits choice now r b c)
 
   -- what is under way from it stays so
   pub pump_up : (limits : Limits) (choice : MemberChoice) (now : ℕ) (r : Receiver) (b : Broker) (c : IsConnected largest window ids birth ns r b) → (receiver_called limits choice now (Pump c.line.number) r b).line.up ≡ r.line.up
@@ -181,13 +189,13 @@ module _ (number : Numbering) (largest window : ℕ) (ids : List CopyId) (birth 
       let s = a.session in
       let q = receiver_called limits choice now call r b in
       let new = stepped limits choice now call b in
-      let f = pump_follows number largest x.copies limits choice now r l s b x.run_is a.listening c.largest_is c.untold c.distinct in
+      let f = pump_follows number largest x.copies limits choice now r l s b x.run_is a.listening c.largest_is (whole_now r b c) c.distinct in
       let seen_is : seen number f.after q new ≡ step largest hop (pump window first.now) =
       f.seen_is ∙ (ap (λ (w : Hop). step largest w (pump l.window first.now)) x.seen_is ∙ ap (λ (k : ℕ). step largest hop (pump k first.now)) c.window_is) in
       let linked : is_linked q.line.number new ≡ true = ap (λ (w : Hop). w.linked) seen_is ∙ (turns_linked (rules.pump (record { window = window; largest = largest; now = first.now }) (queue_of hop.copies)) hop ∙ hop_linked hop r b x) in
       let quiet = quiet_sending limits choice now r b c in
       record {
-        connected = called_again limits choice now call r b quiet ids q c (pump_in_step largest ids birth ns limits choice now r l s b c.in_step a.listening c.largest_is c.untold c.distinct) refl refl linked tt;
+        connected = called_again limits choice now call r b quiet ids q c (pump_in_step largest ids birth ns limits choice now r l s b c.in_step a.listening c.largest_is (whole_now r b c) c.distinct) refl refl linked (turns_fit largest birth limits choice now call b (sending_turns limits choice now r b c) c.fits);
         copies = f.after;
         same = f.same ∙ x.same;
         run_is = run_follows number largest x.copies (pump l.window first.now) r b q new x.run_is f;
@@ -247,7 +255,7 @@ module _ (number : Numbering) (largest window : ℕ) (ids : List CopyId) (birth 
       let ups : q.line.up ≡ rest = stays_up limits choice now call r b quiet (drop 1 r.line.up) ∙ ap (drop 1) up in
       record {
         at = record {
-          connected = called_again limits choice now call r b quiet ids q c k refl refl linked (back_takes r.client r.window n n (answers a));
+          connected = called_again limits choice now call r b quiet ids q c k refl refl linked (turns_fit largest birth limits choice now call b all c.fits);
           copies = f.after;
           same = f.same ∙ x.same;
           run_is = run_follows number largest x.copies (to_broker false) r b q new x.run_is f;

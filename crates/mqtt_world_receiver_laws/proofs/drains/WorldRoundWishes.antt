@@ -5,6 +5,7 @@ use Rattle.std.specs.Prelude.{◌≢◌, option_map}
 use Rattle.std.specs.List.{AllByRecursion}
 use Rattle.mqtt_base.specs.declared.session.CopyId.{CopyId}
 use Rattle.mqtt_codec.specs.declared.packet.Packet.{Packet}
+use Rattle.mqtt_codec_subscribe.specs.Options.{options_byte}
 use Rattle.mqtt_codec_subscribe.specs.Subscriptions.{Subscription as Asked}
 use Rattle.mqtt_base.specs.Codes.{identifier_in_use}
 use Rattle.mqtt_flow.specs.OutboundWorld.{Lot}
@@ -19,6 +20,7 @@ use Rattle.mqtt_records.specs.declared.session.Session.{Session}
 use Rattle.mqtt_records_rows.specs.Distinct.{AllDiffer}
 use Rattle.mqtt_rules.proofs.acts.Acts.{brought_to}
 use Rattle.mqtt_rules.proofs.acts.Goods.{AreGood, good_append}
+use Rattle.mqtt_rules.proofs.numbers.Copies.{each_append}
 use Rattle.mqtt_rules.proofs.lines.LineActs.{quiet_grants}
 use Rattle.mqtt_rules.proofs.lines.LineRows.{IsQuiet, leaves, still_quiet}
 use Rattle.mqtt_rules.proofs.acts.Offers.{of_offer, of_offer_if}
@@ -38,10 +40,11 @@ use Rattle.mqtt_world_receiver_laws.specs.Own.{IsBroughtCopy}
 use Rattle.mqtt_world_receiver_laws.specs.Seen.{Numbering}
 use Rattle.mqtt_world_receiver_laws.specs.Served.{IsTidy}
 use Rattle.mqtt_world_receiver_laws.specs.Tags.{AreNumbered, id_of}
-use Rattle.mqtt_world_receiver_laws.specs.WorldRounds.{AreTold, IsConnected, IsOlder}
+use Rattle.mqtt_world_receiver_laws.specs.WorldRounds.{AreTold, BringsNoLarger, IsConnected, IsOlder}
 use Rattle.mqtt_world_receiver_laws.proofs.own.OwnSubscribes.{LotsOn, wished}
-use Rattle.mqtt_world_receiver_laws.proofs.own.Untold.{back_takes}
 use Rattle.mqtt_world_receiver_laws.proofs.queue.QueueLengths.{IsUpTo}
+use Rattle.mqtt_world_receiver_laws.proofs.drains.RoundFits.{IsFitting, call_fits}
+use Rattle.mqtt_world_receiver_laws.proofs.drains.WishFits.{AreFitting, subscribe_fits}
 use Rattle.mqtt_world_receiver_laws.proofs.drains.WorldRoundSteps.{called_again, listens_now, stays_up}
 
 -- ---- its deeds connect, close and end nobody
@@ -114,8 +117,8 @@ module _ (number : Numbering) (largest window : ℕ) (ids : List CopyId) (birth 
 
   -- a SUBSCRIBE of a connected receiver leaves it connected, with the copies that it brings
   pub wish_at : (limits : Limits) (choice : MemberChoice) (now : ℕ) (w : Wish) (rest : List Back) (r : Receiver) (b : Broker) (c : IsConnected largest window ids birth ns r b) → IsTidy limits b → AreTold ids b
-      → r.line.up ≡ asks_for w ∷ rest → HasWished limits choice now w rest c.line.number r b
-  wish_at limits choice now w rest r b c tidy told up =
+      → AllByRecursion (BringsNoLarger largest w.identifier) b.records.retained → r.line.up ≡ asks_for w ∷ rest → HasWished limits choice now w rest c.line.number r b
+  wish_at limits choice now w rest r b c tidy told no_larger up =
       let l = c.line in
       let n = l.number in
       let call = asking r n w in
@@ -132,6 +135,9 @@ module _ (number : Numbering) (largest window : ℕ) (ids : List CopyId) (birth 
       let ds = deeds limits choice now call b in
       let quiet : AreGood IsQuiet ds first =
       subst (λ (zs : List Deed). AreGood IsQuiet zs first) (sym (input_is limits choice now packet l s b li.listening.line li.listening.connected li.listening.session)) (tt, good_append IsQuiet (next_packet env l packet s heard) [] heard own tt) in
+      let fitting : AreFitting largest (next_packet env l packet s heard) = subscribe_fits largest (is_among 1 s.inbound) env n s w.identifier (record { filter = w.filter; options = options_byte w.options }) heard no_larger in
+      let fit : AreFitting largest ds =
+      subst (AreFitting largest) (sym (input_is limits choice now packet l s b li.listening.line li.listening.connected li.listening.session)) (tt, each_append (IsFitting largest) (next_packet env l packet s heard) [] fitting tt) in
       let on : session_on n new.lines ≡ Some (Some birth) =
       ap (session_on n) (done_lines (rows_of_all ds first.records) (after_all ds first))
       ∙ ((leaves ds first (still_quiet ds first quiet)).lines n ∙ (ap (option_map (λ (y : BrokerLine). y.session)) c.there ∙ ap Some c.connected)) in
@@ -142,6 +148,6 @@ module _ (number : Numbering) (largest window : ℕ) (ids : List CopyId) (birth 
         differ = differ_join ids x.after.more told.differ (x.differ told.retained) (apart_from birth b.records.subscribes ids x.after.more told.older x.after.new);
         longer = x.longer;
         lots = x.lots;
-        connected = called_again number largest window ids birth ns limits choice now call r b quiet (ids ++ x.after.more) q c x.after.in_step refl refl linked (back_takes r.client r.window n n (asks_for w));
+        connected = called_again number largest window ids birth ns limits choice now call r b quiet (ids ++ x.after.more) q c x.after.in_step refl refl linked (call_fits largest birth limits choice now call b fit c.fits);
         up = stays_up number largest window ids birth ns limits choice now call r b quiet (drop 1 r.line.up) ∙ ap (drop 1) up;
       }

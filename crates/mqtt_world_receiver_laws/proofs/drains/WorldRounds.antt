@@ -30,7 +30,7 @@ use Rattle.mqtt_world_receiver_laws.specs.Rounds.{EndsBy}
 use Rattle.mqtt_world_receiver_laws.specs.Seen.{Numbering, answered, seen}
 use Rattle.mqtt_world_receiver_laws.specs.Served.{IsTidy, RunsWithAll}
 use Rattle.mqtt_world_receiver_laws.specs.Tags.{AreNumbered, id_of}
-use Rattle.mqtt_world_receiver_laws.specs.WorldRounds.{AreTold, AsksOnce, ComesTo, DrainsBehind, DrainsWith, EndsOrDrops, IsAnswer, IsOlder, MayAsk, IsDrained, MayDrain, moment_of, moments_of}
+use Rattle.mqtt_world_receiver_laws.specs.WorldRounds.{AllBringNoLarger, AreTold, AsksOnce, BringsNoLarger, ComesTo, DrainsBehind, DrainsWith, EndsOrDrops, IsAnswer, IsOlder, MayAsk, IsDrained, MayDrain, moment_of, moments_of}
 use Rattle.mqtt_world_receiver_laws.proofs.own.Answering.{named_now, standing_by}
 use Rattle.mqtt_world_receiver_laws.proofs.drains.DrainCauses.{answers_pass, causes_of_run, drops_none, ended_rests, ends_by_more, passes_trans, passes_way, pump_passes}
 use Rattle.mqtt_world_receiver_laws.proofs.drains.DrainRuns.{run_append}
@@ -411,14 +411,15 @@ answers_fewer largest k h r =
 
 -- ---- the first round, if a SUBSCRIBE is under way
 
--- tables are in order, and copies differ; so many filters were granted
-record Orderly (limits : Limits) (ids : List CopyId) (granted : ℕ) (w : World) : Type 0 where
+-- tables are in order, and copies differ; so many filters were granted, and these messages are retained
+record Orderly (limits : Limits) (ids : List CopyId) (granted : ℕ) (kept : List RetainedMessage) (w : World) : Type 0 where
   pub tidy : IsTidy limits w.broker
   pub told : AreTold ids w.broker
   pub granted_is : w.broker.records.subscribes ≡ granted
+  pub kept_is : w.broker.records.retained ≡ kept
 
-orderly_on : (limits : Limits) (ids : List CopyId) (granted : ℕ) (w v : World) → IsTidy limits v.broker → HasSame w.broker v.broker → Orderly limits ids granted w → Orderly limits ids granted v
-orderly_on limits ids granted w v tidy same o = record {
+orderly_on : (limits : Limits) (ids : List CopyId) (granted : ℕ) (kept : List RetainedMessage) (w v : World) → IsTidy limits v.broker → HasSame w.broker v.broker → Orderly limits ids granted kept w → Orderly limits ids granted kept v
+orderly_on limits ids granted kept w v tidy same o = record {
   tidy = tidy;
   told = record {
     differ = o.told.differ;
@@ -426,35 +427,40 @@ orderly_on limits ids granted w v tidy same o = record {
     retained = subst (λ (ks : List RetainedMessage). AllDiffer (map (λ (k : RetainedMessage). k.publication) ks)) (sym same.retained) o.told.retained;
   };
   granted_is = same.subscribes ∙ o.granted_is;
+  kept_is = same.retained ∙ o.kept_is;
 }
+
+-- at most one SUBSCRIBE, for which these retained messages bring nothing that is too large
+abbrev Asks : ℕ → List RetainedMessage → List Back → Type 0
+Asks largest kept up = AsksOnce up × AllByRecursion (AllBringNoLarger largest kept) up
 
 once_more : (up : List Back) (a : Answer) → AsksOnce up → AsksOnce (up ++ answers a ∷ [])
 once_more [] a h = tt
 once_more (answers b ∷ up) a h = once_more up a h
 once_more (asks_for w ∷ up) a h = each_append IsAnswer up (answers a ∷ []) h (tt, tt)
 
-module _ (limits : Limits) (choice : MemberChoice) (client : List ℕ) (number : Numbering) (largest window : ℕ) (ids : List CopyId) (birth : ℕ) (ns : List ℕ) (granted : ℕ) where
+module _ (limits : Limits) (choice : MemberChoice) (client : List ℕ) (number : Numbering) (largest window : ℕ) (ids : List CopyId) (birth : ℕ) (ns : List ℕ) (granted : ℕ) (kept : List RetainedMessage) where
   abbrev sends : Turn
   sends = turn_of choice (ask (pump client))
 
   abbrev reads_back : Turn
   reads_back = turn_of choice (ask (to_broker client))
 
-  pump_orderly : (ups : List Back) (h : Hop) (w : World) → Here number largest window ids birth ns client ups h w → Orderly limits ids granted w → Orderly limits ids granted (turned limits sends w)
+  pump_orderly : (ups : List Back) (h : Hop) (w : World) → Here number largest window ids birth ns client ups h w → Orderly limits ids granted kept w → Orderly limits ids granted kept (turned limits sends w)
   pump_orderly ups h w x o =
       let n = x.at.connected.line.number in
       let later = calls (record { limits = limits; choice = choice }) (Pump n) w in
-      subst (Orderly limits ids granted) (sym (pump_is limits choice client w x.receiver n x.named x.alone x.at.connected.number))
-      (orderly_on limits ids granted w later (step_tidy limits choice w.now (Pump n) w.broker o.tidy) (pump_same number largest window ids birth ns limits choice w.now x.receiver w.broker x.at.connected) o)
+      subst (Orderly limits ids granted kept) (sym (pump_is limits choice client w x.receiver n x.named x.alone x.at.connected.number))
+      (orderly_on limits ids granted kept w later (step_tidy limits choice w.now (Pump n) w.broker o.tidy) (pump_same number largest window ids birth ns limits choice w.now x.receiver w.broker x.at.connected) o)
 
-  answer_orderly : (a : Answer) (rest : List Back) (h : Hop) (w : World) → Here number largest window ids birth ns client (answers a ∷ rest) h w → Orderly limits ids granted w → Orderly limits ids granted (turned limits reads_back w)
+  answer_orderly : (a : Answer) (rest : List Back) (h : Hop) (w : World) → Here number largest window ids birth ns client (answers a ∷ rest) h w → Orderly limits ids granted kept w → Orderly limits ids granted kept (turned limits reads_back w)
   answer_orderly a rest h w x o =
       let r = x.receiver in
       let n = x.at.connected.line.number in
       let call = Input n (wire_back r.client r.window (answers a)) in
       let later = calls (record { limits = limits; choice = choice }) call (taken_off limits choice client w) in
-      subst (Orderly limits ids granted) (sym (back_is limits choice client w r n (answers a) rest x.named x.alone x.at.connected.number x.up))
-      (orderly_on limits ids granted w later (step_tidy limits choice w.now call w.broker o.tidy) (answer_at number largest window ids birth ns limits choice w.now a rest h r w.broker x.at x.up).same o)
+      subst (Orderly limits ids granted kept) (sym (back_is limits choice client w r n (answers a) rest x.named x.alone x.at.connected.number x.up))
+      (orderly_on limits ids granted kept w later (step_tidy limits choice w.now call w.broker o.tidy) (answer_at number largest window ids birth ns limits choice w.now a rest h r w.broker x.at x.up).same o)
 
   -- what has become of the copies that stood at the start
   module _ (moment : ℕ) (base : List Lot) where
@@ -469,16 +475,16 @@ module _ (limits : Limits) (choice : MemberChoice) (client : List ℕ) (number :
         subst (λ (ls : List Lot). EndsOrDrops largest (moment ∷ []) (slice_get base n) (slice_get ls n)) same (passes_trans largest (moment ∷ []) (slice_get base n) (slice_get a n) (slice_get b n) (p n) (on n))
 
     -- the SUBSCRIBE is read, and what is behind it
-    wish_read : (u : Wish) (rest : List Back) (h : Hop) (w : World) → Here number largest window ids birth ns client (asks_for u ∷ rest) h w → Orderly limits ids granted w → AllByRecursion IsAnswer rest → Passed h.copies
+    wish_read : (u : Wish) (rest : List Back) (h : Hop) (w : World) → Here number largest window ids birth ns client (asks_for u ∷ rest) h w → Orderly limits ids granted kept w → AllByRecursion (BringsNoLarger largest u.identifier) kept → AllByRecursion IsAnswer rest → Passed h.copies
         → Behind h (run limits (times (length rest) reads_back) (turned limits reads_back w))
-    wish_read u rest h w x o all p =
+    wish_read u rest h w x o brings all p =
         let r = x.receiver in
         let n = x.at.connected.line.number in
         let call = Input n (wire_back r.client r.window (asks_for u)) in
         let set : Setting = record { limits = limits; choice = choice } in
         let before = taken_off limits choice client w in
         let later = calls set call before in
-        let y = wish_at number largest window ids birth ns limits choice w.now u rest r w.broker x.at.connected o.tidy o.told x.up in
+        let y = wish_at number largest window ids birth ns limits choice w.now u rest r w.broker x.at.connected o.tidy o.told (subst (AllByRecursion (BringsNoLarger largest u.identifier)) (sym o.kept_is) brings) x.up in
         let q = record r { line = taken_up r.line } in
         let found : receiver_named client before ≡ Some q = receiver_changed client (λ (s : Receiver). record s { line = taken_up s.line }) r w.receivers (λ s. refl) x.named in
         let nobody : publisher_named client before ≡ None = none_changed (λ (p : Publisher). bytes_eq p.client client) (λ (p : Publisher). record p { line = taken_up p.line }) w.publishers x.alone in
@@ -523,7 +529,7 @@ module _ (limits : Limits) (choice : MemberChoice) (client : List ℕ) (number :
           ends = behind;
         })
 
-    all_back : (ups : List Back) (h : Hop) (w : World) → Here number largest window ids birth ns client ups h w → Orderly limits ids granted w → AsksOnce ups → Passed h.copies → Behind h (run limits (times (length ups) reads_back) w)
+    all_back : (ups : List Back) (h : Hop) (w : World) → Here number largest window ids birth ns client ups h w → Orderly limits ids granted kept w → Asks largest kept ups → Passed h.copies → Behind h (run limits (times (length ups) reads_back) w)
     all_back [] h w x o once p =
         let c = sees_comes limits choice client number largest window ids birth ns h w x in
         let none : ids ++ [] ≡ ids = append-nil ids in
@@ -544,12 +550,12 @@ module _ (limits : Limits) (choice : MemberChoice) (client : List ℕ) (number :
           run_is = c.run_is;
           ends = subst Passed (sym same) p;
         }
-    all_back (asks_for u ∷ rest) h w x o once p = wish_read u rest h w x o once p
+    all_back (asks_for u ∷ rest) h w x o once p = wish_read u rest h w x o once.1.0 once.0 p
     all_back (answers a ∷ rest) h w x o once p =
         let at = reached number largest window ids birth ns h x.receiver w.broker x.at in
         let later = step largest h (hop.to_broker false) in
         let on : Passed later.copies = passed_on h.copies later.copies later.copies (λ j. answers_pass largest (moment ∷ []) 1 j h at (hop_linked number largest window ids birth ns h x.receiver w.broker x.at)) refl p in
-        let y = all_back rest later (turned limits reads_back w) (answers_one limits choice client number largest window ids birth ns a rest h w x) (answer_orderly a rest h w x o) once on in
+        let y = all_back rest later (turned limits reads_back w) (answers_one limits choice client number largest window ids birth ns a rest h w x) (answer_orderly a rest h w x o) (once.0, once.1.1) on in
         let fewer = answers_fewer largest 1 h at in
         let d = y.drains in
         let less = d.few in
@@ -583,18 +589,20 @@ first_round_of number largest window ids birth ns limits choice client copies r 
       at = record { connected = may.connected; copies = copies; same = same; run_is = run_is; seen_is = refl };
       up = refl;
     } in
-    let o0 : Orderly limits ids granted w = record { tidy = may.tidy; told = may.told; granted_is = refl } in
+    let kept = w.broker.records.retained in
+    let o0 : Orderly limits ids granted kept w = record { tidy = may.tidy; told = may.told; granted_is = refl; kept_is = refl } in
     let x1 = pumps limits choice client number largest window ids birth ns ups h w x0 in
-    let o1 = pump_orderly limits choice client number largest window ids birth ns granted ups h w x0 o0 in
-    let x2 = reads limits choice client number largest window ids birth ns AsksOnce (record { none = tt; more = once_more }) ups h1 sent x1 in
+    let o1 = pump_orderly limits choice client number largest window ids birth ns granted kept ups h w x0 o0 in
+    let x2 = reads limits choice client number largest window ids birth ns (Asks largest kept)
+    (record { none = (tt, tt); more = λ up a q. (once_more up a q.0, each_append (AllBringNoLarger largest kept) up (answers a ∷ []) q.1 (tt, tt)) }) ups h1 sent x1 in
     let unread : was.broker ≡ sent.broker = reads_broker limits choice client number largest window ids birth ns ups h1 sent x1 in
-    let o2 : Orderly limits ids granted was =
-    orderly_on limits ids granted sent was (subst (IsTidy limits) (sym unread) o1.tidy) (record { retained = ap (λ (b : Broker). b.records.retained) unread; subscribes = ap (λ (b : Broker). b.records.subscribes) unread }) o1 in
+    let o2 : Orderly limits ids granted kept was =
+    orderly_on limits ids granted kept sent was (subst (IsTidy limits) (sym unread) o1.tidy) (record { retained = ap (λ (b : Broker). b.records.retained) unread; subscribes = ap (λ (b : Broker). b.records.subscribes) unread }) o1 in
     let first = reached number largest window ids birth ns h r w.broker x0.at in
     let read : h2.copies ≡ h1.copies = ends_copies largest (length h1.down) h1 in
     let passed : (n : ℕ) → EndsOrDrops largest (now ∷ []) (slice_get copies n) (slice_get h2.copies n) =
     λ n. subst (λ (ls : List Lot). EndsOrDrops largest (now ∷ []) (slice_get copies n) (slice_get ls n)) (sym read) (pump_passes largest window now n h first) in
-    let y = all_back limits choice client number largest window ids birth ns granted now copies x2.ups h2 was x2.sees o2 (x2.answering may.asking) passed in
+    let y = all_back limits choice client number largest window ids birth ns granted kept now copies x2.ups h2 was x2.sees o2 (x2.answering (may.asking, may.brings)) passed in
     let last : ups_by (receiver_named client was) ≡ length x2.ups = ap ups_by x2.sees.named ∙ ap length x2.sees.up in
     let z : DrainsBehind largest window ids birth ns client (suc granted) (length (queue_of h2.copies)) now copies (run limits (all_to_broker choice client was) was) =
     subst (λ (j : ℕ). DrainsBehind largest window ids birth ns client (suc granted) (length (queue_of h2.copies)) now copies (run limits (times j (turn_of choice (ask (to_broker client)))) was)) (sym last) y in

@@ -67,19 +67,19 @@ both_wait window =
 -- two copies through a window of one take four rounds
 pub two_through_a_window_of_one : drains_after (both_wait 1)
     ≡ record { most = 5; rounds = 4; ended = Ended (copy 1) r1 Taken ∷ Ended (copy 2) r1 Taken ∷ []; out = 4; left = 0 }
-unfolding varint
+unfolding varint is_utf8 chars encode
 two_through_a_window_of_one = refl
 
 -- and are handed over in order
 pub two_are_handed_over_in_order : sum_after (both_wait 1)
     ≡ record { handed = 1 ∷ 2 ∷ []; queue = 0; messages = 2; done = 0; publications = 2; sessions = 2 }
-unfolding varint
+unfolding varint is_utf8 chars encode
 two_are_handed_over_in_order = refl
 
 -- through a wider one they take two
 pub two_through_a_wide_window : drains_after (both_wait 10)
     ≡ record { most = 5; rounds = 2; ended = Ended (copy 1) r1 Taken ∷ Ended (copy 2) r1 Taken ∷ []; out = 4; left = 0 }
-unfolding varint
+unfolding varint is_utf8 chars encode
 two_through_a_wide_window = refl
 
 -- ---- one is released, one was sent on an earlier line, one waits, and one that waits has expired
@@ -115,7 +115,7 @@ starts_anew = both_wait 10 ++ give_up r1 ∷ connect_end r1 true ∷ []
 -- a Clean Start ends what waits
 pub a_clean_start_ends_them : drains_after starts_anew
     ≡ record { most = 5; rounds = 1; ended = Ended (copy 1) r1 SessionEnded ∷ Ended (copy 2) r1 SessionEnded ∷ []; out = 2; left = 0 }
-unfolding varint
+unfolding varint is_utf8 chars encode
 a_clean_start_ends_them = refl
 
 -- ---- a SUBSCRIBE is under way, and the queue drops when it is full: of two copies the one that waits makes way for that of the
@@ -144,7 +144,7 @@ pub one_makes_way : drains_from dropping (enough_rounds (2 + 1)) (after dropping
       out = 5;
       left = 0;
     }
-unfolding varint
+unfolding varint is_utf8 chars encode
 one_makes_way = refl
 
 -- ---- three copies wait, and the broker is opened again with room for two in a queue: the three are taken, and in order; under
@@ -160,34 +160,34 @@ opened_smaller limits =
 
 -- a broker with a smaller limit than what waits
 pub more_wait_than_may : copies_left r1 (opened_smaller refusing) ≡ 3
-unfolding varint
+unfolding varint is_utf8 chars encode
 more_wait_than_may = refl
 
 -- hands all over
 pub all_three_are_taken : drains_from refusing (enough_rounds 3) (opened_smaller refusing)
     ≡ record { most = 7; rounds = 6; ended = Ended (copy 1) r1 Taken ∷ Ended (copy 2) r1 Taken ∷ Ended (copy 3) r1 Taken ∷ []; out = 6; left = 0 }
-unfolding varint
+unfolding varint is_utf8 chars encode
 all_three_are_taken = refl
 
 -- also if its full queues drop
 pub none_of_three_makes_way : drains_from dropping (enough_rounds 3) (opened_smaller dropping)
     ≡ record { most = 7; rounds = 6; ended = Ended (copy 1) r1 Taken ∷ Ended (copy 2) r1 Taken ∷ Ended (copy 3) r1 Taken ∷ []; out = 6; left = 0 }
-unfolding varint
+unfolding varint is_utf8 chars encode
 none_of_three_makes_way = refl
 
 -- ---- an empty queue takes no round; nobody drains a publisher, or an end without a line
 
 -- nothing to drain takes no round
 pub nothing_waits : rounds_taken usual first r1 1 (after usual (turns (receiver r1 10 ∷ joins r1 false))) ≡ 0
-unfolding varint
+unfolding varint is_utf8 chars encode
 nothing_waits = refl
 
 -- a publisher cannot be drained
 pub a_publisher_is_not_drained : is_bad_drain p1 (after usual (turns (both_wait 10))) ≡ true
-unfolding varint
+unfolding varint is_utf8 chars encode
 a_publisher_is_not_drained = refl
 
 -- nor can a receiver without a line
 pub one_without_a_line_is_not_drained : is_bad_drain r1 (after usual (turns (both_wait 10 ++ give_up r1 ∷ []))) ≡ true
-unfolding varint
+unfolding varint is_utf8 chars encode
 one_without_a_line_is_not_drained = refl

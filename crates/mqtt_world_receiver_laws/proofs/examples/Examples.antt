@@ -1,6 +1,8 @@
 -- Worked runs: what a receiver and its session see of the world is what the events of their hop make (MQTT 5.0, 4.3.3, 4.4).
 use Rattle.std.proofs.Common.{◌≡◌, ℕ, false, List, [], ◌∷◌, ◌++◌, Option, Some, None, refl}
 use Rattle.std.specs.Prelude.{option_map, map}
+use Rattle.std.specs.Str.{is_utf8, chars}
+use Rattle.std.proofs.Math.Utf8.{encode}
 use Rattle.mqtt_base.specs.Values.{varint}
 use Rattle.mqtt_base.specs.declared.session.Qos.TheVariants.{ExactlyOnce}
 use Rattle.mqtt_flow.specs.declared.entry.QueuedCopy.{QueuedCopy}
@@ -62,20 +64,20 @@ queued es = option_map (λ (s : Session). map (lot_on (went_by (went_in s.birth 
 
 -- the hop sees a copy that entered
 pub an_entered_copy_is_seen : sees accepted (makes entering).copies ≡ Some (makes entering)
-unfolding varint
+unfolding varint is_utf8 chars encode
 an_entered_copy_is_seen = refl
 
 -- and it stands
 pub an_entered_copy_stands : queued accepted ≡ Some (still_standing (makes entering).copies)
-unfolding varint
+unfolding varint is_utf8 chars encode
 an_entered_copy_stands = refl
 
 -- so it is with one that was sent
 pub a_sent_copy_is_seen : sees pumped (makes sending).copies ≡ Some (makes sending)
-unfolding varint
+unfolding varint is_utf8 chars encode
 a_sent_copy_is_seen = refl
 
 -- which stands too
 pub a_sent_copy_stands : queued pumped ≡ Some (still_standing (makes sending).copies)
-unfolding varint
+unfolding varint is_utf8 chars encode
 a_sent_copy_stands = refl

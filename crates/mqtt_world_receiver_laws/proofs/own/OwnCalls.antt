@@ -10,15 +10,15 @@ use Rattle.mqtt_world_model.specs.Ends.{Back, Receiver, answers, wire_back}
 use Rattle.mqtt_world_model.proofs.seats.Breaks.{lost_is}
 use Rattle.mqtt_world_model.proofs.own.OwnStep.{heard_of, input_is}
 use Rattle.mqtt_world_model.proofs.own.Publishes.{drop_is}
-use Rattle.mqtt_topic_aliases.specs.Told.{none_told}
 use Rattle.mqtt_records.specs.declared.session.Session.{Session}
 use Rattle.mqtt_rules.proofs.numbers.Copies.{each_append}
 use Rattle.mqtt_rules.specs.Flight.{HasDistinctIdentifiers}
 use Rattle.mqtt_rules.specs.Fitting.{pump_turns}
 use Rattle.mqtt_rules.specs.Inbound.{on_answer}
-use Rattle.mqtt_rules.specs.State.{Line as BrokerLine, Broker, Env, MemberChoice, queue_on, session_at, told_on}
+use Rattle.mqtt_rules.specs.State.{Line as BrokerLine, Broker, Env, MemberChoice, queue_on, session_at}
 use Rattle.mqtt_rules.specs.Step.{Input, Lost, Pump, at_moment, env_of, next_packet, stepped}
 use Rattle.mqtt_rules.specs.declared.Limits.{Limits}
+use Rattle.mqtt_rules_whole_laws.specs.Whole.{FitsWhole}
 use Rattle.mqtt_world_receiver_laws.specs.Calls.{IsLingering, reads_old_answer, receiver_called, turned_back}
 use Rattle.mqtt_world_receiver_laws.specs.Handing.{IsListening, after_answer, reads_answer, receiver_lost}
 use Rattle.mqtt_world_receiver_laws.specs.Own.{IsInStep}
@@ -84,16 +84,16 @@ old_answers_in_step largest ids birth ns limits choice now x rest r l s b none k
 
 -- a pump leaves it in step
 pub pump_in_step : (largest : ℕ) (ids : List CopyId) (birth : ℕ) (ns : List ℕ) (limits : Limits) (choice : MemberChoice) (now : ℕ) (r : Receiver) (l : BrokerLine) (s : Session) (b : Broker)
-    → IsInStep largest ids birth ns r b → IsListening r l s b → l.largest ≡ largest → told_on l.number b.tellings ≡ none_told 0 → HasDistinctIdentifiers b.records
+    → IsInStep largest ids birth ns r b → IsListening r l s b → l.largest ≡ largest → FitsWhole l s → HasDistinctIdentifiers b.records
     → IsInStep largest ids birth ns (receiver_called limits choice now (Pump l.number) r b) (stepped limits choice now (Pump l.number) b)
-pump_in_step largest ids birth ns limits choice now r l s b k a fits untold distinct =
+pump_in_step largest ids birth ns limits choice now r l s b k a fits whole distinct =
     let first = at_moment now b in
     let served = call_served r.client birth ns limits choice now (Pump l.number) b
     (subst (AreSafe r.client birth ns) (sym (pump_is limits choice now l s b a.line a.connected a.session)) (safe_turns r.client birth ns first.now l.number s (pump_turns l first s))) k.served in
     record {
       runs = runs_for largest ids birth birth ns r (receiver_called limits choice now (Pump l.number) r b) b (stepped limits choice now (Pump l.number) b) k.runs served
-          (λ number h. pump_runs number largest h.after limits choice now r l s b h.run_is a fits untold distinct)
-          (λ number h. let x = session_is largest birth ids ns number r s b k.served a.session a.client h in pump_receives number largest h.after limits choice now r l s b h.run_is a fits untold distinct x.known);
+          (λ number h. pump_runs number largest h.after limits choice now r l s b h.run_is a fits whole distinct)
+          (λ number h. let x = session_is largest birth ids ns number r s b k.served a.session a.client h in pump_receives number largest h.after limits choice now r l s b h.run_is a fits whole distinct x.known);
       served = served;
       lines = record { own = k.lines.own; old = k.lines.old };
     }

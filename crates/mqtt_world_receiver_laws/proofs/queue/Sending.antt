@@ -27,11 +27,11 @@ use Rattle.mqtt_rules.specs.Deeds.{Deed, after_all, closing, output, rows_of_all
 use Rattle.mqtt_rules.specs.Flight.{HasDistinctIdentifiers, IsFlight}
 use Rattle.mqtt_rules.specs.Inbound.{pump_deeds}
 use Rattle.mqtt_rules.specs.Outbound.{all_turn_deeds, way_of}
-use Rattle.mqtt_rules.specs.State.{Line as BrokerLine, Broker, MemberChoice, line_at, queue_on, session_at, told_on}
+use Rattle.mqtt_rules.specs.State.{Line as BrokerLine, Broker, MemberChoice, line_at, queue_on, session_at}
 use Rattle.mqtt_rules.specs.Step.{Pump, at_moment, deeds, on_pump, stepped}
 use Rattle.mqtt_rules.specs.declared.Limits.{Limits}
-use Rattle.mqtt_rules_fitting_laws.proofs.Untold.{plain_pumps}
-use Rattle.mqtt_topic_aliases.specs.Told.{none_told}
+use Rattle.mqtt_rules_whole_laws.specs.Whole.{FitsWhole}
+use Rattle.mqtt_rules_whole_laws.proofs.WholePumps.{whole_pump}
 use Rattle.mqtt_world_receiver_laws.specs.Calls.{receiver_called}
 use Rattle.mqtt_world_receiver_laws.specs.Entering.{AreKnown, Receives}
 use Rattle.mqtt_world_receiver_laws.specs.Handing.{IsListening, IsRun, RunsOn}
@@ -91,7 +91,7 @@ none_of None = refl
 none_of (Some n) = refl
 
 module _ (number : Numbering) (largest : ℕ) (copies : List Lot) (limits : Limits) (choice : MemberChoice) (now : ℕ) (r : Receiver) (l : BrokerLine) (s : Session) (b : Broker)
-    (h : IsRun number largest copies r b) (c : IsListening r l s b) (fits : l.largest ≡ largest) (untold : told_on l.number b.tellings ≡ none_told 0)
+    (h : IsRun number largest copies r b) (c : IsListening r l s b) (fits : l.largest ≡ largest) (whole : FitsWhole l s)
     (distinct : HasDistinctIdentifiers b.records) where
   abbrev n : ℕ
   n = l.number
@@ -99,7 +99,7 @@ module _ (number : Numbering) (largest : ℕ) (copies : List Lot) (limits : Limi
   abbrev first : Broker
   first = at_moment now b
 
-  -- its client was told nothing, so each copy is too large or not by its whole topic
+  -- its copies fit with whole topics, so its pump goes by these
   abbrev ts : List Turn
   ts = rules.pump (way_of l first.now) (queue_on l.went s)
 
@@ -113,7 +113,7 @@ module _ (number : Numbering) (largest : ℕ) (copies : List Lot) (limits : Limi
   new = stepped limits choice now (Pump n) b
 
   pumps_are : deeds limits choice now (Pump n) b ≡ its_deeds
-  pumps_are = pump_is limits choice now l s b c.line c.connected c.session ∙ ap (all_turn_deeds first.now n s) (plain_pumps l first s untold c.places)
+  pumps_are = pump_is limits choice now l s b c.line c.connected c.session ∙ ap (all_turn_deeds first.now n s) (whole_pump l s whole first)
 
   standing_now : still_standing copies ≡ map (lot_on l.went) s.queue
   standing_now = standing_by copies r l s b h.queue_is c

@@ -6,7 +6,7 @@ use Rattle.mqtt_world_receiver_laws.proofs.queue.Sending.{pump_receives}
 use Rattle.mqtt_world_receiver_laws.proofs.ready_laws.a_receivers_session_may_receive_more.Goals as goal
 
 pub returns-clause-sends : goal.returns-clause-sends
-returns-clause-sends z number largest copies limits choice now r l s b h c x fits untold distinct = pump_receives number largest copies limits choice now r l s b h c fits untold distinct x.known
+returns-clause-sends z number largest copies limits choice now r l s b h c x fits whole distinct = pump_receives number largest copies limits choice now r l s b h c fits whole distinct x.known
 
 pub returns-clause-answers : goal.returns-clause-answers
 returns-clause-answers c = answers_receive
