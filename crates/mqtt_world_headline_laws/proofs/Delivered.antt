@@ -24,12 +24,11 @@ use Rattle.mqtt_world_unsent_laws.proofs.Unsent.{run_left_waiting, run_never_han
 use Rattle.mqtt_world_drain_laws.proofs.Emptied.{script_empties}
 use Rattle.mqtt_world_drain_cause_laws.proofs.DrainRuns.{script_ends}
 use Rattle.mqtt_world_drain_cause_laws.specs.Fitting.{AllDrainsFit}
-use Rattle.mqtt_world_reading_laws.specs.Sayable.{AreSayableDoings}
-use Rattle.mqtt_world_reading_laws.proofs.Scripts.{drains_fit}
+use Rattle.mqtt_world_drain_cause_laws.proofs.Fitting.{drains_fit}
 use Rattle.mqtt_world_headline_laws.specs.Delivery.{DeliversExactlyOnce, DoingsDeliver, HandsOverOnce}
-use Rattle.mqtt_world_headline_laws.specs.Lives.{AreFairLives, AreSayableLives, BeginsWell, BrokerLife, IsFairScript, after_lives}
+use Rattle.mqtt_world_headline_laws.specs.Lives.{AreFairLives, BeginsWell, BrokerLife, IsFairScript, after_lives}
 use Rattle.mqtt_world_headline_laws.proofs.Drained.{each_drains}
-use Rattle.mqtt_world_headline_laws.proofs.Lives.{lives_begin, lives_send}
+use Rattle.mqtt_world_headline_laws.proofs.Lives.{lives_begin}
 
 -- ---- a run
 
@@ -91,16 +90,16 @@ script_delivers limits ds w m fair = record {
   is_run = drains_are_runs limits ds w;
   delivers = run_delivers_all limits (all_turns limits ds w) w m fair;
   drained = each_drains limits ds w (script_empties limits ds w m.untouched fair) (script_ends limits ds w m.untouched fair);
-  fit = λ sends say. drains_fit limits ds w m.untouched sends fair say;
+  fit = drains_fit limits ds w m.untouched fair;
 }
 
 -- so does one behind any lives of the broker
 pub lives_deliver : (limits : Limits) (ls : List BrokerLife) (ds : List Doing) → AreWithin limits → AreFairLives limits ls → IsFairScript limits ds (after_lives limits ls) → DoingsDeliver limits ds (after_lives limits ls)
 lives_deliver limits ls ds within h fair = script_delivers limits ds (after_lives limits ls) (lives_begin limits ls within h) fair
 
--- and then no copy of a drain is too large, if all can be said
-pub lives_fit : (limits : Limits) (ls : List BrokerLife) (ds : List Doing) → AreWithin limits → AreFairLives limits ls → AreSayableLives ls → IsFairScript limits ds (after_lives limits ls) → AreSayableDoings ds → AllDrainsFit limits ds (after_lives limits ls)
-lives_fit limits ls ds within h said fair say = (lives_deliver limits ls ds within h fair).fit (lives_send limits ls within h said) say
+-- and then no copy of a drain is too large
+pub lives_fit : (limits : Limits) (ls : List BrokerLife) (ds : List Doing) → AreWithin limits → AreFairLives limits ls → IsFairScript limits ds (after_lives limits ls) → AllDrainsFit limits ds (after_lives limits ls)
+lives_fit limits ls ds within h fair = (lives_deliver limits ls ds within h fair).fit
 
 -- ---- from nothing stored
 

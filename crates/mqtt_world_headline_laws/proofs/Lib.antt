@@ -3,7 +3,6 @@ pub mod Lives
 pub mod Drained
 pub mod Delivered
 pub mod Examples
-pub mod SaidExamples
 pub mod LimitExamples
 pub mod OrderExamples
 pub mod RefusedExamples

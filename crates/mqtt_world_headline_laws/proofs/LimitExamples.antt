@@ -2,6 +2,8 @@
 -- they have expired, and then has its place, with Clean Start too (MQTT 5.0, 3.1.2.4, 3.1.2.11.2, 3.2.2.2).
 use Rattle.std.proofs.Common.{◌≡◌, ℕ, true, List, [], ◌∷◌, ◌++◌, refl, arith}
 use Rattle.std.specs.Prelude.{codes}
+use Rattle.std.specs.Str.{is_utf8, chars}
+use Rattle.std.proofs.Math.Utf8.{encode}
 use Rattle.mqtt_base.specs.Values.{varint}
 use Rattle.mqtt_records.specs.Records.{nothing}
 use Rattle.mqtt_records.specs.declared.records.Records.{Records}
@@ -37,7 +39,7 @@ comes = publisher p1 ∷ publish p1 draft ∷ joins p1 true
 -- with two sessions where one may be, none begins
 pub two_stand_and_none_begins : after_opening comes
     ≡ record { handed = []; queue = 0; messages = 1; done = 0; publications = 0; sessions = 2 }
-unfolding varint
+unfolding varint is_utf8 chars encode
 two_stand_and_none_begins = refl
 
 -- once both have expired, each at a tick, it has a place, and its message goes out
@@ -47,7 +49,7 @@ comes_later = comes ++ clock 6000 ∷ ask tick ∷ ask tick ∷ joins p1 true ++
 -- one whose session stands goes on
 pub its_session_begins : after_opening comes_later
     ≡ record { handed = []; queue = 0; messages = 1; done = 1; publications = 1; sessions = 1 }
-unfolding varint
+unfolding varint is_utf8 chars encode
 its_session_begins = refl
 
 -- and so another may begin instead of it
@@ -57,10 +59,10 @@ comes_anew = comes_later ++ give_up p1 ∷ joins p1 true
 -- and another may begin in its place
 pub another_begins_instead : after_opening comes_anew
     ≡ record { handed = []; queue = 0; messages = 1; done = 1; publications = 1; sessions = 1 }
-unfolding varint
+unfolding varint is_utf8 chars encode
 another_begins_instead = refl
 
 -- that run is fair
 pub its_run_is_fair : IsFair small (turns comes_anew) crowded
-unfolding varint
+unfolding varint is_utf8 chars encode
 its_run_is_fair = record { within = record { queue = omega arith; sessions = omega arith; retained = omega arith }; unspent = refl; clean = refl }

@@ -21,12 +21,8 @@ use Rattle.mqtt_world_delivery_laws.specs.Untouched.{IsUntouched}
 use Rattle.mqtt_world_delivery_laws.proofs.broker.Alone.{run_keeps}
 use Rattle.mqtt_world_delivery_laws.proofs.whole.EveryRun.{fair_run_kept, run_opens_under}
 use Rattle.mqtt_world_delivery_laws.proofs.broker.Untouched.{start_untouched}
-use Rattle.mqtt_rules_spelling_laws.specs.Sending.{SendsWell}
-use Rattle.mqtt_rules_spelling_laws.proofs.Steps.{well_reopened}
 use Rattle.mqtt_world_unsent_laws.proofs.Once.{run_once}
-use Rattle.mqtt_world_reading_laws.specs.Sayable.{AreSayable}
-use Rattle.mqtt_world_reading_laws.proofs.Scripts.{all_said, sends_on, start_sends}
-use Rattle.mqtt_world_headline_laws.specs.Lives.{AreFairLives, AreSayableLives, BeginsWell, BrokerLife, after_lives}
+use Rattle.mqtt_world_headline_laws.specs.Lives.{AreFairLives, BeginsWell, BrokerLife, after_lives}
 
 -- ---- copies that may come yet, over a run
 
@@ -87,27 +83,4 @@ lives_begin limits (l ∷ ls) within h =
     let is = drains_are_runs l.limits l.doings w in
     subst (λ (v : World). BeginsWell limits (opened_world limits l.choice l.now v.broker.records)) (sym is)
     (run_begins_under l.limits limits (all_turns l.limits l.doings w) l.choice l.now w (lives_begin l.limits ls h.1.fair.within h.0) h.1.fair within
-    (subst (λ (v : World). is_opening_spent limits l.choice l.now v.broker.records ≡ false) is h.1.unspent))
-
--- ---- and the broker sends well still
-
--- it sends well under whatever limits it is opened
-pub run_sends_under : (limits others : Limits) (ts : List Turn) (choice : MemberChoice) (now : ℕ) (w : World) → BeginsWell limits w → SendsWell w.broker → IsFair limits ts w → AreSayable ts → is_opening_spent others choice now (run limits ts w).broker.records ≡ false
-    → SendsWell (opened_world others choice now (run limits ts w).broker.records).broker
-run_sends_under limits others ts choice now w m sends fair say unspent = well_reopened others choice now (run limits ts w).broker unspent (sends_on limits ts w m.untouched.new sends fair say)
-
--- and it sends well
-pub run_sends : (limits : Limits) (ts : List Turn) (choice : MemberChoice) (now : ℕ) (w : World) → BeginsWell limits w → SendsWell w.broker → IsFair limits ts w → AreSayable ts → is_opening_spent limits choice now (run limits ts w).broker.records ≡ false
-    → SendsWell (opened_world limits choice now (run limits ts w).broker.records).broker
-run_sends limits ts choice now w m sends fair say unspent = run_sends_under limits limits ts choice now w m sends fair say unspent
-
--- so it is behind any lives
-pub lives_send : (limits : Limits) (ls : List BrokerLife) → AreWithin limits → AreFairLives limits ls → AreSayableLives ls → SendsWell (after_lives limits ls).broker
-lives_send limits [] within h said = start_sends limits within
-lives_send limits (l ∷ ls) within h said =
-    let w = after_lives l.limits ls in
-    let is = drains_are_runs l.limits l.doings w in
-    let own = h.1.fair.within in
-    subst (λ (v : World). SendsWell (opened_world limits l.choice l.now v.broker.records).broker) (sym is)
-    (run_sends_under l.limits limits (all_turns l.limits l.doings w) l.choice l.now w (lives_begin l.limits ls own h.0) (lives_send l.limits ls own h.0 said.0) h.1.fair (all_said l.limits l.doings w said.1)
     (subst (λ (v : World). is_opening_spent limits l.choice l.now v.broker.records ≡ false) is h.1.unspent))

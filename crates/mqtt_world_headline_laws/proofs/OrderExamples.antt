@@ -1,6 +1,8 @@
 -- A worked run: two copies that never stood in a queue together are in the ledger as they entered (MQTT 5.0, 4.3.3, 4.6).
 use Rattle.std.proofs.Common.{◌≡◌, ℕ, true, false, List, [], ◌∷◌, ◌++◌, map, Option, Some, refl}
 use Rattle.std.specs.Prelude.{option_map}
+use Rattle.std.specs.Str.{is_utf8, chars}
+use Rattle.std.proofs.Math.Utf8.{encode}
 use Rattle.mqtt_base.specs.Values.{varint}
 use Rattle.mqtt_base.specs.declared.session.Cause.TheVariants.{Direct}
 use Rattle.mqtt_base.specs.declared.session.CopyId.{CopyId}
@@ -40,32 +42,32 @@ one_by_one = map happens (turns (begun 10 ++ says)) ++ drains first r1 3 ∷ map
 
 -- the first has left the queue before the second enters
 pub the_first_is_gone : waiting_for r1 (after_doings usual (map happens (turns (begun 10 ++ says)) ++ drains first r1 3 ∷ []) start) ≡ 0
-unfolding varint
+unfolding varint is_utf8 chars encode
 the_first_is_gone = refl
 
 -- the copies that enter, in order
 pub both_entered : entered_from usual (all_turns usual one_by_one start) start ≡ copy 1 ∷ copy 2 ∷ []
-unfolding varint
+unfolding varint is_utf8 chars encode
 both_entered = refl
 
 -- the ledger has both, in that order
 pub both_were_handed_over : ledger_in (after_doings usual one_by_one start) ≡ Some (copy 1 ∷ copy 2 ∷ [])
-unfolding varint
+unfolding varint is_utf8 chars encode
 both_were_handed_over = refl
 
 -- so the ledger stands among what entered
 pub they_stand_as_they_entered : stand_among (copy 1 ∷ copy 2 ∷ []) (entered_from usual (all_turns usual one_by_one start) start) ≡ true
-unfolding varint
+unfolding varint is_utf8 chars encode
 they_stand_as_they_entered = refl
 
 -- and in no other order
 pub they_do_not_the_other_way : stand_among (copy 2 ∷ copy 1 ∷ []) (entered_from usual (all_turns usual one_by_one start) start) ≡ false
-unfolding varint
+unfolding varint is_utf8 chars encode
 they_do_not_the_other_way = refl
 
 -- all that is asked of a script
 pub one_by_one_is_fair : IsFairScript usual one_by_one start
-unfolding varint
+unfolding varint is_utf8 chars encode
 one_by_one_is_fair = record { within = usual_within; unspent = refl; clean = refl }
 
 -- so the law holds of it

@@ -16,6 +16,7 @@ use Rattle.mqtt_codec.specs.Ack.{ack_at}
 use Rattle.mqtt_codec.specs.Tails.{tail_at}
 use Rattle.mqtt_codec.specs.Frames.{frame_at, body_at, versioned_at, lawful_at, packet_at}
 use Rattle.mqtt_packet.specs.Front.{size_at, first_of}
+use Rattle.mqtt_rules.specs.declared.Limits.{Limits}
 use Rattle.mqtt_rules.proofs.examples.Play.{bytes, first, usual}
 use Rattle.mqtt_world_model.specs.Ends.{Draft}
 use Rattle.mqtt_world_model.specs.Run.{deeds_over, ended_in}
@@ -42,8 +43,9 @@ unanswered = record {
   now = 0;
 }
 
-abbrev pub opened_then : World
-opened_then = after_lives usual (unanswered ∷ [])
+-- opened under any limits: a word without arguments would be computed once, and the words of UTF-8 are shut in it
+abbrev pub opened_then : Limits → World
+opened_then limits = after_lives limits (unanswered ∷ [])
 
 -- ---- a second one: a stranger connects by that client identifier, and refuses what was sent
 
@@ -57,26 +59,26 @@ abbrev pub refused_life : List Doing
 refused_life = map happens (turns refusing)
 
 -- the copy stands still as the second life begins
-pub one_is_stored : waiting_for r1 opened_then ≡ 1
-unfolding varint
+pub one_is_stored : waiting_for r1 (opened_then usual) ≡ 1
+unfolding varint is_utf8 chars encode
 one_is_stored = refl
 
 -- it is the one copy that ends there, and that is its end
-pub it_ends_as_refused : filter_map ended_in (deeds_over usual (turns refusing) opened_then)
+pub it_ends_as_refused : filter_map ended_in (deeds_over usual (turns refusing) (opened_then usual))
     ≡ record { client = r1; copy = first_copy; qos = AtLeastOnce; by = Refused } ∷ []
 unfolding varint first_of size_at packet_at frame_at versioned_at lawful_at body_at connect_at fields_at will_at user_name_at password_at layout_at block_at items_at items_in text_at blob_at is_utf8 chars encode varint_at groups_at prop_at value_at ack_at tail_at
 it_ends_as_refused = refl
 
 -- all that is asked of the first life
 pub it_is_unanswered_fairly : IsFairLife usual unanswered start
-unfolding varint
+unfolding varint is_utf8 chars encode
 it_is_unanswered_fairly = record { fair = record { within = usual_within; unspent = refl; clean = refl }; unspent = refl }
 
 -- and of the second
-pub its_refusal_is_fair : IsFairScript usual refused_life opened_then
+pub its_refusal_is_fair : IsFairScript usual refused_life (opened_then usual)
 unfolding varint first_of size_at packet_at frame_at versioned_at lawful_at body_at connect_at fields_at will_at user_name_at password_at layout_at block_at items_at items_in text_at blob_at is_utf8 chars encode varint_at groups_at prop_at value_at ack_at tail_at
 its_refusal_is_fair = record { within = usual_within; unspent = refl; clean = refl }
 
 -- so the law holds of it
-pub its_refusal_delivers : DoingsDeliver usual refused_life opened_then
+pub its_refusal_delivers : DoingsDeliver usual refused_life (opened_then usual)
 its_refusal_delivers = lives_deliver usual (unanswered ∷ []) refused_life usual_within (tt, it_is_unanswered_fairly) its_refusal_is_fair

@@ -2,6 +2,8 @@
 -- 3.3.1.3, 3.8.4).
 use Rattle.std.proofs.Common.{◌≡◌, ℕ, true, false, List, [], ◌∷◌, ◌++◌, filter, map, refl}
 use Rattle.std.specs.Prelude.{codes}
+use Rattle.std.specs.Str.{is_utf8, chars}
+use Rattle.std.proofs.Math.Utf8.{encode}
 use Rattle.mqtt_base.specs.Values.{varint}
 use Rattle.mqtt_base.specs.declared.session.Cause.TheVariants.{Direct, Retained}
 use Rattle.mqtt_base.specs.declared.session.CopyId.{CopyId}
@@ -44,27 +46,27 @@ brought number = record { publication = 1; birth = 3; cause = Retained number }
 
 -- what enters: the copy of the routing, and one for each SUBSCRIBE of r2
 pub two_are_brought_later : entered_from usual (all_turns usual brought_twice start) start ≡ routed ∷ brought 2 ∷ brought 3 ∷ []
-unfolding varint
+unfolding varint is_utf8 chars encode
 two_are_brought_later = refl
 
 -- of the routing there is one copy alone
 pub neither_is_of_the_routing : filter (is_own 1) (entered_from usual (all_turns usual brought_twice start) start) ≡ routed ∷ []
-unfolding varint
+unfolding varint is_utf8 chars encode
 neither_is_of_the_routing = refl
 
 -- r2 is handed the one publication twice, as two copies
 pub both_are_handed_over : handed_by (receiver_named r2 (after_doings usual brought_twice start)) ≡ 1 ∷ 1 ∷ []
-unfolding varint
+unfolding varint is_utf8 chars encode
 both_are_handed_over = refl
 
 -- and each of them ends once
 pub both_end_as_taken : ended_from usual (all_turns usual brought_twice start) start ≡ brought 2 ∷ brought 3 ∷ []
-unfolding varint
+unfolding varint is_utf8 chars encode
 both_end_as_taken = refl
 
 -- all that is asked of a script
 pub brought_twice_is_fair : IsFairScript usual brought_twice start
-unfolding varint
+unfolding varint is_utf8 chars encode
 brought_twice_is_fair = record { within = usual_within; unspent = refl; clean = refl }
 
 -- so the law holds of it

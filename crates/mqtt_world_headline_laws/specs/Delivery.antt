@@ -26,8 +26,6 @@ use Rattle.mqtt_world_unsent_laws.specs.Unsent.{IsOver, WasLeftWaiting, WasNever
 use Rattle.mqtt_world_drain_laws.specs.Emptied.{EmptiesQueue}
 use Rattle.mqtt_world_drain_cause_laws.specs.DrainEnds.{EndOfDrain}
 use Rattle.mqtt_world_drain_cause_laws.specs.Fitting.{AllDrainsFit}
-use Rattle.mqtt_rules_spelling_laws.specs.Sending.{SendsWell}
-use Rattle.mqtt_world_reading_laws.specs.Sayable.{AreSayableDoings}
 
 -- ---- messages are accepted once
 
@@ -123,9 +121,9 @@ EachDrains limits (d ∷ ds) w = DrainsWhere limits d w × EachDrains limits ds 
 -- ---- a script
 
 -- It is the run of its events and of those that its drains are made of; all holds of that run, and of each drain. No copy ends in
--- a drain as too large, if the broker sends well at the beginning, the script's texts are texts, and strangers send bytes
+-- a drain as too large
 pub record DoingsDeliver (limits : Limits) (ds : List Doing) (w : World) : Type 0 where
   pub is_run : after_doings limits ds w ≡ run limits (all_turns limits ds w) w
   pub delivers : DeliversExactlyOnce limits (all_turns limits ds w) w
   pub drained : EachDrains limits ds w
-  pub fit : SendsWell w.broker → AreSayableDoings ds → AllDrainsFit limits ds w
+  pub fit : AllDrainsFit limits ds w

@@ -9,7 +9,6 @@ use Rattle.mqtt_world_acceptance_laws.specs.Fair.{IsFair, opened_world}
 use Rattle.mqtt_world_acceptance_laws.specs.Identities.{TellsApart}
 use Rattle.mqtt_world_receiver_laws.specs.Drains.{Doing, after_doings, all_turns}
 use Rattle.mqtt_world_delivery_laws.specs.Untouched.{IsUntouched}
-use Rattle.mqtt_world_reading_laws.specs.Sayable.{AreSayableDoings}
 
 -- nobody is there; the tables are as a broker leaves them, tell their copies apart, and have numbers of publications that were
 -- accepted
@@ -48,8 +47,3 @@ pub record IsFairLife (limits : Limits) (l : BrokerLife) (w : World) : Type 0 wh
 abbrev pub AreFairLives : Limits → List BrokerLife → Type 0
 AreFairLives limits [] = ⊤
 AreFairLives limits (l ∷ ls) = AreFairLives l.limits ls × IsFairLife limits l (after_lives l.limits ls)
-
--- the texts of each script are texts, and strangers send bytes
-abbrev pub AreSayableLives : List BrokerLife → Type 0
-AreSayableLives [] = ⊤
-AreSayableLives (l ∷ ls) = AreSayableLives ls × AreSayableDoings l.doings

@@ -10,12 +10,9 @@ ghost use Rattle.mqtt_world_model.specs.World.{World, start};
 ghost use Rattle.mqtt_world_acceptance_laws.specs.Fair.{IsFair, opened_world};
 ghost use Rattle.mqtt_world_receiver_laws.specs.Drains.{Doing};
 ghost use Rattle.mqtt_world_drain_cause_laws.specs.Fitting.{AllDrainsFit};
-ghost use Rattle.mqtt_rules_spelling_laws.specs.Sending.{SendsWell};
-ghost use Rattle.mqtt_world_reading_laws.specs.Sayable.{AreSayable, AreSayableDoings};
 ghost use Rattle.mqtt_world_headline_laws.specs.Delivery.{DeliversExactlyOnce, DoingsDeliver};
 ghost use Rattle.mqtt_world_headline_laws.specs.Lives.{
   AreFairLives,
-  AreSayableLives,
   BeginsWell,
   BrokerLife,
   IsFairScript,
@@ -27,15 +24,14 @@ ghost use Rattle.mqtt_world_headline_laws.specs.Lives.{
 /// once, with what it carries. Of each publication exactly the intended copies enter queues, each once; each waits or has
 /// one end, for its cause. Each receiver is handed its copies once, in the order in which they entered, with their
 /// publications' contents; what ended as taken was handed over, what expired or made way for another never. Each drain that
-/// isn't bad empties its receiver's queue in a bounded number of rounds, and copies end in it by its causes. Asked: nothing
-/// but that each script is fair, and that opening spends no number; and, that no copy ends in a drain as too large, that the
-/// texts that the scripts bring are texts, and what strangers send is bytes (3.3.4, 4.3, 4.4, 4.6, 4.8, 4.9).
+/// isn't bad empties its receiver's queue in a bounded number of rounds, and copies end in it by its causes, none as too large.
+/// Asked: nothing but that each script is fair, and that opening spends no number (3.3.4, 4.3, 4.4, 4.6, 4.8, 4.9).
 pub fn messages_are_delivered_exactly_once()
     ensures delivers { (limits : Limits) (lives : List BrokerLife) (ds : List Doing) → AreWithin limits
         → AreFairLives limits lives → IsFairScript limits ds (after_lives limits lives)
         → DoingsDeliver limits ds (after_lives limits lives) }
-    ensures fits { (limits : Limits) (lives : List BrokerLife) (ds : List Doing) → AreWithin limits → AreFairLives limits lives
-        → AreSayableLives lives → IsFairScript limits ds (after_lives limits lives) → AreSayableDoings ds
+    ensures fits { (limits : Limits) (lives : List BrokerLife) (ds : List Doing) → AreWithin limits
+        → AreFairLives limits lives → IsFairScript limits ds (after_lives limits lives)
         → AllDrainsFit limits ds (after_lives limits lives) }
 
     // From any tables that are as a broker leaves them.
@@ -51,7 +47,8 @@ pub fn messages_are_delivered_exactly_once()
 {}
 
 /// So a run may begin: with nothing stored, or when the broker is opened on what any fair run has left that began so, under
-/// the limits of that run or under others, also if these are smaller than what stands (4.1).
+/// the limits of that run or under others, also if these are smaller than what stands; and the broker sends well there too
+/// (2.1.4, 2.2.1, 4.1).
 pub fn what_a_run_leaves_may_begin_another()
     ensures nothing { (limits : Limits) → AreWithin limits → BeginsWell limits start }
     ensures again { (limits : Limits) (ts : List Turn) (choice : MemberChoice) (now : ℕ) (w : World) → BeginsWell limits w
@@ -63,12 +60,4 @@ pub fn what_a_run_leaves_may_begin_another()
         → BeginsWell others (opened_world others choice now (run limits ts w).broker.records) }
     ensures lives { (limits : Limits) (lives : List BrokerLife) → AreWithin limits → AreFairLives limits lives
         → BeginsWell limits (after_lives limits lives) }
-
-    // The broker sends well still, so what fits on lines does so in the next one.
-    ensures sends { (limits : Limits) (ts : List Turn) (choice : MemberChoice) (now : ℕ) (w : World) → BeginsWell limits w
-        → SendsWell w.broker → IsFair limits ts w → AreSayable ts
-        → is_opening_spent limits choice now (run limits ts w).broker.records ≡ false
-        → SendsWell (opened_world limits choice now (run limits ts w).broker.records).broker }
-    ensures lives_send { (limits : Limits) (lives : List BrokerLife) → AreWithin limits → AreFairLives limits lives
-        → AreSayableLives lives → SendsWell (after_lives limits lives).broker }
 {}

@@ -23,6 +23,8 @@ use Rattle.mqtt_world_headline_laws.proofs.Delivered.{script_delivers}
 use Rattle.mqtt_rules_spelling_laws.specs.Sending.{HaveSentPhases, SendsWell}
 use Rattle.mqtt_rules_spelling_laws.proofs.Steps.{well_begun}
 use Rattle.mqtt_broker_reopening_laws.specs.Written.{IsWritten}
+use Rattle.mqtt_world_reopening_laws.specs.Reached.{WasLeft}
+use Rattle.mqtt_world_reopening_laws.proofs.Sending.{left_phases, left_written}
 use Rattle.mqtt_broker_reopening_laws.proofs.Facts.{facts_of}
 use Rattle.mqtt_broker_reopening_laws.proofs.ToldApart.{tells_apart}
 
@@ -30,14 +32,14 @@ use Rattle.mqtt_broker_reopening_laws.proofs.ToldApart.{tells_apart}
 pub retained_once : (r : Records) → IsWritten r → AreRetainedOnce r
 retained_once r w = w.publications
 
--- a world may begin on what a broker wrote
-pub written_begins : (limits : Limits) (choice : MemberChoice) (now : ℕ) (r : Records) → AreWithin limits → IsWritten r → is_opening_spent limits choice now r ≡ false → BeginsWell limits (opened_world limits choice now r)
-written_begins limits choice now r within w unspent =
+-- a world may begin on what a broker wrote, if identifiers of copies in flight have two bytes
+pub written_begins : (limits : Limits) (choice : MemberChoice) (now : ℕ) (r : Records) → AreWithin limits → IsWritten r → HaveSentPhases r → is_opening_spent limits choice now r ≡ false → BeginsWell limits (opened_world limits choice now r)
+written_begins limits choice now r within w phases unspent =
     let lawful = w.lawful in
     let f = facts_of r w in
     let may : MayOpen limits choice now r = record { coherent = lawful_coherent r lawful; unspent = unspent } in
     record {
-      untouched = opened_untouched limits choice now r within may (lawful_flight r lawful) (retained_once r w);
+      untouched = opened_untouched limits choice now r within may (lawful_flight r lawful) (retained_once r w) (lawful_contents r lawful) phases;
       apart = opened_apart limits choice now r within may (tells_apart r f.identities f.bounds);
       numbers = opening_accepted limits choice now r (lawful_accepted r lawful);
     }
@@ -51,6 +53,17 @@ pub written_sends : (limits : Limits) (choice : MemberChoice) (now : ℕ) (r : R
 written_sends limits choice now r w phases unspent = well_begun limits choice now r unspent w.lawful phases
 
 -- and what is played in it is delivered exactly once
-pub written_delivers : (limits : Limits) (choice : MemberChoice) (now : ℕ) (r : Records) (ds : List Doing) → AreWithin limits → IsWritten r → is_opening_spent limits choice now r ≡ false → IsFairScript limits ds (opened_world limits choice now r)
+pub written_delivers : (limits : Limits) (choice : MemberChoice) (now : ℕ) (r : Records) (ds : List Doing) → AreWithin limits → IsWritten r → HaveSentPhases r → is_opening_spent limits choice now r ≡ false → IsFairScript limits ds (opened_world limits choice now r)
     → DoingsDeliver limits ds (opened_world limits choice now r)
-written_delivers limits choice now r ds within w unspent fair = script_delivers limits ds (opened_world limits choice now r) (written_begins limits choice now r within w unspent) fair
+written_delivers limits choice now r ds within w phases unspent fair = script_delivers limits ds (opened_world limits choice now r) (written_begins limits choice now r within w phases unspent) fair
+
+-- ---- what a broker has left
+
+-- a world may begin on it, whatever faults came on its lines
+pub left_begins : (limits : Limits) (choice : MemberChoice) (now : ℕ) (r : Records) → AreWithin limits → WasLeft r → is_opening_spent limits choice now r ≡ false → BeginsWell limits (opened_world limits choice now r)
+left_begins limits choice now r within left unspent = written_begins limits choice now r within (left_written r left) (left_phases r left) unspent
+
+-- and what is played in it is delivered exactly once
+pub left_delivers : (limits : Limits) (choice : MemberChoice) (now : ℕ) (r : Records) (ds : List Doing) → AreWithin limits → WasLeft r → is_opening_spent limits choice now r ≡ false → IsFairScript limits ds (opened_world limits choice now r)
+    → DoingsDeliver limits ds (opened_world limits choice now r)
+left_delivers limits choice now r ds within left unspent fair = script_delivers limits ds (opened_world limits choice now r) (left_begins limits choice now r within left unspent) fair

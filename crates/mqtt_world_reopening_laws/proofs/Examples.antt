@@ -1,10 +1,9 @@
 -- A worked run of a world that begins on what a broker left: a message that went out became too large for its client, and a stranger
 -- that comes by that client identifier answers its PUBREL (MQTT 5.0, 3.1.2.11.4, 3.7, 4.1, 4.4).
-use Rattle.std.proofs.Common.{◌≡◌, ℕ, zero, suc, ◌<◌, ◌≤◌, Bool, true, false, ◌&&◌, List, [], ◌∷◌, ◌++◌, map, Some, None, Ok, refl, arith}
-use Rattle.std.specs.Prelude.{codes, filter_map, nat_lt, replicate}
+use Rattle.std.proofs.Common.{◌≡◌, ℕ, true, false, List, [], ◌∷◌, ◌++◌, map, Some, None, Ok, refl}
+use Rattle.std.specs.Prelude.{codes, filter_map, replicate}
 use Rattle.std.specs.Str.{is_utf8, chars}
 use Rattle.std.proofs.Math.Utf8.{encode}
-use Rattle.std.proofs.lemmas.Bool.Decides.{nat_tests}
 use Rattle.mqtt_base.specs.Values.{varint}
 use Rattle.mqtt_base.specs.Reading.{groups_at, varint_at, blob_at, text_at}
 use Rattle.mqtt_base.specs.Items.{items_in, items_at}
@@ -30,43 +29,25 @@ use Rattle.mqtt_rules.specs.Contents.{IsTaken}
 use Rattle.mqtt_rules.specs.Laws.{Asked, Event, after_events, blank}
 use Rattle.mqtt_rules.specs.State.{stored}
 use Rattle.mqtt_rules.specs.Step.{Call, Input, Lost, NewLine, Pump, is_opening_spent}
-use Rattle.mqtt_rules.proofs.contents.PassedContents.{two}
 use Rattle.mqtt_rules.proofs.examples.Play.{bytes, first, hello, hello_with, message, never_expires, topic, usual, wants}
 use Rattle.mqtt_world_model.specs.Run.{deeds_over, ended_in}
-use Rattle.mqtt_world_model.specs.World.{Event as Happening, World, ask, stranger, call_on}
+use Rattle.mqtt_world_model.specs.World.{Event as Happening, World, are_bytes, ask, call_on, stranger}
 use Rattle.mqtt_world_model.proofs.examples.Scripts.{first_copy, p1, r1, turns}
 use Rattle.mqtt_world_acceptance_laws.specs.Fair.{opened_world}
 use Rattle.mqtt_world_receiver_laws.specs.Drains.{Doing, happens}
-use Rattle.mqtt_world_reading_laws.specs.Sayable.{AreBytes}
-use Rattle.mqtt_world_reading_laws.proofs.Asked.{IsWellIf, no_bytes, stranger_well}
+use Rattle.mqtt_world_reading_laws.proofs.Asked.{IsWellIf, stranger_well, tested_bytes}
 use Rattle.mqtt_world_headline_laws.specs.Delivery.{DoingsDeliver}
 use Rattle.mqtt_world_headline_laws.specs.Lives.{IsFairScript}
 use Rattle.mqtt_world_headline_laws.proofs.Examples.{usual_within}
 use Rattle.mqtt_broker_reopening_laws.specs.Written.{AreFair}
 use Rattle.mqtt_world_reopening_laws.specs.Reached.{WasLeft}
-use Rattle.mqtt_world_reopening_laws.proofs.Begun.{written_delivers}
-use Rattle.mqtt_world_reopening_laws.proofs.Sending.{left_written}
+use Rattle.mqtt_world_reopening_laws.proofs.Begun.{left_delivers}
 
 -- ---- packets that are read off bytes
 
-below_256 : (x : ℕ) → nat_lt x 256 ≡ true → x < 256
-below_256 x h = grind (arith, nat_tests)
-
-abbrev are_bytes : List ℕ → Bool
-are_bytes [] = true
-are_bytes (x ∷ xs) = nat_lt x 256 && are_bytes xs
-
-bytes_by : (xs : List ℕ) → are_bytes xs ≡ true → AreBytes xs
-bytes_by [] h = no_bytes
-bytes_by (x ∷ xs) h = let both = two (nat_lt x 256) (are_bytes xs) h in by (below_256 x both.0) (bytes_by xs both.1)
-  where
-    by : x < 256 → AreBytes xs → AreBytes (x ∷ xs)
-    by here rest zero = here
-    by here rest (suc i) = rest i
-
 taken_of : (text : List ℕ) (packet : Packet) (n : ℕ) → are_bytes text ≡ true → first_of text ≡ Ok (Some (packet, n)) → IsTaken packet
 taken_of text packet n each e =
-    let well : IsWellIf (call_on (Some 1) text) = stranger_well (Some (record { name = []; number = Some 1; held = text })) (bytes_by text each) in
+    let well : IsWellIf (call_on (Some 1) text) = stranger_well (Some (record { name = []; number = Some 1; held = text })) (tested_bytes text each) in
     (rw e at well).taken
 
 -- ---- a broker's run: r1 takes any packet, and then 64 bytes
@@ -111,7 +92,7 @@ outgrown =
     ∷ asked NewLine ∷ asked (Input 3 (hello_with r1 small_one None)) ∷ asked (Pump 3) ∷ []
 
 it_is_asked_fairly : AreFair outgrown blank
-unfolding varint
+unfolding varint is_utf8 chars encode
 it_is_asked_fairly =
     ((usual_within, tt, refl), ((usual_within, hello_taken, refl), ((usual_within, wish_taken, refl), ((usual_within, tt, refl), ((usual_within, greeting_taken, refl), ((usual_within, large_taken, refl), ((usual_within, tt, refl), ((usual_within, tt, refl), ((usual_within, tt, refl), ((usual_within, small_taken, refl), ((usual_within, tt, refl), tt)))))))))))
 
@@ -141,7 +122,7 @@ unfolding varint first_of size_at packet_at frame_at versioned_at lawful_at body
 it_ends_as_too_large = refl
 
 opened_unspent : is_opening_spent usual first 0 left ≡ false
-unfolding varint
+unfolding varint is_utf8 chars encode
 opened_unspent = refl
 
 -- all that is asked of a script
@@ -151,4 +132,4 @@ its_completion_is_fair = record { within = usual_within; unspent = refl; clean =
 
 -- so the law holds of it
 pub its_completion_delivers : DoingsDeliver usual completed_life opened_then
-its_completion_delivers = written_delivers usual first 0 left completed_life usual_within (left_written left it_was_left) opened_unspent its_completion_is_fair
+its_completion_delivers = left_delivers usual first 0 left completed_life usual_within it_was_left opened_unspent its_completion_is_fair

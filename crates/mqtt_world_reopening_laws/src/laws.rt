@@ -32,13 +32,12 @@ pub fn what_a_broker_left_has_identifiers_of_two_bytes()
 {}
 
 /// So a run may begin when the broker is opened on what any broker wrote, under whatever limits, also if more sessions stand
-/// and queues are longer than these allow: its contents are lawful, and all of exactly-once delivery holds of every fair script
-/// from there. Opened on what a broker has left after any fair openings and calls from nothing stored it sends well, so that
-/// what is read in a run from there is lawful. So it does on whatever else is as a broker writes it, if each packet identifier
-/// in flight there has two bytes (2.2.1, 4.1).
+/// and queues are longer than these allow, if each packet identifier in flight there has two bytes: its contents are lawful, it
+/// sends well, and all of exactly-once delivery holds of every fair script from there. So it is when it is opened on what a
+/// broker has left after any fair openings and calls from nothing stored, of which nothing else is asked (2.2.1, 4.1).
 pub fn a_world_may_begin_on_what_a_broker_wrote()
     ensures begins { (limits : TheLimits) (choice : MemberChoice) (now : ℕ) (r : Records) → AreWithin limits
-        → IsWritten r → is_opening_spent limits choice now r ≡ false
+        → IsWritten r → HaveSentPhases r → is_opening_spent limits choice now r ≡ false
         → BeginsWell limits (opened_world limits choice now r) }
     ensures contents { (limits : TheLimits) (choice : MemberChoice) (now : ℕ) (r : Records) → IsWritten r
         → AreContentsLawful (opened_world limits choice now r).broker }
@@ -48,7 +47,16 @@ pub fn a_world_may_begin_on_what_a_broker_wrote()
         → HaveSentPhases r → is_opening_spent limits choice now r ≡ false
         → SendsWell (opened_world limits choice now r).broker }
     ensures delivers { (limits : TheLimits) (choice : MemberChoice) (now : ℕ) (r : Records) (ds : List Doing) → AreWithin limits
-        → IsWritten r → is_opening_spent limits choice now r ≡ false
+        → IsWritten r → HaveSentPhases r → is_opening_spent limits choice now r ≡ false
+        → IsFairScript limits ds (opened_world limits choice now r)
+        → DoingsDeliver limits ds (opened_world limits choice now r) }
+
+    // On what a broker has left.
+    ensures left_begins { (limits : TheLimits) (choice : MemberChoice) (now : ℕ) (r : Records) → AreWithin limits
+        → WasLeft r → is_opening_spent limits choice now r ≡ false
+        → BeginsWell limits (opened_world limits choice now r) }
+    ensures left_delivers { (limits : TheLimits) (choice : MemberChoice) (now : ℕ) (r : Records) (ds : List Doing)
+        → AreWithin limits → WasLeft r → is_opening_spent limits choice now r ≡ false
         → IsFairScript limits ds (opened_world limits choice now r)
         → DoingsDeliver limits ds (opened_world limits choice now r) }
 {}

@@ -7,8 +7,7 @@ use Rattle.mqtt_rules_granting_laws.proofs.Steps.{opening_named}
 use Rattle.mqtt_world_model.specs.World.{World, start}
 use Rattle.mqtt_world_receiver_laws.specs.Drains.{Doing, after_doings, all_turns}
 use Rattle.mqtt_world_receiver_laws.proofs.drains.DrainRuns.{drains_are_runs}
-use Rattle.mqtt_world_reading_laws.specs.Sayable.{AreSayableDoings}
-use Rattle.mqtt_world_headline_laws.specs.Lives.{AreFairLives, AreSayableLives, BrokerLife, IsFairScript, after_lives}
+use Rattle.mqtt_world_headline_laws.specs.Lives.{AreFairLives, BrokerLife, IsFairScript, after_lives}
 use Rattle.mqtt_world_headline_laws.proofs.Delivered.{lives_deliver, lives_fit}
 use Rattle.mqtt_world_headline_laws.proofs.Delivered as meant_delivered
 use Rattle.mqtt_world_headline_laws.proofs.Lives.{start_begins}
@@ -54,12 +53,12 @@ forms_deliver most limits ls ds within fair_lives fair =
     let w = after_lives limits ls in
     script_delivers most limits ds (begun w) w (lives_pair most limits ls) (lives_deliver limits ls ds within fair_lives fair)
 
--- and no copy of its drains is too large, if all can be said
-pub forms_fit : (most : Most) (limits : Limits) (ls : List BrokerLife) (ds : List Doing) → AreWithin limits → AreFairLives limits ls → AreSayableLives ls
-    → IsFairScript limits ds (after_lives limits ls) → AreSayableDoings ds → AllDrainsFit most limits ds (begun (after_lives limits ls))
-forms_fit most limits ls ds within fair_lives said fair say =
+-- and no copy of its drains is too large
+pub forms_fit : (most : Most) (limits : Limits) (ls : List BrokerLife) (ds : List Doing) → AreWithin limits → AreFairLives limits ls
+    → IsFairScript limits ds (after_lives limits ls) → AllDrainsFit most limits ds (begun (after_lives limits ls))
+forms_fit most limits ls ds within fair_lives fair =
     let w = after_lives limits ls in
-    drains_fit most limits ds (begun w) w (lives_pair most limits ls) (lives_fit limits ls ds within fair_lives said fair say)
+    drains_fit most limits ds (begun w) w (lives_pair most limits ls) (lives_fit limits ls ds within fair_lives fair)
 
 -- from nothing stored
 pub nothing_delivers : (most : Most) (limits : Limits) (ds : List Doing) → IsFairScript limits ds start → DoingsDeliver most limits ds start_as_sent

@@ -26,7 +26,7 @@ use Rattle.mqtt_world_unsent_laws.specs.Unsent.{IsOver, IsUnread, WasLeftWaiting
 use Rattle.mqtt_world_headline_laws.specs.Delivery as meant_delivery
 use Rattle.mqtt_world_telling_laws.specs.AsSent.{AsSent, Most, run}
 use Rattle.mqtt_world_telling_laws.proofs.Ends.{receiver_with}
-use Rattle.mqtt_world_telling_headline_laws.specs.Reading.{Course, accepted_over, course, entered, from_over, times_accepted}
+use Rattle.mqtt_world_telling_headline_laws.specs.Reading.{Course, course, entered, from_over, times_accepted}
 use Rattle.mqtt_world_telling_headline_laws.specs.Delivery.{AcceptsOnce, DeliversExactlyOnce, EndsAllOnce, EntersAllOnce, EntersAsIntended, HandsOverAll, HandsOverFrom, HandsOverOnce, IsAcceptedOnce}
 use Rattle.mqtt_world_telling_headline_laws.proofs.Courses.{accepted_same, course_same, deeds_same, from_same, meant_course, same_broker}
 use Rattle.mqtt_world_telling_headline_laws.proofs.Found.{Finds, by_other, same_contents, same_fate, same_receiver}

@@ -2,6 +2,8 @@
 -- stands for (MQTT 5.0, 3.3.2.3.4, 4.3.3).
 use Rattle.std.proofs.Common.{◌≡◌, ℕ, false, List, [], ◌∷◌, ◌++◌, map, Option, Some, refl}
 use Rattle.std.specs.Prelude.{option_map}
+use Rattle.std.specs.Str.{is_utf8, chars}
+use Rattle.std.proofs.Math.Utf8.{encode}
 use Rattle.mqtt_base.specs.Values.{varint}
 use Rattle.mqtt_rules.proofs.examples.Play.{first, topic, usual}
 use Rattle.mqtt_world_model.specs.Ends.{Entry, Receiver}
@@ -34,17 +36,17 @@ read_of most = option_map (λ (r : Receiver). map (λ (e : Entry). e.body.topic)
 
 -- both are handed over, with the topic
 pub both_are_handed_over : read_of one ≡ Some (topic ∷ topic ∷ [])
-unfolding varint
+unfolding varint is_utf8 chars encode
 both_are_handed_over = refl
 
 -- the alias stands for it then
 pub its_alias_is_known : (after_doings one usual script start_as_sent).known ≡ record { max = 1; topics = (1, topic) ∷ [] } ∷ []
-unfolding varint
+unfolding varint is_utf8 chars encode
 its_alias_is_known = refl
 
 -- the script is fair
 pub the_script_is_fair : IsFairScript usual script start
-unfolding varint
+unfolding varint is_utf8 chars encode
 the_script_is_fair = record { within = usual_within; unspent = refl; clean = refl }
 
 -- so it delivers exactly once, in forms

@@ -2,7 +2,6 @@
 use Rattle.std.proofs.Common.{List, [], ◌∷◌, sym, ap, subst, ◌∙◌}
 use Rattle.std.specs.List.{AllByRecursion}
 use Rattle.mqtt_rules.specs.declared.Limits.{Limits}
-use Rattle.mqtt_rules_spelling_laws.specs.Sending.{SendsWell}
 use Rattle.mqtt_world_model.specs.Run.{Turn}
 use Rattle.mqtt_world_model.specs.Run as meant
 use Rattle.mqtt_world_model.specs.World.{World}
@@ -14,9 +13,9 @@ use Rattle.mqtt_world_drain_cause_laws.specs.Fitting as meant_fitting
 use Rattle.mqtt_world_headline_laws.specs.Delivery as meant_delivery
 use Rattle.mqtt_world_telling_laws.specs.AsSent.{AsSent, Most, run}
 use Rattle.mqtt_world_telling_headline_laws.specs.Reading.{course, ends}
-use Rattle.mqtt_world_telling_headline_laws.specs.Drains.{all_turns, turns_of}
+use Rattle.mqtt_world_telling_headline_laws.specs.Drains.{turns_of}
 use Rattle.mqtt_world_telling_headline_laws.specs.Delivery.{AllDrainsFit, DeliversExactlyOnce, DoingsDeliver, FitWhere}
-use Rattle.mqtt_world_telling_headline_laws.proofs.Courses.{course_same, same_broker}
+use Rattle.mqtt_world_telling_headline_laws.proofs.Courses.{course_same}
 use Rattle.mqtt_world_telling_headline_laws.proofs.Delivered.{run_delivers}
 use Rattle.mqtt_world_telling_headline_laws.proofs.Drains.{all_same, doing_pair, each_drains, script_is_run, turns_same}
 use Rattle.mqtt_world_telling_headline_laws.proofs.Pairs.{Pair}
@@ -46,5 +45,5 @@ module _ (most : Most) (limits : Limits) where
         is_run = script_is_run most limits ds s;
         delivers = subst (λ (ts : List Turn). DeliversExactlyOnce most limits ts s) (sym (all_same most limits ds s w p)) (run_delivers most limits turns s w p h.delivers);
         drained = each_drains most limits ds s w p h.drained;
-        fit = λ sends say. drains_fit ds s w p (h.fit (subst SendsWell (same_broker most limits s w p) sends) say);
+        fit = drains_fit ds s w p h.fit;
       }

@@ -10,7 +10,6 @@ use Rattle.mqtt_rules.specs.Numbers.{CountsOn, publication_given}
 use Rattle.mqtt_rules.specs.Routing.{accepted_copies, answers, publication_of, routing_of, subscribers}
 use Rattle.mqtt_rules.specs.State.{MemberChoice, session_named}
 use Rattle.mqtt_rules.specs.declared.Limits.{Limits}
-use Rattle.mqtt_rules_spelling_laws.specs.Sending.{SendsWell}
 use Rattle.mqtt_world_model.specs.Ends.{Entry, Receiver}
 use Rattle.mqtt_world_model.specs.Laws.{copies_in, count_of, fate_of, handed_count, is_own, released_in, stand_among, standing}
 use Rattle.mqtt_world_model.specs.Run.{Acceptance, Turn, ended_in}
@@ -31,7 +30,6 @@ use Rattle.mqtt_world_unsent_laws.specs.Unsent.{IsOver, WasLeftWaiting, WasNever
 use Rattle.mqtt_world_drain_laws.specs.Emptied.{waiting_for}
 use Rattle.mqtt_world_drain_cause_laws.specs.DrainEnds.{IsOfDrain, moment_of}
 use Rattle.mqtt_world_drain_cause_laws.specs.Fitting.{IsNotTooLarge}
-use Rattle.mqtt_world_reading_laws.specs.Sayable.{AreSayableDoings}
 use Rattle.mqtt_world_telling_laws.specs.AsSent.{AsSent, Most, run}
 use Rattle.mqtt_world_telling_laws.specs.Likewise.{AllUnderstand}
 use Rattle.mqtt_world_telling_headline_laws.specs.Reading.{Course, course, ended, ends, entered, from_over, times_accepted}
@@ -198,9 +196,9 @@ AllDrainsFit most limits (d ∷ ds) s =
 -- ---- a script
 
 -- It is the run of its events and of those that its drains are made of; all holds of that run, and of each drain. No copy ends in
--- a drain as too large, if the broker sends well at the beginning, the script's texts are texts, and strangers send bytes
+-- a drain as too large
 pub record DoingsDeliver (most : Most) (limits : Limits) (ds : List Doing) (s : AsSent) : Type 0 where
   pub is_run : after_doings most limits ds s ≡ run most limits (all_turns most limits ds s) s
   pub delivers : DeliversExactlyOnce most limits (all_turns most limits ds s) s
   pub drained : EachDrains most limits ds s
-  pub fit : SendsWell s.world.broker → AreSayableDoings ds → AllDrainsFit most limits ds s
+  pub fit : AllDrainsFit most limits ds s

@@ -4,14 +4,7 @@ ghost use Rattle.mqtt_rules.specs.Laws.{AreWithin};
 ghost use Rattle.mqtt_rules.specs.declared.Limits.{Limits};
 ghost use Rattle.mqtt_world_model.specs.World.{start};
 ghost use Rattle.mqtt_world_receiver_laws.specs.Drains.{Doing};
-ghost use Rattle.mqtt_world_reading_laws.specs.Sayable.{AreSayableDoings};
-ghost use Rattle.mqtt_world_headline_laws.specs.Lives.{
-  AreFairLives,
-  AreSayableLives,
-  BrokerLife,
-  IsFairScript,
-  after_lives,
-};
+ghost use Rattle.mqtt_world_headline_laws.specs.Lives.{AreFairLives, BrokerLife, IsFairScript, after_lives};
 ghost use Rattle.mqtt_world_telling_laws.specs.AsSent.{Most, start_as_sent};
 ghost use Rattle.mqtt_world_telling_headline_laws.specs.Delivery.{AllDrainsFit, DoingsDeliver};
 ghost use Rattle.mqtt_world_telling_headline_laws.specs.Reading.{begun};
@@ -20,15 +13,14 @@ ghost use Rattle.mqtt_world_telling_headline_laws.specs.Reading.{begun};
 /// receiver reads it by the aliases that it was told on its line, however many aliases each client takes. It holds of each
 /// script of which `messages_are_delivered_exactly_once` speaks, and says of the run in forms what that says of the run of
 /// what packets mean; and each PUBLISH that is read means a topic. Asked is what is asked there: each script is fair, and
-/// opening spends no number; and, that no copy ends in a drain as too large, the texts that the scripts bring are texts,
-/// and what strangers send is bytes (3.1.2.11.5, 3.3.2.3.4, 3.3.4, 4.3, 4.4, 4.6, 4.8, 4.9).
+/// opening spends no number (3.1.2.11.5, 3.3.2.3.4, 3.3.4, 4.3, 4.4, 4.6, 4.8, 4.9).
 pub fn messages_in_forms_are_delivered_exactly_once()
     ensures delivers { (most : Most) (limits : Limits) (lives : List BrokerLife) (ds : List Doing) → AreWithin limits
         → AreFairLives limits lives → IsFairScript limits ds (after_lives limits lives)
         → DoingsDeliver most limits ds (begun (after_lives limits lives)) }
     ensures fits { (most : Most) (limits : Limits) (lives : List BrokerLife) (ds : List Doing) → AreWithin limits
-        → AreFairLives limits lives → AreSayableLives lives → IsFairScript limits ds (after_lives limits lives)
-        → AreSayableDoings ds → AllDrainsFit most limits ds (begun (after_lives limits lives)) }
+        → AreFairLives limits lives → IsFairScript limits ds (after_lives limits lives)
+        → AllDrainsFit most limits ds (begun (after_lives limits lives)) }
 
     // From nothing stored.
     ensures from_nothing { (most : Most) (limits : Limits) (ds : List Doing) → IsFairScript limits ds start

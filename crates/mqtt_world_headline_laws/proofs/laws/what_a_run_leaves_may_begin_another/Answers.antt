@@ -1,5 +1,5 @@
 -- By what each step keeps.
-use Rattle.mqtt_world_headline_laws.proofs.Lives.{lives_begin, lives_send, run_begins, run_begins_under, run_sends, start_begins}
+use Rattle.mqtt_world_headline_laws.proofs.Lives.{lives_begin, run_begins, run_begins_under, start_begins}
 use Rattle.mqtt_world_headline_laws.proofs.laws.what_a_run_leaves_may_begin_another.Goals as goal
 
 pub returns-clause-nothing : goal.returns-clause-nothing
@@ -13,9 +13,3 @@ returns-clause-under_others c = run_begins_under
 
 pub returns-clause-lives : goal.returns-clause-lives
 returns-clause-lives c = lives_begin
-
-pub returns-clause-sends : goal.returns-clause-sends
-returns-clause-sends c = run_sends
-
-pub returns-clause-lives_send : goal.returns-clause-lives_send
-returns-clause-lives_send c = lives_send

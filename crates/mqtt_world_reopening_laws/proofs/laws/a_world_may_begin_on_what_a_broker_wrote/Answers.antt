@@ -1,5 +1,5 @@
 -- By what lawful records have, and what a broker's have beside.
-use Rattle.mqtt_world_reopening_laws.proofs.Begun.{written_begins, written_contents, written_delivers, written_sends}
+use Rattle.mqtt_world_reopening_laws.proofs.Begun.{left_begins, left_delivers, written_begins, written_contents, written_delivers, written_sends}
 use Rattle.mqtt_world_reopening_laws.proofs.Sending.{left_sends}
 use Rattle.mqtt_world_reopening_laws.proofs.laws.a_world_may_begin_on_what_a_broker_wrote.Goals as goal
 
@@ -17,3 +17,9 @@ returns-clause-sends c = left_sends
 
 pub returns-clause-sends_wherever : goal.returns-clause-sends_wherever
 returns-clause-sends_wherever c = written_sends
+
+pub returns-clause-left_begins : goal.returns-clause-left_begins
+returns-clause-left_begins c = left_begins
+
+pub returns-clause-left_delivers : goal.returns-clause-left_delivers
+returns-clause-left_delivers c = left_delivers
