@@ -20,7 +20,7 @@ use Rattle.mqtt_script_laws.proofs.Comings.{piece_first, piece_there}
 use Rattle.mqtt_world_strangers.specs.Fronts.{AsksFor, IsNextPiece, NamesThese, is_end_among}
 use Rattle.mqtt_world_strangers.specs.Strangers.{Comes, held_of, in_world as among_strangers, line_of, named, newcomer}
 use Rattle.mqtt_world_strangers.proofs.Steps.{first_good, good_first}
-use Rattle.mqtt_world_untold_laws.specs.Knowing.{HasKnowingEnds}
+use Rattle.mqtt_world_untold_laws.specs.Untold.{HasUntoldEnds}
 use Rattle.mqtt_world_untold_laws.proofs.Worlds.{held_untold, holds, named_takes, new_line_takes, stranger_linked}
 use Rattle.mqtt_world_scene.specs.Events.{IsReached, SpellsAll, world_of}
 use Rattle.mqtt_world_scene.specs.Hearing.{Asks, Hears, TakesNoneIf}
@@ -124,7 +124,7 @@ module _ {K : Type 0} (g : Ghosts K) (name : List ℕ) where
       alike =
           subst (λ (held : List ℕ). AllByRecursion (HoldsThese name held) all) (sym (ap bytes_held found))
           (holds_one_more name [] n ss (none_holds name [] ss none) refl);
-      untold = λ spells reached untold. subst HasKnowingEnds (sym (at spells reached untold)) (stranger_linked set name [] w untold);
+      untold = λ spells reached untold. subst HasUntoldEnds (sym (at spells reached untold)) (stranger_linked set name [] w untold);
       good = λ spells reached untold piece good.
           subst (λ (v : World). is_bad (comes_in name piece) v ≡ false) (sym (at spells reached untold)) (first_good set name piece w none good);
       turn = λ spells reached untold piece t after good turn.
@@ -147,7 +147,7 @@ module _ {K : Type 0} (g : Ghosts K) (name : List ℕ) where
         found : named name all ≡ Some n
         found = find_one_more name n ss refl none
 
-        at : SpellsAll P.engine.running.limits → IsReached P.engine.running.limits P.engine.running.broker → HasKnowingEnds w
+        at : SpellsAll P.engine.running.limits → IsReached P.engine.running.limits P.engine.running.broker → HasUntoldEnds w
             → world_of now all N ≡ welcomed set name w
         at spells reached untold =
             ap (λ (v : World). record v { strangers = all }) (world_called g now NewLine P N silent ss reached tt c spells untold (new_line_takes w))
@@ -220,7 +220,7 @@ module _ {K : Type 0} (g : Ghosts K) (name bytes : List ℕ) (now taken : ℕ) (
       piece : List ℕ
       piece = take taken bytes
 
-      by : SpellsAll P.engine.running.limits → IsReached P.engine.running.limits P.engine.running.broker → HasKnowingEnds w → is_bad (comes_in name piece) w ≡ false
+      by : SpellsAll P.engine.running.limits → IsReached P.engine.running.limits P.engine.running.broker → HasUntoldEnds w → is_bad (comes_in name piece) w ≡ false
           → (o : Option Stranger) → named name ss ≡ o → is_some o ≡ true → IsTurn P.engine.running.limits (comes_in name piece) t w (world_of now new N)
       by spells reached untold good None e h = let clash : false ≡ true = h in absurd cc
       by spells reached untold good (Some s) e h =
@@ -228,8 +228,8 @@ module _ {K : Type 0} (g : Ghosts K) (name bytes : List ℕ) (now taken : ℕ) (
           subst (λ (o : Option Stranger). Asks g now (call_on (line_of o) (bytes_held o ++ piece)) P t N) e
           (subst (λ (l : Option ℕ). Asks g now (call_on l (held_of name ss ++ piece)) P t N) line_is a) in
           let set : Setting = by_choice P.engine.running.limits at.choice in
-          let came : HasKnowingEnds (world_of now new P) =
-          subst HasKnowingEnds (sym (c.becomes w))
+          let came : HasUntoldEnds (world_of now new P) =
+          subst HasUntoldEnds (sym (c.becomes w))
           (held_untold name (λ x. held_after x.held) (with_stranger name (holds (λ x. x.held ++ piece)) w) (held_untold name (λ x. x.held ++ piece) w untold)) in
           let none : TakesNoneIf (call_on s.number (s.held ++ piece)) (world_of now new P) =
           takes_if (call_on s.number (s.held ++ piece)) (world_of now new P) (λ call asks. named_takes call w untold name (s.held ++ piece) s e asks) in
@@ -292,7 +292,7 @@ module _ {K : Type 0} (g : Ghosts K) (name bytes : List ℕ) (old mid new : Stag
     alike = w.were_alike;
     turn = λ spells reached untold good.
         w.turn spells reached untold (take taken bytes) t (world_at new) good
-        (subst (λ (l : Limits). SpellsAll l → IsReached l (broker_of mid) → HasKnowingEnds (world_at mid) → is_bad (comes_in name (take taken bytes)) (world_at mid) ≡ false
+        (subst (λ (l : Limits). SpellsAll l → IsReached l (broker_of mid) → HasUntoldEnds (world_at mid) → is_bad (comes_in name (take taken bytes)) (world_at mid) ≡ false
         → IsTurn l (comes_in name (take taken bytes)) t (world_at mid) (world_at new)) w.limits p.turn
         spells (w.reached reached) (w.untold spells reached untold) (w.good spells reached untold (take taken bytes) good));
   }

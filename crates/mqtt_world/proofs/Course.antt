@@ -23,7 +23,7 @@ use Rattle.mqtt_world.specs.Stages.{IsSoundAt, IsStanding, PlaysDrain, Staged, b
 use Rattle.mqtt_world.specs.Worlds.{Came, CantHappen, DrainEmpties, Happen, HappenDrained, HasCome, HasDelivered, IfBegunWell, IfSound, Lasting, Performs, Refuses, Runs, Stops, over_by, performs_drain, performs_event, with_stage}
 use Rattle.mqtt_world_scene.specs.declared.over.Over.{Over}
 use Rattle.mqtt_world_scene.specs.declared.over.Over.TheVariants as over
-use Rattle.mqtt_world_untold_laws.specs.Knowing.{HasKnowingEnds}
+use Rattle.mqtt_world_untold_laws.specs.Untold.{HasUntoldEnds}
 use Rattle.mqtt_world_scene.proofs.StayUntold.{runs_untold}
 use Rattle.mqtt_world_scene.proofs.ReadAsSent.{spells_all}
 
@@ -49,12 +49,12 @@ module _ {K : Type 0} (g : Ghosts K) where
   runs_none s = record { limits = refl; sound = λ sound. sound; reached = λ sound reached untold. reached; runs = λ sound reached untold. (refl, refl) }
 
   reached_on : (es : List Event) (old : Staged K) (ts : List Telling) (new : Staged K) → Runs g es old ts new → IsSoundAt g new
-      → IsReached old.limits (broker_of old) → HasKnowingEnds (world_at old) → IsReached new.limits (broker_of new)
+      → IsReached old.limits (broker_of old) → HasUntoldEnds (world_at old) → IsReached new.limits (broker_of new)
   reached_on es old ts new r sound reached untold = subst (λ (l : Limits). IsReached l (broker_of new)) (sym r.limits) (r.reached sound reached untold)
 
   -- what ran has told the ends nothing
   untold_on : (es : List Event) (old : Staged K) (ts : List Telling) (new : Staged K) → Runs g es old ts new → IsSoundAt g new
-      → IsReached old.limits (broker_of old) → HasKnowingEnds (world_at old) → HasKnowingEnds (world_at new)
+      → IsReached old.limits (broker_of old) → HasUntoldEnds (world_at old) → HasUntoldEnds (world_at new)
   untold_on es old ts new r sound reached untold = runs_untold old.limits es ts (world_at old) (world_at new) (r.runs sound reached untold) untold
 
   -- events that ran, and more that ran from there, ran one after the other

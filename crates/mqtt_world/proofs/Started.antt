@@ -17,8 +17,8 @@ use Rattle.mqtt_rules.specs.declared.Limits.{Limits}
 use Rattle.mqtt_world_clients.specs.Ends.{Ends}
 use Rattle.mqtt_world_scene.specs.Events.{IsReached, opens, world_of}
 use Rattle.mqtt_world_scene.specs.Openings.{Begins, Opens, no_ends}
-use Rattle.mqtt_world_untold_laws.specs.Knowing.{HasKnowingEnds}
-use Rattle.mqtt_world_untold_laws.proofs.Worlds.{opened_world_knowing}
+use Rattle.mqtt_world_untold_laws.specs.Untold.{HasUntoldEnds}
+use Rattle.mqtt_world_untold_laws.proofs.Worlds.{opened_world_untold}
 use Rattle.mqtt_world_scene.specs.Scenes.{Played}
 use Rattle.mqtt_world.specs.Stages.{IsStanding}
 use Rattle.mqtt_world.specs.Worlds.{Came, Starts}
@@ -37,7 +37,7 @@ module _ {K : Type 0} (g : Ghosts K) (limits : Limits) (r : Records) (s : Played
       subst (λ (es : List Event). Came (opened_world limits o.choice 0 r) es (staged s [] 0 limits)) (sym nothing) (record {
         within = within;
         reached = subst (IsReached limits) (sym o.broker) (opens o.choice 0 r lawful phases o.unspent);
-        untold = subst HasKnowingEnds (sym (world_began o none)) (opened_world_knowing limits o.choice 0 r);
+        untold = subst HasUntoldEnds (sym (world_began o none)) (opened_world_untold limits o.choice 0 r);
         tells = [];
         runs = (refl, world_began o none);
       })

@@ -15,7 +15,7 @@ use Rattle.mqtt_world_strangers.specs.Strangers.{named, newcomer}
 use Rattle.mqtt_world_strangers.proofs.Steps.{good_rest}
 use Rattle.mqtt_world_scene.specs.Events.{IsReached, SpellsAll, world_of}
 use Rattle.mqtt_world_scene.specs.Scenes.{Played, WasSound}
-use Rattle.mqtt_world_untold_laws.specs.Knowing.{HasKnowingEnds}
+use Rattle.mqtt_world_untold_laws.specs.Untold.{HasUntoldEnds}
 use Rattle.mqtt_world_scene.proofs.StayUntold.{turn_untold}
 use Rattle.mqtt_world_scene.proofs.Heard.{none_tells, tells_after}
 use Rattle.mqtt_world.specs.Stages.{IsStanding, Plays, Restages, Staged, broker_of, world_at}
@@ -29,9 +29,9 @@ pub record ComesOn {K : Type 0} (g : Ghosts K) (name bytes : List ℕ) (old : St
   pub limits : mid.limits ≡ old.limits
   pub sound : WasSound g old.played mid.played
   pub reached : IsReached old.limits (broker_of old) → IsReached old.limits (broker_of mid)
-  pub untold : SpellsAll old.limits → IsReached old.limits (broker_of old) → HasKnowingEnds (world_at old) → HasKnowingEnds (world_at mid)
-  pub good : SpellsAll old.limits → IsReached old.limits (broker_of old) → HasKnowingEnds (world_at old) → is_bad (comes_in name rest) (world_at mid) ≡ false
-  pub done : SpellsAll old.limits → IsReached old.limits (broker_of old) → HasKnowingEnds (world_at old) → (u : Telling) (after : World)
+  pub untold : SpellsAll old.limits → IsReached old.limits (broker_of old) → HasUntoldEnds (world_at old) → HasUntoldEnds (world_at mid)
+  pub good : SpellsAll old.limits → IsReached old.limits (broker_of old) → HasUntoldEnds (world_at old) → is_bad (comes_in name rest) (world_at mid) ≡ false
+  pub done : SpellsAll old.limits → IsReached old.limits (broker_of old) → HasUntoldEnds (world_at old) → (u : Telling) (after : World)
       → Happens old.limits (comes_in name rest) u (world_at mid) after
       → Happens old.limits (comes_in name bytes) (both_tell told u) (world_at old) after
 
@@ -39,11 +39,11 @@ module _ {K : Type 0} (g : Ghosts K) (name : List ℕ) where
   -- ---- a piece, at equal limits
 
   turn_at : (rest : List ℕ) (taken : ℕ) (t : Telling) (mid new : Staged K) (limits : Limits) → mid.limits ≡ limits
-      → TakesPiece g name rest mid taken t new → SpellsAll limits → IsReached limits (broker_of mid) → HasKnowingEnds (world_at mid)
+      → TakesPiece g name rest mid taken t new → SpellsAll limits → IsReached limits (broker_of mid) → HasUntoldEnds (world_at mid)
       → is_bad (comes_in name (take taken rest)) (world_at mid) ≡ false
       → IsTurn limits (comes_in name (take taken rest)) t (world_at mid) (world_at new)
   turn_at rest taken t mid new limits is p =
-      subst (λ (l : Limits). SpellsAll l → IsReached l (broker_of mid) → HasKnowingEnds (world_at mid) → is_bad (comes_in name (take taken rest)) (world_at mid) ≡ false
+      subst (λ (l : Limits). SpellsAll l → IsReached l (broker_of mid) → HasUntoldEnds (world_at mid) → is_bad (comes_in name (take taken rest)) (world_at mid) ≡ false
       → IsTurn l (comes_in name (take taken rest)) t (world_at mid) (world_at new)) is p.turn
 
   reached_at : (rest : List ℕ) (taken : ℕ) (t : Telling) (mid new : Staged K) (limits : Limits) → mid.limits ≡ limits
@@ -79,12 +79,12 @@ module _ {K : Type 0} (g : Ghosts K) (name : List ℕ) where
     joined : is_bad (comes_in name rest) (world_at mid) ≡ false → is_bad (comes_in name (piece ++ more)) (world_at mid) ≡ false
     joined good = ap (λ (xs : List ℕ). is_bad (comes_in name xs) (world_at mid)) (take-append-drop taken rest) ∙ good
 
-    its_turn : SpellsAll old.limits → IsReached old.limits (broker_of old) → HasKnowingEnds (world_at old) → IsTurn old.limits (comes_in name piece) p.t (world_at mid) (world_at new)
+    its_turn : SpellsAll old.limits → IsReached old.limits (broker_of old) → HasUntoldEnds (world_at old) → IsTurn old.limits (comes_in name piece) p.t (world_at mid) (world_at new)
     its_turn spells reached untold =
         turn_at rest taken p.t mid new old.limits c.limits p.takes spells (c.reached reached) (c.untold spells reached untold)
         (piece_good name rest taken (world_at mid) p.takes.next (c.good spells reached untold))
 
-    rest_good : IsWhole (bytes_come name piece (world_at mid)) → SpellsAll old.limits → IsReached old.limits (broker_of old) → HasKnowingEnds (world_at old)
+    rest_good : IsWhole (bytes_come name piece (world_at mid)) → SpellsAll old.limits → IsReached old.limits (broker_of old) → HasUntoldEnds (world_at old)
         → is_bad (comes_in name more) (world_at new) ≡ false
     rest_good whole spells reached untold =
         let turn = its_turn spells reached untold in
@@ -95,7 +95,7 @@ module _ {K : Type 0} (g : Ghosts K) (name : List ℕ) where
         subst (λ (v : World). is_bad (comes_in name more) v ≡ false) stepped
         (good_rest set name piece more w p.takes.alike whole (joined (c.good spells reached untold)))
 
-    rest_done : IsWhole (bytes_come name piece (world_at mid)) → SpellsAll old.limits → IsReached old.limits (broker_of old) → HasKnowingEnds (world_at old) → (u : Telling) (after : World)
+    rest_done : IsWhole (bytes_come name piece (world_at mid)) → SpellsAll old.limits → IsReached old.limits (broker_of old) → HasUntoldEnds (world_at old) → (u : Telling) (after : World)
         → Happens old.limits (comes_in name more) u (world_at new) after → Happens old.limits (comes_in name bytes) (both_tell later u) (world_at old) after
     rest_done whole spells reached untold u after does =
         let w = world_at mid in

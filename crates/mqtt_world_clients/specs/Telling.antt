@@ -6,8 +6,7 @@ use Rattle.mqtt_codec.specs.declared.packet.Packet.{Packet}
 use Rattle.mqtt_codec.specs.Packets.{HasSpelling, shortest_of}
 use Rattle.mqtt_rules.specs.State.{Broker}
 use Rattle.mqtt_rules.specs.Step.{Outcome, copy_of}
-use Rattle.mqtt_rules_telling_laws.specs.Meaning.{after_reading, after_reading_all}
-use Rattle.mqtt_world_model.specs.Lines.{Line, copy_in}
+use Rattle.mqtt_world_model.specs.Lines.{Line, copy_in, down_on}
 use Rattle.mqtt_world_model.specs.World.{publisher_told, receiver_told}
 use Rattle.mqtt_world_clients.specs.Ends.{Ends}
 
@@ -28,19 +27,14 @@ abbrev pub copy_for : ℕ → Broker → Option ℕ → Option CopyId
 copy_for number b None = None
 copy_for number b (Some identifier) = copy_of number identifier b
 
--- a packet that was meant is under way to the end of this line, which reads it by the one that came (3.3.2.3.4)
-abbrev pub with_read : {U : Type 0} → ℕ → Broker → Packet → Packet → Line U → Line U
-with_read number b came meant l = record l {
-  down = l.down ++ record { packet = meant; copy = copy_in number b meant } ∷ [];
-  known = after_reading l.known came;
-}
+-- a packet is under way to the end of this line
+abbrev pub with_packet : {U : Type 0} → ℕ → Broker → Packet → Line U → Line U
+with_packet number b packet l =
+    record l { down = l.down ++ record { packet = packet; copy = copy_in number b packet } ∷ [] }
 
--- and all of these
-abbrev pub with_all_read : {U : Type 0} → ℕ → Broker → List Packet → List Packet → Line U → Line U
-with_all_read number b came meant l = record l {
-  down = l.down ++ map (λ packet. record { packet = packet; copy = copy_in number b packet }) meant;
-  known = after_reading_all l.known came;
-}
+-- those of these that are for it
+abbrev pub with_packets : {U : Type 0} → ℕ → Broker → List (ℕ × Packet) → Line U → Line U
+with_packets number b packets l = record l { down = l.down ++ filter_map (down_on number b) packets }
 
 -- what a step tells reached all ends, if it left this broker
 abbrev pub ends_told : Broker → Outcome → Ends → Ends

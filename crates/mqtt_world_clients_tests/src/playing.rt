@@ -152,7 +152,7 @@ fn publish<K: Keep>(alloc: Global, ends: &mut Clients, engine: &mut Engine<K>) -
 
 fn play<K: Keep>(alloc: Global, ends: &mut Clients, engine: &mut Engine<K>) -> Result<(), Fail> {
     ends.add_publisher(text(alloc, "p")?)?;
-    ends.add_receiver(text(alloc, "r")?, 10, 0, engine.births())?;
+    ends.add_receiver(text(alloc, "r")?, 10, engine.births())?;
     join(ends, engine, "r")?;
     join(ends, engine, "p")?;
     subscribe(alloc, ends, engine)?;

@@ -37,7 +37,6 @@ line_like l = record {
   down = l.down;
   old_number = l.old_number;
   old = map packet_like l.old;
-  known = l.known;
 }
 
 abbrev pub publisher_like : Receiver → Publisher

@@ -1,6 +1,5 @@
 -- Worked runs of the world.
 pub mod Examples
-pub mod ExamplesAliases
 pub mod ExamplesBad
 pub mod ExamplesMembers
 pub mod ExamplesSessions

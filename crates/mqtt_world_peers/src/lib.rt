@@ -4,7 +4,6 @@
 mod back;
 mod heard;
 mod input;
-mod known;
 mod line;
 mod publisher;
 mod receiver;

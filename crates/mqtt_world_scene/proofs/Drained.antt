@@ -11,7 +11,7 @@ use Rattle.mqtt_broker.specs.Serving.{Serving}
 use Rattle.mqtt_broker_engine.specs.Running.{Running}
 use Rattle.mqtt_rules.specs.declared.Limits.{Limits}
 use Rattle.mqtt_world_clients.specs.Ends.{Ends, in_world}
-use Rattle.mqtt_world_untold_laws.specs.Knowing.{HasKnowingEnds}
+use Rattle.mqtt_world_untold_laws.specs.Untold.{HasUntoldEnds}
 use Rattle.mqtt_world_scene.proofs.StayUntold.{repeats_untold, rounds_untold, turn_untold}
 use Rattle.mqtt_world_scene.specs.declared.over.Over.{Over}
 use Rattle.mqtt_script_laws.specs.Drains.{IsRound, Repeats}
@@ -143,7 +143,7 @@ module _ {K : Type 0} (g : Ghosts K) (now : ℕ) where
   }
 
   goes_behind : (P Q R : Limits → Telling → World → World → Type 0) (old mid new : Played K) (before between after : Telling)
-      → ((limits : Limits) (t : Telling) (w v : World) → P limits t w v → HasKnowingEnds w → HasKnowingEnds v)
+      → ((limits : Limits) (t : Telling) (w v : World) → P limits t w v → HasUntoldEnds w → HasUntoldEnds v)
       → ((limits : Limits) (t u : Telling) (w v x : World) → P limits t w v → Q limits u v x → R limits (both_tell t u) w x)
       → GoesOn g now P old before between mid → GoesOn g now Q mid between after new → GoesOn g now R old before after new
   goes_behind P Q R old mid new before between after keeps joins x y =

@@ -13,9 +13,9 @@ use Rattle.mqtt_world_clients.specs.Ends.{Ends, reading}
 use Rattle.mqtt_script_laws.specs.Scripted.{Happens, IsBadEvent, front_of, packet_of, IsRefused}
 use Rattle.mqtt_script_laws.specs.Turns.{IsPlain, IsQuiet, by_choice}
 use Rattle.mqtt_script_laws.proofs.Single.{asks_call, asks_nothing, left_by, plain_happens, quiet}
-use Rattle.mqtt_world_untold_laws.specs.Knowing.{HasKnowingEnds, TakesAsEnds}
+use Rattle.mqtt_world_untold_laws.specs.Untold.{HasUntoldEnds, TakesNoneOfEnds}
 use Rattle.mqtt_world_untold_laws.proofs.Calls.{meant_out}
-use Rattle.mqtt_world_untold_laws.proofs.Worlds.{asked_takes, before_knowing}
+use Rattle.mqtt_world_untold_laws.proofs.Worlds.{asked_takes, before_untold}
 use Rattle.mqtt_world_scene.specs.Scenes.{Calls, IsPlayable, Played}
 use Rattle.mqtt_world_scene.specs.Events.{Does, IsReached, SpellsAll, TakesPacket, played, steps, world_of}
 
@@ -83,7 +83,7 @@ module _ {K : Type 0} (g : Ghosts K) (now : ℕ) where
 
   -- what a call makes of the broker and its ends it makes of their world, whatever strangers there are
   pub world_called : (call : Call) (old new : Played K) (t : Telling) (ss : List Stranger) → IsReached old.engine.running.limits old.engine.running.broker → TakesPacket call → (c : Calls g now call old t new)
-      → SpellsAll old.engine.running.limits → HasKnowingEnds (world_of now ss old) → TakesAsEnds call (world_of now ss old)
+      → SpellsAll old.engine.running.limits → HasUntoldEnds (world_of now ss old) → TakesNoneOfEnds call (world_of now ss old)
       → world_of now ss new ≡ calls (by_choice old.engine.running.limits c.choice) call (world_of now ss old)
   world_called call old new t ss reached takes c spells untold none =
       let limits = old.engine.running.limits in
@@ -116,7 +116,7 @@ module _ {K : Type 0} (g : Ghosts K) (now : ℕ) where
             (asks_call limits c.choice a call t w after p (good ss) (some set ss)
             (subst (λ (x : World). is_step_spent limits c.choice x.now call x.broker ≡ false) same c.unspent)
             (last ss ∙ ap (left_by a) (world_called call (played E M) (played F P) t ss reached takes c spells
-            (subst HasKnowingEnds (sym same) (before_knowing set a w untold)) (subst (TakesAsEnds call) (sym same) (asked_takes set a call w untold (some set ss)))
+            (subst HasUntoldEnds (sym same) (before_untold set a w untold)) (subst (TakesNoneOfEnds call) (sym same) (asked_takes set a call w untold (some set ss)))
             ∙ ap (calls set call) same))
             (subst (λ (x : World). t ≡ telling (deeds limits c.choice x.now call x.broker)) same c.told_is));
       }

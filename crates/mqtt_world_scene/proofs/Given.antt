@@ -30,7 +30,7 @@ use Rattle.mqtt_broker.specs.Framers.{HeldLine, changed_at, framing_at, framing_
 use Rattle.mqtt_records_rows.specs.Order.{row_at}
 use Rattle.mqtt_world_scene.specs.declared.over.Over.{Over}
 use Rattle.mqtt_world_clients.specs.Ends.{Ends}
-use Rattle.mqtt_world_untold_laws.specs.Knowing.{AllIsUnderstood, GoesAsMeant, OnEachLine}
+use Rattle.mqtt_world_untold_laws.specs.Untold.{AllGoesAsMeant, GoesAsMeant, OnEachLine}
 use Rattle.mqtt_world_clients.specs.Telling.{AreSpelled, ends_told}
 use Rattle.mqtt_world_scene.specs.Scenes.{Calls, HoldNone, IsPlayable, Played}
 use Rattle.mqtt_world_scene.proofs.Answered.{kept_none, none_held, spent_capped, stepped_capped, told_capped, told_count}
@@ -215,7 +215,7 @@ module _ {K : Type 0} (g : Ghosts K) (now line : ℕ) (call : Call) (piece : Lis
   -- bytes that are one call, given on a line that holds nothing, are that call of the scene
   pub given : (moment : ℕ) (mid : Serving K) (result : Result Outcome EngineError) (r : Result Telling Over) → IsPlayable g old → held_after piece ≡ [] → length piece ≤ PACKET_LIMIT → first_call line piece ≡ Some call
       → moment ≡ m → result ≡ Ok out → PieceCalled g moment line piece old.engine result mid → new.engine ≡ mid
-      → ((answer : Answer) → Tells answer out → AreSpelled answer → AllIsUnderstood answer old.ends.publishers old.ends.receivers → OnOk r (new.ends ≡ ends_told mid.running.broker answer old.ends))
+      → ((answer : Answer) → Tells answer out → AreSpelled answer → AllGoesAsMeant answer old.ends.publishers old.ends.receivers → OnOk r (new.ends ≡ ends_told mid.running.broker answer old.ends))
       → ((answer : Answer) → Tells answer out → IfOk r (λ (t : Telling). t ≡ record { reports = answer.reports; out = length answer.wires }))
       → IfOk r (λ (t : Telling). Calls g now call old t new)
   given moment mid result (Err fault) playable left within asks moment_is is called same ends tells = tt
@@ -262,7 +262,7 @@ pub given_in : {K : Type 0} (g : Ghosts K) (now moment line : ℕ) (call : Call)
     → old ≡ record { engine = engine; ends = ends }
     → IsPlayable g old → held_after piece ≡ [] → length piece ≤ PACKET_LIMIT → first_call line piece ≡ Some call
     → moment ≡ min now LAST_NUMBER → result ≡ Ok out → PieceCalled g moment line piece engine result mid → new.engine ≡ mid
-    → ((answer : Answer) → Tells answer out → AreSpelled answer → AllIsUnderstood answer ends.publishers ends.receivers → OnOk r (new.ends ≡ ends_told mid.running.broker answer ends))
+    → ((answer : Answer) → Tells answer out → AreSpelled answer → AllGoesAsMeant answer ends.publishers ends.receivers → OnOk r (new.ends ≡ ends_told mid.running.broker answer ends))
     → ((answer : Answer) → Tells answer out → IfOk r (λ (t : Telling). t ≡ record { reports = answer.reports; out = length answer.wires }))
     → IfOk r (λ (t : Telling). Calls g now call old t new)
 given_in {K} g now moment line call piece old new engine mid ends out result r view playable left within asks moment_is is called same reached tells =

@@ -14,7 +14,7 @@ use Rattle.mqtt_rules.specs.Piece.{Front, begins_connect, call_by, code_of, firs
 use Rattle.mqtt_rules.specs.Step.{BadInput, Call, Input}
 use Rattle.mqtt_rules.specs.declared.Report.{Report}
 use Rattle.mqtt_script_laws.specs.Turns.{both_tell}
-use Rattle.mqtt_world_untold_laws.specs.Knowing.{TakesAsEnds}
+use Rattle.mqtt_world_untold_laws.specs.Untold.{TakesNoneOfEnds}
 use Rattle.mqtt_world_scene.specs.Events.{TakesPacket}
 use Rattle.mqtt_world_scene.specs.Hearing.{Asks, Hears, TakesNoneIf}
 use Rattle.mqtt_world_scene.specs.Scenes.{Calls, IsPlayable, Played}
@@ -59,7 +59,7 @@ some_asked line bytes each left some = by (first_of bytes) refl
     by (Err fault) e = (BadInput line (begins_connect bytes) (code_of (answer_to fault)), ap (call_by line bytes) e, (fault, refl))
 
 -- what is asked brings no CONNECT of a client that takes aliases, if no call does that it may come to
-pub takes_if : (o : Option Call) (w : World) → ((call : Call) → o ≡ Some call → TakesAsEnds call w) → TakesNoneIf o w
+pub takes_if : (o : Option Call) (w : World) → ((call : Call) → o ≡ Some call → TakesNoneOfEnds call w) → TakesNoneIf o w
 takes_if None w h = tt
 takes_if (Some call) w h = h call refl
 

@@ -39,7 +39,7 @@ and_true true b is = sym is
 and_true false b is = refl
 
 -- a number of two bytes is a Receive Maximum exactly if it is above 0
-pub window_is : (window aliases : ℕ) (t : Bool) → t ≡ nat_lt 0 window → nat_lt window (2 ^ 16) ≡ true → t ≡ is_window window
+pub window_is : (window : ℕ) (t : Bool) → t ≡ nat_lt 0 window → nat_lt window (2 ^ 16) ≡ true → t ≡ is_window window
 window_is window t is within = is ∙ and_true (nat_lt 0 window) (nat_lt window (2 ^ 16)) within
 
 -- ---- what is seen of the ends is seen in the world
@@ -60,13 +60,13 @@ publisher_made client made b O N same is set w at =
     ∙ ap (λ (n : List ℕ). in_world (record O { publishers = O.publishers ++ new_publisher n ∷ [] }) w) same
 
 -- if a receiver is put behind the others, made at the last birth so far, that is what happens if one is made
-pub receiver_made : (client made : List ℕ) (window aliases since : ℕ) (b : Broker) (O N : Ends) → made ≡ client → since ≡ b.records.births
-    → N ≡ record O { receivers = O.receivers ++ new_receiver made window aliases since ∷ [] }
-    → (set : Setting) → BecomeAt b (happens set (receiver client window aliases)) O N
+pub receiver_made : (client made : List ℕ) (window since : ℕ) (b : Broker) (O N : Ends) → made ≡ client → since ≡ b.records.births
+    → N ≡ record O { receivers = O.receivers ++ new_receiver made window since ∷ [] }
+    → (set : Setting) → BecomeAt b (happens set (receiver client window)) O N
 receiver_made client made window since b O N same last is set w at =
     ap (λ (e : Ends). in_world e w) is
-    ∙ (ap (λ (n : List ℕ). in_world (record O { receivers = O.receivers ++ new_receiver n window aliases since ∷ [] }) w) same
-    ∙ ap (λ (n : ℕ). in_world (record O { receivers = O.receivers ++ new_receiver client window aliases n ∷ [] }) w)
+    ∙ (ap (λ (n : List ℕ). in_world (record O { receivers = O.receivers ++ new_receiver n window since ∷ [] }) w) same
+    ∙ ap (λ (n : ℕ). in_world (record O { receivers = O.receivers ++ new_receiver client window n ∷ [] }) w)
     (last ∙ ap (λ (x : Broker). x.records.births) (sym at)))
 
 -- ---- events

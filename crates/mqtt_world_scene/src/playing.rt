@@ -21,11 +21,7 @@ impl<K: Keep> Scene<K> {
     {
         match event {
             Event::Publisher { client } => self.make_publisher(alloc, client),
-            Event::Receiver {
-                client,
-                window,
-                aliases,
-            } => self.make_receiver(alloc, client, *window, *aliases),
+            Event::Receiver { client, window } => self.make_receiver(alloc, client, *window),
             Event::Connect {
                 client,
                 clean_start,

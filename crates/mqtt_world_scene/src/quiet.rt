@@ -42,7 +42,7 @@ impl<K: Keep> Scene<K> {
 
     fn is_bad_receiver(&self, client: &Text, window: u16) -> bool
         ensures { (now : ℕ) (ss : List Stranger) → result
-            ≡ is_bad (receiver client.now window aliases) (world_of now ss self.now) }
+            ≡ is_bad (receiver client.now window) (world_of now ss self.now) }
     {
         self.is_bad_publisher(client) || !is_window(window)
     }
@@ -78,24 +78,22 @@ impl<K: Keep> Scene<K> {
         Ok(Some(Told::silent(alloc)))
     }
 
-    /// A receiver is made, if no end has the name. `window` is its Receive Maximum (3.1.2.11.3), `aliases` its
-    /// Topic Alias Maximum (3.1.2.11.5).
+    /// A receiver is made, if no end has the name. `window` is its Receive Maximum (3.1.2.11.3).
     pub(crate) fn make_receiver(
         &mut self,
         alloc: Global,
         client: &Text,
         window: u16,
-        aliases: u16,
     ) -> Result<Option<Told>, Halt<K>>
         requires { IsPlayable K.Keep self.old }
-        ensures { IfOk result (λ t. (now : ℕ) → Does K.Keep now (receiver client.now window aliases) self.old t self.new) }
+        ensures { IfOk result (λ t. (now : ℕ) → Does K.Keep now (receiver client.now window) self.old t self.new) }
     {
         if self.is_bad_receiver(client, window) {
             return Ok(None);
         }
         let client = client.clone()?;
         self.clients
-            .add_receiver(client, window, aliases, self.engine.births())?;
+            .add_receiver(client, window, self.engine.births())?;
         Ok(Some(Told::silent(alloc)))
     }
 
