@@ -18,7 +18,7 @@ use Rattle.mqtt_rules.specs.Lines.{line_number}
 use Rattle.mqtt_rules.specs.Piece.{Front, Pieced, begins_connect, bytes_taken, call_by, call_on, code_of, fed, held_on, is_whole, pieced, stepped_if, taken_on, without_by}
 use Rattle.mqtt_rules.specs.State.{Broker, Env, Line, MemberChoice, line_at}
 use Rattle.mqtt_rules.specs.Step.{BadInput, Call, at_moment, env_of, on_fault, stepped, told}
-use Rattle.mqtt_rules.proofs.acts.Acts.{found_number}
+use Rattle.mqtt_rules.proofs.acts.OnLines.{found_number}
 use Rattle.mqtt_broker.proofs.HeldBytes.{nothing_whole}
 use Rattle.mqtt_broker.specs.Cut.{Coming, Piece, Other, Giving, IsFrontOf, IsGivenOn, IsGivenWhole, IsStanding, after_coming, after_comings, answered, given_first, there_in, whole_in}
 use Rattle.mqtt_broker.specs.Serving.{has_closed}

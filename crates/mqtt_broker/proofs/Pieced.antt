@@ -11,7 +11,7 @@ use Rattle.mqtt_rules.specs.declared.Limits.{Limits}
 use Rattle.mqtt_rules.specs.Piece.{Front, begins_connect, bytes_taken, call_by, call_on, code_of, fed, first_call, held_on, is_spent_if, is_whole, pieced, stepped_if, taken_on, told_if, without_first}
 use Rattle.mqtt_rules.specs.State.{Broker, Line, MemberChoice, line_at}
 use Rattle.mqtt_rules.specs.Step.{BadInput, Call, Input, at_moment, bytes_out, nothing_told, Outcome as Told}
-use Rattle.mqtt_rules.proofs.acts.Acts.{found_number}
+use Rattle.mqtt_rules.proofs.acts.OnLines.{found_number}
 use Rattle.mqtt_broker_step.specs.declared.call.EngineError.{EngineError}
 use Rattle.mqtt_broker_step.specs.declared.call.EngineError.TheVariants.{Memory, Stopped, Spent}
 use Rattle.mqtt_broker.specs.Framers.{HeldLine, changed_at, framing_at, line_of}

@@ -7,4 +7,5 @@ pub mod LookedUp
 pub mod Meanings
 pub mod Names
 pub mod Offers
+pub mod OnLines
 pub mod Reached

@@ -32,7 +32,8 @@ use Rattle.mqtt_rules.specs.Step.{Call, NewLine, Input, BadInput, Lost, Pump, Ti
 use Rattle.mqtt_rules.proofs.acts.Offers.{of_offer_if}
 use Rattle.mqtt_rules.proofs.acts.Goods.{AreGood, good_append, good_flat, good_of_entry, good_with_session}
 use Rattle.mqtt_rules.proofs.acts.Leads.{Leads, found_passes}
-use Rattle.mqtt_rules.proofs.acts.Acts.{About, Finds, anyone, closing_session, closing_on, closing, brought_to, found_number, Law, leads_call, leads_opening}
+use Rattle.mqtt_rules.proofs.acts.Acts.{About, Finds, anyone, closing_session, closing_on, closing, brought_to, Law, leads_call, leads_opening}
+use Rattle.mqtt_rules.proofs.acts.OnLines.{found_number}
 use Rattle.mqtt_rules_granting_laws.specs.Granting.{TakesWithin}
 use Rattle.mqtt_rules_granting_laws.proofs.Deeds.{AllName}
 use Rattle.mqtt_rules_telling_laws.specs.Meaning.{GrantsNone, GrantsWithin}

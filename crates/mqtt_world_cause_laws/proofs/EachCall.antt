@@ -48,7 +48,8 @@ use Rattle.mqtt_rules.specs.State.{Broker, Env, Line, is_connected, line_at, lin
 use Rattle.mqtt_rules.specs.Step.{Call, NewLine, Input, BadInput, Lost, Pump, Tick, can_link, close_if, deeds_of, first_packet, late_code, next_packet, on_fault, on_packet, on_pump, opening}
 use Rattle.mqtt_rules.specs.Subscribe as sub
 use Rattle.mqtt_rules.specs.Tick.{due, first_due, has_lapsed, is_silent, is_stale, lapse_deeds, on_tick, silence}
-use Rattle.mqtt_rules.proofs.acts.Acts.{brought_to, found_number}
+use Rattle.mqtt_rules.proofs.acts.Acts.{brought_to}
+use Rattle.mqtt_rules.proofs.acts.OnLines.{found_number}
 use Rattle.mqtt_rules.proofs.acts.Offers.{of_offer_if}
 use Rattle.mqtt_rules.proofs.numbers.Copies.{each_append, each_flat}
 use Rattle.mqtt_rules.proofs.fit.FitLaw.{all_among}

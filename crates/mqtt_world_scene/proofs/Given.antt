@@ -16,7 +16,7 @@ use Rattle.mqtt_records.specs.declared.keep.Keep.{Ghosts}
 use Rattle.mqtt_world_model.specs.Tellings.{Telling}
 use Rattle.mqtt_world_model.specs.World.{held_after, held_by}
 use Rattle.mqtt_broker_engine.specs.Calling.{Tells}
-use Rattle.mqtt_rules.proofs.acts.Acts.{found_number}
+use Rattle.mqtt_rules.proofs.acts.OnLines.{found_number}
 use Rattle.mqtt_broker_engine.specs.declared.outcome.Outcome.{Outcome}
 use Rattle.mqtt_broker.specs.Piece.{IsPieceAnswered, PieceCalled}
 use Rattle.mqtt_rules.specs.Piece.{Front, PieceStep, Pieced, begins_connect, bytes_taken, code_of, call_by, call_on, fed, first_call, held_on, is_spent_if, stepped_if, told_if, without_by, without_first}

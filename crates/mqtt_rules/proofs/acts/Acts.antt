@@ -1,7 +1,6 @@
 -- The one induction over all acts: what a law has to say of each unit of deeds, so that it holds of every call and opening.
 use Rattle.std.proofs.Common.{◌≡◌, ℕ, Bool, true, false, cond, not, ◌&&◌, ◌||◌, List, [], ◌∷◌, ◌++◌, ◌⊎◌, length, filter, map, Option, Some, None, nat_eq, bytes_eq, refl, sym, ap, subst, ◌∙◌, inl, inr}
 use Rattle.std.specs.Prelude.{⊤, suc, nat_lt, nat_le, flat_map, find, option_map, is_none, Ok, Err}
-use Rattle.std.proofs.lemmas.Bool.{cases_Bool, eqb-true}
 use Rattle.std.proofs.lemmas.Slice.Eq.{bytes_eq-Decides}
 use Rattle.mqtt_props.specs.declared.table.PropName.TheVariants.{SessionExpiryInterval, SubscriptionIdentifier, TopicAlias}
 use Rattle.mqtt_codec_connect.specs.declared.connect.Connect.{Connect as Greeting}
@@ -36,7 +35,7 @@ use Rattle.mqtt_rules.specs.Fitting.{has_form}
 use Rattle.mqtt_rules.specs.Packets.{puback, pubrec, pubcomp, pubrel, suback, unsuback, connack, disconnect, publish_of}
 use Rattle.mqtt_records_message.specs.PassedOn.{number_at}
 use Rattle.mqtt_rules.specs.State.{Line, Broker, Env, session_at, session_named, line_at, line_of, is_connected, queue_on}
-use Rattle.mqtt_rules.specs.Deeds.{Whose, whose, Message, Origin, FromClient, FromWill, Part, Resume, Close, SetExpiry, DropWill, Unsubscribe, Open, Release, LinePart, Hear, Greet, SetAlias, Went, Deed, At, Forget, RefuseWill, Link, On, Send, Gone, line_after, on_line, after, after_all, Act, series, always, only_if, with_session, of_session, offer}
+use Rattle.mqtt_rules.specs.Deeds.{Whose, whose, Message, Origin, FromClient, FromWill, Part, Resume, Close, SetExpiry, DropWill, Unsubscribe, Open, Release, Hear, Greet, SetAlias, Went, Deed, At, Forget, RefuseWill, Link, On, Send, Gone, after, after_all, Act, series, always, only_if, with_session, of_session, offer}
 use Rattle.mqtt_rules.specs.Outbound.{turn_deeds, all_turn_deeds, room}
 use Rattle.mqtt_rules.specs.Routing.{CopyTo, is_queued, publish, accepted_copies, is_wanted}
 use Rattle.mqtt_rules.specs.Closing.{has_due_will, has_due_end, will_message, publish_or_refuse, will_deeds, publish_will, end_session, settle, close_session, close_connected, close, drop_line}
@@ -46,6 +45,7 @@ use Rattle.mqtt_rules.specs.Subscribe as sub
 use Rattle.mqtt_rules.specs.Tick.{is_silent, silence, has_lapsed, lapse_deeds, is_stale, first_due, due, on_tick}
 use Rattle.mqtt_rules.specs.Step.{Call, NewLine, Input, BadInput, Lost, Pump, Tick, first_packet, next_packet, on_packet, on_fault, late_code, on_pump, can_link, deeds_of, close_if, opening}
 use Rattle.mqtt_rules.proofs.acts.Offers.{of_offer, of_offer_if}
+use Rattle.mqtt_rules.proofs.acts.OnLines.{IsOn, found_number, found_on, stays_on}
 use Rattle.mqtt_rules.proofs.flight.FlightRows.{found_key}
 use Rattle.mqtt_rules.proofs.numbers.Counters.{now_stays}
 use Rattle.mqtt_rules.specs.Laws.{IsAmong}
@@ -75,11 +75,6 @@ anyone = record {
   packet = λ packet. ⊤;
   message = λ m. ⊤;
 }
-
--- a line with this number stands, with this session
-abbrev pub IsOn : ℕ → Option ℕ → List Line → Type 0
-IsOn n session [] = ⊥
-IsOn n session (l ∷ ls) = ((l.number ≡ n) × (l.session ≡ session)) ⊎ IsOn n session ls
 
 -- CONNECT isn't refused, by what was stored at some moment
 abbrev pub IsAdmitted : Greeting → Type 0
@@ -254,46 +249,6 @@ finds_anyone Keep = record {
   sent = λ l s p topic b k its came e. tt;
   willed = λ s w b k among e. tt;
 }
-
--- ---- a line and its number
-
--- the line found by a number has that number
-pub found_number : (n : ℕ) (l : Line) (ls : List Line) → find (λ x. nat_eq x.number n) ls ≡ Some l → l.number ≡ n
-found_number n l [] e = absurd cc
-found_number n l (x ∷ ls) e = elim (cases_Bool (nat_eq x.number n)) [
-  | inl here ↦ let first : Some x ≡ Some l = rw here at e in let it : x ≡ l = cc in ap (λ (y : Line). y.number) (sym it) ∙ eqb-true x.number n here
-  | inr other ↦ found_number n l ls (rw other at e)
-]
-
--- a line that stands has its session on it
-pub found_on : (l : Line) (ls : List Line) → IsAmong l ls → IsOn l.number l.session ls
-found_on l [] h = absurd h
-found_on l (x ∷ ls) h = elim h [
-  | inl it ↦ inl (ap (λ (y : Line). y.number) it, ap (λ (y : Line). y.session) it)
-  | inr more ↦ inr (found_on l ls more)
-]
-
--- a part that leaves a line's number and its session
-abbrev pub is_beside : LinePart → Bool
-is_beside Hear = true
-is_beside (SetAlias alias topic) = true
-is_beside part = false
-
-beside_line : (now : ℕ) (part : LinePart) (l : Line) → is_beside part ≡ true → ((line_after now part l).number ≡ l.number) × ((line_after now part l).session ≡ l.session)
-beside_line now Hear l h = (refl, refl)
-beside_line now (SetAlias alias topic) l h = (refl, refl)
-beside_line now (Greet birth keep_alive window largest most) l h = absurd cc
-beside_line now (Went place) l h = absurd cc
-
--- what happens on a line, other than a greeting, keeps who stands on the others
-pub stays_on : (now k : ℕ) (part : LinePart) (n : ℕ) (session : Option ℕ) (ls : List Line) → is_beside part ≡ true → IsOn n session ls → IsOn n session (on_line now k part ls)
-stays_on now k part n session [] h on = absurd on
-stays_on now k part n session (l ∷ ls) h on = elim (cases_Bool (nat_eq l.number k)) [
-  | inl here ↦
-      let same = beside_line now part l h in
-      rw here (elim on [ inl it ↦ inl (same.0 ∙ it.0, same.1 ∙ it.1) | inr more ↦ inr more ])
-  | inr other ↦ rw other (elim on [ inl it ↦ inl it | inr more ↦ inr (stays_on now k part n session ls h more) ])
-]
 
 -- ---- act by act
 

@@ -26,7 +26,8 @@ use Rattle.mqtt_rules.proofs.acts.Goods.{AreGood, after_append, good_map}
 use Rattle.mqtt_rules.proofs.acts.Leads.{found_among, found_passes}
 use Rattle.mqtt_rules.proofs.acts.LookedUp.{row_at-change_row}
 use Rattle.mqtt_rules.proofs.numbers.NumberBirths.{below_more, below_insert, below_filter, below_change, below_none}
-use Rattle.mqtt_rules.proofs.acts.Acts.{IsOn, found_on, closing, closing_on, closing_session}
+use Rattle.mqtt_rules.proofs.acts.Acts.{closing, closing_on, closing_session}
+use Rattle.mqtt_rules.proofs.acts.OnLines.{IsOn, found_on}
 use Rattle.mqtt_rules.proofs.fit.Coherent.{Coheres, IsFit, no_session, or_right}
 use Rattle.mqtt_rules.proofs.fit.FitLaw.{all_among, mapped_some}
 use Rattle.mqtt_rules.proofs.lines.LineRows.{session_among, among_is, on_line_is, numbered, IsQuiet, closed_resumed, closed_closed, closed_finished, closed_begun, leaves, closed_stays, still_quiet}

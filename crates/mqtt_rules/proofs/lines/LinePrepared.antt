@@ -20,7 +20,8 @@ use Rattle.mqtt_rules.proofs.acts.Goods.{AreGood, after_append, good_append, goo
 use Rattle.mqtt_rules.proofs.acts.Leads.{found_among, found_passes}
 use Rattle.mqtt_rules.proofs.acts.LookedUp.{client_at_part}
 use Rattle.mqtt_rules.proofs.numbers.Counters.{Counts, counts_deed}
-use Rattle.mqtt_rules.proofs.acts.Acts.{found_on, taken_over, settled, IsCleared, IsPrepared}
+use Rattle.mqtt_rules.proofs.acts.Acts.{taken_over, settled, IsCleared, IsPrepared}
+use Rattle.mqtt_rules.proofs.acts.OnLines.{found_on}
 use Rattle.mqtt_rules.proofs.fit.Coherent.{Coheres}
 use Rattle.mqtt_rules.proofs.fit.FitLaw.{name_is_new}
 use Rattle.mqtt_rules.proofs.lines.LineRows.{IsStill, leaves}

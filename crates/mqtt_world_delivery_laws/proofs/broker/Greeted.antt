@@ -11,7 +11,8 @@ use Rattle.mqtt_codec_connect.specs.declared.connect.Connect.{Connect as Greetin
 use Rattle.mqtt_records.specs.declared.records.Records.{Records}
 use Rattle.mqtt_records.specs.declared.session.Session.{Session}
 use Rattle.mqtt_topic.specs.Names.{is_empty}
-use Rattle.mqtt_rules.proofs.acts.Acts.{About, IsCallOf, Law, brought_to, closing_on, closing_session, found_number, leads_call}
+use Rattle.mqtt_rules.proofs.acts.Acts.{About, IsCallOf, Law, brought_to, closing_on, closing_session, leads_call}
+use Rattle.mqtt_rules.proofs.acts.OnLines.{found_number}
 use Rattle.mqtt_rules.proofs.numbers.Copies.{each_append}
 use Rattle.mqtt_rules.proofs.acts.Goods.{AreGood}
 use Rattle.mqtt_rules.proofs.acts.Leads.{found_passes}

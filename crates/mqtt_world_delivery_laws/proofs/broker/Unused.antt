@@ -23,7 +23,8 @@ use Rattle.mqtt_records.specs.Session.{copy_place}
 use Rattle.mqtt_records.specs.declared.records.Records.{Records}
 use Rattle.mqtt_records.specs.declared.session.Session.{Session}
 use Rattle.mqtt_records_rows.specs.Order.{row_at}
-use Rattle.mqtt_rules.proofs.acts.Acts.{About as Whom, IsAnswer, IsCallOf, IsOn, Law, brought_to, closing, closing_on, closing_session, found_on, leads_call, leads_drop, leads_opening, leads_prepare, leads_refused, stays_on}
+use Rattle.mqtt_rules.proofs.acts.Acts.{About as Whom, IsAnswer, IsCallOf, Law, brought_to, closing, closing_on, closing_session, leads_call, leads_drop, leads_opening, leads_prepare, leads_refused}
+use Rattle.mqtt_rules.proofs.acts.OnLines.{IsOn, found_on, stays_on}
 use Rattle.mqtt_rules.proofs.flight.FlightRows.{all_found, all_more, found_key}
 use Rattle.mqtt_rules.proofs.acts.Goods.{AreGood, GoodAct, after_append, good_acts, good_append, good_flat, good_map, good_of_entry, good_series, good_with_session}
 use Rattle.mqtt_rules.proofs.acts.Leads.{Leads, found_among, leads_good}

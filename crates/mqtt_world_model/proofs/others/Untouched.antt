@@ -28,7 +28,8 @@ use Rattle.mqtt_rules.specs.Tick.{is_silent, silence, lapses, lapse_deeds, has_l
 use Rattle.mqtt_rules.specs.Step.{Call, NewLine, Input, BadInput, Lost, Pump, Tick, on_pump, deeds_of}
 use Rattle.mqtt_rules.proofs.acts.Goods.{AreGood}
 use Rattle.mqtt_rules.proofs.acts.Leads.{Leads}
-use Rattle.mqtt_rules.proofs.acts.Acts.{About as Whom, closing, closing_on, closing_session, brought_to, Law, IsCallOf, leads_call, found_number}
+use Rattle.mqtt_rules.proofs.acts.Acts.{About as Whom, closing, closing_on, closing_session, brought_to, Law, IsCallOf, leads_call}
+use Rattle.mqtt_rules.proofs.acts.OnLines.{found_number}
 use Rattle.mqtt_world_model.specs.Ends.{heard}
 use Rattle.mqtt_world_model.specs.Seats.{Glance, HasNobody, IsElsewhere, IsIdle, glance, glance_at}
 use Rattle.mqtt_world_model.proofs.others.Quiet.{IsQuietOn, IsQuiet, AreQuiet, heard_by, told_to, is_closing, closes, quiet_leave, quiet_deliveries, copies_of, quiet_copies}

@@ -24,7 +24,8 @@ use Rattle.mqtt_records.specs.Session.{auto, copy_place}
 use Rattle.mqtt_records.specs.declared.records.Records.{Records}
 use Rattle.mqtt_records.specs.declared.session.Session.{Session}
 use Rattle.mqtt_records_rows.specs.Order.{row_at}
-use Rattle.mqtt_rules.proofs.acts.Acts.{About as Whom, IsCallOf, Law, brought_to, closing, closing_on, closing_session, found_number, leads_call}
+use Rattle.mqtt_rules.proofs.acts.Acts.{About as Whom, IsCallOf, Law, brought_to, closing, closing_on, closing_session, leads_call}
+use Rattle.mqtt_rules.proofs.acts.OnLines.{found_number}
 use Rattle.mqtt_rules.proofs.numbers.Copies.{each_append, each_flat}
 use Rattle.mqtt_rules.proofs.acts.Goods.{AreGood}
 use Rattle.mqtt_rules.proofs.acts.Leads.{Leads}
