@@ -5,16 +5,16 @@ use Rattle.mqtt_rules.specs.declared.Limits.{Limits}
 use Rattle.mqtt_rules.specs.Lines.{session_on}
 use Rattle.mqtt_rules.specs.State.{Broker}
 use Rattle.mqtt_rules.specs.Step.{at_moment}
-use Rattle.mqtt_broker_calls.specs.Sound.{IsSound}
+use Rattle.mqtt_broker_calls.specs.Ready.{IsReady}
 use Rattle.mqtt_broker_calls.specs.Inputs.{HasClient}
 use Rattle.mqtt_broker_calls.proofs.Clients.{client_begun}
 
--- in a sound broker a session on a line is a client with a line
-pub client_sound : (limits : Limits) (line birth moment : ℕ) (b : Broker) → IsSound limits b → session_on line b ≡ Some (Some birth) → HasClient line birth (at_moment moment b)
-client_sound limits line birth moment b sound on = client_begun line birth moment b (record {
+-- in a broker that is ready a session on a line is a client with a line
+pub client_ready : (limits : Limits) (line birth moment : ℕ) (b : Broker) → IsReady limits b → session_on line b ≡ Some (Some birth) → HasClient line birth (at_moment moment b)
+client_ready limits line birth moment b ready on = client_begun line birth moment b (record {
   on = on;
-  stands = sound.lines.stands line birth on;
-  orders = sound.orders birth;
-  filters = sound.filters;
-  contents = sound.contents;
+  stands = ready.lines.stands line birth on;
+  orders = ready.orders birth;
+  filters = ready.filters;
+  sources = ready.sources;
 })

@@ -10,7 +10,7 @@ use Rattle.mqtt_codec.specs.declared.publish.Publish.{Publish}
 use Rattle.mqtt_props.specs.Properties.{block}
 use Rattle.mqtt_records.specs.declared.session.Session.{Session}
 use Rattle.mqtt_records_rows.specs.Order.{row_at}
-use Rattle.mqtt_rules.specs.Contents.{AreContentsLawful, AreSizes, HasTopics, IsTaken, of_rows}
+use Rattle.mqtt_rules.specs.Contents.{AreSizes, HasTopics, IsTaken, of_rows}
 use Rattle.mqtt_rules.specs.Deeds.{Hear, On, after_all, on_line}
 use Rattle.mqtt_rules.specs.Inbound.{Means, meaning, message_of}
 use Rattle.mqtt_rules.specs.State.{Broker, Line, line_at}
@@ -22,6 +22,7 @@ use Rattle.mqtt_broker_publish.specs.Choosing.{IsLawfulMessage}
 use Rattle.mqtt_codec_subscribe.specs.declared.unsubscribe.Unsubscribe.{Unsubscribe}
 use Rattle.mqtt_codec_subscribe.specs.Unsubscribe.{unsubscribe_body}
 use Rattle.mqtt_broker_calls.specs.Inputs.{HasClient}
+use Rattle.mqtt_broker_calls.specs.Ready.{AreSourcesLawful}
 
 -- ---- a line that is heard
 
@@ -58,7 +59,7 @@ client_heard line birth b k =
       stands = k.stands;
       orders = k.orders;
       filters = k.filters;
-      contents = record { stored = k.contents.stored; lines = topics_heard b.now line b.lines k.contents.lines };
+      sources = record { stored = k.sources.stored; lines = topics_heard b.now line b.lines k.sources.lines };
     }
 
 -- ---- a call begins
@@ -70,7 +71,7 @@ client_begun line birth moment b k = record {
   stands = k.stands;
   orders = k.orders;
   filters = k.filters;
-  contents = record { stored = k.contents.stored; lines = k.contents.lines };
+  sources = record { stored = k.sources.stored; lines = k.sources.lines };
 }
 
 -- ---- what it finds
@@ -89,7 +90,7 @@ rows_sizes : AreSizes of_rows
 rows_sizes = record { bytes = (omega arith, omega arith); identifiers = (omega arith, omega arith) }
 
 -- a PUBLISH that may come and has a meaning is a lawful message
-pub lawful_message : (line : ℕ) (b : Broker) (p : Publish) (l : Line) (s : Session) (topic : List ℕ) → AreContentsLawful b → IsTaken (packets.Publish p)
+pub lawful_message : (line : ℕ) (b : Broker) (p : Publish) (l : Line) (s : Session) (topic : List ℕ) → AreSourcesLawful b → IsTaken (packets.Publish p)
     → row_at line_number line b.lines ≡ Some l → meaning p l.aliases ≡ Means topic → IsLawfulMessage (message_of s.client topic p)
 lawful_message line b p l s topic k taken found means =
     sent_content of_rows rows_sizes p l.aliases topic taken (topics_in line b.lines l k.lines found) means

@@ -1,6 +1,7 @@
 pub mod Flights
 pub mod Kept
 pub mod SoundLaw
+pub mod Sources
 pub mod CallActs
 pub mod SomeCalls
 pub mod Begun

@@ -1,4 +1,5 @@
 pub mod Sound
+pub mod Ready
 pub mod Doing
 pub mod First
 pub mod Inputs

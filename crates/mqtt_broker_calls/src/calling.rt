@@ -8,7 +8,7 @@ ghost use Rattle.mqtt_rules.specs.Step.{Input, deeds_of};
 ghost use Rattle.mqtt_broker_step.specs.Stepping.{at_rest};
 ghost use Rattle.mqtt_broker_publish.specs.Choosing.{DoesSome, LeavesSome};
 ghost use Rattle.mqtt_broker_calls.specs.Doing.{IsCalled};
-ghost use Rattle.mqtt_broker_calls.specs.Sound.{IsSound};
+ghost use Rattle.mqtt_broker_calls.specs.Ready.{IsReady};
 ghost use Rattle.mqtt_broker_calls.specs.Inputs.{HasClient, takes};
 
 use crate::answers::{AnswerKind, answer};
@@ -91,7 +91,7 @@ pub fn input<R: Router>(
     moment: u64,
 ) -> Result<(), StepFault>
     requires rest { step.old ≡ at_rest step.old.limits step.old.broker }
-    requires sound { IsSound step.old.limits step.old.broker }
+    requires ready { IsReady step.old.limits step.old.broker }
     requires connected { session_on line step.old.broker ≡ Some (Some birth) }
     requires taken { IsTaken packet.now }
     requires serves { R.serves router.old (subscribers step.old.broker.records) }

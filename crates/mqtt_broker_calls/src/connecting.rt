@@ -12,7 +12,7 @@ ghost use Rattle.mqtt_broker_step.specs.Stepping.{Did, IsLeft, at_rest};
 ghost use Rattle.mqtt_broker_publish.specs.Choosing.{DoesSome, LeavesSome};
 ghost use Rattle.mqtt_broker_close.specs.Wills.{will_at};
 ghost use Rattle.mqtt_broker_calls.specs.Doing.{begun};
-ghost use Rattle.mqtt_broker_calls.specs.Sound.{IsSound};
+ghost use Rattle.mqtt_broker_calls.specs.Ready.{IsReady};
 ghost use Rattle.mqtt_broker_calls.specs.First.{GreetedBy, turns_away};
 
 use mqtt_base::Reason;
@@ -56,7 +56,7 @@ fn greet_at<R: Router>(
     moment: u64,
 ) -> Result<Joined, StepFault>
     requires rest { step.old ≡ at_rest step.old.limits step.old.broker }
-    requires sound { IsSound step.old.limits step.old.broker }
+    requires ready { IsReady step.old.limits step.old.broker }
     requires on { session_on line step.old.broker ≡ Some None }
     requires serves { R.serves router.old (subscribers step.old.broker.records) }
     ensures ok { IfOk result (λ joined. GreetedBy line connect.now joined
@@ -119,7 +119,7 @@ pub fn connect_at<R: Router>(
     moment: u64,
 ) -> Result<(), StepFault>
     requires rest { step.old ≡ at_rest step.old.limits step.old.broker }
-    requires sound { IsSound step.old.limits step.old.broker }
+    requires ready { IsReady step.old.limits step.old.broker }
     requires on { session_on line step.old.broker ≡ Some None }
     requires serves { R.serves router.old (subscribers step.old.broker.records) }
     ensures ok { OnOk result (DoesSome

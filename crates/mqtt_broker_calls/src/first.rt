@@ -8,7 +8,7 @@ ghost use Rattle.mqtt_rules.specs.Step.{Input, deeds_of};
 ghost use Rattle.mqtt_broker_step.specs.Stepping.{at_rest};
 ghost use Rattle.mqtt_broker_publish.specs.Choosing.{DoesSome, LeavesSome};
 ghost use Rattle.mqtt_broker_calls.specs.Doing.{IsCalled, begun};
-ghost use Rattle.mqtt_broker_calls.specs.Sound.{IsSound};
+ghost use Rattle.mqtt_broker_calls.specs.Ready.{IsReady};
 ghost use Rattle.mqtt_broker_calls.specs.First.{IsOther};
 
 use crate::connecting::connect_at;
@@ -80,7 +80,7 @@ pub fn first_at<R: Router>(
     moment: u64,
 ) -> Result<(), StepFault>
     requires rest { step.old ≡ at_rest step.old.limits step.old.broker }
-    requires sound { IsSound step.old.limits step.old.broker }
+    requires ready { IsReady step.old.limits step.old.broker }
     requires on { session_on line step.old.broker ≡ Some None }
     requires serves { R.serves router.old (subscribers step.old.broker.records) }
     ensures called { IsCalled moment (Input line packet.now) false result step.new }

@@ -7,6 +7,7 @@ ghost use Rattle.mqtt_rules.specs.Laws.{AreWithin};
 ghost use Rattle.mqtt_rules.specs.State.{Broker, MemberChoice, stored};
 ghost use Rattle.mqtt_rules.specs.Step.{Call, is_opening_spent, is_step_spent, opened, stepped};
 ghost use Rattle.mqtt_rules.specs.declared.Limits.{Limits as TheLimits};
+ghost use Rattle.mqtt_broker_calls.specs.Ready.{IsReady};
 ghost use Rattle.mqtt_broker_calls.specs.Sound.{IsSound, IsWithin};
 
 /// Each step of a sound broker on a packet that is lawful and no longer than a packet may be leaves a
@@ -19,6 +20,11 @@ pub fn sound_brokers_stay_sound()
         → AreWithin limits → IsLawful r
         → is_opening_spent limits choice now r ≡ false
         → IsSound limits (opened limits choice now r) }
+{}
+
+/// A sound broker can do its calls: they ask less, and nothing of what its waiting copies say (4.1).
+pub fn sound_brokers_are_ready()
+    ensures ready { (limits : TheLimits) (b : Broker) → IsSound limits b → IsReady limits b }
 {}
 
 /// A step of a sound broker that finds no more sessions, retained messages and queued copies than its

@@ -17,7 +17,7 @@ mod ticking;
 
 pub use calling::input;
 pub use first::first_at;
-pub use laws::{limits_stay_kept, sound_brokers_stay_sound};
+pub use laws::{limits_stay_kept, sound_brokers_are_ready, sound_brokers_stay_sound};
 pub use losing::lost_at;
 pub use pumping::pump_at;
 pub use refusing::fault_at;

@@ -5,7 +5,7 @@ ghost use Rattle.mqtt_rules.specs.Routing.{subscribers};
 ghost use Rattle.mqtt_rules.specs.Step.{Lost};
 ghost use Rattle.mqtt_broker_step.specs.Stepping.{at_rest};
 ghost use Rattle.mqtt_broker_calls.specs.Doing.{IsCalled};
-ghost use Rattle.mqtt_broker_calls.specs.Sound.{IsSound};
+ghost use Rattle.mqtt_broker_calls.specs.Ready.{IsReady};
 
 use mqtt_broker_close::lost;
 use mqtt_broker_publish::Router;
@@ -22,7 +22,7 @@ pub fn lost_at<R: Router>(
     moment: u64,
 ) -> Result<(), StepFault>
     requires rest { step.old ≡ at_rest step.old.limits step.old.broker }
-    requires sound { IsSound step.old.limits step.old.broker }
+    requires ready { IsReady step.old.limits step.old.broker }
     requires serves { R.serves router.old (subscribers step.old.broker.records) }
     ensures called { IsCalled moment (Lost line) false result step.new }
     ensures start { step.new.start ≡ step.old.broker }

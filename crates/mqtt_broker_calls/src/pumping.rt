@@ -4,7 +4,7 @@ ghost use Rattle.mqtt_rules.specs.Step.{Pump, SpentStep};
 ghost use Rattle.mqtt_broker_step.specs.declared.fault.StepFault.TheVariants.{Spent};
 ghost use Rattle.mqtt_broker_step.specs.Stepping.{at_rest};
 ghost use Rattle.mqtt_broker_calls.specs.Doing.{DidCall};
-ghost use Rattle.mqtt_broker_calls.specs.Sound.{IsSound};
+ghost use Rattle.mqtt_broker_calls.specs.Ready.{IsReady};
 
 use mqtt_broker_queue::pump;
 use mqtt_broker_step::{Step, StepFault};
@@ -14,7 +14,7 @@ use std::alloc::Global;
 /// `PUMP_LIMIT` PUBLISH went out. `Memory` (1) and `Spent` (3): the step is to be taken back (4.6, 4.9).
 pub fn pump_at(alloc: Global, step: &mut Step, line: u64, moment: u64) -> Result<bool, StepFault>
     requires rest { step.old ≡ at_rest step.old.limits step.old.broker }
-    requires sound { IsSound step.old.limits step.old.broker }
+    requires ready { IsReady step.old.limits step.old.broker }
     ensures called { IfOk result (λ again. DidCall moment (Pump line) again step.new) }
     ensures left { IfErr result (λ fault. fault ≡ Spent
         → SpentStep step.new.limits step.new.start moment (Pump line)) }

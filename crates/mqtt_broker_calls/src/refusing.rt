@@ -11,7 +11,7 @@ ghost use Rattle.mqtt_broker_step.specs.Stepping.{Did, IsLeft, at_rest};
 ghost use Rattle.mqtt_broker_publish.specs.Choosing.{DoesSome, LeavesSome};
 ghost use Rattle.mqtt_broker_close.specs.Wills.{will_at};
 ghost use Rattle.mqtt_broker_calls.specs.Doing.{IsCalled};
-ghost use Rattle.mqtt_broker_calls.specs.Sound.{IsSound};
+ghost use Rattle.mqtt_broker_calls.specs.Ready.{IsReady};
 ghost use Rattle.mqtt_broker_calls.specs.First.{first_told};
 
 use mqtt_base::Reason;
@@ -109,7 +109,7 @@ pub fn fault_at<R: Router>(
     moment: u64,
 ) -> Result<(), StepFault>
     requires rest { step.old ≡ at_rest step.old.limits step.old.broker }
-    requires sound { IsSound step.old.limits step.old.broker }
+    requires ready { IsReady step.old.limits step.old.broker }
     requires on { session_on line step.old.broker ≡ Some session }
     requires serves { R.serves router.old (subscribers step.old.broker.records) }
     ensures called { IsCalled moment (BadInput line is_connect code.0) false result step.new }

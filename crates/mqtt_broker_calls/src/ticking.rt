@@ -6,7 +6,7 @@ ghost use Rattle.mqtt_rules.specs.Step.{SpentStep, Tick};
 ghost use Rattle.mqtt_broker_step.specs.declared.fault.StepFault.TheVariants.{Spent};
 ghost use Rattle.mqtt_broker_step.specs.Stepping.{at_rest};
 ghost use Rattle.mqtt_broker_calls.specs.Doing.{DidCall};
-ghost use Rattle.mqtt_broker_calls.specs.Sound.{IsSound};
+ghost use Rattle.mqtt_broker_calls.specs.Ready.{IsReady};
 ghost use Rattle.mqtt_broker_clock.specs.Quiet.{AreQuietBefore};
 
 use mqtt_broker_clock::tick;
@@ -25,7 +25,7 @@ pub fn tick_at<R: Router>(
     quiet: u64,
 ) -> Result<bool, StepFault>
     requires rest { step.old ≡ at_rest step.old.limits step.old.broker }
-    requires sound { IsSound step.old.limits step.old.broker }
+    requires ready { IsReady step.old.limits step.old.broker }
     requires serves { R.serves router.old (subscribers step.old.broker.records) }
     requires quiet { AreQuietBefore quiet step.old.broker.records }
     ensures called { IfOk result (λ again. DidCall moment Tick again step.new) }

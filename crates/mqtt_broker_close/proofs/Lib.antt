@@ -4,4 +4,3 @@ pub mod Settled
 pub mod Closed
 pub mod LineClosed
 pub mod Ticked
-pub mod WilledBrokers

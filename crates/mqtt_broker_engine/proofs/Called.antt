@@ -14,23 +14,30 @@ use Rattle.mqtt_rules.proofs.fit.RowsFit.{step_fits}
 use Rattle.mqtt_rules_sharing_laws.proofs.Steps as sharing
 use Rattle.mqtt_rules.proofs.contents.SayableRows.{step_said}
 use Rattle.mqtt_rules.proofs.contents.SpelledContents.{rows_are as row_sizes}
+use Rattle.mqtt_rules.proofs.numbers.Copies.{each_more}
 use Rattle.mqtt_rules.proofs.numbers.Counters.{moment_stays, now_stays}
 use Rattle.mqtt_broker_step.specs.Stepping.{Stepping, with_stamp}
 use Rattle.mqtt_broker_step.specs.Undoing.{moment_of}
-use Rattle.mqtt_broker_index.specs.Following.{CanAllBeFollowed, CanBeIndexed}
-use Rattle.mqtt_broker_index.proofs.Followed.{indexed_of, step_followed}
+use Rattle.mqtt_broker_index.specs.Following.{CanAllBeFollowed, CanBeIndexed, HasAsked}
+use Rattle.mqtt_broker_index.proofs.Followed.{step_followed}
 use Rattle.mqtt_broker_engine.specs.declared.outcome.Outcome.{Outcome}
 use Rattle.mqtt_broker_engine.specs.Calling.{IsAnswered, IsLeftBy}
 use Rattle.mqtt_broker_engine.specs.Finishing.{CanFinish, IsTold}
 use Rattle.mqtt_broker_calls.specs.Doing.{DidCall}
+use Rattle.mqtt_broker_calls.specs.Ready.{HasLawfulSources, IsReady}
 use Rattle.mqtt_broker_calls.specs.Sound.{IsSound}
 use Rattle.mqtt_broker_calls.proofs.SoundLaw.{step_sound}
+use Rattle.mqtt_broker_calls.proofs.Sources.{sound_ready}
 
 -- ---- what a sound broker gives
 
--- what a sound broker has stored can be indexed
-pub sound_indexed : (limits : Limits) (b : Broker) → IsSound limits b → CanBeIndexed b.records
-sound_indexed limits b sound = indexed_of b.records sound.coherent.ordered sound.filters sound.contents.stored
+-- what a broker that is ready has stored can be indexed
+pub ready_indexed : (limits : Limits) (b : Broker) → IsReady limits b → CanBeIndexed b.records
+ready_indexed limits b ready = record {
+  ordered = ready.coherent.ordered;
+  filters = ready.filters;
+  asked = each_more HasLawfulSources HasAsked (λ s its. its.subscriptions) b.records.sessions ready.sources.stored.sessions;
+}
 
 -- ---- a step that did the deeds of a call, with its moment
 
@@ -80,7 +87,7 @@ module _ (now : ℕ) (call : Call) (again : Bool) (s : Stepping) (h : DidCall no
     fit = call_fits sound;
     sayable = call_sayable sound taken;
     contents = call_contents sound;
-    indexed = sound_indexed s.limits s.start sound;
+    indexed = ready_indexed s.limits s.start (sound_ready s.limits s.start sound);
     followed = call_followed sound taken;
   }
 

@@ -4,7 +4,7 @@ use Rattle.std.specs.List.{AllByRecursion}
 use Rattle.mqtt_records.specs.declared.session.Session.{Session}
 use Rattle.mqtt_records.specs.Session.{birth_of}
 use Rattle.mqtt_routes.specs.Subscriptions.{Subscriber}
-use Rattle.mqtt_rules.specs.Contents.{HasLawfulContents, IsWilled}
+use Rattle.mqtt_rules.specs.Contents.{IsWilled}
 use Rattle.mqtt_rules.specs.Laws.{IsCoherent}
 use Rattle.mqtt_rules.specs.Routing.{subscribers}
 use Rattle.mqtt_rules.specs.Step.{opening}
@@ -16,6 +16,7 @@ use Rattle.mqtt_broker_publish.specs.Choosing.{DoesSome, LeavesSome}
 use Rattle.mqtt_broker_close.specs.Wills.{will_at}
 use Rattle.mqtt_broker_index.specs.Following.{CanBeIndexed}
 use Rattle.mqtt_broker_index.specs.Indexing.{Serves}
+use Rattle.mqtt_broker_calls.specs.Ready.{AreSourcesStored}
 use Rattle.mqtt_broker_engine.specs.Closing.{DidSome, LeftSome}
 use Rattle.mqtt_broker_engine.specs.Sessions.{IsThere, closes, closes_all, connected_in}
 use Rattle.mqtt_broker_engine.proofs.Chosen.{AllApart}
@@ -46,15 +47,15 @@ pub record IsGoing (entry s : Stepping) (index : List Subscriber) (births : List
 -- ---- at the beginning
 
 -- at the beginning all that stand connected are
-pub going_first : (s : Stepping) (index : List Subscriber) (births : List ℕ) → births ≡ map birth_of (connected_in s.broker.records) → IsCoherent s.broker.records → HasLawfulContents s.broker.records
+pub going_first : (s : Stepping) (index : List Subscriber) (births : List ℕ) → births ≡ map birth_of (connected_in s.broker.records) → IsCoherent s.broker.records → AreSourcesStored s.broker.records
     → CanBeIndexed s.broker.records → Serves index (subscribers s.broker.records) → IsGoing s s index births
-going_first s index births its coherent contents indexed serves = record {
+going_first s index births its coherent sources indexed serves = record {
   rest = connected_in s.broker.records;
   waits = record {
     its = its;
     apart = connected_apart s.broker.records coherent;
     there = connected_there s.broker.records coherent;
-    willed = connected_willed s.broker.records contents;
+    willed = connected_willed s.broker.records sources;
     leads = record {
       did = λ new d. record {
         choice = d.choice;

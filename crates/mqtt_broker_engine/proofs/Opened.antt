@@ -8,13 +8,14 @@ use Rattle.mqtt_records.specs.declared.session.Session.{Session}
 use Rattle.mqtt_records.specs.declared.records.Records.{Records}
 use Rattle.mqtt_records.specs.Session.{birth_of}
 use Rattle.mqtt_records_rows.specs.Order.{IsAbove, IsAscending, row_at}
-use Rattle.mqtt_rules.specs.Contents.{HasContents, HasLawfulContents, IsWilled}
+use Rattle.mqtt_rules.specs.Contents.{IsWilled}
 use Rattle.mqtt_rules.specs.Deeds.{after_all, series}
 use Rattle.mqtt_rules.specs.Laws.{IsCoherent, IsUnique, client_at}
 use Rattle.mqtt_rules.specs.State.{Broker, Env, is_connected, session_at}
 use Rattle.mqtt_rules.specs.Step.{close_if, opening}
 use Rattle.mqtt_rules.proofs.numbers.Copies.{each_more}
 use Rattle.mqtt_rules.proofs.flight.FlightRows.{all_found}
+use Rattle.mqtt_broker_calls.specs.Ready.{AreSourcesStored, HasLawfulSources}
 use Rattle.mqtt_broker_engine.specs.Sessions.{IsThere, closes, closes_all, connected_in, face}
 use Rattle.mqtt_broker_engine.proofs.Chosen.{AllApart, AreApart}
 
@@ -95,6 +96,6 @@ connected_there r h =
     (all_found birth_of r.sessions h.ordered.sessions.ascending))
 
 -- and their Wills may be published
-pub connected_willed : (r : Records) → HasLawfulContents r → AllByRecursion (λ (s : Session). IsWilled s.will) (connected_in r)
+pub connected_willed : (r : Records) → AreSourcesStored r → AllByRecursion (λ (s : Session). IsWilled s.will) (connected_in r)
 connected_willed r h =
-    each_filtered (λ (s : Session). IsWilled s.will) is_connected r.sessions (each_more HasContents (λ (s : Session). IsWilled s.will) (λ s its. its.will) r.sessions h.sessions)
+    each_filtered (λ (s : Session). IsWilled s.will) is_connected r.sessions (each_more HasLawfulSources (λ (s : Session). IsWilled s.will) (λ s its. its.will) r.sessions h.sessions)

@@ -7,7 +7,7 @@ ghost use Rattle.mqtt_rules.specs.Step.{BadInput, Input, Lost, Pump, Tick};
 ghost use Rattle.mqtt_broker_step.specs.Stepping.{at_rest};
 ghost use Rattle.mqtt_broker_calls.specs.Doing.{IsCalled};
 ghost use Rattle.mqtt_broker_clock.specs.Quiet.{AreQuietBefore};
-ghost use Rattle.mqtt_broker_calls.specs.Sound.{IsSound};
+ghost use Rattle.mqtt_broker_calls.specs.Ready.{IsReady};
 ghost use Rattle.mqtt_broker_index.specs.Indexing.{Serves};
 ghost use Rattle.mqtt_broker_engine.specs.Calling.{Called};
 
@@ -43,7 +43,7 @@ fn input_at(
     moment: u64,
 ) -> Result<(), StepFault>
     requires rest { step.old ≡ at_rest step.old.limits step.old.broker }
-    requires sound { IsSound step.old.limits step.old.broker }
+    requires ready { IsReady step.old.limits step.old.broker }
     requires linked { session_on line step.old.broker ≡ Some session }
     requires taken { IsTaken packet.now }
     requires serves { Serves index.old.sessions (subscribers step.old.broker.records) }
@@ -67,7 +67,7 @@ fn pump_once(
     again: &mut bool,
 ) -> Result<(), StepFault>
     requires rest { step.old ≡ at_rest step.old.limits step.old.broker }
-    requires sound { IsSound step.old.limits step.old.broker }
+    requires ready { IsReady step.old.limits step.old.broker }
     ensures called { IsCalled moment (Pump line) again.new result step.new }
     ensures start { step.new.start ≡ step.old.broker }
     ensures limits { step.new.limits ≡ step.old.limits }
@@ -91,7 +91,7 @@ fn tick_once(
     again: &mut bool,
 ) -> Result<(), StepFault>
     requires rest { step.old ≡ at_rest step.old.limits step.old.broker }
-    requires sound { IsSound step.old.limits step.old.broker }
+    requires ready { IsReady step.old.limits step.old.broker }
     requires serves { Serves index.old.sessions (subscribers step.old.broker.records) }
     requires quiet { AreQuietBefore quiet step.old.broker.records }
     ensures called { IsCalled moment Tick again.new result step.new }

@@ -6,12 +6,13 @@ ghost use Rattle.mqtt_records.specs.declared.records.Records.{Records as TheReco
 ghost use Rattle.mqtt_records.specs.Session.{birth_of};
 ghost use Rattle.mqtt_records.specs.declared.session.Session.{Session as TheSession};
 ghost use Rattle.mqtt_routes.specs.Subscriptions.{Subscriber};
-ghost use Rattle.mqtt_rules.specs.Contents.{HasLawfulContents, IsWilled};
+ghost use Rattle.mqtt_rules.specs.Contents.{IsWilled};
 ghost use Rattle.mqtt_rules.specs.Laws.{IsCoherent};
 ghost use Rattle.mqtt_rules.specs.Routing.{subscribers};
 ghost use Rattle.mqtt_rules.specs.Step.{opening};
 ghost use Rattle.mqtt_broker_publish.specs.Choosing.{DoesSome, LeavesSome};
 ghost use Rattle.mqtt_broker_close.specs.Wills.{will_at};
+ghost use Rattle.mqtt_broker_calls.specs.Ready.{AreSourcesStored};
 ghost use Rattle.mqtt_broker_index.specs.Following.{CanAllBeFollowed, CanBeIndexed, CanGoAlongAll};
 ghost use Rattle.mqtt_broker_index.specs.Indexing.{Serves};
 ghost use Rattle.mqtt_broker_engine.specs.Closing.{DidSome, LeftSome};
@@ -115,7 +116,7 @@ fn close_each(
 ) -> Result<(), StepFault>
     requires births { births.items ≡ map birth_of (connected_in step.old.broker.records) }
     requires coherent { IsCoherent step.old.broker.records }
-    requires contents { HasLawfulContents step.old.broker.records }
+    requires sources { AreSourcesStored step.old.broker.records }
     requires indexed { CanBeIndexed step.old.broker.records }
     requires serves { Serves index.old.sessions (subscribers step.old.broker.records) }
     ensures ok { OnOk result (DidSome opening step.old step.new) }
@@ -131,7 +132,7 @@ fn close_each(
 /// The sessions that the records show as connected are closed, in the order of births.
 pub(crate) fn close_all(alloc: Global, index: &mut Index, step: &mut Step) -> Result<(), StepFault>
     requires coherent { IsCoherent step.old.broker.records }
-    requires contents { HasLawfulContents step.old.broker.records }
+    requires sources { AreSourcesStored step.old.broker.records }
     requires indexed { CanBeIndexed step.old.broker.records }
     requires serves { Serves index.old.sessions (subscribers step.old.broker.records) }
     ensures ok { OnOk result (DidSome opening step.old step.new) }

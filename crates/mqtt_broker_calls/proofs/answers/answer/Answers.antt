@@ -8,7 +8,7 @@ use Rattle.mqtt_rules.specs.Step.{on_packet}
 use Rattle.mqtt_broker_step.specs.Stepping.{Stepping}
 use Rattle.mqtt_broker_step.proofs.Doing.{if_err, on_ok}
 use Rattle.mqtt_broker_close.specs.Wills.{will_at}
-use Rattle.mqtt_broker_close.proofs.WilledBrokers.{willed}
+use Rattle.mqtt_broker_calls.proofs.Sources.{willed}
 use Rattle.mqtt_broker_queue.specs.Answering.{Came}
 use Rattle.mqtt_broker_queue.specs.declared.answering.Answered.TheVariants.{Taken, Wrong}
 use Rattle.mqtt_broker_calls.specs.Answers.{answers, packet_of}
@@ -32,7 +32,7 @@ drop_line-requires-clause-serves g c =
 pub drop_line-requires-clause-lawful : goal.drop_line-requires-clause-lawful
 drop_line-requires-clause-lawful g c =
     let came : Came (answers c.args.kind c.args.birth c.args.packet.now) c.args.line Wrong c.args.step.now c.take.new.step = rw c.in-Ok-Wrong.field-0-is at c.in-Ok-Wrong.ensures.ok in
-    λ birth is. subst (λ (t : Stepping). IsWilled (will_at birth t.broker.records)) (sym came.0) (willed c.args.step.now.broker c.requires.client.contents birth)
+    λ birth is. subst (λ (t : Stepping). IsWilled (will_at birth t.broker.records)) (sym came.0) (willed c.args.step.now.broker.records c.requires.client.sources.stored birth)
 
 pub returns-in-Ok-Taken-clause-ok : goal.returns-in-Ok-Taken-clause-ok
 returns-in-Ok-Taken-clause-ok g c =

@@ -7,7 +7,7 @@ use Rattle.mqtt_broker_step.specs.Stepping.{Stepping, with_broker}
 use Rattle.mqtt_broker_calls.specs.Doing.{begun}
 use Rattle.mqtt_broker_calls.proofs.SomeCalls.{called_some, limits_some, start_some}
 use Rattle.mqtt_broker_calls.specs.Inputs.{HasClient}
-use Rattle.mqtt_broker_calls.proofs.Called.{client_sound}
+use Rattle.mqtt_broker_calls.proofs.Called.{client_ready}
 use Rattle.mqtt_broker_calls.proofs.calling.input.Goals as goal
 
 pub hear-requires-clause-serves : goal.hear-requires-clause-serves
@@ -18,7 +18,7 @@ pub hear-requires-clause-client : goal.hear-requires-clause-client
 hear-requires-clause-client g c =
     let s = c.args.step.now in
     subst (λ (b : Broker). HasClient c.args.line c.args.birth b) (sym (ap (λ (t : Stepping). t.broker) c.in-Ok.ensures.ok))
-    (client_sound s.limits c.args.line c.args.birth c.args.moment s.broker c.requires.sound c.requires.connected)
+    (client_ready s.limits c.args.line c.args.birth c.args.moment s.broker c.requires.ready c.requires.connected)
 
 pub returns-in-Ok-clause-called : goal.returns-in-Ok-clause-called
 returns-in-Ok-clause-called g c =

@@ -9,7 +9,7 @@ use Rattle.mqtt_rules.specs.Step.{Input, deeds_of}
 use Rattle.mqtt_broker_step.specs.Stepping.{Stepping}
 use Rattle.mqtt_broker_publish.specs.Choosing.{LeavesSome}
 use Rattle.mqtt_broker_close.specs.Wills.{will_at}
-use Rattle.mqtt_broker_close.proofs.WilledBrokers.{willed}
+use Rattle.mqtt_broker_calls.proofs.Sources.{willed}
 use Rattle.mqtt_broker_calls.specs.First.{GreetedBy}
 use Rattle.mqtt_broker_calls.proofs.Begun.{at_begun, begun_is, unbegun_some}
 use Rattle.mqtt_broker_calls.proofs.connecting.greet_at.Goals as goal
@@ -26,7 +26,7 @@ greet-requires-clause-coherent g c =
     let s = c.args.step.now in
     let s1 = c.begin.new.self in
     let same = begun_is c.args.moment s s1 c.requires.rest c.in-Ok.ensures.ok in
-    at_begun IsCoherent s.limits c.args.moment s.broker s1 same c.requires.sound.coherent
+    at_begun IsCoherent s.limits c.args.moment s.broker s1 same c.requires.ready.coherent
 
 pub greet-requires-clause-serves : goal.greet-requires-clause-serves
 greet-requires-clause-serves g c =
@@ -40,7 +40,7 @@ greet-requires-clause-lawful g c = λ birth.
     let s = c.args.step.now in
     let s1 = c.begin.new.self in
     let same = begun_is c.args.moment s s1 c.requires.rest c.in-Ok.ensures.ok in
-    at_begun (λ r. IsWilled (will_at birth r)) s.limits c.args.moment s.broker s1 same (willed s.broker c.requires.sound.contents birth)
+    at_begun (λ r. IsWilled (will_at birth r)) s.limits c.args.moment s.broker s1 same (willed s.broker.records c.requires.ready.sources.stored birth)
 
 pub returns-in-Ok-clause-ok : goal.returns-in-Ok-clause-ok
 returns-in-Ok-clause-ok g c =

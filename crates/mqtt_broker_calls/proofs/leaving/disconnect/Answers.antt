@@ -3,13 +3,13 @@ use Rattle.mqtt_props.specs.declared.table.PropName.TheVariants.{SessionExpiryIn
 use Rattle.mqtt_records_message.specs.PassedOn.{number_at}
 use Rattle.mqtt_broker_step.proofs.Doing.{if_err, on_ok}
 use Rattle.mqtt_broker_calls.proofs.OnLine.{on_line}
-use Rattle.mqtt_broker_close.proofs.WilledBrokers.{willed}
+use Rattle.mqtt_broker_calls.proofs.Sources.{willed}
 use Rattle.mqtt_broker_calls.proofs.Answered.{disconnect_left, disconnected}
 use Rattle.mqtt_broker_calls.proofs.leaving.disconnect.Goals as goal
 
 pub disconnect-requires-clause-lawful : goal.disconnect-requires-clause-lawful
 disconnect-requires-clause-lawful g c =
-    willed c.args.step.now.broker c.requires.client.contents c.args.birth
+    willed c.args.step.now.broker.records c.requires.client.sources.stored c.args.birth
 
 pub returns-clause-ok : goal.returns-clause-ok
 returns-clause-ok g c =

@@ -1,12 +1,12 @@
 use Rattle.mqtt_broker_step.proofs.Doing.{if_err, on_ok}
 use Rattle.mqtt_broker_calls.proofs.OnLine.{on_line}
-use Rattle.mqtt_broker_close.proofs.WilledBrokers.{willed}
+use Rattle.mqtt_broker_calls.proofs.Sources.{willed}
 use Rattle.mqtt_broker_calls.proofs.Answered.{stray_left, strayed}
 use Rattle.mqtt_broker_calls.proofs.leaving.stray.Goals as goal
 
 pub drop_line-requires-clause-lawful : goal.drop_line-requires-clause-lawful
 drop_line-requires-clause-lawful g c =
-    λ birth is. willed c.args.step.now.broker c.requires.client.contents birth
+    λ birth is. willed c.args.step.now.broker.records c.requires.client.sources.stored birth
 
 pub returns-clause-ok : goal.returns-clause-ok
 returns-clause-ok g c = λ packet stray.

@@ -4,7 +4,7 @@ use Rattle.mqtt_rules.specs.Routing.{subscribers}
 use Rattle.mqtt_rules.specs.Step.{Lost, deeds_of}
 use Rattle.mqtt_broker_close.specs.Wills.{will_at}
 use Rattle.mqtt_broker_calls.proofs.SomeCalls.{called_some, limits_some, start_some}
-use Rattle.mqtt_broker_close.proofs.WilledBrokers.{willed}
+use Rattle.mqtt_broker_calls.proofs.Sources.{willed}
 use Rattle.mqtt_broker_calls.proofs.Begun.{at_begun, begun_is}
 use Rattle.mqtt_broker_calls.proofs.losing.lost_at.Goals as goal
 
@@ -20,7 +20,7 @@ lost-requires-clause-lawful g c = λ birth.
     let s = c.args.step.now in
     let s1 = c.begin.new.self in
     let same = begun_is c.args.moment s s1 c.requires.rest c.in-Ok.ensures.ok in
-    at_begun (λ r. IsWilled (will_at birth r)) s.limits c.args.moment s.broker s1 same (willed s.broker c.requires.sound.contents birth)
+    at_begun (λ r. IsWilled (will_at birth r)) s.limits c.args.moment s.broker s1 same (willed s.broker.records c.requires.ready.sources.stored birth)
 
 pub returns-in-Ok-clause-called : goal.returns-in-Ok-clause-called
 returns-in-Ok-clause-called g c =

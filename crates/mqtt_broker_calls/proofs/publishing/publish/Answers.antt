@@ -8,7 +8,7 @@ use Rattle.mqtt_broker_publish.specs.Choosing.{DoesSome}
 use Rattle.mqtt_broker_close.specs.Wills.{will_at}
 use Rattle.mqtt_broker_publish.specs.Publishing.{IsOver, IsWrong}
 use Rattle.mqtt_broker_calls.proofs.OnLine.{on_line}
-use Rattle.mqtt_broker_close.proofs.WilledBrokers.{willed}
+use Rattle.mqtt_broker_calls.proofs.Sources.{willed}
 use Rattle.mqtt_broker_calls.proofs.Clients.{lawful_message}
 use Rattle.mqtt_broker_calls.proofs.Answered.{over_publish, over_publish_left, over_stays, publish_left, published, wrong_publish, wrong_publish_left, wrong_stays}
 use Rattle.mqtt_broker_calls.proofs.publishing.publish.Goals as goal
@@ -16,7 +16,7 @@ use Rattle.mqtt_broker_calls.proofs.publishing.publish.Goals as goal
 pub on_publish-requires-clause-lawful : goal.on_publish-requires-clause-lawful
 on_publish-requires-clause-lawful g c =
     λ l x topic row stands means.
-    lawful_message c.args.line c.args.step.now.broker c.args.packet.now l x topic c.requires.client.contents c.requires.taken row means
+    lawful_message c.args.line c.args.step.now.broker c.args.packet.now l x topic c.requires.client.sources c.requires.taken row means
 
 pub returns-in-Ok-Done-clause-ok : goal.returns-in-Ok-Done-clause-ok
 returns-in-Ok-Done-clause-ok g c =
@@ -45,7 +45,7 @@ drop_line-requires-clause-lawful g c =
     let h = on_line c.args.line c.args.birth s.broker c.requires.client in
     let came : IsWrong c.in-Ok-Wrong.code.0 h.l c.args.packet.now s c.on_publish.new.step = rw c.in-Ok-Wrong.field-0-is at (c.in-Ok-Wrong.ensures.ok h.l h.x h.row h.stands) in
     let stays = wrong_stays c.args.line c.args.birth s h c.args.packet.now c.in-Ok-Wrong.code.0 c.on_publish.new.step came in
-    λ birth is. subst (λ (r : Records). IsWilled (will_at birth r)) (sym stays) (willed s.broker c.requires.client.contents birth)
+    λ birth is. subst (λ (r : Records). IsWilled (will_at birth r)) (sym stays) (willed s.broker.records c.requires.client.sources.stored birth)
 
 pub returns-in-Ok-Wrong-clause-ok : goal.returns-in-Ok-Wrong-clause-ok
 returns-in-Ok-Wrong-clause-ok g c =
@@ -81,7 +81,7 @@ drop_line-requires-in-Ok-Over-clause-lawful g c =
     let h = on_line c.args.line c.args.birth s.broker c.requires.client in
     let came : IsOver h.l h.x c.args.packet.now s c.on_publish.new.step = rw c.in-Ok-Over.field-0-is at (c.in-Ok-Over.ensures.ok h.l h.x h.row h.stands) in
     let stays = over_stays c.args.line c.args.birth s h c.args.packet.now c.on_publish.new.step came in
-    λ birth is. subst (λ (r : Records). IsWilled (will_at birth r)) (sym stays) (willed s.broker c.requires.client.contents birth)
+    λ birth is. subst (λ (r : Records). IsWilled (will_at birth r)) (sym stays) (willed s.broker.records c.requires.client.sources.stored birth)
 
 pub returns-in-Ok-Over-clause-ok : goal.returns-in-Ok-Over-clause-ok
 returns-in-Ok-Over-clause-ok g c =

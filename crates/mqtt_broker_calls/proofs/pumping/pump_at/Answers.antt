@@ -9,7 +9,7 @@ use Rattle.mqtt_broker_calls.proofs.pumping.pump_at.Goals as goal
 pub pump-requires : goal.pump-requires
 pump-requires c = λ birth.
     let s = c.args.step.now in
-    at_begun (HasKeptOrders birth) s.limits c.args.moment s.broker c.begin.new.self (begun_is c.args.moment s c.begin.new.self c.requires.rest c.in-Ok.ensures.ok) (c.requires.sound.orders birth)
+    at_begun (HasKeptOrders birth) s.limits c.args.moment s.broker c.begin.new.self (begun_is c.args.moment s c.begin.new.self c.requires.rest c.in-Ok.ensures.ok) (c.requires.ready.orders birth)
 
 pub returns-in-Ok-clause-called : goal.returns-in-Ok-clause-called
 returns-in-Ok-clause-called c =

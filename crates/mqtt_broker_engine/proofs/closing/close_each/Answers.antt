@@ -11,7 +11,7 @@ loop-birth-init c =
     let s = c.args.step.now in
     let is : c.into_iter-birth-iterator.result.rest.items ≡ c.args.births.items = search rules in
     subst (λ (ns : List ℕ). IsGoing s s c.args.index.now.sessions ns) (sym is)
-    (going_first s c.args.index.now.sessions c.args.births.items c.requires.births c.requires.coherent c.requires.contents c.requires.indexed c.requires.serves)
+    (going_first s c.args.index.now.sessions c.args.births.items c.requires.births c.requires.coherent c.requires.sources c.requires.indexed c.requires.serves)
 
 pub close_next-requires-clause-there : goal.close_next-requires-clause-there
 close_next-requires-clause-there c =

@@ -4,6 +4,7 @@ use Rattle.std.specs.Prelude.{Some}
 use Rattle.mqtt_rules.specs.Lines.{session_on}
 use Rattle.mqtt_rules.specs.Step.{BadInput}
 use Rattle.mqtt_broker_engine.specs.Running.{Running}
+use Rattle.mqtt_broker_calls.proofs.Sources.{sound_ready}
 use Rattle.mqtt_broker_engine.proofs.Resting.{begins_call, called_of, called_stale}
 use Rattle.mqtt_broker_engine.proofs.engine.Engine.bad_input_on.Goals as goal
 
@@ -15,8 +16,8 @@ returns-in_err-renew g c =
 pub fault_at-done-requires-clause-rest : goal.fault_at-done-requires-clause-rest
 fault_at-done-requires-clause-rest g c = c.renew.ensures.rest.rest
 
-pub fault_at-done-requires-clause-sound : goal.fault_at-done-requires-clause-sound
-fault_at-done-requires-clause-sound g c = c.renew.ensures.rest.its.sound
+pub fault_at-done-requires-clause-ready : goal.fault_at-done-requires-clause-ready
+fault_at-done-requires-clause-ready g c = sound_ready _ _ c.renew.ensures.rest.its.sound
 
 pub fault_at-done-requires-clause-on : goal.fault_at-done-requires-clause-on
 fault_at-done-requires-clause-on g c = subst (λ (r : Running _). session_on c.args.line r.broker ≡ Some c.args.session) (sym (c.renew.ensures.same ∙ c.self.view_is)) c.requires.linked

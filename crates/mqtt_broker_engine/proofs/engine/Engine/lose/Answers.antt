@@ -1,6 +1,7 @@
 -- The step begins in an engine at rest that runs, and its end is the engine's.
 use Rattle.std.proofs.Common.{◌∙◌, rules}
 use Rattle.mqtt_rules.specs.Step.{Lost}
+use Rattle.mqtt_broker_calls.proofs.Sources.{sound_ready}
 use Rattle.mqtt_broker_engine.proofs.Resting.{begins_call, called_of, called_stale}
 use Rattle.mqtt_broker_engine.proofs.engine.Engine.lose.Goals as goal
 
@@ -12,8 +13,8 @@ returns-in_err-renew g c =
 pub lost_at-done-requires-clause-rest : goal.lost_at-done-requires-clause-rest
 lost_at-done-requires-clause-rest g c = c.renew.ensures.rest.rest
 
-pub lost_at-done-requires-clause-sound : goal.lost_at-done-requires-clause-sound
-lost_at-done-requires-clause-sound g c = c.renew.ensures.rest.its.sound
+pub lost_at-done-requires-clause-ready : goal.lost_at-done-requires-clause-ready
+lost_at-done-requires-clause-ready g c = sound_ready _ _ c.renew.ensures.rest.its.sound
 
 pub lost_at-done-requires-clause-serves : goal.lost_at-done-requires-clause-serves
 lost_at-done-requires-clause-serves g c = c.in_ok-renew.ensures.ok

@@ -1,13 +1,14 @@
 -- The step begins in an engine at rest that runs, and its end is the engine's.
 use Rattle.mqtt_rules.specs.Step.{Pump}
+use Rattle.mqtt_broker_calls.proofs.Sources.{sound_ready}
 use Rattle.mqtt_broker_engine.proofs.Resting.{begins_call, called_of}
 use Rattle.mqtt_broker_engine.proofs.engine.Engine.pump_on.Goals as goal
 
 pub pump_once-done-requires-clause-rest : goal.pump_once-done-requires-clause-rest
 pump_once-done-requires-clause-rest g c = c.self.invariant.rest
 
-pub pump_once-done-requires-clause-sound : goal.pump_once-done-requires-clause-sound
-pump_once-done-requires-clause-sound g c = c.self.invariant.its.sound
+pub pump_once-done-requires-clause-ready : goal.pump_once-done-requires-clause-ready
+pump_once-done-requires-clause-ready g c = sound_ready _ _ c.self.invariant.its.sound
 
 pub finish-requires-clause-mid : goal.finish-requires-clause-mid
 finish-requires-clause-mid g c =

@@ -1,6 +1,7 @@
 -- The step begins in an engine at rest that runs, and its end is the engine's.
 use Rattle.std.proofs.Common.{◌∙◌, rules}
 use Rattle.mqtt_rules.specs.Step.{Tick}
+use Rattle.mqtt_broker_calls.proofs.Sources.{sound_ready}
 use Rattle.mqtt_broker_engine.proofs.Resting.{begins_call, called_of, called_stale, called_stopped}
 use Rattle.mqtt_broker_engine.proofs.engine.Engine.tick.Goals as goal
 
@@ -15,8 +16,8 @@ returns-in_err-renew g c =
 pub tick_once-done-requires-clause-rest : goal.tick_once-done-requires-clause-rest
 tick_once-done-requires-clause-rest g c = c.renew.ensures.rest.rest
 
-pub tick_once-done-requires-clause-sound : goal.tick_once-done-requires-clause-sound
-tick_once-done-requires-clause-sound g c = c.renew.ensures.rest.its.sound
+pub tick_once-done-requires-clause-ready : goal.tick_once-done-requires-clause-ready
+tick_once-done-requires-clause-ready g c = sound_ready _ _ c.renew.ensures.rest.its.sound
 
 pub tick_once-done-requires-clause-serves : goal.tick_once-done-requires-clause-serves
 tick_once-done-requires-clause-serves g c = c.in_ok-renew.ensures.ok

@@ -1,9 +1,10 @@
 use Rattle.std.proofs.Common.{◌≡◌, false, rules}
-use Rattle.mqtt_broker_engine.proofs.Called.{sound_indexed}
+use Rattle.mqtt_broker_calls.proofs.Sources.{sound_ready}
+use Rattle.mqtt_broker_engine.proofs.Called.{ready_indexed}
 use Rattle.mqtt_broker_engine.proofs.parts.EngineParts.renew.Goals as goal
 
 pub over-requires : goal.over-requires
-over-requires g c = sound_indexed c.args.self.now.step.limits c.args.self.now.step.broker c.requires.its.sound
+over-requires g c = ready_indexed c.args.self.now.step.limits c.args.self.now.step.broker (sound_ready c.args.self.now.step.limits c.args.self.now.step.broker c.requires.its.sound)
 
 pub returns-then-not-self-clause-ok : goal.returns-then-not-self-clause-ok
 returns-then-not-self-clause-ok g c = let fresh : c.args.self.now.is_stale ≡ false = search rules in c.requires.its.serves fresh
