@@ -11,7 +11,7 @@ use Rattle.mqtt_world_acceptance_laws.specs.Copies.{entered_from}
 use Rattle.mqtt_world_acceptance_laws.specs.Spending.{run_spends}
 use Rattle.mqtt_world_receiver_laws.specs.Drains.{after_round, all_to_broker, all_to_end, copies_left, count_by_end, downs_by, drain_by, drain_turns, drained, enough_rounds, is_bad_drain, is_over, round_turns, rounds_taken, times, turn_of, ups_by}
 use Rattle.mqtt_world_receiver_laws.proofs.drains.DrainRuns.{run_append}
-use Rattle.mqtt_world_delivery_laws.specs.Taking.{any_size}
+use Rattle.mqtt_world_receiver_laws.specs.Connecting.{any_size}
 use Rattle.mqtt_world_delivery_laws.proofs.drains.Drains.{ends_over}
 use Rattle.mqtt_world_delivery_laws.proofs.whole.EveryRun.{over_or_drained, spent_append}
 use Rattle.mqtt_world_delivery_laws.proofs.others.Runs.{IsKept}

@@ -12,7 +12,7 @@ use Rattle.mqtt_script.specs.declared.event.Event.{Event}
 use Rattle.mqtt_world_acceptance_laws.specs.Copies.{entered_from}
 use Rattle.mqtt_world_acceptance_laws.specs.Spending.{run_spends}
 use Rattle.mqtt_world_receiver_laws.specs.Drains.{after_round, copies_left, count_by_end, downs_by, drain_by, drain_turns, enough_rounds, is_none_left, is_over, line_stands, round_turns, rounds_taken, times, turn_of, ups_by}
-use Rattle.mqtt_world_delivery_laws.specs.Taking.{any_size}
+use Rattle.mqtt_world_receiver_laws.specs.Connecting.{any_size}
 use Rattle.mqtt_world_delivery_laws.specs.Untouched.{IsUntouched}
 use Rattle.mqtt_world_delivery_laws.proofs.drains.Drains.{ends_over, ends_within, round_carried}
 use Rattle.mqtt_world_delivery_laws.proofs.whole.EveryRun.{fair_run_kept, over_or_drained}

@@ -14,7 +14,7 @@ use Rattle.mqtt_world_acceptance_laws.specs.Spending.{run_spends, spending}
 use Rattle.mqtt_world_receiver_laws.specs.Drains.{times, turn_of}
 use Rattle.mqtt_world_receiver_laws.proofs.drains.DrainRuns.{run_append}
 use Rattle.mqtt_world_delivery_laws.specs.Standing.{IsPlaced, IsSeen}
-use Rattle.mqtt_world_delivery_laws.specs.Taking.{any_size}
+use Rattle.mqtt_world_receiver_laws.specs.Connecting.{any_size}
 use Rattle.mqtt_world_delivery_laws.proofs.whole.Ledgers.{run_remains}
 use Rattle.mqtt_world_delivery_laws.proofs.others.Runs.{IsKept, run_kept}
 use Rattle.mqtt_script_laws.specs.Drains.{Repeats}

@@ -11,7 +11,7 @@ use Rattle.mqtt_world_receiver_laws.specs.Seen.{Numbering}
 use Rattle.mqtt_world_receiver_laws.specs.Tags.{id_of}
 use Rattle.mqtt_world_receiver_laws.specs.WorldRounds.{AsksOnce, EndsOrDrops}
 use Rattle.mqtt_world_delivery_laws.specs.Standing.{BeginWith}
-use Rattle.mqtt_world_delivery_laws.specs.Taking.{any_size}
+use Rattle.mqtt_world_receiver_laws.specs.Connecting.{any_size}
 
 -- ---- the copies of a receiver
 

@@ -5,10 +5,7 @@ use Rattle.std.specs.List.{AllByRecursion}
 use Rattle.mqtt_world_model.specs.Ends.{Receiver}
 use Rattle.mqtt_world_model.specs.World.{World, is_window, receiver_named}
 use Rattle.mqtt_rules.specs.State.{Line as BrokerLine, Broker}
-
--- its CONNECT has no Maximum Packet Size: it takes packets of any size
-abbrev pub any_size : ℕ
-any_size = 0xffffffff
+use Rattle.mqtt_world_receiver_laws.specs.Connecting.{any_size}
 
 -- its Receive Maximum, and packets of any size
 abbrev pub TakesAsAsked : ℕ → BrokerLine → Type 0

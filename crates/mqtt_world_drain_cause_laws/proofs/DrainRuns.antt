@@ -30,7 +30,7 @@ use Rattle.mqtt_world_cause_laws.proofs.CauseRuns.{run_caused}
 use Rattle.mqtt_world_receiver_laws.specs.Drains.{Doing, after_round, all_to_broker, all_to_end, all_turns, drain_by, drain_turns, drains, downs_by, happens, is_bad_drain, is_none_left, copies_left, is_over, line_stands, round_turns, times, turn_of, turns_of, ups_by}
 use Rattle.mqtt_world_receiver_laws.proofs.drains.DrainRuns.{run_append}
 use Rattle.mqtt_world_delivery_laws.specs.Standing.{IsPlaced, IsSeen}
-use Rattle.mqtt_world_delivery_laws.specs.Taking.{any_size}
+use Rattle.mqtt_world_receiver_laws.specs.Connecting.{any_size}
 use Rattle.mqtt_world_delivery_laws.specs.Untouched.{IsUntouched}
 use Rattle.mqtt_world_delivery_laws.proofs.drains.Drains.{round_carried}
 use Rattle.mqtt_world_delivery_laws.proofs.whole.EveryRun.{carried_append, fair_run_kept, spent_append}

@@ -26,7 +26,7 @@ use Rattle.mqtt_world_receiver_laws.proofs.queue.Numbers.{place_of}
 use Rattle.mqtt_world_receiver_laws.proofs.drains.RoundFurther.{unsent_at}
 use Rattle.mqtt_world_receiver_laws.proofs.queue.Unsent.{AllUnsent, UnsentBy}
 use Rattle.mqtt_world_delivery_laws.specs.Standing.{IsPlaced, IsSeen}
-use Rattle.mqtt_world_delivery_laws.specs.Taking.{any_size}
+use Rattle.mqtt_world_receiver_laws.specs.Connecting.{any_size}
 use Rattle.mqtt_world_delivery_laws.proofs.others.Runs.{IsKept}
 use Rattle.mqtt_world_delivery_laws.proofs.others.Standings.{runs_so}
 use Rattle.mqtt_world_delivery_laws.proofs.own.Sizes.{is_small}

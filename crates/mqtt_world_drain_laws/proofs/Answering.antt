@@ -16,7 +16,7 @@ use Rattle.mqtt_world_receiver_laws.proofs.queue.Numbers.{place_of}
 use Rattle.mqtt_world_receiver_laws.proofs.drains.WorldRoundSteps.{is_linked_now}
 use Rattle.mqtt_world_receiver_laws.proofs.drains.WorldRoundWishes.{wish_at}
 use Rattle.mqtt_world_receiver_laws.proofs.drains.WorldRounds.{answers_one, back_is, receiver_called_is, receiver_changed, taken_off}
-use Rattle.mqtt_world_delivery_laws.specs.Taking.{any_size}
+use Rattle.mqtt_world_receiver_laws.specs.Connecting.{any_size}
 use Rattle.mqtt_world_delivery_laws.proofs.others.Runs.{IsKept, turn_kept}
 use Rattle.mqtt_world_drain_laws.proofs.Whereabouts.{Connected, IsOn, IsOnWith, connected_of, on_again}
 

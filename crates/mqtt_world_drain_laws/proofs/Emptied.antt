@@ -14,7 +14,7 @@ use Rattle.mqtt_world_receiver_laws.specs.Drains.{Doing, after_round, all_turns,
 use Rattle.mqtt_world_receiver_laws.proofs.queue.Numbers.{place_of, places_number}
 use Rattle.mqtt_world_receiver_laws.proofs.drains.WorldRoundSteps.{is_linked_now}
 use Rattle.mqtt_world_receiver_laws.proofs.drains.WorldRounds.{drain_is, drain_is_empty, more_rounds}
-use Rattle.mqtt_world_delivery_laws.specs.Taking.{any_size}
+use Rattle.mqtt_world_receiver_laws.specs.Connecting.{any_size}
 use Rattle.mqtt_world_delivery_laws.specs.Untouched.{IsUntouched}
 use Rattle.mqtt_world_delivery_laws.proofs.drains.Drains.{MayBeDrained, ends_within, round_carried}
 use Rattle.mqtt_world_delivery_laws.proofs.whole.EveryRun.{carried_append, fair_run_kept, over_or_drained, spent_append, untouched_kept}

@@ -22,7 +22,7 @@ use Rattle.mqtt_world_receiver_laws.specs.Handing.{after_answer}
 use Rattle.mqtt_world_receiver_laws.proofs.connects.Greetings.{HasGreeted, greeted_on, renewed_line, resumed_line}
 use Rattle.mqtt_world_receiver_laws.proofs.drains.WorldRounds.{back_is, receiver_called_is, receiver_changed, taken_off}
 use Rattle.mqtt_world_delivery_laws.specs.Standing.{IsPlaced, line_like}
-use Rattle.mqtt_world_delivery_laws.specs.Taking.{any_size}
+use Rattle.mqtt_world_receiver_laws.specs.Connecting.{any_size}
 use Rattle.mqtt_world_delivery_laws.proofs.own.Greetings.{may_renew, may_resume, spared_left}
 use Rattle.mqtt_world_delivery_laws.proofs.others.Around.{its_place}
 use Rattle.mqtt_world_delivery_laws.proofs.others.Runs.{IsKept}

@@ -20,7 +20,7 @@ use Rattle.mqtt_world_receiver_laws.specs.Drains.{all_to_end, downs_by, times, t
 use Rattle.mqtt_world_receiver_laws.proofs.queue.Numbers.{place_of}
 use Rattle.mqtt_world_receiver_laws.proofs.own.OwnDoings.{keeps_reading}
 use Rattle.mqtt_world_receiver_laws.proofs.drains.WorldRounds.{none_changed, reads, receiver_changed}
-use Rattle.mqtt_world_delivery_laws.specs.Taking.{any_size}
+use Rattle.mqtt_world_receiver_laws.specs.Connecting.{any_size}
 use Rattle.mqtt_world_drain_laws.proofs.Whereabouts.{Connected, IsOn, MayEmpty, Waits, good_of, on_again}
 
 -- ---- a packet that it would not leave its line for

@@ -13,7 +13,7 @@ use Rattle.mqtt_rules.specs.declared.Limits.{Limits}
 use Rattle.mqtt_world_receiver_laws.specs.Drains.{turn_of}
 use Rattle.mqtt_world_receiver_laws.proofs.queue.Numbers.{place_of}
 use Rattle.mqtt_world_receiver_laws.proofs.drains.WorldRounds.{pump_is, pumps, receiver_called_is}
-use Rattle.mqtt_world_delivery_laws.specs.Taking.{any_size}
+use Rattle.mqtt_world_receiver_laws.specs.Connecting.{any_size}
 use Rattle.mqtt_world_drain_laws.proofs.Whereabouts.{Connected, IsOnWith, MayEmpty, Waits, good_of, on_again}
 
 module _ (c : List ℕ) (limits : Limits) (choice : MemberChoice) where

@@ -25,7 +25,7 @@ use Rattle.mqtt_world_receiver_laws.proofs.queue.Numbers.{place_of, places_numbe
 use Rattle.mqtt_world_receiver_laws.proofs.drains.WorldRoundSteps.{is_linked_now}
 use Rattle.mqtt_world_receiver_laws.proofs.drains.WorldRounds.{Here}
 use Rattle.mqtt_world_delivery_laws.specs.Standing.{IsPlaced, IsSeen, Stands, line_like}
-use Rattle.mqtt_world_delivery_laws.specs.Taking.{any_size}
+use Rattle.mqtt_world_receiver_laws.specs.Connecting.{any_size}
 use Rattle.mqtt_world_delivery_laws.proofs.drains.Drains.{connection_of}
 use Rattle.mqtt_world_delivery_laws.proofs.whole.EveryRun.{takes_some}
 use Rattle.mqtt_world_delivery_laws.proofs.own.Fronts.{Awaits, IsJoined, front}

@@ -8,7 +8,7 @@ use Rattle.mqtt_world_delivery_laws.proofs.others.Runs.{IsKept}
 use Rattle.mqtt_world_delivery_laws.proofs.own.Sizes.{queue_fits}
 use Rattle.mqtt_world_delivery_laws.proofs.own.Taking.{takes_there}
 use Rattle.mqtt_world_delivery_laws.proofs.whole.EveryRun.{fair_run_kept}
-use Rattle.mqtt_world_delivery_laws.specs.Taking.{any_size}
+use Rattle.mqtt_world_receiver_laws.specs.Connecting.{any_size}
 use Rattle.mqtt_world_delivery_laws.specs.Untouched.{IsUntouched}
 use Rattle.mqtt_world_fitting_laws.specs.Whole.{ItsCopiesFit, ItsPumpsAreWhole}
 use Rattle.mqtt_world_model.specs.Run.{Turn, run}

@@ -22,7 +22,7 @@ use Rattle.mqtt_world_acceptance_laws.proofs.copies.Counting.{count_append}
 use Rattle.mqtt_world_acceptance_laws.proofs.copies.OnceRuns.{start_apart}
 use Rattle.mqtt_world_receiver_laws.proofs.drains.DrainRuns.{run_append}
 use Rattle.mqtt_world_receiver_laws.proofs.queue.Numbers.{place_of}
-use Rattle.mqtt_world_delivery_laws.specs.Taking.{any_size}
+use Rattle.mqtt_world_receiver_laws.specs.Connecting.{any_size}
 use Rattle.mqtt_world_delivery_laws.specs.Untouched.{IsUntouched}
 use Rattle.mqtt_world_delivery_laws.proofs.broker.Untouched.{start_untouched}
 use Rattle.mqtt_world_delivery_laws.proofs.others.Clients.{run_found}

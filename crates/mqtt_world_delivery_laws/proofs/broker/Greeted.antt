@@ -30,7 +30,8 @@ use Rattle.mqtt_rules.specs.Subscribe as sub
 use Rattle.mqtt_rules.specs.Tick.{lapse_deeds}
 use Rattle.mqtt_rules.specs.declared.Limits.{Limits}
 use Rattle.mqtt_world_model.proofs.seats.Seeing.{done_lines}
-use Rattle.mqtt_world_delivery_laws.specs.Taking.{TakesThere, any_size}
+use Rattle.mqtt_world_receiver_laws.specs.Connecting.{any_size}
+use Rattle.mqtt_world_delivery_laws.specs.Taking.{TakesThere}
 
 on_its : (o : Option ℕ) (birth : ℕ) → is_of o birth ≡ true → o ≡ Some birth
 on_its None birth e = absurd cc

@@ -34,7 +34,7 @@ use Rattle.mqtt_world_receiver_laws.proofs.queue.Numbers.{place_of}
 use Rattle.mqtt_world_delivery_laws.specs.HandedOnce.{CarriesEach}
 use Rattle.mqtt_world_delivery_laws.specs.HandedOver.{CarriesCopy, CarryQueued}
 use Rattle.mqtt_world_delivery_laws.specs.Standing.{IsPlaced, IsSeen, Stands}
-use Rattle.mqtt_world_delivery_laws.specs.Taking.{any_size}
+use Rattle.mqtt_world_receiver_laws.specs.Connecting.{any_size}
 use Rattle.mqtt_world_delivery_laws.specs.Untouched.{IsUntouched}
 use Rattle.mqtt_world_delivery_laws.proofs.contents.Contents.{AllSaid, KeptSaid, Keeps, Numbered, QueueSaid, RowSaid, SaidAbove, accepted, accepted_in, keeping, said_more}
 use Rattle.mqtt_world_delivery_laws.proofs.whole.EveryRun.{untouched_kept}

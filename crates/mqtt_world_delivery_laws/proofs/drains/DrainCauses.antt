@@ -31,7 +31,7 @@ use Rattle.mqtt_world_acceptance_laws.specs.Fair.{IsFair}
 use Rattle.mqtt_world_acceptance_laws.specs.Spending.{run_spends, spending}
 use Rattle.mqtt_world_receiver_laws.specs.Apart.{HasCome}
 use Rattle.mqtt_world_receiver_laws.specs.Calls.{IsResuming}
-use Rattle.mqtt_world_receiver_laws.specs.Connecting.{IsJoining, MayRenew}
+use Rattle.mqtt_world_receiver_laws.specs.Connecting.{IsJoining, MayRenew, any_size}
 use Rattle.mqtt_world_receiver_laws.specs.Drains.{after_round, all_to_broker, all_to_end, copies_by, copies_left, downs_by, drained, is_none_left, is_over, line_stands, round_turns, times, turn_of, ups_by}
 use Rattle.mqtt_world_receiver_laws.specs.Own.{IsInStep, RunsAlone}
 use Rattle.mqtt_world_receiver_laws.specs.Tags.{id_of}
@@ -43,7 +43,7 @@ use Rattle.mqtt_world_receiver_laws.proofs.drains.WorldRoundLines.{moment_again}
 use Rattle.mqtt_world_receiver_laws.proofs.drains.WorldRounds.{drain_is, publisher_called_is, pump_is, receiver_called_is, subscribe_is_drained}
 use Rattle.mqtt_world_delivery_laws.specs.DrainCauses.{Course, EndSo, EndsAs, HasCopies, IsCalm, answering, asking, course_of, renewing}
 use Rattle.mqtt_world_delivery_laws.specs.Standing.{BeginWith, GoesAlong, IsPlaced, IsSeen, Stands, line_like, packet_like}
-use Rattle.mqtt_world_delivery_laws.specs.Taking.{EachTakes, ReceiverTakes, any_size}
+use Rattle.mqtt_world_delivery_laws.specs.Taking.{EachTakes, ReceiverTakes}
 use Rattle.mqtt_world_delivery_laws.specs.Untouched.{IsUntouched}
 use Rattle.mqtt_world_delivery_laws.proofs.drains.Drains.{MayBeDrained, connection_of, over_if}
 use Rattle.mqtt_world_delivery_laws.proofs.own.Sizes.{asked_small, named_fits}

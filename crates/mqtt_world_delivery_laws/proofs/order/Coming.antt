@@ -38,7 +38,7 @@ use Rattle.mqtt_world_delivery_laws.specs.Coming.{come_from, come_over, come_wit
 use Rattle.mqtt_world_delivery_laws.specs.HandedOver.{AreHandedInOrder, is_among, queued_by}
 use Rattle.mqtt_world_delivery_laws.specs.Retaining.{AreRetainedOnce}
 use Rattle.mqtt_world_delivery_laws.specs.Standing.{IsPlaced, IsSeen, Stands}
-use Rattle.mqtt_world_delivery_laws.specs.Taking.{any_size}
+use Rattle.mqtt_world_receiver_laws.specs.Connecting.{any_size}
 use Rattle.mqtt_world_delivery_laws.specs.Untouched.{IsUntouched}
 use Rattle.mqtt_world_delivery_laws.proofs.order.Among.{all_come, all_one, counts_once, none_left, others_of, picked_append, picked_stand, picks_same, stand_both, stand_each, stand_more, stand_past, stand_self, stand_trans}
 use Rattle.mqtt_world_delivery_laws.proofs.others.Asked.{IsFit}

@@ -31,7 +31,7 @@ use Rattle.mqtt_world_receiver_laws.proofs.drains.DrainRuns.{run_append}
 use Rattle.mqtt_world_delivery_laws.specs.Coming.{come_with, queue_at}
 use Rattle.mqtt_world_delivery_laws.specs.HandedOver.{is_among}
 use Rattle.mqtt_world_delivery_laws.specs.Standing.{IsPlaced, IsSeen, Stands}
-use Rattle.mqtt_world_delivery_laws.specs.Taking.{any_size}
+use Rattle.mqtt_world_receiver_laws.specs.Connecting.{any_size}
 use Rattle.mqtt_world_delivery_laws.specs.Untouched.{IsUntouched}
 use Rattle.mqtt_world_delivery_laws.proofs.order.Among.{all_come, all_one, among_append, others_of, picks_same, stand_trans}
 use Rattle.mqtt_world_delivery_laws.proofs.order.QueueOrder.{part_stands}

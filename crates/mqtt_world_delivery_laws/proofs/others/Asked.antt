@@ -15,7 +15,8 @@ use Rattle.mqtt_world_reading_laws.specs.Going.{GoesWell}
 use Rattle.mqtt_world_delivery_laws.specs.Alone.{HaveSentNothing}
 use Rattle.mqtt_world_delivery_laws.specs.Retaining.{AreRetainedOnce}
 use Rattle.mqtt_world_delivery_laws.specs.Standing.{IsPlaced, IsSeen, Stands}
-use Rattle.mqtt_world_delivery_laws.specs.Taking.{ItsLineTakes, any_size}
+use Rattle.mqtt_world_receiver_laws.specs.Connecting.{any_size}
+use Rattle.mqtt_world_delivery_laws.specs.Taking.{ItsLineTakes}
 use Rattle.mqtt_world_delivery_laws.proofs.others.Around.{on_back, on_line, own_stands, whose_name}
 use Rattle.mqtt_world_delivery_laws.proofs.others.Asking.{other_pumped, other_reads, other_reads_old}
 use Rattle.mqtt_world_delivery_laws.proofs.own.LateConnects.{old_connected_stands}

@@ -10,7 +10,7 @@ use Rattle.mqtt_world_acceptance_laws.proofs.copies.Walks.{turn_goes}
 use Rattle.mqtt_world_reading_laws.proofs.Goings.{turn_well}
 use Rattle.mqtt_world_delivery_laws.specs.Alone.{Carries, HaveSentNothing}
 use Rattle.mqtt_world_delivery_laws.specs.Standing.{Stands, StandsWith, BeginWith}
-use Rattle.mqtt_world_delivery_laws.specs.Taking.{any_size}
+use Rattle.mqtt_world_receiver_laws.specs.Connecting.{any_size}
 use Rattle.mqtt_world_delivery_laws.proofs.broker.Alone.{Distinct, carrying, distinct_kept}
 use Rattle.mqtt_world_delivery_laws.proofs.others.Asked.{IsFit, asked_stands, stops_stand}
 use Rattle.mqtt_world_delivery_laws.proofs.others.Comings.{clock_stands, given_up_stands, published_stands, publisher_comes, read_stands, receiver_comes, subscribed_stands}

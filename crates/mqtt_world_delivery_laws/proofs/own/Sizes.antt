@@ -27,7 +27,7 @@ use Rattle.mqtt_world_model.specs.World.{World, receiver_named}
 use Rattle.mqtt_world_single_step_laws.specs.Sound.{IsGoodBack, IsSoundReceiver}
 use Rattle.mqtt_world_reading_laws.specs.Going.{GoesWell}
 use Rattle.mqtt_world_receiver_laws.specs.WorldRounds.{AllBringNoLarger, BringsNoLarger, QueueFits}
-use Rattle.mqtt_world_delivery_laws.specs.Taking.{any_size}
+use Rattle.mqtt_world_receiver_laws.specs.Connecting.{any_size}
 
 -- no packet has as many bytes as a receiver takes: a copy of a lawful content is within the greatest size
 pub is_small : (copy : MessageCopy) → IsCopiedOf of_rows copy → (queued_copy copy).size ≤ any_size

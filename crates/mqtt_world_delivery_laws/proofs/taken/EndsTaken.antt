@@ -42,7 +42,7 @@ use Rattle.mqtt_rules.specs.declared.Limits.{Limits}
 use Rattle.mqtt_world_acceptance_laws.specs.Spending.{spending}
 use Rattle.mqtt_world_acceptance_laws.proofs.publishers.Ends.{named_receiver, either}
 use Rattle.mqtt_world_delivery_laws.specs.Standing.{GoesAlong, IsPlaced, IsSeen, Stands}
-use Rattle.mqtt_world_delivery_laws.specs.Taking.{any_size}
+use Rattle.mqtt_world_receiver_laws.specs.Connecting.{any_size}
 use Rattle.mqtt_world_delivery_laws.proofs.taken.Acknowledged.{answer_taken, answer_taken_there}
 use Rattle.mqtt_world_delivery_laws.proofs.taken.Acknowledging.{WasGot}
 use Rattle.mqtt_world_delivery_laws.proofs.others.Around.{whose_name}

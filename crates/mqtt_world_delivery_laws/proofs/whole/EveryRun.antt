@@ -26,7 +26,8 @@ use Rattle.mqtt_world_reading_laws.proofs.Goings.{nobody_well}
 use Rattle.mqtt_world_delivery_laws.specs.Acknowledging.{AreRead}
 use Rattle.mqtt_world_delivery_laws.specs.HandedOver.{AreHandedInOrder, CarryQueued, WasHandedOver, queued_by}
 use Rattle.mqtt_world_delivery_laws.specs.Standing.{IsPlaced, IsSeen}
-use Rattle.mqtt_world_delivery_laws.specs.Taking.{EachTakes, ItsLineTakes, ReceiverTakes, any_size}
+use Rattle.mqtt_world_receiver_laws.specs.Connecting.{any_size}
+use Rattle.mqtt_world_delivery_laws.specs.Taking.{EachTakes, ItsLineTakes, ReceiverTakes}
 use Rattle.mqtt_world_delivery_laws.specs.Untouched.{IsUntouched}
 use Rattle.mqtt_world_delivery_laws.proofs.taken.Acknowledged.{acknowledged_read, acknowledged_read_there}
 use Rattle.mqtt_world_delivery_laws.proofs.drains.Drains.{MayBeDrained, TakesSome, ends_over, ends_within, none_after, over_or_drains, round_carried}
