@@ -1,4 +1,4 @@
--- What a publication passes on has no Topic Alias, nor has what is sent of it.
+-- What a publication passes on has no Topic Alias, nor has what is sent of it; and its User Properties come last.
 use Rattle.mqtt_props.specs.Edits.{only, without}
 use Rattle.mqtt_props.specs.Laws.{is_named}
 use Rattle.mqtt_props.specs.Properties.{Prop, U32}
@@ -7,10 +7,11 @@ use Rattle.mqtt_props.specs.declared.table.PropName.TheVariants.{ContentType, Co
 use Rattle.mqtt_props.specs.declared.table.PropName.{PropName}
 use Rattle.mqtt_records_message.specs.PassedOn.{IsPassedOn, aged, goes_on, id_of, identified, number_at, number_in, passed_on, property, rises_from, sent_after}
 use Rattle.mqtt_rules.proofs.numbers.Copies.{each_append, each_filter, each_map, each_more}
-use Rattle.mqtt_rules_granting_laws.specs.Naming.{HasNoAlias}
+use Rattle.mqtt_rules_granting_laws.specs.Naming.{HasNoAlias, HasUsersLast}
 use Rattle.mqtt_topic.proofs.MatchLemmas.{and_left, and_right}
-use Rattle.std.proofs.Common.{Bool, List, None, [], ap, cond, false, find, inl, inr, map, nat_le, not, option_map, refl, sym, true, ℕ, ◌&&◌, ◌++◌, ◌-◌, ◌∙◌, ◌∷◌, ◌≡◌}
+use Rattle.std.proofs.Common.{Bool, List, None, [], ap, ap₂, cond, false, find, inl, inr, map, nat_le, not, option_map, refl, sym, true, ℕ, ◌&&◌, ◌++◌, ◌-◌, ◌∙◌, ◌∷◌, ◌≡◌}
 use Rattle.std.proofs.lemmas.Bool.{cases_Bool, eqb-true}
+use Rattle.std.proofs.lemmas.List.{append-nil}
 use Rattle.std.specs.List.{AllByRecursion}
 use Rattle.std.specs.Prelude.{◌==◌}
 
@@ -101,3 +102,67 @@ sent_unaliased waited ids ps h =
     let older = each_map IsNoAlias (aged waited) (without UserProperty ps) (each_more IsNoAlias (λ p. IsNoAlias (aged waited p)) (aged_unaliased waited) (without UserProperty ps) kept) in
     let others = each_append IsNoAlias (map (aged waited) (without UserProperty ps)) (map identified ids) older (identified_unaliased ids) in
     each_append IsNoAlias (map (aged waited) (without UserProperty ps) ++ map identified ids) (only UserProperty ps) others (each_filter IsNoAlias (is_named UserProperty) ps h)
+
+-- ---- User Properties come last
+
+abbrev IsNoUser : Prop → Type 0
+IsNoUser p = is_named UserProperty p ≡ false
+
+abbrev HasNoUser : List Prop → Type 0
+HasNoUser ps = AllByRecursion IsNoUser ps
+
+others_stay : (xs ys : List Prop) → HasNoUser xs → without UserProperty (xs ++ ys) ≡ xs ++ without UserProperty ys
+others_stay [] ys h = refl
+others_stay (x ∷ xs) ys h = let other = h.0 in rw other (ap (λ (ps : List Prop). x ∷ ps) (others_stay xs ys h.1))
+
+none_among : (xs ys : List Prop) → HasNoUser xs → only UserProperty (xs ++ ys) ≡ only UserProperty ys
+none_among [] ys h = refl
+none_among (x ∷ xs) ys h = let other = h.0 in rw other (none_among xs ys h.1)
+
+only_these : (ps : List Prop) → only UserProperty (only UserProperty ps) ≡ only UserProperty ps
+only_these [] = refl
+only_these (p ∷ ps) = elim (cases_Bool (is_named UserProperty p)) [
+  | inl is ↦ rw (is, is) (ap (λ (xs : List Prop). p ∷ xs) (only_these ps))
+  | inr other ↦ rw other (only_these ps)
+]
+
+no_others : (ps : List Prop) → without UserProperty (only UserProperty ps) ≡ []
+no_others [] = refl
+no_others (p ∷ ps) = elim (cases_Bool (is_named UserProperty p)) [
+  | inl is ↦ rw (is, is) (no_others ps)
+  | inr other ↦ rw other (no_others ps)
+]
+
+rest_has_none : (ps : List Prop) → HasNoUser (without UserProperty ps)
+rest_has_none [] = tt
+rest_has_none (p ∷ ps) = elim (cases_Bool (is_named UserProperty p)) [
+  | inl is ↦ rw is (rest_has_none ps)
+  | inr other ↦ rw other (other, rest_has_none ps)
+]
+
+-- properties without one, and behind them those of others
+last_behind : (xs ps : List Prop) → HasNoUser xs → HasUsersLast (xs ++ only UserProperty ps)
+last_behind xs ps h =
+    let users = only UserProperty ps in
+    let front : without UserProperty (xs ++ users) ≡ xs = others_stay xs users h ∙ (ap (λ (ys : List Prop). xs ++ ys) (no_others ps) ∙ append-nil xs) in
+    let back : only UserProperty (xs ++ users) ≡ users = none_among xs users h ∙ only_these ps in
+    ap₂ (λ (a b : List Prop). a ++ b) front back
+
+aged_no_user : (waited : ℕ) (p : Prop) → IsNoUser p → IsNoUser (aged waited p)
+aged_no_user waited p h = by (is_named MessageExpiryInterval p)
+  where
+    by : (t : Bool) → IsNoUser (cond t (property MessageExpiryInterval (U32 (number_in p.value - waited))) p)
+    by true = refl
+    by false = h
+
+identified_no_user : (ids : List ℕ) → HasNoUser (map identified ids)
+identified_no_user [] = tt
+identified_no_user (n ∷ ids) = (refl, identified_no_user ids)
+
+-- so they are in the block that is sent
+pub sent_users_last : (waited : ℕ) (ids : List ℕ) (ps : List Prop) → HasUsersLast (sent_after waited ids ps)
+sent_users_last waited ids ps =
+    let rest = rest_has_none ps in
+    let older = each_map IsNoUser (aged waited) (without UserProperty ps) (each_more IsNoUser (λ p. IsNoUser (aged waited p)) (aged_no_user waited) (without UserProperty ps) rest) in
+    last_behind (map (aged waited) (without UserProperty ps) ++ map identified ids) ps
+    (each_append IsNoUser (map (aged waited) (without UserProperty ps)) (map identified ids) older (identified_no_user ids))

@@ -26,10 +26,9 @@ use Rattle.mqtt_rules.specs.Packets.{properties_sent, publish_of, seconds_waited
 use Rattle.mqtt_rules.specs.Routing.{CopyTo, accepted_copies, accepted_if, copies_to, copy_to, deliver, deliver_by, finds_place, forgets, is_queued, next_publication, publish, retain_by, retained_of, routing_of, served_copies_to}
 use Rattle.mqtt_rules.specs.State.{Broker, Env, Line, line_of, queue_on, session_at}
 use Rattle.mqtt_rules.specs.Subscribe as sub
-use Rattle.mqtt_rules_granting_laws.proofs.Blocks.{no_number, sent_unaliased}
-use Rattle.mqtt_rules_granting_laws.proofs.Deeds.{AllName, Names}
+use Rattle.mqtt_rules_granting_laws.proofs.Blocks.{no_number, sent_unaliased, sent_users_last}
+use Rattle.mqtt_rules_granting_laws.proofs.Deeds.{AllName, IsSaid, Names}
 use Rattle.mqtt_rules_granting_laws.specs.Naming.{HasNamed, IsNamed, NamesTopic}
-use Rattle.mqtt_rules_telling_laws.specs.Meaning.{HasItsTopic}
 use Rattle.mqtt_topic.specs.Names.{is_empty}
 use Rattle.std.proofs.Common.{Bool, List, None, Option, Some, [], cond, false, filter, map, option_map, refl, subst, true, ℕ, ◌∷◌, ◌≡◌}
 use Rattle.std.specs.List.{AllByRecursion}
@@ -83,15 +82,17 @@ brought_named true now number s w ks h =
 
 -- ---- what goes out of a copy
 
--- a copy's PUBLISH has its topic and no alias
-pub publish_named : (now : ℕ) (dup : Bool) (id : ℕ) (copy : MessageCopy) → IsNamed copy.content → HasItsTopic (publish_of now dup id copy)
-publish_named now dup id copy h =
-    (h.name, no_number (properties_sent now copy) (sent_unaliased (seconds_waited now copy.content) copy.identifiers copy.content.properties h.unaliased))
+-- a copy's PUBLISH has its topic and no alias, and its User Properties come last
+pub publish_named : (now : ℕ) (dup : Bool) (id : ℕ) (copy : MessageCopy) → IsNamed copy.content → IsSaid (publish_of now dup id copy)
+publish_named now dup id copy h = (
+  (h.name, no_number (properties_sent now copy) (sent_unaliased (seconds_waited now copy.content) copy.identifiers copy.content.properties h.unaliased)),
+  sent_users_last (seconds_waited now copy.content) copy.identifiers copy.content.properties,
+)
 
 -- ---- deeds
 
 -- an offer of a packet that names its topic, if it is a PUBLISH
-pub offer_names : (o : Option Line) (packet : Packet) → HasItsTopic packet → AllName (offer o packet)
+pub offer_names : (o : Option Line) (packet : Packet) → IsSaid packet → AllName (offer o packet)
 offer_names None packet q = tt
 offer_names (Some l) packet q = by _
   where

@@ -1,5 +1,7 @@
 -- Deeds whose PUBLISH packets name their topics, and what they leave stored and on lines.
 use Rattle.mqtt_base.specs.declared.limits.TheConstants.{QUEUE_LIMIT, RETAINED_LIMIT, SESSION_LIMIT}
+use Rattle.mqtt_codec.specs.declared.packet.Packet.TheVariants as packets
+use Rattle.mqtt_codec.specs.declared.packet.Packet.{Packet}
 use Rattle.mqtt_records.specs.Records.{changed, changed_all, in_session, kept_place, put_session, with_counter}
 use Rattle.mqtt_records.specs.Session.{birth_of, copy_place, fresh, in_phase, with_columns, with_copy, with_open, with_phase, with_subscription, with_will, without_copy, without_open, without_subscription}
 use Rattle.mqtt_records.specs.declared.change.Change.TheVariants.{PutCopy, PutInbound, PutRetained, PutSession, PutSubscription, PutWill, RemoveCopy, RemoveInbound, RemoveRetained, RemoveSession, RemoveSubscription, RemoveWill, SetCopy, SetCounter, SetSession}
@@ -16,7 +18,7 @@ use Rattle.mqtt_rules.proofs.flight.FlightRows.{all_changed, all_put}
 use Rattle.mqtt_rules.proofs.numbers.Copies.{each_append, each_filter, each_map, each_more}
 use Rattle.mqtt_rules.specs.Deeds.{Accept, At, Begin, Count, Deed, Enter, Finish, Forget, Gone, Greet, Hear, Keep, Leave, LinePart, Link, Name, On, Part, Resume, Send, SetAlias, Went, Whose, after, after_all, fresh_line, line_after, lines_after, lines_at, on_line, part_rows_of, rows_of, without_place}
 use Rattle.mqtt_rules.specs.State.{Broker, Line, is_of, session_at}
-use Rattle.mqtt_rules_granting_laws.specs.Naming.{HasNamed, HasNames, IsNamed, IsNamedWill, NamesTopics, StoresNamed}
+use Rattle.mqtt_rules_granting_laws.specs.Naming.{EndsWithUsers, HasNamed, HasNames, HasUsersLast, IsNamed, IsNamedWill, NamesTopics, SendsUsersLast, StoresNamed}
 use Rattle.mqtt_rules_telling_laws.specs.Meaning.{HasItsTopic, SendsItsTopic}
 use Rattle.mqtt_topic.specs.Aliases.{AliasTable, after_resolve, with_topic}
 use Rattle.mqtt_topic.specs.Names.{IsTopicName}
@@ -81,14 +83,19 @@ rows_kept (row ∷ rows) r q h = rows_kept rows (changed row r) q.1 (row_kept ro
 
 -- ---- deeds
 
--- a PUBLISH that is sent names its topic; so does what is stored to be sent
+-- a PUBLISH that is sent names its topic, and its User Properties come last
+abbrev pub IsSaid : Packet → Type 0
+IsSaid (packets.Publish p) = HasItsTopic (packets.Publish p) × HasUsersLast p.properties
+IsSaid packet = ⊤
+
+-- so is what is sent; and what is stored to be sent names its topic
 abbrev pub Names : Deed → Type 0
 Names (Begin row will) = IsNamedWill will
 Names (At who (Resume expiry will)) = IsNamedWill will
 Names (At who (Enter copy)) = IsNamed copy.content
 Names (Keep kept) = IsNamed kept.content
 Names (On line (SetAlias alias topic)) = IsTopicName topic
-Names (Send line packet) = HasItsTopic packet
+Names (Send line packet) = IsSaid packet
 Names d = ⊤
 
 abbrev pub AllName : List Deed → Type 0
@@ -182,8 +189,23 @@ next xs ys b p q h = let first = p h in each_append Names xs ys first (q (kept_a
 
 -- ---- what is asked where packets go out in forms
 
--- deeds that name their topics send each PUBLISH with its topic
+-- such a packet has its topic
+pub topic_said : (packet : Packet) → IsSaid packet → HasItsTopic packet
+topic_said (packets.Publish p) h = h.0
+topic_said packet h = tt
+
+users_said : (packet : Packet) → IsSaid packet → EndsWithUsers packet
+users_said (packets.Publish p) h = h.1
+users_said packet h = tt
+
+-- deeds that name their topics send each PUBLISH with its User Properties last
+pub sends_users : (ds : List Deed) → AllName ds → AllByRecursion SendsUsersLast ds
+sends_users [] h = tt
+sends_users (Send k packet ∷ ds) h = (users_said packet h.0, sends_users ds h.1)
+sends_users (d ∷ ds) h = (tt, sends_users ds h.1)
+
+-- and with its topic
 pub sends_topics : (ds : List Deed) → AllName ds → AllByRecursion SendsItsTopic ds
 sends_topics [] h = tt
-sends_topics (Send k packet ∷ ds) h = (h.0, sends_topics ds h.1)
+sends_topics (Send k packet ∷ ds) h = (topic_said packet h.0, sends_topics ds h.1)
 sends_topics (d ∷ ds) h = (tt, sends_topics ds h.1)

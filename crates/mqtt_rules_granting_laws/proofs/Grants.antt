@@ -35,7 +35,7 @@ use Rattle.mqtt_rules.proofs.acts.Leads.{Leads, found_passes}
 use Rattle.mqtt_rules.proofs.acts.Acts.{About, Finds, anyone, closing_session, closing_on, closing, brought_to, Law, leads_call, leads_opening}
 use Rattle.mqtt_rules.proofs.acts.OnLines.{found_number}
 use Rattle.mqtt_rules_granting_laws.specs.Granting.{TakesWithin}
-use Rattle.mqtt_rules_granting_laws.proofs.Deeds.{AllName}
+use Rattle.mqtt_rules_granting_laws.proofs.Deeds.{AllName, topic_said}
 use Rattle.mqtt_rules_telling_laws.specs.Meaning.{GrantsNone, GrantsWithin}
 
 -- a client on this line is greeted as one that is told so many topics by aliases at most
@@ -226,7 +226,7 @@ module _ (n most : ℕ) where
   grants_within_most [] b h q = tt
   grants_within_most (On k (Greet birth keep_alive window largest granted) ∷ ds) b h q =
       (q.0, grants_within_most ds (after (On k (Greet birth keep_alive window largest granted)) b) h.1 q.1)
-  grants_within_most (Send k x ∷ ds) b h q = (h.0, grants_within_most ds (after (Send k x) b) h.1 q.1)
+  grants_within_most (Send k x ∷ ds) b h q = (topic_said x h.0, grants_within_most ds (after (Send k x) b) h.1 q.1)
   grants_within_most (d ∷ ds) b h q = grants_within_most ds (after d b) h.1 q.1
 
 -- nor any, if it takes none

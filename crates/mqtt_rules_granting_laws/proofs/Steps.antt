@@ -13,10 +13,10 @@ use Rattle.mqtt_rules.specs.Step.{Call, at_moment, deeds, env_of, opened, openin
 use Rattle.mqtt_rules.specs.declared.Limits.{Limits}
 use Rattle.mqtt_rules_granting_laws.proofs.Acts.{call_names, opening_names}
 use Rattle.mqtt_rules_granting_laws.proofs.Blocks.{passed_is_unaliased}
-use Rattle.mqtt_rules_granting_laws.proofs.Deeds.{AllName, kept_all, sends_topics}
+use Rattle.mqtt_rules_granting_laws.proofs.Deeds.{AllName, kept_all, sends_topics, sends_users}
 use Rattle.mqtt_rules_granting_laws.proofs.Grants.{call_grants, grants_none, grants_within_most, opening_grants}
 use Rattle.mqtt_rules_granting_laws.specs.Granting.{TakesWithin}
-use Rattle.mqtt_rules_granting_laws.specs.Naming.{HasNamed, IsNamed, IsNamedWill, NamesTopics, StoresNamed, StoresPassedOn}
+use Rattle.mqtt_rules_granting_laws.specs.Naming.{HasNamed, IsNamed, IsNamedWill, NamesTopics, SendsUsersLast, StoresNamed, StoresPassedOn}
 use Rattle.mqtt_rules_telling_laws.proofs.Deeds.{knows, means}
 use Rattle.mqtt_rules_telling_laws.specs.Meaning.{AllMean, GrantsNone, GrantsWithin, Knows, SendsItsTopic, after_reading_all, on_line}
 use Rattle.mqtt_topic.specs.Aliases.{AliasTable}
@@ -70,6 +70,10 @@ module _ (limits : Limits) (choice : MemberChoice) (now : ℕ) where
   -- a step sends each PUBLISH with its topic
   pub step_topics : (call : Call) (b : Broker) → NamesTopics b → AllByRecursion SendsItsTopic (deeds limits choice now call b)
   step_topics call b h = sends_topics (deeds limits choice now call b) (step_names call b h)
+
+  -- and with its User Properties last
+  pub step_users : (call : Call) (b : Broker) → NamesTopics b → AllByRecursion SendsUsersLast (deeds limits choice now call b)
+  step_users call b h = sends_users (deeds limits choice now call b) (step_names call b h)
 
   -- and grants a client no more aliases than it takes
   pub step_grants : (n most : ℕ) (call : Call) (b : Broker) → NamesTopics b → TakesWithin n most call → GrantsWithin n most (deeds limits choice now call b)

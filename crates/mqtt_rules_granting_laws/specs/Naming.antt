@@ -1,9 +1,12 @@
 -- What a broker holds whose PUBLISH packets name their topics and have no Topic Alias (MQTT 5.0, 3.3.2.1, 3.3.2.3.4).
-use Rattle.std.specs.Prelude.{◌≡◌, ℕ, false, List, Option, Some, None}
+use Rattle.std.specs.Prelude.{◌≡◌, ⊤, ℕ, false, List, ◌++◌, Option, Some, None}
 use Rattle.std.specs.List.{AllByRecursion}
+use Rattle.mqtt_codec.specs.declared.packet.Packet.{Packet}
+use Rattle.mqtt_codec.specs.declared.packet.Packet.TheVariants as packets
+use Rattle.mqtt_props.specs.Edits.{only, without}
 use Rattle.mqtt_props.specs.Laws.{is_named}
 use Rattle.mqtt_props.specs.Properties.{Prop}
-use Rattle.mqtt_props.specs.declared.table.PropName.TheVariants.{TopicAlias}
+use Rattle.mqtt_props.specs.declared.table.PropName.TheVariants.{TopicAlias, UserProperty}
 use Rattle.mqtt_records.specs.declared.records.Records.{Records}
 use Rattle.mqtt_records.specs.declared.session.Session.{Session}
 use Rattle.mqtt_records_message.specs.PassedOn.{IsPassedOn}
@@ -11,6 +14,7 @@ use Rattle.mqtt_records_message.specs.Queue.{CopyRow}
 use Rattle.mqtt_records_message.specs.declared.message.Content.{Content}
 use Rattle.mqtt_records_message.specs.declared.message.RetainedMessage.{RetainedMessage}
 use Rattle.mqtt_records_message.specs.declared.message.Will.{Will}
+use Rattle.mqtt_rules.specs.Deeds.{Deed, Send}
 use Rattle.mqtt_rules.specs.State.{Broker, Line}
 use Rattle.mqtt_topic.specs.Names.{IsTopicName}
 
@@ -60,3 +64,19 @@ HasNames l = AllByRecursion (λ e. IsTopicName e.1) l.aliases.topics
 pub record NamesTopics (b : Broker) : Type 0 where
   pub stored : StoresNamed b.records
   pub lines : AllByRecursion HasNames b.lines
+
+-- ---- what is sent
+
+-- User Properties come behind all others (3.3.2.3, ours)
+abbrev pub HasUsersLast : List Prop → Type 0
+HasUsersLast ps = without UserProperty ps ++ only UserProperty ps ≡ ps
+
+-- so they do in a PUBLISH
+abbrev pub EndsWithUsers : Packet → Type 0
+EndsWithUsers (packets.Publish p) = HasUsersLast p.properties
+EndsWithUsers packet = ⊤
+
+-- and in each that a deed sends
+abbrev pub SendsUsersLast : Deed → Type 0
+SendsUsersLast (Send n packet) = EndsWithUsers packet
+SendsUsersLast d = ⊤

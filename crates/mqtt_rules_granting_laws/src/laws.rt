@@ -10,15 +10,17 @@ ghost use Rattle.mqtt_rules.specs.State.{Broker, MemberChoice, told_on};
 ghost use Rattle.mqtt_rules.specs.Step.{Call, deeds, opened, opening_deeds, stepped, told};
 ghost use Rattle.mqtt_rules_telling_laws.specs.Meaning.{AllMean, GrantsNone, GrantsWithin, Knows, SendsItsTopic, after_reading_all, on_line};
 ghost use Rattle.mqtt_rules_granting_laws.specs.Granting.{TakesWithin};
-ghost use Rattle.mqtt_rules_granting_laws.specs.Naming.{NamesTopics, StoresNamed, StoresPassedOn};
+ghost use Rattle.mqtt_rules_granting_laws.specs.Naming.{NamesTopics, SendsUsersLast, StoresNamed, StoresPassedOn};
 
-/// If all that a broker holds names its topics, so does each PUBLISH that a step sends, and it has no Topic
-/// Alias. All that the broker holds names its topics after the step too, whatever is asked of it, and after an
+/// If all that a broker holds names its topics, so does each PUBLISH that a step sends, it has no Topic
+/// Alias, and its User Properties come last. All that the broker holds names its topics after the step too, whatever is asked of it, and after an
 /// opening on what is so stored. Lawful contents are such, if properties are those that publications pass on, as
 /// their type has it in code (3.3.2.1, 3.3.2.3.4).
 pub fn each_publish_names_its_topic()
     ensures topics { (limits : TheLimits) (choice : MemberChoice) (now : ℕ) (call : Call) (b : Broker)
         → NamesTopics b → AllByRecursion SendsItsTopic (deeds limits choice now call b) }
+    ensures users { (limits : TheLimits) (choice : MemberChoice) (now : ℕ) (call : Call) (b : Broker)
+        → NamesTopics b → AllByRecursion SendsUsersLast (deeds limits choice now call b) }
     ensures step { (limits : TheLimits) (choice : MemberChoice) (now : ℕ) (call : Call) (b : Broker)
         → NamesTopics b → NamesTopics (stepped limits choice now call b) }
     ensures opening { (limits : TheLimits) (choice : MemberChoice) (now : ℕ) (r : Records)

@@ -1,8 +1,11 @@
-use Rattle.mqtt_rules_granting_laws.proofs.Steps.{opening_named, step_named, step_topics, stored_named}
+use Rattle.mqtt_rules_granting_laws.proofs.Steps.{opening_named, step_named, step_topics, step_users, stored_named}
 use Rattle.mqtt_rules_granting_laws.proofs.laws.each_publish_names_its_topic.Goals as goal
 
 pub returns-clause-topics : goal.returns-clause-topics
 returns-clause-topics c = step_topics
+
+pub returns-clause-users : goal.returns-clause-users
+returns-clause-users c = step_users
 
 pub returns-clause-step : goal.returns-clause-step
 returns-clause-step c = step_named
