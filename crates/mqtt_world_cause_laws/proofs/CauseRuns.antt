@@ -84,7 +84,7 @@ module _ (set : Setting) (within : AreWithin set.limits) where
 
   happened : (e : Event) (w : World) → IsSteady w.broker → read_in spending set e w ≡ false → AreCaused (read_in the_asked set e w)
   happened (publisher d) w s unspent = tt
-  happened (receiver d window) w s unspent = tt
+  happened (receiver d window aliases) w s unspent = tt
   happened (connect_end d clean) w s unspent = if_called (Some NewLine) w s
   happened (give_up d) w s unspent = tt
   happened (publish d x) w s unspent = tt
@@ -165,7 +165,7 @@ module _ (set : Setting) where
 
   event_same : (e : Event) (w : World) → read_in the_deeds set e w ≡ deeds_in (read_in the_asked set e w)
   event_same (publisher d) w = refl
-  event_same (receiver d window) w = refl
+  event_same (receiver d window aliases) w = refl
   event_same (connect_end d clean) w = if_same (Some NewLine) w
   event_same (give_up d) w = refl
   event_same (publish d x) w = refl

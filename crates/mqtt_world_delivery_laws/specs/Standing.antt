@@ -37,6 +37,7 @@ line_like l = record {
   down = l.down;
   old_number = l.old_number;
   old = map packet_like l.old;
+  known = l.known;
 }
 
 abbrev pub publisher_like : Receiver → Publisher

@@ -134,8 +134,8 @@ pub fn copies_are_handed_over_as_they_entered()
         → receiver_named client (run limits xs w) ≡ Some q → receiver_named client (run limits (xs ++ ys) w) ≡ Some r
         → q.ledger ≡ [] → q.line.down ≡ []
         → stand_among (copies_in r.ledger) (queue_at client (run limits xs w) ++ entered_from limits ys (run limits xs w)) ≡ true }
-    ensures first { (client : List ℕ) (window : ℕ) (set : Setting) (w : World) → is_bad (receiver client window) w ≡ false
-        → begins_clean (receiver client window) w ≡ true → queue_at client (happens set (receiver client window) w) ≡ [] }
+    ensures first { (client : List ℕ) (window aliases : ℕ) (set : Setting) (w : World) → is_bad (receiver client window aliases) w ≡ false
+        → begins_clean (receiver client window aliases) w ≡ true → queue_at client (happens set (receiver client window aliases) w) ≡ [] }
     // So it is of every receiver, over the whole run.
     ensures all { (limits : Limits) (ts : List Turn) (w : World) → IsUntouched limits w → IsFair limits ts w
         → (client : List ℕ) (r : Receiver) → receiver_named client (run limits ts w) ≡ Some r

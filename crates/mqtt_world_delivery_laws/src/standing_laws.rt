@@ -17,10 +17,10 @@ pub fn what_ends_do_leaves_a_receiver_standing()
     ensures comes { (client name : List ℕ) (largest : ℕ) (set : Setting) (ids : List CopyId) (ns : List ℕ) (w : World)
         → StandsWith client largest set.limits ids ns w → is_bad (publisher name) w ≡ false
         → StandsWith client largest set.limits ids ns (happens set (publisher name) w) }
-    ensures receives { (client name : List ℕ) (largest window : ℕ) (set : Setting) (ids : List CopyId) (ns : List ℕ)
-        → (w : World) → StandsWith client largest set.limits ids ns w → is_bad (receiver name window) w ≡ false
-        → begins_clean (receiver name window) w ≡ true
-        → StandsWith client largest set.limits ids ns (happens set (receiver name window) w) }
+    ensures receives { (client name : List ℕ) (largest window aliases : ℕ) (set : Setting) (ids : List CopyId) (ns : List ℕ)
+        → (w : World) → StandsWith client largest set.limits ids ns w → is_bad (receiver name window aliases) w ≡ false
+        → begins_clean (receiver name window aliases) w ≡ true
+        → StandsWith client largest set.limits ids ns (happens set (receiver name window aliases) w) }
     ensures gives_up { (client name : List ℕ) (largest : ℕ) (set : Setting) (ids : List CopyId) (ns : List ℕ) (w : World)
         → StandsWith client largest set.limits ids ns w → begins_clean (give_up name) w ≡ true
         → StandsWith client largest set.limits ids ns (happens set (give_up name) w) }

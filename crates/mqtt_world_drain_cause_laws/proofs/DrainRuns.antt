@@ -121,14 +121,14 @@ module _ (large : Type 0) (client : List ℕ) (limits : Limits) (fits : FitsWher
         (subst (λ (c : List ℕ). AreOwn large c (Some (Pump n)) (deeds limits choice w.now (Pump n) w.broker)) (named_client r w e)
         (pump_own large limits choice w.now r w.broker (fits w r ready.kept e) any_size ready.kept.stands.ids ready.kept.stands.ns placed n is))
 
-    read : (number : Option ℕ) (up : List Back) → r.line.number ≡ number → r.line.up ≡ up → AllByRecursion SaysWell up → (call : Call) → input_on number (map (wire_back r.client r.window) up) ≡ Some call
+    read : (number : Option ℕ) (up : List Back) → r.line.number ≡ number → r.line.up ≡ up → AllByRecursion SaysWell up → (call : Call) → input_on number (map (wire_back r.client r.window r.aliases) up) ≡ Some call
         → AreOwn large client (Some call) (deeds limits choice w.now call w.broker)
     read None up is ups says call asked = absurd cc
     read (Some n) [] is ups says call asked = absurd cc
     read (Some n) (x ∷ rest) is ups says call asked =
-        let same : Input n (wire_back r.client r.window x) ≡ call = cc in
+        let same : Input n (wire_back r.client r.window r.aliases x) ≡ call = cc in
         subst (λ (y : Call). AreOwn large client (Some y) (deeds limits choice w.now y w.broker)) same
-        (subst (λ (c : List ℕ). AreOwn large c (Some (Input n (wire_back r.client r.window x))) (deeds limits choice w.now (Input n (wire_back r.client r.window x)) w.broker)) (named_client r w e)
+        (subst (λ (c : List ℕ). AreOwn large c (Some (Input n (wire_back r.client r.window r.aliases x))) (deeds limits choice w.now (Input n (wire_back r.client r.window r.aliases x)) w.broker)) (named_client r w e)
         (input_own large limits choice w.now r w.broker (fits w r ready.kept e) any_size ready.kept.stands.ids ready.kept.stands.ns placed n x rest is ups says.0))
 
     pump_its : AreIts large client moment (read_in the_asked set (ask (pump client)) w)
@@ -139,7 +139,7 @@ module _ (large : Type 0) (client : List ℕ) (limits : Limits) (fits : FitsWher
     read_its : AreIts large client moment (read_in the_asked set (ask (to_broker client)) w)
     read_its =
         let v = view_of client w in
-        let same : input_on v.number v.up ≡ input_on r.line.number (map (wire_back r.client r.window) r.line.up) = ap (λ (x : View). input_on x.number x.up) view in
+        let same : input_on v.number v.up ≡ input_on r.line.number (map (wire_back r.client r.window r.aliases) r.line.up) = ap (λ (x : View). input_on x.number x.up) view in
         call_its (input_on v.number v.up) (before set (to_broker client) w) ready.at (λ call asked. read r.line.number r.line.up refl refl (named_says client r w ready.says e) call (sym same ∙ asked))
 
   -- ---- a turn

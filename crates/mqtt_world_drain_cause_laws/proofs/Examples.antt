@@ -39,7 +39,7 @@ drain_after most es = let w = after usual (turns es) in map seen (ends_over usua
 -- two copies of QoS 2 wait for r1
 abbrev two_wait : List Event
 two_wait =
-    receiver r1 10 ∷ publisher p1 ∷ joins r1 false ++ (subscribes r1 ++ (joins p1 false
+    receiver r1 10 0 ∷ publisher p1 ∷ joins r1 false ++ (subscribes r1 ++ (joins p1 false
     ++ (publish p1 draft ∷ publish p1 draft ∷ ask (to_broker p1) ∷ ask (to_broker p1) ∷ [])))
 
 abbrev ended : Ending → Bool → Seen

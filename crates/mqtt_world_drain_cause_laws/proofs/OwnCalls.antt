@@ -71,12 +71,12 @@ module _ (large : Type 0) (client : List ℕ) (call : Option Call) (env : Env) (
   well : (code : ℕ) → code ≡ success → is_refusal code ≡ false
   well code is = ap is_refusal is
 
-  heard : (window : ℕ) (x : Back) → SaysWell x → ((number : ℕ) → call ≡ Some (Input number (wire_back client window x)) → AreOwn large client call (next_packet env l (wire_back client window x) s b))
-  heard window (answers (connect clean)) h number asked = line_dropped protocol_error
-  heard window (answers (puback i code)) h number asked = answered (rules.puback i code (queue_on l.went s)) (puback_well large client call code (holder i (queue_on l.went s)) (well code h))
-  heard window (answers (pubrec i code)) h number asked = answered (rules.pubrec i code (queue_on l.went s)) (pubrec_well large client call i code (next_order (queue_on l.went s)) (holder i (queue_on l.went s)) (well code h))
-  heard window (answers (pubcomp i code)) h number asked = answered (rules.pubcomp i (queue_on l.went s)) (pubcomp_well large client call (holder i (queue_on l.went s)) (λ e there. (all_find (λ (x : FlowEntry). IsFit large l.largest x.phase x.copy.size) (λ (x : FlowEntry). is_holder i x.phase) e (queue_on l.went s) fit there).0.released))
-  heard window (asks_for w) h number asked = subscribe_own large client call (record { number = number; packet = _; asked = asked }) (is_among 1 s.inbound) env l.number s _ b at its
+  heard : (window aliases : ℕ) (x : Back) → SaysWell x → ((number : ℕ) → call ≡ Some (Input number (wire_back client window aliases x)) → AreOwn large client call (next_packet env l (wire_back client window aliases x) s b))
+  heard window aliases (answers (connect clean)) h number asked = line_dropped protocol_error
+  heard window aliases (answers (puback i code)) h number asked = answered (rules.puback i code (queue_on l.went s)) (puback_well large client call code (holder i (queue_on l.went s)) (well code h))
+  heard window aliases (answers (pubrec i code)) h number asked = answered (rules.pubrec i code (queue_on l.went s)) (pubrec_well large client call i code (next_order (queue_on l.went s)) (holder i (queue_on l.went s)) (well code h))
+  heard window aliases (answers (pubcomp i code)) h number asked = answered (rules.pubcomp i (queue_on l.went s)) (pubcomp_well large client call (holder i (queue_on l.went s)) (λ e there. (all_find (λ (x : FlowEntry). IsFit large l.largest x.phase x.copy.size) (λ (x : FlowEntry). is_holder i x.phase) e (queue_on l.went s) fit there).0.released))
+  heard window aliases (asks_for w) h number asked = subscribe_own large client call (record { number = number; packet = _; asked = asked }) (is_among 1 s.inbound) env l.number s _ b at its
 
 -- ---- a CONNECT
 
@@ -101,9 +101,9 @@ abbrev cleared_by : Bool → Session → List Deed
 cleared_by true s = end_session s
 cleared_by false s = []
 
-module _ (large : Type 0) (clean : Bool) (client : List ℕ) (window : ℕ) (b : Broker) where
+module _ (large : Type 0) (clean : Bool) (client : List ℕ) (window aliases : ℕ) (b : Broker) where
   abbrev hello : Greeting
-  hello = greeting clean client window
+  hello = greeting clean client window aliases
 
   -- no session of its name stands
   none_prepared : (env : Env) → session_named client b.records ≡ None → prepare env hello b ≡ []
@@ -188,59 +188,59 @@ module _ (large : Type 0) (limits : Limits) (choice : MemberChoice) (now : ℕ) 
   abbrev IsOwnCall : Call → Type 0
   IsOwnCall call = AreOwn large r.client (Some call) (deeds limits choice now call b)
 
-  on_its_line : (n : ℕ) (x : Back) (s : Session) (l : BrokerLine) → r.line.number ≡ Some n → l.number ≡ n → line_at n b ≡ Some l → l.session ≡ Some s.birth → IsKept r.client s b → SaysWell x → IsOwnCall (Input n (wire_back r.client r.window x))
+  on_its_line : (n : ℕ) (x : Back) (s : Session) (l : BrokerLine) → r.line.number ≡ Some n → l.number ≡ n → line_at n b ≡ Some l → l.session ≡ Some s.birth → IsKept r.client s b → SaysWell x → IsOwnCall (Input n (wire_back r.client r.window r.aliases x))
   on_its_line n x s l its number at on k says =
-      let packet = wire_back r.client r.window x in
+      let packet = wire_back r.client r.window r.aliases x in
       let there : line_at l.number b ≡ Some l = ap (λ (m : ℕ). line_at m b) number ∙ at in
       let h = heard_of now l.number b in
-      let ds = heard large r.client (Some (Input l.number packet)) (env_of limits choice b) l s h k.session on k.no_will k.no_end k.name (fits n l s.birth s its at on k.session k.name) r.window x says l.number refl in
+      let ds = heard large r.client (Some (Input l.number packet)) (env_of limits choice b) l s h k.session on k.no_will k.no_end k.name (fits n l s.birth s its at on k.session k.name) r.window r.aliases x says l.number refl in
       subst (λ (m : ℕ). IsOwnCall (Input m packet)) number
       (subst (AreOwn large r.client (Some (Input l.number packet))) (sym (input_is limits choice now packet l s b there on k.session))
       (tt, each_append (IsOwn large r.client (Some (Input l.number packet))) (next_packet (env_of limits choice b) l packet s h) [] ds tt))
 
   -- the CONNECT comes where its line waits for it
-  first_of_line : (k : ℕ) (o : Option ℕ) (clean : Bool) (l : BrokerLine) → line_at l.number b ≡ Some l → l.session ≡ None → IsHis r.client o k b → IsNamed r.client → IsOwnCall (Input l.number (wire_back r.client r.window (answers (connect clean))))
+  first_of_line : (k : ℕ) (o : Option ℕ) (clean : Bool) (l : BrokerLine) → line_at l.number b ≡ Some l → l.session ≡ None → IsHis r.client o k b → IsNamed r.client → IsOwnCall (Input l.number (wire_back r.client r.window r.aliases (answers (connect clean))))
   first_of_line k o clean l at waits his named =
       let env = env_of limits choice b in
       let h = heard_of now l.number b in
-      let call = Some (Input l.number (packets.Connect (greeting clean r.client r.window))) in
-      subst (AreOwn large r.client call) (sym (call_is limits choice now clean r.client r.window l b at waits))
-      (tt, each_append (IsOwn large r.client call) (on_connect env l (greeting clean r.client r.window) h) [] (own_connect large clean r.client r.window h call l.number refl env l (prepared o his)) tt)
+      let call = Some (Input l.number (packets.Connect (greeting clean r.client r.window r.aliases))) in
+      subst (AreOwn large r.client call) (sym (call_is limits choice now clean r.client r.window r.aliases l b at waits))
+      (tt, each_append (IsOwn large r.client call) (on_connect env l (greeting clean r.client r.window r.aliases) h) [] (own_connect large clean r.client r.window r.aliases h call l.number refl env l (prepared o his)) tt)
     where
       prepared : (p : Option ℕ) → IsHis r.client p k b
-          → AreOwn large r.client (Some (Input l.number (packets.Connect (greeting clean r.client r.window)))) (prepare (env_of limits choice b) (greeting clean r.client r.window) (heard_of now l.number b))
-      prepared None none = subst (AreOwn large r.client _) (sym (none_prepared large clean r.client r.window (heard_of now l.number b) (env_of limits choice b) none)) tt
+          → AreOwn large r.client (Some (Input l.number (packets.Connect (greeting clean r.client r.window r.aliases)))) (prepare (env_of limits choice b) (greeting clean r.client r.window r.aliases) (heard_of now l.number b))
+      prepared None none = subst (AreOwn large r.client _) (sym (none_prepared large clean r.client r.window r.aliases (heard_of now l.number b) (env_of limits choice b) none)) tt
       prepared (Some birth) own =
           let h = heard_of now l.number b in
           let x = kept_of r.client birth k b own.0 own.1 named.short named.plain in
           let s = x.0 in
           let a = x.2 in
           let kept : IsKept r.client s h = record { session = a.session; name = a.name; only = a.only; no_will = a.no_will; no_end = a.no_end; short = a.short; plain = a.plain } in
-          own_prepared large clean r.client r.window h (Some (Input l.number (packets.Connect (greeting clean r.client r.window)))) l.number refl (env_of limits choice b) l (line_of s.birth h) s refl kept
+          own_prepared large clean r.client r.window r.aliases h (Some (Input l.number (packets.Connect (greeting clean r.client r.window r.aliases)))) l.number refl (env_of limits choice b) l (line_of s.birth h) s refl kept
 
   module _ (largest : ℕ) (ids : List CopyId) (ns : List ℕ) (placed : IsPlaced largest ids ns r b) where
     -- by what a receiver sends only its own copies end, for what ends them in a drain
-    pub input_own : (n : ℕ) (x : Back) (rest : List Back) → r.line.number ≡ Some n → r.line.up ≡ x ∷ rest → SaysWell x → IsOwnCall (Input n (wire_back r.client r.window x))
+    pub input_own : (n : ℕ) (x : Back) (rest : List Back) → r.line.number ≡ Some n → r.line.up ≡ x ∷ rest → SaysWell x → IsOwnCall (Input n (wire_back r.client r.window r.aliases x))
     input_own n x rest number up says = elim (front placed.birth placed.line x rest r b placed.seat.present up) [
       | inl j ↦ where_joined j
       | inr h ↦ where_waiting h.0 h.1
     ]
       where
-        where_joined : IsJoined placed.birth placed.line r.line.number b → IsOwnCall (Input n (wire_back r.client r.window x))
+        where_joined : IsJoined placed.birth placed.line r.line.number b → IsOwnCall (Input n (wire_back r.client r.window r.aliases x))
         where_joined j =
             let own : IsHis r.client (Some j.birth) placed.line b = subst (λ (o : Option ℕ). IsHis r.client o placed.line b) j.own placed.seat.his in
             let k = kept_of r.client j.birth placed.line b own.0 own.1 placed.named.short placed.named.plain in
             let l = line_of_on placed.line (Some j.birth) b j.there in
             let both : Some n ≡ Some placed.line = sym number ∙ j.at in
             let same : n ≡ placed.line = cc in
-            subst (λ (m : ℕ). IsOwnCall (Input m (wire_back r.client r.window x))) (sym same) (on_its_line placed.line x k.0 l.0 j.at l.3 l.1 (l.2 ∙ ap Some (sym k.1)) k.2 says)
+            subst (λ (m : ℕ). IsOwnCall (Input m (wire_back r.client r.window r.aliases x))) (sym same) (on_its_line placed.line x k.0 l.0 j.at l.3 l.1 (l.2 ∙ ap Some (sym k.1)) k.2 says)
 
-        where_waiting : (clean : Bool) → Connects clean x rest r.line.number b → IsOwnCall (Input n (wire_back r.client r.window x))
+        where_waiting : (clean : Bool) → Connects clean x rest r.line.number b → IsOwnCall (Input n (wire_back r.client r.window r.aliases x))
         where_waiting clean h =
             let both : Some n ≡ Some h.line.number = sym number ∙ h.awaits.number in
             let same : n ≡ h.line.number = cc in
-            subst (λ (m : ℕ). IsOwnCall (Input m (wire_back r.client r.window x))) (sym same)
-            (subst (λ (y : Back). IsOwnCall (Input h.line.number (wire_back r.client r.window y))) (sym h.packet)
+            subst (λ (m : ℕ). IsOwnCall (Input m (wire_back r.client r.window r.aliases x))) (sym same)
+            (subst (λ (y : Back). IsOwnCall (Input h.line.number (wire_back r.client r.window r.aliases y))) (sym h.packet)
             (first_of_line placed.line placed.birth clean h.line h.awaits.line h.awaits.waits placed.seat.his placed.named))
 
     -- ---- a turn of sending

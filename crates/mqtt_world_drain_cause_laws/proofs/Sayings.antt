@@ -136,7 +136,7 @@ links_say set (Some n) client clean w h =
 
 happens_say : (e : Event) (set : Setting) (w : World) → AllSay w → AllSay (happens set e w)
 happens_say (publisher client) set w h = h
-happens_say (receiver client window) set w h = each_append Says w.receivers (new_receiver client window w.broker.records.births ∷ []) h (record { up = tt; old = tt }, tt)
+happens_say (receiver client window aliases) set w h = each_append Says w.receivers (new_receiver client window aliases w.broker.records.births ∷ []) h (record { up = tt; old = tt }, tt)
 happens_say (connect_end client clean) set w h = links_say set (next_line w.broker) client clean w h
 happens_say (give_up client) set w h = on_lines client (λ l. gives_up l.link l) (λ l c. gives_carries SaysWell l c) w.receivers h
 happens_say (publish client d) set w h = h

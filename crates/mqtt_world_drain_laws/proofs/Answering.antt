@@ -31,7 +31,7 @@ module _ (c : List ℕ) (limits : Limits) (choice : MemberChoice) where
       let k = x.here.at.connected in
       let r = x.here.receiver in
       let n = k.line.number in
-      let call = Input n (wire_back r.client r.window (asks_for u)) in
+      let call = Input n (wire_back r.client r.window r.aliases (asks_for u)) in
       let before = taken_off limits choice c w in
       let later = calls set call before in
       let q = record r { line = taken_up r.line } in

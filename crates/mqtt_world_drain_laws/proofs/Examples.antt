@@ -41,7 +41,7 @@ drains_after es = drains_from usual (after usual (turns es))
 
 abbrev both_wait : ℕ → List Event
 both_wait window =
-    receiver r1 window ∷ publisher p1 ∷ joins r1 false ++ (subscribes r1 ++ (joins p1 false
+    receiver r1 window 0 ∷ publisher p1 ∷ joins r1 false ++ (subscribes r1 ++ (joins p1 false
     ++ (publish p1 draft ∷ publish p1 draft ∷ ask (to_broker p1) ∷ ask (to_broker p1) ∷ [])))
 
 -- two copies through a window of one
@@ -88,7 +88,7 @@ kept_draft = record draft { content = record draft.content { retain = true } }
 
 abbrev asks_while_full : List Event
 asks_while_full =
-    receiver r1 1 ∷ publisher p1 ∷ joins r1 false ++ (subscribes r1 ++ (joins p1 false
+    receiver r1 1 0 ∷ publisher p1 ∷ joins r1 false ++ (subscribes r1 ++ (joins p1 false
     ++ (publish p1 kept_draft ∷ publish p1 kept_draft ∷ ask (to_broker p1) ∷ ask (to_broker p1) ∷ subscribe r1 wish ∷ [])))
 
 -- a copy that a subscription brings meanwhile
@@ -102,7 +102,7 @@ abbrev full_house : Limits
 full_house = record usual { sessions = 1 }
 
 abbrev no_place : List Event
-no_place = receiver r1 10 ∷ publisher p1 ∷ joins p1 false ++ connect_end r1 false ∷ []
+no_place = receiver r1 10 0 ∷ publisher p1 ∷ joins p1 false ++ connect_end r1 false ∷ []
 
 -- a receiver without a session
 pub without_a_session_nothing_is_read : drains_from full_house (after full_house (turns no_place)) ≡ record { enough = 1; rounds = 0; left = 0; bad = false; rounds_of_more = 0 }

@@ -73,7 +73,7 @@ module _ (c : List ℕ) (limits : Limits) (choice : MemberChoice) (w : World) (k
   pub greeted_is_on : publisher_named c w ≡ None → IsOn c (turned limits (turn_of choice (ask (to_broker c))) w)
   greeted_is_on alone =
       let set : Setting = record { limits = limits; choice = choice } in
-      let call = Input n (wire_back r.client r.window (answers (connect x.clean))) in
+      let call = Input n (wire_back r.client r.window r.aliases (answers (connect x.clean))) in
       let before = taken_off limits choice c w in
       let later = calls set call before in
       let q = record r { line = taken_up r.line } in

@@ -102,7 +102,7 @@ module _ (set : Setting) where
 
   event_deeds : (e : Event) (w : World) → Holds w → AllName (read_in the_deeds set e w)
   event_deeds (publisher d) w h = tt
-  event_deeds (receiver d window) w h = tt
+  event_deeds (receiver d window aliases) w h = tt
   event_deeds (connect_end d clean) w h = call_deeds NewLine w h
   event_deeds (give_up d) w h = tt
   event_deeds (publish d x) w h = tt
@@ -118,7 +118,7 @@ module _ (set : Setting) where
 
   happened : (e : Event) (w : World) → Holds w → Holds (happens set e w)
   happened (publisher d) w h = h
-  happened (receiver d window) w h = h
+  happened (receiver d window aliases) w h = h
   happened (connect_end d clean) w h = linked (next_line w.broker) d clean w h
   happened (give_up d) w h = h
   happened (publish d x) w h = h

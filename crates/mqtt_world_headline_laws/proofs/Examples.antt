@@ -37,7 +37,7 @@ usual_within = record { queue = omega arith; sessions = omega arith; retained = 
 abbrev pub first_life : BrokerLife
 first_life = record {
   limits = usual;
-  doings = map happens (turns (receiver r1 10 ∷ publisher p1 ∷ joins r1 false ++ (subscribes r1 ++ (joins p1 false ++ (publish p1 draft ∷ ask (to_broker p1) ∷ [])))));
+  doings = map happens (turns (receiver r1 10 0 ∷ publisher p1 ∷ joins r1 false ++ (subscribes r1 ++ (joins p1 false ++ (publish p1 draft ∷ ask (to_broker p1) ∷ [])))));
   choice = first;
   now = 0;
 }
@@ -50,7 +50,7 @@ abbrev r2 : List ℕ
 r2 = codes "r2"
 
 abbrev others : List Event
-others = receiver r2 10 ∷ publisher p2 ∷ joins r2 false ++ (subscribes r2 ++ (joins p2 false ++ (publish p2 draft ∷ ask (to_broker p2) ∷ [])))
+others = receiver r2 10 0 ∷ publisher p2 ∷ joins r2 false ++ (subscribes r2 ++ (joins p2 false ++ (publish p2 draft ∷ ask (to_broker p2) ∷ [])))
 
 abbrev pub second_life : List Doing
 second_life = map happens (turns others) ++ drains first r2 5 ∷ []
@@ -101,7 +101,7 @@ lower = record dropping { sessions = 4 }
 abbrev life_of_three : BrokerLife
 life_of_three = record {
   limits = usual;
-  doings = map happens (turns (receiver r1 10 ∷ publisher p1 ∷ joins r1 false ++ (subscribes r1 ++ (joins p1 false
+  doings = map happens (turns (receiver r1 10 0 ∷ publisher p1 ∷ joins r1 false ++ (subscribes r1 ++ (joins p1 false
       ++ (publish p1 draft ∷ publish p1 draft ∷ publish p1 draft ∷ ask (to_broker p1) ∷ ask (to_broker p1) ∷ ask (to_broker p1) ∷ [])))));
   choice = first;
   now = 0;
@@ -169,7 +169,7 @@ its_run_delivers = run_delivers_all usual (turns puback_lost) start (start_begin
 
 abbrev answer_lost : List Event
 answer_lost =
-    receiver r1 10 ∷ publisher p1 ∷ joins r1 false ++ (subscribes r1 ++ (joins p1 false
+    receiver r1 10 0 ∷ publisher p1 ∷ joins r1 false ++ (subscribes r1 ++ (joins p1 false
     ++ (publish p1 draft_1 ∷ ask (to_broker p1) ∷ ask (pump r1) ∷ to_end r1 ∷ ask (break r1)
     ∷ joins r1 false ++ (ask (pump r1) ∷ to_end r1 ∷ ask (to_broker r1) ∷ []))))
 

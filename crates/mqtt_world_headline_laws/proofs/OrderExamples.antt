@@ -29,7 +29,7 @@ abbrev ledger_in : World → Option (List CopyId)
 ledger_in w = option_map (λ (r : Receiver). copies_in r.ledger) (receiver_named r1 w)
 
 abbrev begun : ℕ → List Event
-begun window = receiver r1 window ∷ publisher p1 ∷ joins r1 false ++ (subscribes r1 ++ joins p1 false)
+begun window = receiver r1 window 0 ∷ publisher p1 ∷ joins r1 false ++ (subscribes r1 ++ joins p1 false)
 
 abbrev says : List Event
 says = publish p1 draft ∷ ask (to_broker p1) ∷ []

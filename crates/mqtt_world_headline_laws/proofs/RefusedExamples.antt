@@ -37,7 +37,7 @@ draft_1 = record draft { qos = AtLeastOnce }
 abbrev pub unanswered : BrokerLife
 unanswered = record {
   limits = usual;
-  doings = map happens (turns (receiver r1 10 ∷ publisher p1 ∷ joins r1 false
+  doings = map happens (turns (receiver r1 10 0 ∷ publisher p1 ∷ joins r1 false
       ++ (subscribes r1 ++ (joins p1 false ++ (publish p1 draft_1 ∷ ask (to_broker p1) ∷ ask (pump r1) ∷ [])))));
   choice = first;
   now = 0;

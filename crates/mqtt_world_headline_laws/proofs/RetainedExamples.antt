@@ -30,7 +30,7 @@ r2 = codes "r2"
 -- r1 is there as it is published, and r2 comes later: it subscribes to a/b, and then to +/b
 abbrev subscribes_twice : List Event
 subscribes_twice =
-    receiver r1 10 ∷ receiver r2 10 ∷ publisher p1 ∷ joins r1 false ++ (subscribes r1 ++ (joins p1 false
+    receiver r1 10 0 ∷ receiver r2 10 0 ∷ publisher p1 ∷ joins r1 false ++ (subscribes r1 ++ (joins p1 false
     ++ (publish p1 kept_draft ∷ ask (to_broker p1) ∷ joins r2 false
     ++ (subscribes r2 ++ subscribe r2 (record wish { filter = codes "+/b" }) ∷ exchange r2))))
 

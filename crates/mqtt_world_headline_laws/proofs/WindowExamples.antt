@@ -43,7 +43,7 @@ burst (suc more) id = ask (stranger s1 (publish_bytes id)) ∷ burst more (suc i
 
 -- so many of them, if it may have twenty open; as functions of numbers, since of constants the checks take too many steps
 abbrev burst_of : ℕ → List Event
-burst_of n = receiver r1 20 ∷ joins r1 false ++ (subscribes r1 ++ (ask (stranger s1 greeting) ∷ burst n 1))
+burst_of n = receiver r1 20 0 ∷ joins r1 false ++ (subscribes r1 ++ (ask (stranger s1 greeting) ∷ burst n 1))
 
 -- and as many pumps after them
 abbrev pumped : ℕ → ℕ → List Event

@@ -1,5 +1,6 @@
 -- Worked runs of the world.
 pub mod Examples
+pub mod ExamplesAliases
 pub mod ExamplesBad
 pub mod ExamplesMembers
 pub mod ExamplesSessions

@@ -1,13 +1,13 @@
 -- Conforming ends: a publisher and a receiver, what they send, and what they do with what they read (MQTT 5.0, 4.3,
 -- 4.4).
-use Rattle.std.specs.Prelude.{ℕ, Bool, true, false, cond, List, [], ◌∷◌, ◌++◌, length, map, nat_lt, slice_get, Option}
+use Rattle.std.specs.Prelude.{ℕ, zero, suc, Bool, true, false, cond, List, [], ◌∷◌, ◌++◌, length, map, nat_lt, slice_get, Option}
 use Rattle.std.specs.Prelude.{Some, None, unwrap_or, if◌then◌else◌}
 use Rattle.mqtt_base.specs.declared.session.CopyId.{CopyId}
 use Rattle.mqtt_base.specs.declared.session.Qos.{Qos as Quality}
 use Rattle.mqtt_base.specs.declared.session.Qos.TheVariants.{AtMostOnce, AtLeastOnce, ExactlyOnce}
 use Rattle.mqtt_base.specs.declared.session.SubscriptionOptions.{SubscriptionOptions}
 use Rattle.mqtt_props.specs.declared.table.PropName.TheVariants.{SessionExpiryInterval, ReceiveMaximum}
-use Rattle.mqtt_props.specs.declared.table.PropName.TheVariants.{SubscriptionIdentifier}
+use Rattle.mqtt_props.specs.declared.table.PropName.TheVariants.{SubscriptionIdentifier, TopicAliasMaximum}
 use Rattle.mqtt_props.specs.Properties.{Prop, U16, U32, VarInt}
 use Rattle.mqtt_codec.specs.declared.publish.Delivery.{Delivery}
 use Rattle.mqtt_codec.specs.declared.publish.Delivery.TheVariants as delivery
@@ -27,7 +27,7 @@ use Rattle.mqtt_flow_inbound.specs.Publisher.{on_pubrec, on_pubcomp, pubrel_for}
 use Rattle.mqtt_flow.specs.Receiver.{Body, Answer, connect, puback, pubrec, pubcomp, kept_after}
 use Rattle.mqtt_records_message.specs.PassedOn.{property}
 use Rattle.mqtt_rules.specs.Packets as packets
-use Rattle.mqtt_world_model.specs.Lines.{Down, Line, no_line, left}
+use Rattle.mqtt_world_model.specs.Lines.{Down, Line, no_line, no_line_taking, left}
 
 -- ---- a publisher (4.3.2, 4.3.3, 4.4)
 
@@ -202,6 +202,7 @@ pub record Entry : Type 0 where
 pub record Receiver : Type 0 where
   pub client : List ℕ
   pub window : ℕ  -- its Receive Maximum (3.1.2.11.3)
+  pub aliases : ℕ  -- its Topic Alias Maximum (3.1.2.11.5)
   pub since : ℕ  -- the last birth before it was made: an earlier session of its name was not its own
   pub asking : Bool  -- its SUBSCRIBE waits for its SUBACK
   pub kept : List ℕ
@@ -209,16 +210,17 @@ pub record Receiver : Type 0 where
   pub once : List Entry  -- of QoS 1
   pub line : Line Back
 
-abbrev pub new_receiver : List ℕ → ℕ → ℕ → Receiver
-new_receiver client window since = record {
+abbrev pub new_receiver : List ℕ → ℕ → ℕ → ℕ → Receiver
+new_receiver client window aliases since = record {
   client = client;
   window = window;
+  aliases = aliases;
   since = since;
   asking = false;
   kept = [];
   ledger = [];
   once = [];
-  line = no_line;
+  line = no_line_taking aliases;
 }
 
 abbrev pub identified : Option ℕ → List Prop
@@ -232,13 +234,18 @@ subscribe_with w = Subscribe (record {
   subscriptions = record { filter = w.filter; options = options_byte w.options } ∷ [];
 })
 
-abbrev pub wire_back : List ℕ → ℕ → Back → Packet
-wire_back client window (answers (connect clean)) =
-    connect_with client clean (property ReceiveMaximum (U16 window) ∷ [])
-wire_back client window (answers (puback i code)) = packets.puback i code
-wire_back client window (answers (pubrec i code)) = packets.pubrec i code
-wire_back client window (answers (pubcomp i code)) = packets.pubcomp i code
-wire_back client window (asks_for w) = subscribe_with w
+-- who takes no aliases doesn't say so
+abbrev pub taking : ℕ → List Prop
+taking zero = []
+taking (suc more) = property TopicAliasMaximum (U16 (suc more)) ∷ []
+
+abbrev pub wire_back : List ℕ → ℕ → ℕ → Back → Packet
+wire_back client window aliases (answers (connect clean)) =
+    connect_with client clean (property ReceiveMaximum (U16 window) ∷ taking aliases)
+wire_back client window aliases (answers (puback i code)) = packets.puback i code
+wire_back client window aliases (answers (pubrec i code)) = packets.pubrec i code
+wire_back client window aliases (answers (pubcomp i code)) = packets.pubcomp i code
+wire_back client window aliases (asks_for w) = subscribe_with w
 
 abbrev pub body_of : Bool → Publication → Body
 body_of twice p = record { twice = twice; topic = p.topic; payload = p.payload }

@@ -9,8 +9,10 @@ use Rattle.mqtt_codec.specs.declared.publish.Delivery.TheVariants as delivery
 use Rattle.mqtt_codec.specs.declared.packet.Packet.{Packet}
 use Rattle.mqtt_codec.specs.declared.packet.Packet.TheVariants.{Publish}
 use Rattle.mqtt_flow_inbound.specs.Line.{Link, away, asked, live}
+use Rattle.mqtt_topic.specs.Aliases.{AliasTable, no_aliases}
 use Rattle.mqtt_rules.specs.State.{Broker, line_at}
 use Rattle.mqtt_rules.specs.Step.{Outcome, copy_of}
+use Rattle.mqtt_rules_telling_laws.specs.Meaning.{after_reading_all, on_line}
 
 -- a packet under way to an end; a PUBLISH of QoS 1 or 2 with its copy, which isn't on the wire
 pub record Down : Type 0 where
@@ -26,9 +28,23 @@ pub record Line (U : Type 0) : Type 0 where
   pub down : List Down
   pub old_number : Option ℕ  -- the line that it gave up last, and what is under way there
   pub old : List U
+  pub known : AliasTable  -- what aliases stand for to the end, once it has read all that is under way to it (3.3.2.3.4)
 
 abbrev pub no_line : {U : Type 0} → Line U
-no_line = record { link = away; clean = false; number = None; up = []; down = []; old_number = None; old = [] }
+no_line = record {
+  link = away;
+  clean = false;
+  number = None;
+  up = [];
+  down = [];
+  old_number = None;
+  old = [];
+  known = no_aliases 0;
+}
+
+-- of an end that takes so many topic aliases (3.1.2.11.5)
+abbrev pub no_line_taking : {U : Type 0} → ℕ → Line U
+no_line_taking aliases = record no_line { known = no_aliases aliases }
 
 -- the broker still has the line; what goes out on another is lost
 abbrev pub stands : Option ℕ → Broker → Bool
@@ -50,13 +66,17 @@ gives_up away l = l
 gives_up asked l = given_up l
 gives_up live l = given_up l
 
+-- nothing is under way to the end, and no alias stands for anything: an alias is of one Network Connection (3.3.2.3.4)
+abbrev pub emptied : {U : Type 0} → Line U → Line U
+emptied l = record l { down = []; known = no_aliases l.known.max }
+
 -- CONNECT on a new line
 abbrev pub joined : {U : Type 0} → U → ℕ → Bool → Line U → Line U
-joined connect n clean l = record l { link = asked; clean = clean; number = Some n; up = connect ∷ []; down = [] }
+joined connect n clean l = record (emptied l) { link = asked; clean = clean; number = Some n; up = connect ∷ [] }
 
 -- the broker was restarted
 abbrev pub restarted : {U : Type 0} → Line U → Line U
-restarted l = record l { link = away; number = None; up = []; down = []; old_number = None; old = [] }
+restarted l = record (emptied l) { link = away; number = None; up = []; old_number = None; old = [] }
 
 -- ---- what a step of the broker does to it
 
@@ -81,6 +101,11 @@ abbrev pub is_one_of : Option ℕ → List ℕ → Bool
 is_one_of None ns = false
 is_one_of (Some n) ns = list_any (λ m. nat_eq m n) ns
 
+-- what aliases stand for to the end, once it has read what goes out to it
+abbrev pub known_by : Option ℕ → List (ℕ × Packet) → AliasTable → AliasTable
+known_by None wires known = known
+known_by (Some n) wires known = after_reading_all known (on_line n wires)
+
 -- what is under way to the broker on a line that it closes isn't read
 abbrev pub unless_closed : {U : Type 0} → Bool → List U → List U
 unless_closed true packets = []
@@ -92,4 +117,5 @@ told_by b out l = record l {
   up = unless_closed (is_one_of l.number out.closed) l.up;
   down = l.down ++ sent_to l.number b out.outputs;
   old = unless_closed (is_one_of l.old_number out.closed) l.old;
+  known = known_by l.number out.wires l.known;
 }

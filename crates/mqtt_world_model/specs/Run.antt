@@ -264,7 +264,7 @@ is_asked (Some live) = false
 
 abbrev pub begins_clean : Event → World → Bool
 begins_clean (publisher client) w = is_none (session_named client w.broker.records)
-begins_clean (receiver client window) w = is_none (session_named client w.broker.records)
+begins_clean (receiver client window aliases) w = is_none (session_named client w.broker.records)
 begins_clean (connect_end client clean) w = clean || not (waits_clean client w)
 begins_clean (give_up client) w = not (is_asked (link_of client w) && waits_clean client w)
 begins_clean e w = true

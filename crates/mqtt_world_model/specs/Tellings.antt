@@ -28,7 +28,7 @@ telling ds = record { reports = filter_map report ds; out = length (filter_map o
 
 abbrev pub tells : Setting → Event → World → Telling
 tells set (publisher client) w = silent
-tells set (receiver client window) w = silent
+tells set (receiver client window aliases) w = silent
 tells set (connect_end client clean) w = telling (deeds_at set (connect_end client clean) w)
 tells set (give_up client) w = silent
 tells set (publish client d) w = silent

@@ -134,7 +134,7 @@ pub data Asking : Type 0 where
 
 pub data Event : Type 0 where
   publisher : (client : List ℕ) → Event
-  receiver : (client : List ℕ) (window : ℕ) → Event
+  receiver : (client : List ℕ) (window aliases : ℕ) → Event
   connect_end : (client : List ℕ) (clean : Bool) → Event
   give_up : (client : List ℕ) → Event
   publish : (client : List ℕ) (d : Draft) → Event
@@ -173,7 +173,7 @@ abbrev pub view_publisher : Publisher → View
 view_publisher p = view_line (wire p.client p.contents) p.line
 
 abbrev pub view_receiver : Receiver → View
-view_receiver r = view_line (wire_back r.client r.window) r.line
+view_receiver r = view_line (wire_back r.client r.window r.aliases) r.line
 
 abbrev pub nobody : View
 nobody = record { number = None; up = []; old_number = None; old = [] }
@@ -296,8 +296,8 @@ end_reads client w =
 
 abbrev pub happens : Setting → Event → World → World
 happens set (publisher client) w = record w { publishers = w.publishers ++ new_publisher client ∷ [] }
-happens set (receiver client window) w =
-    record w { receivers = w.receivers ++ new_receiver client window w.broker.records.births ∷ [] }
+happens set (receiver client window aliases) w =
+    record w { receivers = w.receivers ++ new_receiver client window aliases w.broker.records.births ∷ [] }
 happens set (connect_end client clean) w = links set (next_line w.broker) client clean w
 happens set (give_up client) w = with_line client (λ l. gives_up l.link l) (λ l. gives_up l.link l) w
 happens set (publish client d) w = with_publisher client (λ p. published (is_open_line p.line w) d p) w
@@ -373,6 +373,14 @@ is_wish x = fits_number x.identifier && (is_text x.filter && is_input (subscribe
 abbrev pub is_window : ℕ → Bool
 is_window window = nat_lt 0 window && nat_lt window (2 ^ 16)
 
+-- and so is a Topic Alias Maximum, which may be 0 (3.1.2.11.5)
+abbrev pub are_aliases : ℕ → Bool
+are_aliases aliases = nat_lt aliases (2 ^ 16)
+
+-- what a receiver's CONNECT can say
+abbrev pub may_take : ℕ → ℕ → Bool
+may_take window aliases = is_window window && are_aliases aliases
+
 -- a stranger's CONNECT that names an end
 abbrev pub names_end : Packet → World → Bool
 names_end (Connect c) w = is_end c.client_identifier w
@@ -406,7 +414,8 @@ is_bad_asking (stranger name bytes) w =
 
 abbrev pub is_bad : Event → World → Bool
 is_bad (publisher client) w = is_bad_name client || is_end client w
-is_bad (receiver client window) w = is_bad_name client || (is_end client w || not (is_window window))
+is_bad (receiver client window aliases) w =
+    is_bad_name client || (is_end client w || not (may_take window aliases))
 is_bad (connect_end client clean) w = not (is_away (link_of client w))
 is_bad (give_up client) w = not (has_line (link_of client w))
 is_bad (publish client d) w = is_none (publisher_named client w) || not (is_message d)

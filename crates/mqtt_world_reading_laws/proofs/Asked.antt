@@ -56,7 +56,7 @@ on_wire : {U : Type 0} (f : U → Packet) (us : List U) → AllByRecursion (λ (
 on_wire f [] h = tt
 on_wire f (u ∷ us) h = (h.0, on_wire f us h.1)
 
-backs : (r : Receiver) (xs : List Back) → AllByRecursion (IsTakenBack r) xs → AllByRecursion HasIdentifier xs → AllByRecursion (λ (x : Back). IsTaken (wire_back r.client r.window x)) xs
+backs : (r : Receiver) (xs : List Back) → AllByRecursion (IsTakenBack r) xs → AllByRecursion HasIdentifier xs → AllByRecursion (λ (x : Back). IsTaken (wire_back r.client r.window r.aliases x)) xs
 backs r [] h k = tt
 backs r (x ∷ xs) h k = (h.0 k.0, backs r xs h.1 k.1)
 
@@ -64,8 +64,8 @@ backs r (x ∷ xs) h k = (h.0 k.0, backs r xs h.1 k.1)
 pub view_taken : (p : Option Publisher) (r : Option Receiver) → OnEnd IsTakenFrom p → OnEnd IsBackTaken r → IsViewTaken (view_by p r)
 view_taken (Some p) r h k = record { up = on_wire (wire p.client p.contents) p.line.up h.up; old = on_wire (wire p.client p.contents) p.line.old h.old }
 view_taken None (Some r) h k = record {
-  up = on_wire (wire_back r.client r.window) r.line.up (backs r r.line.up k.taken.up k.fine.line.up);
-  old = on_wire (wire_back r.client r.window) r.line.old (backs r r.line.old k.taken.old k.fine.line.old);
+  up = on_wire (wire_back r.client r.window r.aliases) r.line.up (backs r r.line.up k.taken.up k.fine.line.up);
+  old = on_wire (wire_back r.client r.window r.aliases) r.line.old (backs r r.line.old k.taken.old k.fine.line.old);
 }
 view_taken None None h k = record { up = tt; old = tt }
 

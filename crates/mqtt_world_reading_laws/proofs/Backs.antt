@@ -130,5 +130,5 @@ pub joined_fine : (n : ℕ) (clean : Bool) (r : Receiver) → IsFine r → IsFin
 joined_fine n clean r h = record { line = joined_carries HasIdentifier (answers (connect clean)) n clean r.line tt h.line; down = tt }
 
 -- a new receiver is fine
-pub new_fine : (client : List ℕ) (window since : ℕ) → IsFine (new_receiver client window since)
-new_fine client window since = record { line = record { up = tt; old = tt }; down = tt }
+pub new_fine : (client : List ℕ) (window aliases since : ℕ) → IsFine (new_receiver client window aliases since)
+new_fine client window aliases since = record { line = record { up = tt; old = tt }; down = tt }

@@ -195,9 +195,9 @@ module _ (set : Setting) where
 
   happens_goes : (e : Event) (w : World) → is_bad e w ≡ false → AreTaken w → read_in spending set e w ≡ false → IsGoing w → Goes (read_in the_asked set e w) (happens set e w)
   happens_goes (publisher d) w good taken unspent h = record { lawful = tt; going = record { sends = h.sends; receivers = h.receivers; strangers = h.strangers } }
-  happens_goes (receiver d window) w good taken unspent h = record {
+  happens_goes (receiver d window aliases) w good taken unspent h = record {
     lawful = tt;
-    going = record { sends = h.sends; receivers = each_append IsFine w.receivers (new_receiver d window w.broker.records.births ∷ []) h.receivers (new_fine d window w.broker.records.births, tt); strangers = h.strangers };
+    going = record { sends = h.sends; receivers = each_append IsFine w.receivers (new_receiver d window aliases w.broker.records.births ∷ []) h.receivers (new_fine d window aliases w.broker.records.births, tt); strangers = h.strangers };
   }
   happens_goes (connect_end d clean) w good taken unspent h = record { lawful = (tt, tt); going = links_going (next_line w.broker) d clean w h }
   happens_goes (give_up d) w good taken unspent h = record {

@@ -39,7 +39,7 @@ IsLingering r l s b = IsListening (turned_back r) l s b
 -- the receiver after the first packet of that line was read
 abbrev pub reads_old_answer : Limits → MemberChoice → ℕ → ℕ → Answer → Receiver → Broker → Receiver
 reads_old_answer limits choice now n a r b =
-    receiver_called limits choice now (Input n (wire_back r.client r.window (answers a)))
+    receiver_called limits choice now (Input n (wire_back r.client r.window r.aliases (answers a)))
     (record r { line = taken_old r.line }) b
 
 -- ---- its CONNECT

@@ -42,7 +42,7 @@ pub record IsJoining (limits : Limits) (choice : MemberChoice) (clean : Bool) (c
   pub distinct : HasDistinctIdentifiers w.broker.records
   pub fits : (s : Session) → session_named client w.broker.records ≡ Some s → AreNoLarger any_size s.queue
   pub unspent :
-      is_step_spent limits choice w.now (Input l.number (wire_back r.client r.window (answers (connect clean)))) w.broker ≡ false
+      is_step_spent limits choice w.now (Input l.number (wire_back r.client r.window r.aliases (answers (connect clean)))) w.broker ≡ false
 
 -- the two are in step, and its session stands, connected on another line or on none: the CONNECT resumes it
 pub record MayResume (limits : Limits) (choice : MemberChoice) (ids : List CopyId) (birth : ℕ) (ns : List ℕ) (client : List ℕ)

@@ -89,10 +89,10 @@ pub record RunsOn (number : Numbering) (largest : ℕ) (copies : List Lot) (r : 
 
 abbrev pub reads_answer : Limits → MemberChoice → ℕ → ℕ → Answer → Receiver → Broker → Receiver
 reads_answer limits choice now n a r b =
-    receiver_after limits choice now (Input n (wire_back r.client r.window (answers a))) r b
+    receiver_after limits choice now (Input n (wire_back r.client r.window r.aliases (answers a))) r b
 
 abbrev pub after_answer : Limits → MemberChoice → ℕ → ℕ → Answer → Receiver → Broker → Broker
-after_answer limits choice now n a r b = stepped limits choice now (Input n (wire_back r.client r.window (answers a))) b
+after_answer limits choice now n a r b = stepped limits choice now (Input n (wire_back r.client r.window r.aliases (answers a))) b
 
 -- ---- its line is lost, and it leaves it
 

@@ -11,7 +11,7 @@ use Rattle.mqtt_world_receiver_laws.specs.Calls.{receiver_called}
 -- the receiver after the first packet of that line, a SUBSCRIBE, was read
 abbrev pub reads_old_wish : Limits → MemberChoice → ℕ → ℕ → Wish → Receiver → Broker → Receiver
 reads_old_wish limits choice now n w r b =
-    receiver_called limits choice now (Input n (wire_back r.client r.window (asks_for w)))
+    receiver_called limits choice now (Input n (wire_back r.client r.window r.aliases (asks_for w)))
     (record r { line = taken_old r.line }) b
 
 -- the receiver as if it had kept that line, and no other

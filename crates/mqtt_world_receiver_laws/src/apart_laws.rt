@@ -32,10 +32,10 @@ pub fn copies_that_enter_are_told_apart()
         → AreToldApart ids b.records
         → AllDiffer (map (λ (k : RetainedMessage). k.publication) b.records.retained) → HasAcceptedNumbers b.records
         → (x : Subscribed largest ids birth ns (suc b.records.subscribes)
-        (receiver_after limits choice now (Input l.number (wire_back r.client r.window (asks_for w))) r b)
-        (stepped limits choice now (Input l.number (wire_back r.client r.window (asks_for w))) b))
+        (receiver_after limits choice now (Input l.number (wire_back r.client r.window r.aliases (asks_for w))) r b)
+        (stepped limits choice now (Input l.number (wire_back r.client r.window r.aliases (asks_for w))) b))
         × AreToldApart (ids ++ x.more)
-        (stepped limits choice now (Input l.number (wire_back r.client r.window (asks_for w))) b).records }
+        (stepped limits choice now (Input l.number (wire_back r.client r.window r.aliases (asks_for w))) b).records }
     ensures old_subscribes { (largest : ℕ) (ids : List CopyId) (limits : Limits) (choice : MemberChoice) (now birth : ℕ)
         → (ns : List ℕ) (w : Wish) (rest : List Back) (r : Receiver) (l : Line) (s : Session) (b : Broker)
         → IsInStep largest ids birth ns r b → IsLingering r l s b → IsTidy limits b → r.line.old ≡ asks_for w ∷ rest
@@ -43,7 +43,7 @@ pub fn copies_that_enter_are_told_apart()
         → AllDiffer (map (λ (k : RetainedMessage). k.publication) b.records.retained) → HasAcceptedNumbers b.records
         → (x : Subscribed largest ids birth ns (suc b.records.subscribes)
         (reads_old_wish limits choice now l.number w r b)
-        (stepped limits choice now (Input l.number (wire_back r.client r.window (asks_for w))) b))
+        (stepped limits choice now (Input l.number (wire_back r.client r.window r.aliases (asks_for w))) b))
         × AreToldApart (ids ++ x.more)
-        (stepped limits choice now (Input l.number (wire_back r.client r.window (asks_for w))) b).records }
+        (stepped limits choice now (Input l.number (wire_back r.client r.window r.aliases (asks_for w))) b).records }
 {}

@@ -34,8 +34,8 @@ pub fn own_doings_leave_a_receiver_in_step()
 /// A receiver awaits its session when it comes, if no session of its name stands, with no copies and no lines, and
 /// goes on so whatever it does or reads (4.3.2, 4.3.3, 4.4).
 pub fn own_doings_leave_a_receiver_awaiting()
-    ensures comes { (largest : ℕ) (client : List ℕ) (window since : ℕ) (b : Broker)
-        → session_named client b.records ≡ None → IsAwaiting largest [] [] (new_receiver client window since) b }
+    ensures comes { (largest : ℕ) (client : List ℕ) (window aliases since : ℕ) (b : Broker)
+        → session_named client b.records ≡ None → IsAwaiting largest [] [] (new_receiver client window aliases since) b }
     ensures reads { (largest : ℕ) (ids : List CopyId) (ns : List ℕ) (t : Bool) (r : Receiver) (b : Broker)
         → IsAwaiting largest ids ns r b → is_linked r.line.number b ≡ t
         → IsAwaiting largest ids ns (receiver_reads t r.line.down r) b }

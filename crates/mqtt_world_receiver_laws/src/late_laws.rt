@@ -82,7 +82,7 @@ pub fn a_subscribe_on_the_line_given_up_leaves_a_receiver_in_step()
         → IsInStep largest ids birth ns r b → IsLingering r l s b → IsTidy limits b → r.line.old ≡ asks_for w ∷ rest
         → Subscribed largest ids birth ns (suc b.records.subscribes)
         (reads_old_wish limits choice now l.number w r b)
-        (stepped limits choice now (Input l.number (wire_back r.client r.window (asks_for w))) b) }
+        (stepped limits choice now (Input l.number (wire_back r.client r.window r.aliases (asks_for w))) b) }
 {}
 
 /// The broker is to send on a receiver's line, or loses that line, while nobody is connected there: its CONNECT is not read yet,

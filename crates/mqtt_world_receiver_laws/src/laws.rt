@@ -27,9 +27,9 @@ ghost use Rattle.mqtt_rules.specs.declared.Limits.{Limits};
 /// it, if its line stands exactly if its session is connected there, gives its line up, asks for a
 /// subscription, or joins by a new line (4.3.2, 4.3.3, 4.4).
 pub fn own_doings_of_a_receiver_are_steps_of_the_hop()
-    ensures comes { (number : Numbering) (largest : ℕ) (client : List ℕ) (window since : ℕ) (b : Broker)
+    ensures comes { (number : Numbering) (largest : ℕ) (client : List ℕ) (window aliases since : ℕ) (b : Broker)
         → session_named client b.records ≡ None
-        → IsRun number largest [] (new_receiver client window since) b }
+        → IsRun number largest [] (new_receiver client window aliases since) b }
     ensures reads { (number : Numbering) (largest : ℕ) (copies : List Lot) (t : Bool) (r : Receiver) (b : Broker)
         → IsRun number largest copies r b → is_linked r.line.number b ≡ t
         → IsRun number largest copies (receiver_reads t r.line.down r) b }

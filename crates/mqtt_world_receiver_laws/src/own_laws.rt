@@ -122,6 +122,6 @@ pub fn a_subscribe_leaves_a_receiver_in_step()
         → (ns : List ℕ) (w : Wish) (rest : List Back) (r : Receiver) (l : Line) (s : Session) (b : Broker)
         → IsInStep largest ids birth ns r b → IsListening r l s b → IsTidy limits b → r.line.up ≡ asks_for w ∷ rest
         → Subscribed largest ids birth ns (suc b.records.subscribes)
-        (receiver_after limits choice now (Input l.number (wire_back r.client r.window (asks_for w))) r b)
-        (stepped limits choice now (Input l.number (wire_back r.client r.window (asks_for w))) b) }
+        (receiver_after limits choice now (Input l.number (wire_back r.client r.window r.aliases (asks_for w))) r b)
+        (stepped limits choice now (Input l.number (wire_back r.client r.window r.aliases (asks_for w))) b) }
 {}

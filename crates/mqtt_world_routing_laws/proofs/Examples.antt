@@ -107,7 +107,7 @@ says d = publisher p1 ∷ joins p1 false ++ (publish p1 d ∷ ask (to_broker p1)
 
 abbrev grouped : Qos → List Event
 grouped qos =
-    receiver r1 10 ∷ receiver r2 10 ∷ receiver r3 10
+    receiver r1 10 0 ∷ receiver r2 10 0 ∷ receiver r3 10 0
     ∷ (joins_group r1 qos ++ (joins_group r2 qos ++ (joins r3 false ++ (subscribes r3 ++ says draft))))
 
 abbrev directly : ℕ → CopyId
@@ -140,7 +140,7 @@ it_was_accepted_once = refl
 
 abbrev kept : List Event
 kept =
-    receiver r1 10 ∷ receiver r2 10
+    receiver r1 10 0 ∷ receiver r2 10 0
     ∷ (joins r1 false ++ (subscribes r1 ++ (says (record draft { content = record { retain = true; topic = topic; payload = hi } }) ++ (joins r2 false ++ subscribes r2))))
 
 -- and one that a later subscription brings
@@ -162,7 +162,7 @@ s1 = codes "s1"
 -- its CONNECT has a Will of QoS 1 to a/b
 abbrev willed : List Event
 willed =
-    ask (stranger s1 (bytes "10 1e 00 04 4d 51 54 54 05 0e 00 00 05 11 ff ff ff ff 00 02 73 31 00 00 03 61 2f 62 00 02 68 69")) ∷ receiver r1 10
+    ask (stranger s1 (bytes "10 1e 00 04 4d 51 54 54 05 0e 00 00 05 11 ff ff ff ff 00 02 73 31 00 00 03 61 2f 62 00 02 68 69")) ∷ receiver r1 10 0
     ∷ joins_group r1 AtMostOnce
 
 -- of each that was accepted: the sessions that got a copy, each with whether it stands on a line

@@ -123,7 +123,7 @@ module _ (set : Setting) (within : AreWithin set.limits) where
 
   event_accepts : (e : Event) (w : World) → IsSteady w.broker → read_in spending set e w ≡ false → Accepts (read_in the_deeds set e w) (read_in the_steps set e w) (read_in the_acceptances set e w)
   event_accepts (publisher d) w s unspent = none_accept
-  event_accepts (receiver d window) w s unspent = none_accept
+  event_accepts (receiver d window aliases) w s unspent = none_accept
   event_accepts (connect_end d clean) w s unspent = line_accepts w
   event_accepts (give_up d) w s unspent = none_accept
   event_accepts (publish d x) w s unspent = none_accept

@@ -142,7 +142,7 @@ stop_comes (stranger name bytes) w h = by (first_of (bytes_come name bytes w)) r
 -- each event comes to a list of events of one step each
 pub event_comes : (e : Event) (w : World) → HoldNoPacket w → (es : List Event) × Unrolls e w es
 event_comes (publisher client) w h = (publisher client ∷ [], refl)
-event_comes (receiver client window) w h = (receiver client window ∷ [], refl)
+event_comes (receiver client window aliases) w h = (receiver client window aliases ∷ [], refl)
 event_comes (connect_end client clean) w h = (connect_end client clean ∷ [], refl)
 event_comes (give_up client) w h = (give_up client ∷ [], refl)
 event_comes (publish client d) w h = (publish client d ∷ [], refl)

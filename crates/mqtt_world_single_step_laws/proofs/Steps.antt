@@ -157,7 +157,7 @@ stop_steps set (stranger name bytes) es w alike good (part, more, joined, found,
 event_steps : (set : Setting) (e : Event) (es : List Event) (w : World) → AreAllAlike w → is_bad e w ≡ false → Unrolls e w es
     → steps set es w ≡ step set e w
 event_steps set (publisher client) es w alike good is = one_step set (publisher client) es w is
-event_steps set (receiver client window) es w alike good is = one_step set (receiver client window) es w is
+event_steps set (receiver client window aliases) es w alike good is = one_step set (receiver client window aliases) es w is
 event_steps set (connect_end client clean) es w alike good is = one_step set (connect_end client clean) es w is
 event_steps set (give_up client) es w alike good is = one_step set (give_up client) es w is
 event_steps set (publish client d) es w alike good is = one_step set (publish client d) es w is

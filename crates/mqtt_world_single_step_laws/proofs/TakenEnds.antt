@@ -15,7 +15,7 @@ use Rattle.mqtt_rules.specs.declared.Limits.{Limits}
 use Rattle.mqtt_world_model.specs.Ends.{Back, Publisher, Receiver, Sent, answers, new_publisher, new_receiver, publisher_reads, published, receiver_reads, shake}
 use Rattle.mqtt_world_model.specs.Lines.{Line, gives_up, joined, left, told_by}
 use Rattle.mqtt_world_model.specs.Run.{Turn, run, setting, turned}
-use Rattle.mqtt_world_model.specs.World.{Asking, Event, Setting, World, answers_rest, ask, asks, asks_wish, before, break, call_of, call_of_stranger, calls, calls_if, clock, comes, connect_end, end_reads, first_step, give_up, happens, held_count, is_bad, is_bad_name, is_end, is_message, is_open_line, is_window, is_wish, linked_at, links, next_held, next_line, old_to_broker, publish, publisher, publisher_named, publisher_restarted, publisher_told, pump, receiver, receiver_named, receiver_restarted, receiver_told, restart, restarts, stop_after, stop_before, stranger, stranger_named, subscribe, taken_old, taken_up, tick, to_broker, to_end, with_line, may_ask}
+use Rattle.mqtt_world_model.specs.World.{Asking, Event, Setting, World, answers_rest, ask, asks, asks_wish, before, break, call_of, call_of_stranger, calls, calls_if, clock, comes, connect_end, end_reads, first_step, give_up, happens, held_count, is_bad, is_bad_name, is_end, is_message, is_open_line, is_window, is_wish, linked_at, links, next_held, next_line, old_to_broker, publish, publisher, publisher_named, publisher_restarted, publisher_told, pump, receiver, receiver_named, receiver_restarted, receiver_told, restart, restarts, stop_after, stop_before, stranger, stranger_named, subscribe, taken_old, taken_up, tick, to_broker, to_end, with_line, may_ask, may_take}
 use Rattle.mqtt_world_single_step_laws.specs.Sound.{AreSound, Carries, IsGoodBack, IsGoodSent, IsName, IsSoundPublisher, IsSoundReceiver}
 use Rattle.mqtt_world_single_step_laws.specs.Taken.{IsTakenFrom, IsTakenFromReceiver}
 use Rattle.mqtt_world_single_step_laws.proofs.TakenLines.{gives_carries, joined_carries, left_carries, old_carries, restarted_carries, told_carries, up_carries}
@@ -52,7 +52,7 @@ same_ends : (w v : World) → v.publishers ≡ w.publishers → v.receivers ≡ 
 same_ends w v ps rs h = record { publishers = subst (AllByRecursion IsSoundPublisher) (sym ps) h.publishers; receivers = subst (AllByRecursion IsSoundReceiver) (sym rs) h.receivers }
 
 on_back : (r : Receiver) (l : Line Back) → IsSoundReceiver r → Carries IsGoodBack l → IsSoundReceiver (record r { line = l })
-on_back r l h c = alike_sound r (record r { line = l }) refl refl h c
+on_back r l h c = alike_sound r (record r { line = l }) refl refl refl h c
 
 lines_sound : (client : List ℕ) (f : Line Sent → Line Sent) (g : Line Back → Line Back) (w : World)
     → ((k : ℕ) (l : Line Sent) → Carries (IsGoodSent k) l → Carries (IsGoodSent k) (f l)) → ((l : Line Back) → Carries IsGoodBack l → Carries IsGoodBack (g l)) → AreSound w → AreSound (with_line client f g w)
@@ -137,13 +137,13 @@ happens_sound (publisher client) set w good h = record {
   publishers = each_append IsSoundPublisher w.publishers (new_publisher client ∷ []) h.publishers (new_sound client (name_of client (neither (is_bad_name client) (is_end client w) good).0), tt);
   receivers = h.receivers;
 }
-happens_sound (receiver client window) set w good h =
-    let both = neither (is_bad_name client) (is_end client w || not (is_window window)) good in
-    let more = neither (is_end client w) (not (is_window window)) both.1 in
+happens_sound (receiver client window aliases) set w good h =
+    let both = neither (is_bad_name client) (is_end client w || not (may_take window aliases)) good in
+    let more = neither (is_end client w) (not (may_take window aliases)) both.1 in
     let since = w.broker.records.births in
     record {
       publishers = h.publishers;
-      receivers = each_append IsSoundReceiver w.receivers (new_receiver client window since ∷ []) h.receivers (new_receiver_sound client window since (name_of client both.0) (is_so (is_window window) more.1), tt);
+      receivers = each_append IsSoundReceiver w.receivers (new_receiver client window aliases since ∷ []) h.receivers (new_receiver_sound client window aliases since (name_of client both.0) (is_so (may_take window aliases) more.1), tt);
     }
 happens_sound (connect_end client clean) set w good h = links_sound set (next_line w.broker) client clean w h
 happens_sound (give_up client) set w good h =

@@ -1,5 +1,5 @@
 -- Which packets of ends the broker takes: those whose texts are texts and whose identifiers are such (MQTT 5.0, 1.5.4, 2.2.1).
-use Rattle.std.proofs.Common.{◌≡◌, ◌≤◌, ◌<◌, ◌+◌, ◌^◌, ℕ, suc, Bool, true, false, ◌&&◌, ◌||◌, List, [], ◌∷◌, ◌++◌, length, Option, Some, None, refl, sym, ap, ◌∙◌, arith, length-append}
+use Rattle.std.proofs.Common.{◌≡◌, ◌≤◌, ◌<◌, ◌+◌, ◌^◌, ℕ, zero, suc, Bool, true, false, ◌&&◌, ◌||◌, List, [], ◌∷◌, ◌++◌, length, Option, Some, None, refl, sym, ap, ◌∙◌, arith, length-append}
 use Rattle.std.specs.Prelude.{nat_lt, nat_le}
 use Rattle.std.proofs.lemmas.Bool.{leb-true, lt-ltb, ltb-true}
 use Rattle.mqtt_base.proofs.Varints.{size_first}
@@ -23,15 +23,15 @@ use Rattle.mqtt_props.specs.Laws.{has}
 use Rattle.mqtt_props.specs.Properties.{Prop, U16, U32, block, props}
 use Rattle.mqtt_props.specs.declared.place.Place.{Place}
 use Rattle.mqtt_props.specs.declared.place.Place.TheVariants as places
-use Rattle.mqtt_props.specs.declared.table.PropName.TheVariants.{ReceiveMaximum, SessionExpiryInterval, TopicAlias}
+use Rattle.mqtt_props.specs.declared.table.PropName.TheVariants.{ReceiveMaximum, SessionExpiryInterval, TopicAlias, TopicAliasMaximum}
 use Rattle.mqtt_codec_subscribe.specs.Options.{handling_number, options_byte}
 use Rattle.mqtt_rules.proofs.contents.PassedContents.{and_two, two}
 use Rattle.mqtt_rules.specs.Contents.{IsTaken}
 use Rattle.mqtt_records_message.specs.PassedOn.{property}
 use Rattle.mqtt_rules.specs.Packets.{size_of}
 use Rattle.mqtt_rules.specs.Packets as sent
-use Rattle.mqtt_world_model.specs.Ends.{Content, Wish, connect_with, identified, publish_with, subscribe_with}
-use Rattle.mqtt_world_model.specs.World.{delivery_at, fits_number, is_input, is_window, is_wish}
+use Rattle.mqtt_world_model.specs.Ends.{Content, Wish, taking, connect_with, identified, publish_with, subscribe_with}
+use Rattle.mqtt_world_model.specs.World.{delivery_at, fits_number, is_input, is_wish, may_take}
 use Rattle.mqtt_world_single_step_laws.specs.Sound.{IsCarried, IsIdentifier, IsName}
 
 -- ---- how many bytes a packet has
@@ -152,7 +152,7 @@ unknown_taken id one = taken (sent.pubcomp id identifier_not_found) (fits_16 id 
 
 -- ---- CONNECT
 
-connect_few : (client : List ℕ) (clean : Bool) (more : List Prop) → IsName client → length (props (property SessionExpiryInterval (U32 0xffffffff) ∷ more)) ≤ 8
+connect_few : (client : List ℕ) (clean : Bool) (more : List Prop) → IsName client → length (props (property SessionExpiryInterval (U32 0xffffffff) ∷ more)) ≤ 11
     → length (shortest_body (connect_with client clean more)) < 128
 connect_few client clean more name small =
     let ps = property SessionExpiryInterval (U32 0xffffffff) ∷ more in
@@ -176,20 +176,37 @@ connect_taken client clean name =
     let p = connect_with client clean [] in
     taken p (omega arith, expiry_stands, name_fits client name, tt, tt, tt) refl (few p (connect_few client clean [] name (omega arith)))
 
--- with a Receive Maximum
-window_of : (window : ℕ) → is_window window ≡ true → (nat_lt 0 window ≡ true) × (window < 65536)
-window_of window h = let both = two (nat_lt 0 window) (nat_lt window (2 ^ 16)) h in let less = ltb-true window (2 ^ 16) both.1 in (both.0, omega (arith, less))
+-- with a Receive Maximum, and a Topic Alias Maximum if it isn't 0
+window_of : (window aliases : ℕ) → may_take window aliases ≡ true → (nat_lt 0 window ≡ true) × (window < 65536) × (aliases < 65536)
+window_of window aliases h =
+    let all = two (nat_lt 0 window && nat_lt window (2 ^ 16)) (nat_lt aliases (2 ^ 16)) h in
+    let both = two (nat_lt 0 window) (nat_lt window (2 ^ 16)) all.0 in
+    let less = ltb-true window (2 ^ 16) both.1 in
+    let few_enough = ltb-true aliases (2 ^ 16) all.1 in (both.0, omega (arith, less), omega (arith, few_enough))
 
 window_stands : (window : ℕ) → window < 65536 → Stands places.Connect (property SessionExpiryInterval (U32 0xffffffff) ∷ property ReceiveMaximum (U16 window) ∷ [])
 window_stands window less = (record { each = (record { kind = refl; fits = omega arith }, (record { kind = refl; fits = omega (arith, less) }, tt)); short = omega arith }, refl)
 
+both_stand : (window aliases : ℕ) → window < 65536 → aliases < 65536
+    → Stands places.Connect (property SessionExpiryInterval (U32 0xffffffff) ∷ property ReceiveMaximum (U16 window) ∷ property TopicAliasMaximum (U16 aliases) ∷ [])
+both_stand window aliases less few = (
+  record { each = (record { kind = refl; fits = omega arith }, (record { kind = refl; fits = omega (arith, less) }, (record { kind = refl; fits = omega (arith, few) }, tt))); short = omega arith },
+  refl,
+)
+
 -- a receiver's CONNECT is taken
-pub connect_back_taken : (client : List ℕ) (window : ℕ) (clean : Bool) → IsName client → is_window window ≡ true → IsTaken (connect_with client clean (property ReceiveMaximum (U16 window) ∷ []))
-connect_back_taken client window clean name is =
+pub connect_back_taken : (client : List ℕ) (window aliases : ℕ) (clean : Bool) → IsName client → may_take window aliases ≡ true
+    → IsTaken (connect_with client clean (property ReceiveMaximum (U16 window) ∷ taking aliases))
+connect_back_taken client window zero clean name is =
     let p = connect_with client clean (property ReceiveMaximum (U16 window) ∷ []) in
-    let w = window_of window is in
+    let w = window_of window 0 is in
     taken p (omega arith, window_stands window w.1, name_fits client name, tt, tt, tt) (rw w.0 refl)
     (few p (connect_few client clean (property ReceiveMaximum (U16 window) ∷ []) name (omega arith)))
+connect_back_taken client window (suc more) clean name is =
+    let p = connect_with client clean (property ReceiveMaximum (U16 window) ∷ property TopicAliasMaximum (U16 (suc more)) ∷ []) in
+    let w = window_of window (suc more) is in
+    taken p (omega arith, both_stand window (suc more) w.1 w.2, name_fits client name, tt, tt, tt) (rw w.0 refl)
+    (few p (connect_few client clean (property ReceiveMaximum (U16 window) ∷ property TopicAliasMaximum (U16 (suc more)) ∷ []) name (omega arith)))
 
 -- ---- SUBSCRIBE
 

@@ -15,7 +15,7 @@ use Rattle.mqtt_rules.specs.Contents.{IsTaken}
 use Rattle.mqtt_rules.specs.Packets as sent
 use Rattle.mqtt_world_model.specs.Ends.{Back, Receiver, Wish, answers, asks_for, greeted, hears, new_receiver, reads_publish, receiver_connack, receiver_reads, subscribe_with}
 use Rattle.mqtt_world_model.specs.Lines.{Down, left}
-use Rattle.mqtt_world_model.specs.World.{asks_wish, is_window}
+use Rattle.mqtt_world_model.specs.World.{asks_wish, may_take}
 use Rattle.mqtt_world_single_step_laws.specs.Sound.{Carries, IsGoodBack, IsIdentifier, IsName, IsSoundReceiver}
 use Rattle.mqtt_world_single_step_laws.specs.Taken.{IsTakenBack, IsTakenFromReceiver}
 use Rattle.mqtt_world_single_step_laws.proofs.TakenLines.{goes_carries, left_carries}
@@ -25,7 +25,7 @@ one_of : (i : ℕ) → (1 ≤ i) × (i < 2 ^ 16) → IsIdentifier i
 one_of i h = let low = h.0 in let less = h.1 in (low, omega (arith, less))
 
 back_taken : (r : Receiver) → IsSoundReceiver r → (x : Back) → IsGoodBack x → IsTakenBack r x
-back_taken r h (answers (connect clean)) g = λ one. connect_back_taken r.client r.window clean h.name h.window
+back_taken r h (answers (connect clean)) g = λ one. connect_back_taken r.client r.window r.aliases clean h.name h.takes
 back_taken r h (answers (puback i code)) g = λ one. subst (λ (n : ℕ). IsTaken (sent.puback i n)) (sym g) (puback_taken i (one_of i one))
 back_taken r h (answers (pubrec i code)) g = λ one. subst (λ (n : ℕ). IsTaken (sent.pubrec i n)) (sym g) (pubrec_taken i (one_of i one))
 back_taken r h (answers (pubcomp i code)) (inl g) = λ one. subst (λ (n : ℕ). IsTaken (sent.pubcomp i n)) (sym g) (pubcomp_taken i (one_of i one))
@@ -40,26 +40,26 @@ sound_taken_back r h = record {
 }
 
 -- a new receiver is sound
-pub new_receiver_sound : (client : List ℕ) (window since : ℕ) → IsName client → is_window window ≡ true → IsSoundReceiver (new_receiver client window since)
-new_receiver_sound client window since name is = record { name = name; window = is; line = record { up = tt; old = tt } }
+pub new_receiver_sound : (client : List ℕ) (window aliases since : ℕ) → IsName client → may_take window aliases ≡ true → IsSoundReceiver (new_receiver client window aliases since)
+new_receiver_sound client window aliases since name is = record { name = name; takes = is; line = record { up = tt; old = tt } }
 
--- whoever has its name, its window and such a line
-pub alike_sound : (r s : Receiver) → s.client ≡ r.client → s.window ≡ r.window → IsSoundReceiver r → Carries IsGoodBack s.line → IsSoundReceiver s
-alike_sound r s client window h c = record { name = subst IsName (sym client) h.name; window = ap is_window window ∙ h.window; line = c }
+-- whoever has its name, takes what it takes, and has such a line
+pub alike_sound : (r s : Receiver) → s.client ≡ r.client → s.window ≡ r.window → s.aliases ≡ r.aliases → IsSoundReceiver r → Carries IsGoodBack s.line → IsSoundReceiver s
+alike_sound r s client window aliases h c = record { name = subst IsName (sym client) h.name; takes = (λ i. may_take (window i) (aliases i)) ∙ h.takes; line = c }
 
 -- ---- it reads
 
 publish_sound : (t : Bool) (copy : Option CopyId) (p : Publication) (d : Delivery) (r : Receiver) → IsSoundReceiver r → IsSoundReceiver (reads_publish t copy p d r)
 publish_sound t copy p delivery.AtMostOnce r h = h
 publish_sound t copy p (delivery.AtLeastOnce dup i) r h =
-    alike_sound r (reads_publish t copy p (delivery.AtLeastOnce dup i) r) refl refl h (goes_carries IsGoodBack t (answers (puback i success) ∷ []) r.line (refl, tt) h.line)
+    alike_sound r (reads_publish t copy p (delivery.AtLeastOnce dup i) r) refl refl refl h (goes_carries IsGoodBack t (answers (puback i success) ∷ []) r.line (refl, tt) h.line)
 publish_sound t copy p (delivery.ExactlyOnce dup i) r h =
-    alike_sound r (reads_publish t copy p (delivery.ExactlyOnce dup i) r) refl refl h (goes_carries IsGoodBack t (answers (pubrec i success) ∷ []) r.line (refl, tt) h.line)
+    alike_sound r (reads_publish t copy p (delivery.ExactlyOnce dup i) r) refl refl refl h (goes_carries IsGoodBack t (answers (pubrec i success) ∷ []) r.line (refl, tt) h.line)
 
 code_sound : (t : Bool) (present : Bool) (r : Receiver) → IsSoundReceiver r
     → IsSoundReceiver (cond t (record r { line = left (record r.line { clean = false }) }) (record r { line = greeted r.line; asking = false; kept = if present then r.kept else [] }))
-code_sound true present r h = alike_sound r (record r { line = left (record r.line { clean = false }) }) refl refl h (record { up = tt; old = h.line.old })
-code_sound false present r h = alike_sound r (record r { line = greeted r.line; asking = false; kept = if present then r.kept else [] }) refl refl h (record { up = h.line.up; old = h.line.old })
+code_sound true present r h = alike_sound r (record r { line = left (record r.line { clean = false }) }) refl refl refl h (record { up = tt; old = h.line.old })
+code_sound false present r h = alike_sound r (record r { line = greeted r.line; asking = false; kept = if present then r.kept else [] }) refl refl refl h (record { up = h.line.up; old = h.line.old })
 
 connack_sound : (link : Link) (present : Bool) (code : ℕ) (r : Receiver) → IsSoundReceiver r → IsSoundReceiver (receiver_connack link present code r)
 connack_sound away present code r h = h
@@ -75,10 +75,10 @@ hears_sound t copy (packets.Connack a) r h = connack_sound r.line.link a.session
 hears_sound t copy (packets.Publish p) r h = publish_sound t copy p p.delivery r h
 hears_sound t copy (packets.Pubrel a) r h =
     let code = if is_among a.identifier r.kept then success else identifier_not_found in
-    alike_sound r (hears t copy (packets.Pubrel a) r) refl refl h
+    alike_sound r (hears t copy (packets.Pubrel a) r) refl refl refl h
     (goes_carries IsGoodBack t (answers (pubcomp a.identifier code) ∷ []) r.line (known (is_among a.identifier r.kept) a.identifier, tt) h.line)
-hears_sound t copy (packets.Suback a) r h = alike_sound r (record r { asking = false }) refl refl h h.line
-hears_sound t copy (packets.Disconnect n) r h = alike_sound r (record r { line = left r.line }) refl refl h (left_carries IsGoodBack r.line h.line)
+hears_sound t copy (packets.Suback a) r h = alike_sound r (record r { asking = false }) refl refl refl h h.line
+hears_sound t copy (packets.Disconnect n) r h = alike_sound r (record r { line = left r.line }) refl refl refl h (left_carries IsGoodBack r.line h.line)
 hears_sound t copy packet r h = h
 
 -- reading leaves a receiver sound
@@ -86,10 +86,10 @@ pub receiver_reads_sound : (t : Bool) (ds : List Down) (r : Receiver) → IsSoun
 receiver_reads_sound t [] r h = h
 receiver_reads_sound t (d ∷ rest) r h =
     let v = record r { line = record r.line { down = rest } } in
-    hears_sound t d.copy d.packet v (alike_sound r v refl refl h (record { up = h.line.up; old = h.line.old }))
+    hears_sound t d.copy d.packet v (alike_sound r v refl refl refl h (record { up = h.line.up; old = h.line.old }))
 
 -- ---- it asks for a subscription
 
 -- so does a subscription
 pub wish_sound : (t : Bool) (w : Wish) (r : Receiver) → IsTaken (subscribe_with w) → IsSoundReceiver r → IsSoundReceiver (asks_wish t w r)
-wish_sound t w r good h = alike_sound r (asks_wish t w r) refl refl h (goes_carries IsGoodBack t (asks_for w ∷ []) r.line (good, tt) h.line)
+wish_sound t w r good h = alike_sound r (asks_wish t w r) refl refl refl h (goes_carries IsGoodBack t (asks_for w ∷ []) r.line (good, tt) h.line)

@@ -13,7 +13,7 @@ use Rattle.mqtt_flow_inbound.specs.Publisher.{Fate, sent_1, ended_1, sent, relea
 use Rattle.mqtt_rules.specs.Contents.{IsTaken}
 use Rattle.mqtt_world_model.specs.Ends.{Back, Content, Draft, Publisher, Receiver, Sent, answers, asks_for, plain, publish_with, shake, subscribe_with}
 use Rattle.mqtt_world_model.specs.Lines.{Line}
-use Rattle.mqtt_world_model.specs.World.{World, is_window}
+use Rattle.mqtt_world_model.specs.World.{World, may_take}
 
 -- this holds of each packet under way from the end, on its line and on the one that it gave up
 pub record Carries {U : Type 0} (G : U → Type 0) (l : Line U) : Type 0 where
@@ -82,7 +82,7 @@ IsGoodBack (asks_for w) = IsTaken (subscribe_with w)
 -- what a receiver has sent are packets that the broker takes, if its answers have identifiers
 pub record IsSoundReceiver (r : Receiver) : Type 0 where
   pub name : IsName r.client
-  pub window : is_window r.window ≡ true
+  pub takes : may_take r.window r.aliases ≡ true
   pub line : Carries IsGoodBack r.line
 
 -- ---- all ends

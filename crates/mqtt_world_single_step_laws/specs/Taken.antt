@@ -20,7 +20,7 @@ HasIdentifier (asks_for w) = ⊤
 
 -- so with what is under way from a receiver
 abbrev pub IsTakenBack : Receiver → Back → Type 0
-IsTakenBack r x = HasIdentifier x → IsTaken (wire_back r.client r.window x)
+IsTakenBack r x = HasIdentifier x → IsTaken (wire_back r.client r.window r.aliases x)
 
 pub record IsTakenFromReceiver (r : Receiver) : Type 0 where
   pub up : AllByRecursion (IsTakenBack r) r.line.up

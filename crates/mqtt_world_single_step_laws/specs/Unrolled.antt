@@ -84,7 +84,7 @@ UnrollsStop (stranger name bytes) w es =
 -- the events of one step each that an event comes to in this world
 abbrev pub Unrolls : Event → World → List Event → Type 0
 Unrolls (publisher client) w es = es ≡ publisher client ∷ []
-Unrolls (receiver client window) w es = es ≡ receiver client window ∷ []
+Unrolls (receiver client window aliases) w es = es ≡ receiver client window aliases ∷ []
 Unrolls (connect_end client clean) w es = es ≡ connect_end client clean ∷ []
 Unrolls (give_up client) w es = es ≡ give_up client ∷ []
 Unrolls (publish client d) w es = es ≡ publish client d ∷ []

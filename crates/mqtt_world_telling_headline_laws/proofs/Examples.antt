@@ -24,7 +24,7 @@ one n = 1
 -- r1 has subscribed to a/b; p1 publishes there twice
 abbrev events : List Event
 events =
-    receiver r1 10 ∷ publisher p1 ∷ joins r1 false
+    receiver r1 10 0 ∷ publisher p1 ∷ joins r1 false
     ++ (subscribes r1 ++ (joins p1 false ++ (publish p1 draft ∷ publish p1 draft ∷ ask (to_broker p1) ∷ ask (to_broker p1) ∷ [])))
 
 -- and r1 is drained

@@ -10,10 +10,10 @@ use Rattle.mqtt_rules.specs.Piece.{Front}
 use Rattle.mqtt_rules.specs.State.{Telling}
 use Rattle.mqtt_world_model.specs.Ends.{Publisher, Receiver}
 use Rattle.mqtt_world_model.specs.Laws.{fate_by, fate_of}
-use Rattle.mqtt_world_model.specs.World.{World, Setting, Asking, to_broker, old_to_broker, break, pump, tick, stranger}
+use Rattle.mqtt_world_model.specs.World.{World, Setting, Asking, to_broker, old_to_broker, break, pump, tick, stranger, may_take}
 use Rattle.mqtt_world_model.specs.World.{Event, publisher, receiver, connect_end, give_up, publish, subscribe, to_end, clock, ask, restart, stop_before, stop_after}
 use Rattle.mqtt_world_model.specs.World.{publisher_named, receiver_named, stranger_named, is_end, link_by, link_of, may_ask, view_by, view_of, View}
-use Rattle.mqtt_world_model.specs.World.{is_bad, is_bad_asking, is_bad_name, is_away, has_line, is_message, is_window, is_wish, are_bytes, names_end, front_names, bytes_name, bytes_held, held_after}
+use Rattle.mqtt_world_model.specs.World.{is_bad, is_bad_asking, is_bad_name, is_away, has_line, is_message, is_wish, are_bytes, names_end, front_names, bytes_name, bytes_held, held_after}
 use Rattle.mqtt_world_model.specs.World.{call_of, call_of_stranger, input_on, linked_at, lost_on, pump_on}
 use Rattle.mqtt_world_telling_laws.specs.AsSent.{Most}
 use Rattle.mqtt_world_telling_laws.specs.Likewise.{AllPublishersAlike, AllReceiversAlike}
@@ -140,7 +140,7 @@ module _ (most : Most) (ts : List Telling) (ks : List AliasTable) (x : World) (m
   -- an event is bad in both worlds or in none
   pub bad_same : (e : Event) → is_bad e Other ≡ is_bad e x
   bad_same (publisher client) = ap (λ (t : Bool). is_bad_name client || t) (same_end client)
-  bad_same (receiver client window) = ap (λ (t : Bool). is_bad_name client || (t || not (is_window window))) (same_end client)
+  bad_same (receiver client window aliases) = ap (λ (t : Bool). is_bad_name client || (t || not (may_take window aliases))) (same_end client)
   bad_same (connect_end client clean) = ap (λ (o : Option Link). not (is_away o)) (same_link client)
   bad_same (give_up client) = ap (λ (o : Option Link). not (has_line o)) (same_link client)
   bad_same (publish client d) = ap (λ (t : Bool). t || not (is_message d)) (blind (λ o q. is_none o) none_blind client)

@@ -40,7 +40,7 @@ once = record { qos = AtLeastOnce; content = record { retain = false; topic = to
 -- r1 has subscribed to a/b; p1 publishes there twice, and both copies are sent to r1
 abbrev sent_twice : List Event
 sent_twice =
-    receiver r1 10 ∷ publisher p1 ∷ joins r1 false
+    receiver r1 10 0 ∷ publisher p1 ∷ joins r1 false
     ++ (subscribes r1 ++ (joins p1 false ++ (publish p1 once ∷ publish p1 once ∷ ask (to_broker p1) ∷ ask (to_broker p1) ∷ ask (pump r1) ∷ [])))
 
 -- and r1 reads them

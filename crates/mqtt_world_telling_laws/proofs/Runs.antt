@@ -185,10 +185,10 @@ module _ (most : Most) where
     };
     lines = h.lines;
   }
-  happens_alike set (receiver client window) s w h order =
-      by_world most (λ (y : World). Goes most (happens most set (receiver client window) s) (meant.happens set (receiver client window) y)) s w h.worlds
+  happens_alike set (receiver client window aliases) s w h order =
+      by_world most (λ (y : World). Goes most (happens most set (receiver client window aliases) s) (meant.happens set (receiver client window aliases) y)) s w h.worlds
       (λ ms vs hp hr.
-      let new = new_receiver client window s.world.broker.records.births in
+      let new = new_receiver client window aliases s.world.broker.records.births in
       record {
         worlds = record {
           same = refl;

@@ -142,8 +142,8 @@ end_reads client s =
 -- ---- what happens: calls and reading are as above, and all else as in mqtt_world_model
 
 abbrev pub happens : Most → Setting → Event → AsSent → AsSent
-happens most set (receiver client window) s = record {
-  world = meant.happens set (receiver client window) s.world;
+happens most set (receiver client window aliases) s = record {
+  world = meant.happens set (receiver client window aliases) s.world;
   tellings = s.tellings;
   known = s.known ++ no_aliases 0 ∷ [];
 }

@@ -57,7 +57,7 @@ expires_soon =
 
 abbrev late : List Event
 late =
-    receiver r1 10 ∷ publisher p1 ∷ joins r1 false ++ (subscribes r1 ++ (joins p1 false
+    receiver r1 10 0 ∷ publisher p1 ∷ joins r1 false ++ (subscribes r1 ++ (joins p1 false
     ++ (expires_soon ∷ clock 2000 ∷ publish p1 draft ∷ ask (to_broker p1) ∷ round r1 ++ (round r1 ++ round r1))))
 
 -- a copy that expires
@@ -72,7 +72,7 @@ dropping = record usual { full = Drop; queue = 1 }
 
 abbrev crowded : List Event
 crowded =
-    receiver r1 10 ∷ publisher p1 ∷ joins r1 false ++ (subscribes r1 ++ (joins p1 false
+    receiver r1 10 0 ∷ publisher p1 ∷ joins r1 false ++ (subscribes r1 ++ (joins p1 false
     ++ (publish p1 draft ∷ publish p1 draft ∷ ask (to_broker p1) ∷ ask (to_broker p1) ∷ round r1 ++ (round r1 ++ round r1))))
 
 -- one that makes way

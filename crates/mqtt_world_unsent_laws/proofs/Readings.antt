@@ -238,7 +238,7 @@ module _ (c : List ℕ) (x : CopyId) where
   happens_next : (set : Setting) (e : Event) (w : World) → count_at w < count_at (happens set e w) → ReadsNext w
   happens_next set (to_end d) w h = reading set d w h
   happens_next set (publisher d) w h = nothing_new w (happens set (publisher d) w) (same_all w (happens set (publisher d) w) refl) h
-  happens_next set (receiver d window) w h = nothing_new w (happens set (receiver d window) w) (new_same (new_receiver d window w.broker.records.births) w.receivers refl) h
+  happens_next set (receiver d window aliases) w h = nothing_new w (happens set (receiver d window aliases) w) (new_same (new_receiver d window aliases w.broker.records.births) w.receivers refl) h
   happens_next set (connect_end d clean) w h = nothing_new w (happens set (connect_end d clean) w) (links_same set (next_line w.broker) d clean w) h
   happens_next set (give_up d) w h = nothing_new w (happens set (give_up d) w) (line_same d (λ l. gives_up l.link l) w (happens set (give_up d) w) refl) h
   happens_next set (publish d a) w h = nothing_new w (happens set (publish d a) w) (same_all w (happens set (publish d a) w) refl) h

@@ -200,7 +200,7 @@ opening_routed set w =
 
 event_routed : (e : Event) (set : Setting) (w : World) → Routed (read_in the_acceptances set e w)
 event_routed (publisher d) set w = tt
-event_routed (receiver d window) set w = tt
+event_routed (receiver d window aliases) set w = tt
 event_routed (connect_end d clean) set w = tt
 event_routed (give_up d) set w = tt
 event_routed (publishes d x) set w = tt

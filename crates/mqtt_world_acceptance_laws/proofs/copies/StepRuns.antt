@@ -96,7 +96,7 @@ module _ (R : Env → List Deed → Broker → Type 0) (says : (env : Env) → S
 
     happened : (e : Event) (w : World) → IsSteady w.broker → read_in spending set e w ≡ false → Are (read_in the_deeds set e w) (read_in the_steps set e w)
     happened (publisher d) w s unspent = none_are
-    happened (receiver d window) w s unspent = none_are
+    happened (receiver d window aliases) w s unspent = none_are
     happened (connect_end d clean) w s unspent = if_called (Some NewLine) w s
     happened (give_up d) w s unspent = none_are
     happened (publish d x) w s unspent = none_are

@@ -133,7 +133,7 @@ module _ (R : List Deed → Broker → Broker → Type 0) (set : Setting) (walk 
 
   event_goes : (e : Event) (w : World) → IsSteady w.broker → read_in spending set e w ≡ false → Goes (read_in the_deeds set e w) w (happens set e w)
   event_goes (publisher d) w s unspent = record { steady = s; said = walk.none w.broker }
-  event_goes (receiver d window) w s unspent = record { steady = s; said = walk.none w.broker }
+  event_goes (receiver d window aliases) w s unspent = record { steady = s; said = walk.none w.broker }
   event_goes (connect_end d clean) w s unspent = joins_goes d clean w s
   event_goes (give_up d) w s unspent = record { steady = s; said = walk.none w.broker }
   event_goes (publish d x) w s unspent = record { steady = s; said = walk.none w.broker }

@@ -19,7 +19,7 @@ wish = record { filter = topic; options = options AtMostOnce; identifier = None 
 
 abbrev subscribed : List Event
 subscribed =
-    receiver r1 10 ∷ joins r1 false ++ (subscribe r1 wish ∷ exchange r1 ++ (publisher p1 ∷ joins p1 false ++ (publish p1 draft ∷ [])))
+    receiver r1 10 0 ∷ joins r1 false ++ (subscribe r1 wish ∷ exchange r1 ++ (publisher p1 ∷ joins p1 false ++ (publish p1 draft ∷ [])))
 
 abbrev given : List Event
 given = subscribed ++ ask (to_broker p1) ∷ []

@@ -119,7 +119,7 @@ abbrev enters : List ℕ → List Event
 enters r = joins r false ++ (subscribe r wish ∷ exchange r)
 
 abbrev grouped : List Event
-grouped = receiver r1 10 ∷ receiver r2 10 ∷ (enters r1 ++ (enters r2 ++ (asked ++ ask (to_broker p1) ∷ [])))
+grouped = receiver r1 10 0 ∷ receiver r2 10 0 ∷ (enters r1 ++ (enters r2 ++ (asked ++ ask (to_broker p1) ∷ [])))
 
 abbrev lost : List Event
 lost = grouped ++ ask (break r1) ∷ connect_end r1 true ∷ ask (to_broker r1) ∷ []

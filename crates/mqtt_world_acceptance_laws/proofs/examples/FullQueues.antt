@@ -34,7 +34,7 @@ s1 = codes "s1"
 -- the stranger's CONNECT has a Will of QoS 1 to that topic; then it sends what is no packet, and its line is closed
 abbrev filled : List Event
 filled =
-    receiver r1 10 ∷ joins r1 false ++ (subscribes r1 ++ (
+    receiver r1 10 0 ∷ joins r1 false ++ (subscribes r1 ++ (
     ask (stranger s1 (bytes "10 1e 00 04 4d 51 54 54 05 0e 00 00 05 11 ff ff ff ff 00 02 73 31 00 00 03 61 2f 62 00 02 68 69"))
     ∷ ask (stranger s1 (bytes "00 00")) ∷ []))
 

@@ -207,7 +207,7 @@ asked_says c (old_to_broker d) set his accepted from w more none h t = by (publi
 event_says : (e : Event) (c : List ℕ) (set : Setting) (his accepted : List ℕ) (from : List From) (w : World) → Holds c set.limits his accepted w → Tells (publisher_named c w) from
     → Says (publisher_named c w) (each_from (message_read c e w) (read_in the_deeds set e w))
 event_says (publisher d) c set his accepted from w h t = says_none (publisher_named c w)
-event_says (receiver d window) c set his accepted from w h t = says_none (publisher_named c w)
+event_says (receiver d window aliases) c set his accepted from w h t = says_none (publisher_named c w)
 event_says (connect_end d clean) c set his accepted from w h t = says_none (publisher_named c w)
 event_says (give_up d) c set his accepted from w h t = says_none (publisher_named c w)
 event_says (publish d x) c set his accepted from w h t = says_none (publisher_named c w)
@@ -258,7 +258,7 @@ comes_tells c d set w from good t = by (publisher_named c w) refl (cases_Bool (b
 
 event_tells : (e : Event) (c : List ℕ) (set : Setting) (w : World) (from : List From) → is_bad e w ≡ false → Tells (publisher_named c w) from → Tells (publisher_named c (happens set e w)) from
 event_tells (publisher d) c set w from good t = comes_tells c d set w from good t
-event_tells (receiver d window) c set w from good t = tells_moved _ _ from (event_moved c set (receiver d window) w (λ x f. absurd cc)) t
+event_tells (receiver d window aliases) c set w from good t = tells_moved _ _ from (event_moved c set (receiver d window aliases) w (λ x f. absurd cc)) t
 event_tells (connect_end d clean) c set w from good t = tells_moved _ _ from (event_moved c set (connect_end d clean) w (λ x f. absurd cc)) t
 event_tells (give_up d) c set w from good t = tells_moved _ _ from (event_moved c set (give_up d) w (λ x f. absurd cc)) t
 event_tells (publish d m) c set w from good t = tells_moved _ _ from (event_moved c set (publish d m) w (λ x f. absurd cc)) t

@@ -13,7 +13,7 @@ use Rattle.mqtt_rules.specs.State.{Broker, session_named}
 use Rattle.mqtt_rules.specs.Laws.{IsAmong}
 use Rattle.mqtt_world_model.specs.Lines.{Line, gives_up}
 use Rattle.mqtt_world_model.specs.Ends.{Draft, Sent, Publisher, new_publisher, published, publisher_reads, Wish, Back, Receiver, new_receiver, receiver_reads}
-use Rattle.mqtt_world_model.specs.World.{World, Setting, publisher, receiver, give_up, publish, subscribe, to_end, clock, happens, is_bad, is_bad_name, is_end, is_window, link_by, publisher_named, receiver_named, with_publisher, is_open_line, asks_wish}
+use Rattle.mqtt_world_model.specs.World.{World, Setting, publisher, receiver, give_up, publish, subscribe, to_end, clock, happens, is_bad, is_bad_name, is_end, link_by, publisher_named, receiver_named, with_publisher, is_open_line, asks_wish, may_take}
 use Rattle.mqtt_world_model.specs.Run.{is_asked, is_clean, begins_clean}
 use Rattle.mqtt_world_model.specs.Seen.{open_in, seen}
 use Rattle.mqtt_world_model.specs.Hops.{MayGiveUp}
@@ -125,12 +125,12 @@ publisher_comes c d set his accepted w h good clean = elim (cases_Bool (bytes_eq
 -- ---- a receiver comes
 
 -- so does a new receiver
-pub receiver_comes : (c d : List ℕ) (window : ℕ) (set : Setting) (his accepted : List ℕ) (w : World) → Holds c set.limits his accepted w → is_bad (receiver d window) w ≡ false
-    → Holds c set.limits his accepted (happens set (receiver d window) w)
-receiver_comes c d window set his accepted w h good =
-    let new = new_receiver d window w.broker.records.births in
-    let name = either (is_bad_name d) (is_end d w || not (is_window window)) good in
-    let there = either (is_end d w) (not (is_window window)) name.1 in
+pub receiver_comes : (c d : List ℕ) (window aliases : ℕ) (set : Setting) (his accepted : List ℕ) (w : World) → Holds c set.limits his accepted w → is_bad (receiver d window aliases) w ≡ false
+    → Holds c set.limits his accepted (happens set (receiver d window aliases) w)
+receiver_comes c d window aliases set his accepted w h good =
+    let new = new_receiver d window aliases w.broker.records.births in
+    let name = either (is_bad_name d) (is_end d w || not (may_take window aliases)) good in
+    let there = either (is_end d w) (not (may_take window aliases)) name.1 in
     let ends = either (is_some (publisher_named d w)) (is_some (receiver_named d w)) there.0 in
     record {
       around = record {

@@ -110,7 +110,7 @@ module _ (c : List ℕ) (set : Setting) where
   -- whatever happens, but that a publisher comes
   pub event_moved : (e : Event) (w : World) → ((d : List ℕ) → e ≡ publisher d → ⊥) → Moved (His w) (His (happens set e w))
   event_moved (publisher d) w none = absurd (none d refl)
-  event_moved (receiver d window) w none = moved_not (His w)
+  event_moved (receiver d window aliases) w none = moved_not (His w)
   event_moved (connect_end d clean) w none = links_moved _ d clean w
   event_moved (give_up d) w none = one_moved c d (λ p. record p { line = gives_up p.line.link p.line }) w.publishers given_moves
   event_moved (publish d x) w none = one_moved c d (λ p. published (is_open_line p.line w) x p) w.publishers (λ p. published_moves (is_open_line p.line w) x p)

@@ -25,12 +25,12 @@ wire_others c client contents (shake (PUBLISH_2 id n dup)) h = tt
 wire_others c client contents (shake (PUBREL id)) h = tt
 wire_others c client contents (plain content) h = tt
 
-back_others : (c client : List ℕ) (window : ℕ) (x : Back) → (client ≡ c → ⊥) → IsOthers c (wire_back client window x)
-back_others c client window (answers (connect clean)) h = h
-back_others c client window (answers (puback i code)) h = tt
-back_others c client window (answers (pubrec i code)) h = tt
-back_others c client window (answers (pubcomp i code)) h = tt
-back_others c client window (asks_for x) h = tt
+back_others : (c client : List ℕ) (window aliases : ℕ) (x : Back) → (client ≡ c → ⊥) → IsOthers c (wire_back client window aliases x)
+back_others c client window aliases (answers (connect clean)) h = h
+back_others c client window aliases (answers (puback i code)) h = tt
+back_others c client window aliases (answers (pubrec i code)) h = tt
+back_others c client window aliases (answers (pubcomp i code)) h = tt
+back_others c client window aliases (asks_for x) h = tt
 
 all_wired : {U : Type 0} (c : List ℕ) (f : U → Packet) (xs : List U) → ((x : U) → IsOthers c (f x)) → AllByRecursion (IsOthers c) (map f xs)
 all_wired c f [] h = tt
@@ -57,9 +57,9 @@ foreign_of c d Out given w differ ps rs = by (publisher_named d w) (receiver_nam
         record { number = apart.number; up = all_wired c (wire p.client p.contents) p.line.up other; old_number = apart.old_number; old = all_wired c (wire p.client p.contents) p.line.old other }
     by None (Some r) e f =
         let is = named_receiver d r w f in
-        let other = λ (x : Back). back_others c r.client r.window x (λ same. differ (sym is ∙ same)) in
+        let other = λ (x : Back). back_others c r.client r.window r.aliases x (λ same. differ (sym is ∙ same)) in
         let apart = rs r f in
-        record { number = apart.number; up = all_wired c (wire_back r.client r.window) r.line.up other; old_number = apart.old_number; old = all_wired c (wire_back r.client r.window) r.line.old other }
+        record { number = apart.number; up = all_wired c (wire_back r.client r.window r.aliases) r.line.up other; old_number = apart.old_number; old = all_wired c (wire_back r.client r.window r.aliases) r.line.old other }
     by None None e f = record { number = λ n is. absurd cc; up = tt; old_number = λ n is. absurd cc; old = tt }
 
 -- in the eyes of the publisher

@@ -48,7 +48,7 @@ quiet c limits accepted w s = quietly c limits s.his accepted w s.holds
 happens_stays : (e : Event) (c : List ℕ) (set : Setting) (accepted : List ℕ) (w : World) → Stays c set.limits accepted w → is_bad e w ≡ false → begins_clean e w ≡ true → read_in spending set e w ≡ false
     → Stays c set.limits (accepted ++ each_of (message_read c e w) (read_in the_deeds set e w)) (happens set e w)
 happens_stays (publisher d) c set accepted w s good carried unspent = quietly c set.limits s.his accepted _ (publisher_comes c d set s.his accepted w s.holds good carried)
-happens_stays (receiver d window) c set accepted w s good carried unspent = quietly c set.limits s.his accepted _ (receiver_comes c d window set s.his accepted w s.holds good)
+happens_stays (receiver d window aliases) c set accepted w s good carried unspent = quietly c set.limits s.his accepted _ (receiver_comes c d window aliases set s.his accepted w s.holds good)
 happens_stays (connect_end d clean) c set accepted w s good carried unspent = quiet c set.limits accepted _ (joined_stays c d clean set accepted w s good carried)
 happens_stays (give_up d) c set accepted w s good carried unspent = quietly c set.limits s.his accepted _ (given_up_holds c d set s.his accepted w s.holds carried)
 happens_stays (publish d x) c set accepted w s good carried unspent = quietly c set.limits s.his accepted _ (published_holds c d x set s.his accepted w s.holds)

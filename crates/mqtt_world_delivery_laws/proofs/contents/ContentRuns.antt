@@ -150,7 +150,7 @@ module _ (c : List ℕ) (base : ℕ) where
   sends_or_not (ask tick) = inl tt
   sends_or_not (ask (stranger name bytes)) = inl tt
   sends_or_not (publisher d) = inl tt
-  sends_or_not (receiver d window) = inl tt
+  sends_or_not (receiver d window aliases) = inl tt
   sends_or_not (connect_end d clean) = inl tt
   sends_or_not (give_up d) = inl tt
   sends_or_not (publish d x) = inl tt

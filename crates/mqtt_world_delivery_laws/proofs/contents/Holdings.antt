@@ -299,16 +299,16 @@ module _ (P : Entry → Type 0) where
         by asked = record { read = record { ledger = h.read.ledger; once = h.read.once }; way = tt }
         by live = record { read = record { ledger = h.read.ledger; once = h.read.once }; way = tt }
 
-    receiver_holds : (d : List ℕ) (window : ℕ) (set : Setting) (w : World) → In w → In (happens set (receiver d window) w)
-    receiver_holds d window set w h = by (receiver_named c w) refl h
+    receiver_holds : (d : List ℕ) (window aliases : ℕ) (set : Setting) (w : World) → In w → In (happens set (receiver d window aliases) w)
+    receiver_holds d window aliases set w h = by (receiver_named c w) refl h
       where
         new : Receiver
-        new = new_receiver d window w.broker.records.births
+        new = new_receiver d window aliases w.broker.records.births
 
         test : Receiver → Bool
         test r = bytes_eq r.client c
 
-        by : (o : Option Receiver) → receiver_named c w ≡ o → EachHolds o → In (happens set (receiver d window) w)
+        by : (o : Option Receiver) → receiver_named c w ≡ o → EachHolds o → In (happens set (receiver d window aliases) w)
         by (Some r) e k = subst EachHolds (sym (find_first test new r w.receivers e)) k
         by None e k = elim (cases_Bool (bytes_eq d c)) [
           | inl its ↦ subst EachHolds (sym (find_last test new w.receivers its e)) (record { read = record { ledger = tt; once = tt }; way = tt })
@@ -318,7 +318,7 @@ module _ (P : Entry → Type 0) where
     -- what holds of each such PUBLISH does after any event but a turn of sending
     pub happens_hold : (set : Setting) (x : Event) (w : World) → IsNoTurn x → In w → In (happens set x w)
     happens_hold set (publisher d) w none h = h
-    happens_hold set (receiver d window) w none h = receiver_holds d window set w h
+    happens_hold set (receiver d window aliases) w none h = receiver_holds d window aliases set w h
     happens_hold set (connect_end d clean) w none h = links_hold set (next_line w.broker) d clean w h
     happens_hold set (give_up d) w none h = one_on d (on_back (λ l. gives_up l.link l)) w (happens set (give_up d) w) (λ r. refl) gives_on refl h
     happens_hold set (publish d x) w none h = h

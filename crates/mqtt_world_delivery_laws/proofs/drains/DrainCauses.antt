@@ -8,9 +8,10 @@ use Rattle.mqtt_base.specs.declared.session.Cause.{Cause}
 use Rattle.mqtt_base.specs.declared.session.CopyId.{CopyId}
 use Rattle.mqtt_flow.specs.OutboundWorld.{cut}
 use Rattle.mqtt_flow.specs.Receiver.{connect, puback, pubcomp, pubrec}
+use Rattle.mqtt_topic.specs.Aliases.{AliasTable}
 use Rattle.mqtt_world_model.specs.Ends.{Back, Receiver, answers, asks_for, wire_back}
 use Rattle.mqtt_world_model.specs.Hops.{IsNoConnect, Own}
-use Rattle.mqtt_world_model.specs.Lines.{Down, sent_to, stands, unless_closed}
+use Rattle.mqtt_world_model.specs.Lines.{Down, sent_to, stands, unless_closed, known_by}
 use Rattle.mqtt_world_model.specs.Run.{Turn, read_at, run, turned}
 use Rattle.mqtt_world_model.specs.Seats.{Former, IsHis, Present, absent, closed, connected_at, joined, waiting}
 use Rattle.mqtt_world_model.specs.World.{Setting, World, ask, calls, publisher_named, pump, receiver_named, receiver_told, to_broker, to_end}
@@ -81,11 +82,16 @@ untold call b r =
     let closed = none_closed r.line.number in
     let old_closed = none_closed r.line.old_number in
     let downs : r.line.down ++ sent_to r.line.number b [] ≡ r.line.down = ap (λ (ds : List Down). r.line.down ++ ds) (none_sent r.line.number b) ∙ append-nil r.line.down in
-    λ i. record r { line = record r.line { up = unless_closed (closed i) r.line.up; down = downs i; old = unless_closed (old_closed i) r.line.old } }
+    let knows = none_known r.line.number r.line.known in
+    λ i. record r { line = record r.line { up = unless_closed (closed i) r.line.up; down = downs i; old = unless_closed (old_closed i) r.line.old; known = knows i } }
   where
     none_sent : (o : Option ℕ) (b : Broker) → sent_to o b [] ≡ []
     none_sent None b = refl
     none_sent (Some n) b = refl
+
+    none_known : (o : Option ℕ) (table : AliasTable) → known_by o [] table ≡ table
+    none_known None table = refl
+    none_known (Some n) table = refl
 
 module _ (c : List ℕ) (limits : Limits) (choice : MemberChoice) (clean : Bool) (v : World) (r : Receiver) (l : BrokerLine) (e : receiver_named c v ≡ Some r) (alone : publisher_named c v ≡ None) (here : Awaits r.line.number l v.broker)
     (up : r.line.up ≡ answers (connect clean) ∷ []) (down : r.line.down ≡ []) where
@@ -93,7 +99,7 @@ module _ (c : List ℕ) (limits : Limits) (choice : MemberChoice) (clean : Bool)
   set = record { limits = limits; choice = choice }
 
   abbrev call : Call
-  call = Input l.number (wire_back r.client r.window (answers (connect clean)))
+  call = Input l.number (wire_back r.client r.window r.aliases (answers (connect clean)))
 
   abbrev first : Broker
   first = at_moment v.now v.broker

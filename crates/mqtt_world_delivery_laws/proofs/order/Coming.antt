@@ -242,8 +242,8 @@ module _ (limits : Limits) (xs ys : List Turn) (w : World) (untouched : IsUntouc
 -- ---- when a receiver comes, no copies of its name stand
 
 -- a new receiver has no queue
-pub none_at_first : (c : List ℕ) (window : ℕ) (set : Setting) (w : World) → is_bad (receiver c window) w ≡ false → begins_clean (receiver c window) w ≡ true → queue_at c (happens set (receiver c window) w) ≡ []
-none_at_first c window set w good clean = by (session_named c w.broker.records) clean
+pub none_at_first : (c : List ℕ) (window aliases : ℕ) (set : Setting) (w : World) → is_bad (receiver c window aliases) w ≡ false → begins_clean (receiver c window aliases) w ≡ true → queue_at c (happens set (receiver c window aliases) w) ≡ []
+none_at_first c window aliases set w good clean = by (session_named c w.broker.records) clean
   where
     by : (o : Option Session) → is_none o ≡ true → queued_by o ≡ []
     by None e = refl

@@ -209,8 +209,8 @@ module _ (K : List CopyId) (c : List ℕ) where
   -- after an event of one call at most a receiver was told of these copies alone, if its line tells of no others
   pub happens_told : (set : Setting) (e : Event) (w : World) (q : Receiver) → receiver_named c w ≡ Some q → TellsOf (happens set e w) → IsSingle e → Told w → Told (happens set e w)
   happens_told set (publisher d) w q f tells one h = h
-  happens_told set (receiver d window) w q f tells one h = λ r e.
-      let first = find_first (λ (x : Receiver). bytes_eq x.client c) (new_receiver d window w.broker.records.births) q w.receivers f in
+  happens_told set (receiver d window aliases) w q f tells one h = λ r e.
+      let first = find_first (λ (x : Receiver). bytes_eq x.client c) (new_receiver d window aliases w.broker.records.births) q w.receivers f in
       let both : Some q ≡ Some r = sym first ∙ e in
       let same : q ≡ r = cc in
       subst (AreTold K) same (h q f)
@@ -365,7 +365,7 @@ module _ (c : List ℕ) (limits : Limits) where
 
       by : (x : Event) → t.event ≡ x → P x
       by (publisher d) is = single (publisher d) is tt
-      by (receiver d window) is = single (receiver d window) is tt
+      by (receiver d window aliases) is = single (receiver d window aliases) is tt
       by (connect_end d clean) is = single (connect_end d clean) is tt
       by (give_up d) is = single (give_up d) is tt
       by (publish d x) is = single (publish d x) is tt

@@ -49,7 +49,7 @@ module _ (first : List CopyId) (c : List ℕ) (largest : ℕ) (set : Setting) (r
   -- if nothing is under way on its line the receiver stands as before
   pub none_read : r.line.up ≡ [] → Stands first c largest set.limits (asks set (to_broker c) w)
   none_read none =
-      let none_asked : input_on (view_of c w).number (view_of c w).up ≡ None = ap (λ (v : View). input_on v.number v.up) its_view ∙ (ap (λ (xs : List Back). input_on r.line.number (map (wire_back r.client r.window) xs)) none ∙ none_on r.line.number) in
+      let none_asked : input_on (view_of c w).number (view_of c w).up ≡ None = ap (λ (v : View). input_on v.number v.up) its_view ∙ (ap (λ (xs : List Back). input_on r.line.number (map (wire_back r.client r.window r.aliases) xs)) none ∙ none_on r.line.number) in
       let same : r.line.up ≡ drop 1 r.line.up = none ∙ sym (ap (drop 1) none) in
       let placed = subst (λ (xs : List Back). IsPlaced largest s.ids s.ns (record r { line = record r.line { up = xs } }) w.broker) same its_place in
       subst (λ (o : Option Call). Stands first c largest set.limits (calls_if set o with_up)) (sym none_asked)
@@ -61,7 +61,7 @@ module _ (first : List CopyId) (c : List ℕ) (largest : ℕ) (set : Setting) (r
   -- if nothing is under way on the line that it gave up the receiver stands as before
   pub none_read_old : r.line.old ≡ [] → Stands first c largest set.limits (asks set (old_to_broker c) w)
   none_read_old none =
-      let none_asked : input_on (view_of c w).old_number (view_of c w).old ≡ None = ap (λ (v : View). input_on v.old_number v.old) its_view ∙ (ap (λ (xs : List Back). input_on r.line.old_number (map (wire_back r.client r.window) xs)) none ∙ none_on r.line.old_number) in
+      let none_asked : input_on (view_of c w).old_number (view_of c w).old ≡ None = ap (λ (v : View). input_on v.old_number v.old) its_view ∙ (ap (λ (xs : List Back). input_on r.line.old_number (map (wire_back r.client r.window r.aliases) xs)) none ∙ none_on r.line.old_number) in
       let same : r.line.old ≡ drop 1 r.line.old = none ∙ sym (ap (drop 1) none) in
       let placed = subst (λ (xs : List Back). IsPlaced largest s.ids s.ns (record r { line = record r.line { old = xs } }) w.broker) same its_place in
       subst (λ (o : Option Call). Stands first c largest set.limits (calls_if set o with_old)) (sym none_asked)

@@ -7,7 +7,7 @@ use Rattle.mqtt_flow.specs.Receiver.{connect}
 use Rattle.mqtt_world_model.specs.Ends.{Receiver, answers, new_receiver, receiver_reads}
 use Rattle.mqtt_world_model.specs.Lines.{gives_up, joined, left, stands}
 use Rattle.mqtt_world_model.specs.Run.{Turn, run, setting, turned}
-use Rattle.mqtt_world_model.specs.World.{Asking, Event, Setting, World, answers_rest, ask, asks, asks_wish, before, break, call_of, call_of_stranger, calls, calls_if, clock, comes, connect_end, first_step, give_up, happens, held_count, is_bad, is_bad_name, is_end, is_window, linked_at, links, next_held, next_line, old_to_broker, publish, publisher, publisher_named, pump, receiver, receiver_named, receiver_restarted, receiver_told, restart, restarts, stop_after, stop_before, stranger, stranger_named, subscribe, tick, to_broker, to_end}
+use Rattle.mqtt_world_model.specs.World.{Asking, Event, Setting, World, answers_rest, ask, asks, asks_wish, before, break, call_of, call_of_stranger, calls, calls_if, clock, comes, connect_end, first_step, give_up, happens, held_count, is_bad, is_bad_name, is_end, linked_at, links, next_held, next_line, old_to_broker, publish, publisher, publisher_named, pump, receiver, receiver_named, receiver_restarted, receiver_told, restart, restarts, stop_after, stop_before, stranger, stranger_named, subscribe, tick, to_broker, to_end, may_take}
 use Rattle.mqtt_rules.specs.Step.{Call, NewLine, stepped, told}
 use Rattle.mqtt_rules.specs.declared.Limits.{Limits}
 use Rattle.mqtt_world_acceptance_laws.proofs.publishers.Ends.{all_appended, all_mapped, find_first, find_last, find_receiver, only_receiver, either}
@@ -98,15 +98,15 @@ none_named None h = refl
 none_named (Some r) h = absurd cc
 
 -- one whose name nobody has
-comes_new : (d : List ℕ) (window : ℕ) (w : World) → is_bad (receiver d window) w ≡ false → receiver_named d w ≡ None
-comes_new d window w good =
-    let named = (either (is_bad_name d) (is_end d w || not (is_window window)) good).1 in
-    let nobody = (either (is_end d w) (not (is_window window)) named).0 in
+comes_new : (d : List ℕ) (window aliases : ℕ) (w : World) → is_bad (receiver d window aliases) w ≡ false → receiver_named d w ≡ None
+comes_new d window aliases w good =
+    let named = (either (is_bad_name d) (is_end d w || not (may_take window aliases)) good).1 in
+    let nobody = (either (is_end d w) (not (may_take window aliases)) named).0 in
     none_named (receiver_named d w) (either (is_some (publisher_named d w)) (is_some (receiver_named d w)) nobody).1
 
 happens_found : (set : Setting) (x : Event) (w : World) → is_bad x w ≡ false → AreFound w.receivers → AreFound (happens set x w).receivers
 happens_found set (publisher d) w good h = h
-happens_found set (receiver d window) w good h = newcomer (new_receiver d window w.broker.records.births) w.receivers (comes_new d window w good) h
+happens_found set (receiver d window aliases) w good h = newcomer (new_receiver d window aliases w.broker.records.births) w.receivers (comes_new d window aliases w good) h
 happens_found set (connect_end d clean) w good h = links_found set (next_line w.broker) d clean w h
 happens_found set (give_up d) w good h = one_changed d (on_back (λ l. gives_up l.link l)) w.receivers (λ r. refl) h
 happens_found set (publish d x) w good h = h

@@ -12,7 +12,7 @@ use Rattle.mqtt_world_model.specs.Lines.{Line, gives_up, stands}
 use Rattle.mqtt_world_model.specs.Run.{begins_clean, is_asked, is_clean}
 use Rattle.mqtt_world_model.specs.Seats.{IsNamed, Present, Seat, absent, closed, joined, over, waiting}
 use Rattle.mqtt_world_model.specs.Seen.{is_linked}
-use Rattle.mqtt_world_model.specs.World.{Setting, World, asks_wish, clock, give_up, happens, is_bad, is_bad_name, is_end, is_open_line, is_window, is_wish, link_by, may_ask, may_ask_on, publish, publisher, publisher_named, receiver, receiver_named, subscribe, to_end, with_receiver}
+use Rattle.mqtt_world_model.specs.World.{Setting, World, asks_wish, clock, give_up, happens, is_bad, is_bad_name, is_end, is_open_line, is_wish, link_by, may_ask, may_ask_on, publish, publisher, publisher_named, receiver, receiver_named, subscribe, to_end, with_receiver, may_take}
 use Rattle.mqtt_world_model.proofs.seats.Places.{no_place_asked}
 use Rattle.mqtt_world_model.proofs.seats.Seats.{idle_linked}
 use Rattle.mqtt_records_rows.specs.Distinct.{AllDiffer}
@@ -65,11 +65,11 @@ publisher_comes c d largest set ids ns w h good =
 
 -- ---- a receiver comes
 
-new_placed : (c : List ℕ) (largest window since : ℕ) (b : Broker) → is_bad_name c ≡ false → session_named c b.records ≡ None → IsPlaced largest [] [] (new_receiver c window since) b
-new_placed c largest window since b named none = record {
+new_placed : (c : List ℕ) (largest window aliases since : ℕ) (b : Broker) → is_bad_name c ≡ false → session_named c b.records ≡ None → IsPlaced largest [] [] (new_receiver c window aliases since) b
+new_placed c largest window aliases since b named none = record {
   birth = None;
   line = 0;
-  along = comes_awaiting largest c window since b none;
+  along = comes_awaiting largest c window aliases since b none;
   seat = record { his = none; present = absent refl refl; former = over refl };
   its_line = refl;
   apart = λ n e f. absurd cc;
@@ -78,9 +78,9 @@ new_placed c largest window since b named none = record {
 }
 
 -- so does a new receiver
-pub receiver_comes : (c d : List ℕ) (largest window : ℕ) (set : Setting) (ids : List CopyId) (ns : List ℕ) (w : World) → StandsWith c largest set.limits ids ns w → is_bad (receiver d window) w ≡ false → begins_clean (receiver d window) w ≡ true
-    → StandsWith c largest set.limits ids ns (happens set (receiver d window) w)
-receiver_comes c d largest window set ids ns w h good clean = record {
+pub receiver_comes : (c d : List ℕ) (largest window aliases : ℕ) (set : Setting) (ids : List CopyId) (ns : List ℕ) (w : World) → StandsWith c largest set.limits ids ns w → is_bad (receiver d window aliases) w ≡ false → begins_clean (receiver d window aliases) w ≡ true
+    → StandsWith c largest set.limits ids ns (happens set (receiver d window aliases) w)
+receiver_comes c d largest window aliases set ids ns w h good clean = record {
   around = record {
     within = h.around.within;
     steady = h.around.steady;
@@ -105,20 +105,20 @@ receiver_comes c d largest window set ids ns w h good clean = record {
 }
   where
     new : Receiver
-    new = new_receiver d window w.broker.records.births
+    new = new_receiver d window aliases w.broker.records.births
 
-    name : (is_bad_name d ≡ false) × ((is_end d w || not (is_window window)) ≡ false)
-    name = either (is_bad_name d) (is_end d w || not (is_window window)) good
+    name : (is_bad_name d ≡ false) × ((is_end d w || not (may_take window aliases)) ≡ false)
+    name = either (is_bad_name d) (is_end d w || not (may_take window aliases)) good
 
     ends : (is_some (publisher_named d w) ≡ false) × (is_some (receiver_named d w) ≡ false)
-    ends = either (is_some (publisher_named d w)) (is_some (receiver_named d w)) (either (is_end d w) (not (is_window window)) name.1).0
+    ends = either (is_some (publisher_named d w)) (is_some (receiver_named d w)) (either (is_end d w) (not (may_take window aliases)) name.1).0
 
-    own : d ≡ c → IsSeen largest ids ns w.broker (receiver_named c (happens set (receiver d window) w))
+    own : d ≡ c → IsSeen largest ids ns w.broker (receiver_named c (happens set (receiver d window aliases) w))
     own is =
         let nobody : receiver_named c w ≡ None = not_some (receiver_named c w) (ap (λ (x : List ℕ). is_some (receiver_named x w)) (sym is) ∙ ends.1) in
-        let found : receiver_named c (happens set (receiver d window) w) ≡ Some new = find_last (λ (r : Receiver). bytes_eq r.client c) new w.receivers ((bytes_eq-Decides d c).1 is) nobody in
+        let found : receiver_named c (happens set (receiver d window aliases) w) ≡ Some new = find_last (λ (r : Receiver). bytes_eq r.client c) new w.receivers ((bytes_eq-Decides d c).1 is) nobody in
         let none = subst (IsSeen largest ids ns w.broker) nobody h.seen in
-        let placed = new_placed d largest window w.broker.records.births w.broker name.0 (is_nothing (session_named d w.broker.records) clean) in
+        let placed = new_placed d largest window aliases w.broker.records.births w.broker name.0 (is_nothing (session_named d w.broker.records) clean) in
         subst (IsSeen largest ids ns w.broker) (sym found)
         (subst (λ (xs : List CopyId). IsPlaced largest xs ns new w.broker) (sym none.0) (subst (λ (ms : List ℕ). IsPlaced largest [] ms new w.broker) (sym none.1) placed))
 

@@ -29,7 +29,7 @@ module _ (first : List CopyId) (c : List ℕ) where
   -- whatever event happens, the receiver stands after it
   pub happens_stands : (e : Event) (set : Setting) (w : World) → Stands first c any_size set.limits w → IsFit c w → is_bad e w ≡ false → begins_clean e w ≡ true → read_in spending set e w ≡ false → Stands first c any_size set.limits (happens set e w)
   happens_stands (publisher d) set w s fit good carried unspent = as_before first c any_size set.limits s.ids s.ns _ s.grown (publisher_comes c d any_size set s.ids s.ns w s.standing good)
-  happens_stands (receiver d window) set w s fit good carried unspent = as_before first c any_size set.limits s.ids s.ns _ s.grown (receiver_comes c d any_size window set s.ids s.ns w s.standing good carried)
+  happens_stands (receiver d window aliases) set w s fit good carried unspent = as_before first c any_size set.limits s.ids s.ns _ s.grown (receiver_comes c d any_size window aliases set s.ids s.ns w s.standing good carried)
   happens_stands (connect_end d clean) set w s fit good carried unspent = joined_stands first c d clean any_size set w s good carried
   happens_stands (give_up d) set w s fit good carried unspent = as_before first c any_size set.limits s.ids s.ns _ s.grown (given_up_stands c d any_size set s.ids s.ns w s.standing carried)
   happens_stands (publish d x) set w s fit good carried unspent = as_before first c any_size set.limits s.ids s.ns _ s.grown (published_stands c d x any_size set s.ids s.ns w s.standing)

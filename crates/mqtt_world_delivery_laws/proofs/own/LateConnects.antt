@@ -52,7 +52,7 @@ module _ (largest : ℕ) (ids : List CopyId) (ns : List ℕ) (limits : Limits) (
     (within : AreWithin limits) (steady : IsSteady b) (order : IsInOrder (after_answer limits choice now l.number (connect false) r b)) (unused : HaveSentNothing b)
     (here : Awaits r.line.old_number l b) (old : r.line.old ≡ answers (connect false) ∷ []) where
   abbrev call : Call
-  call = Input l.number (wire_back r.client r.window (answers (connect false)))
+  call = Input l.number (wire_back r.client r.window r.aliases (answers (connect false)))
 
   abbrev ds : List Deed
   ds = deeds limits choice now call b
@@ -82,7 +82,7 @@ module _ (largest : ℕ) (ids : List CopyId) (ns : List ℕ) (limits : Limits) (
   own_line : (o p : Option ℕ) (k j : ℕ) → ((birth : ℕ) → o ≡ Some birth → r.line.number ≡ Some k → session_on k b.lines ≡ Some (Some birth) → Present p j (told_by new out taken) new) → Present o k (line_like r.line) b
       → Present p j (told_by new out taken) new
   own_line o p k j there present =
-      present_after limits choice now call b o p k j taken (input_elsewhere limits choice now l.number (wire_back r.client r.window (answers (connect false))) r.line.number b (λ m its same. placed.apart m its (here.number ∙ ap Some same)))
+      present_after limits choice now call b o p k j taken (input_elsewhere limits choice now l.number (wire_back r.client r.window r.aliases (answers (connect false))) r.line.number b (λ m its same. placed.apart m its (here.number ∙ ap Some same)))
       there (present_taken o k r b present)
 
   put : (o : Option ℕ) (k : ℕ) → GoesAlong o largest ids ns q new → IsHis r.client o k new → Present o k (told_by new out taken) new → is_one_of (Some k) (0 ∷ ns) ≡ true → IsPlaced largest ids ns q new

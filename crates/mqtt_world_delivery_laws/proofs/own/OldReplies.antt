@@ -35,7 +35,7 @@ read_placed largest ids ns limits choice now x rest r b placed steady j calm non
     let l = h.line in
     let s = h.listens.session in
     let a = h.listens.listening in
-    let packet = wire_back r.client r.window (answers x) in
+    let packet = wire_back r.client r.window r.aliases (answers x) in
     let new = after_answer limits choice now l.number x r b in
     let owns = read_owns limits choice now x (turned_back r) l s b j.birth placed.line a none h.owns in
     let told = apart_still ids b.records new.records placed.told (step_fell limits choice now (Input l.number packet) b) in

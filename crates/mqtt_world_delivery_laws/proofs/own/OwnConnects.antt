@@ -40,7 +40,7 @@ use Rattle.mqtt_world_receiver_laws.proofs.queue.Numbers.{place_of}
 use Rattle.mqtt_world_receiver_laws.proofs.connects.OwnConnects.{first_in_step, renewal_in_step, resume_in_step}
 use Rattle.mqtt_world_receiver_laws.proofs.connects.OwnRefusals.{deeds_are, given_is, lines_are, named_none, refused_awaiting}
 use Rattle.mqtt_world_receiver_laws.proofs.connects.Renewing.{renewed_clears}
-use Rattle.mqtt_world_receiver_laws.proofs.connects.Resuming.{connect_makes, greeting}
+use Rattle.mqtt_world_receiver_laws.proofs.connects.Resuming.{beginning, connect_makes}
 use Rattle.mqtt_world_delivery_laws.specs.Alone.{HaveSentNothing}
 use Rattle.mqtt_world_delivery_laws.specs.Standing.{GoesAlong, IsPlaced, IsSeen, Stands, line_like, packet_like}
 use Rattle.mqtt_world_delivery_laws.proofs.others.Around.{its_place}
@@ -55,7 +55,7 @@ use Rattle.mqtt_world_delivery_laws.proofs.own.Reading.{first_read}
 module _ (largest : ℕ) (ids : List CopyId) (ns : List ℕ) (limits : Limits) (choice : MemberChoice) (now : ℕ) (clean : Bool) (rest : List Back) (r : Receiver) (l : BrokerLine) (b : Broker) (placed : IsPlaced largest ids ns r b)
     (number_is : r.line.number ≡ Some l.number) (up : r.line.up ≡ answers (connect clean) ∷ rest) where
   abbrev packet : Packet
-  packet = wire_back r.client r.window (answers (connect clean))
+  packet = wire_back r.client r.window r.aliases (answers (connect clean))
 
   abbrev call : Call
   call = Input l.number packet
@@ -89,7 +89,7 @@ module _ (largest : ℕ) (ids : List CopyId) (ns : List ℕ) (limits : Limits) (
   connected : (birth : ℕ) → IsInOrder (after_answer limits choice now l.number (connect clean) r b)
       → IsInStep largest ids birth ns (reads_answer limits choice now l.number (connect clean) r b) (after_answer limits choice now l.number (connect clean) r b)
       → HasGreeted l.number birth r.window (after_answer limits choice now l.number (connect clean) r b)
-      → Former (Some birth) l.number (told_by (after_answer limits choice now l.number (connect clean) r b) (told limits choice now (Input l.number (wire_back r.client r.window (answers (connect clean)))) b) (line_like (taken_up r.line))) (after_answer limits choice now l.number (connect clean) r b)
+      → Former (Some birth) l.number (told_by (after_answer limits choice now l.number (connect clean) r b) (told limits choice now (Input l.number (wire_back r.client r.window r.aliases (answers (connect clean)))) b) (line_like (taken_up r.line))) (after_answer limits choice now l.number (connect clean) r b)
       → Goal
   connected birth order k g former =
       placed_with largest ids ids ns limits choice now call (Some birth) l.number (drop 1 r.line.up) r.line.old r b placed (apart_still ids b.records new.records placed.told (step_fell limits choice now call b))
@@ -120,7 +120,7 @@ module _ (largest : ℕ) (ids : List CopyId) (ns : List ℕ) (limits : Limits) (
   renewed m k up order =
       let x = renewed_clears limits choice now r l s b m in
       let front = ended_by x.its s (heard_of now l.number b).now in
-      let begins = begin l (greeting true r.client r.window) false r.client _ in
+      let begins = beginning l r.window r.aliases r.client _ in
       let closes = ap (filter_map closing) x.clears.deeds_are ∙ x.clears.closings begins refl in
       let g = renewed_line limits choice now r l s b m in
       connected largest ids ns limits choice now true rest r l b placed a.number up (suc b.records.births) order (renewal_in_step largest ids s.birth ns limits choice now rest r l s b k m up) g
@@ -146,7 +146,7 @@ module _ (largest : ℕ) (ids : List CopyId) (ns : List ℕ) (limits : Limits) (
       → IsPlaced largest ids ns (reads_answer limits choice now l.number (connect clean) r b) (after_answer limits choice now l.number (connect clean) r b)
   refused full idle =
       let n = l.number in
-      let call = Input n (wire_back r.client r.window (answers (connect clean))) in
+      let call = Input n (wire_back r.client r.window r.aliases (answers (connect clean))) in
       let new = stepped limits choice now call b in
       let out = told limits choice now call b in
       let apart = not_among r.line.old_number n (λ e. placed.apart n a.number e) in

@@ -19,7 +19,7 @@ use Rattle.mqtt_world_delivery_laws.proofs.others.Outside.{GoesFurther, calls_ar
 
 module _ (first : List CopyId) (c : List ℕ) (x : Back) (rest : List Back) (largest : ℕ) (set : Setting) (r : Receiver) (w : World) (s : Stands first c largest set.limits w) (e : receiver_named c w ≡ Some r) (n : ℕ) where
   abbrev call : Call
-  call = Input n (wire_back r.client r.window x)
+  call = Input n (wire_back r.client r.window r.aliases x)
 
   view : view_of c w ≡ view_by None (Some r)
   view = ap (λ (o : Option Publisher). view_by o (receiver_named c w)) (s.standing.around.alone (ap is_some e)) ∙ ap (λ (o : Option Receiver). view_by None o) e
@@ -54,7 +54,7 @@ module _ (first : List CopyId) (c : List ℕ) (x : Back) (rest : List Back) (lar
       → read_first spending set (to_broker c) w ≡ false → Stands first c largest set.limits (asks set (to_broker c) w)
   first_read is up goes unspent =
       let asked : input_on (view_of c w).number (view_of c w).up ≡ Some call =
-      ap (λ (v : View). input_on v.number v.up) view ∙ (ap (λ (o : Option ℕ). input_on o (map (wire_back r.client r.window) r.line.up)) is ∙ ap (λ (xs : List Back). input_on (Some n) (map (wire_back r.client r.window) xs)) up) in
+      ap (λ (v : View). input_on v.number v.up) view ∙ (ap (λ (o : Option ℕ). input_on o (map (wire_back r.client r.window r.aliases) r.line.up)) is ∙ ap (λ (xs : List Back). input_on (Some n) (map (wire_back r.client r.window r.aliases) xs)) up) in
       taken_stands taken_up taken_up (input_on (view_of c w).number (view_of c w).up) asked goes unspent
 
   -- of the one that it gave up
@@ -64,5 +64,5 @@ module _ (first : List CopyId) (c : List ℕ) (x : Back) (rest : List Back) (lar
       → read_first spending set (old_to_broker c) w ≡ false → Stands first c largest set.limits (asks set (old_to_broker c) w)
   first_read_there is old goes unspent =
       let asked : input_on (view_of c w).old_number (view_of c w).old ≡ Some call =
-      ap (λ (v : View). input_on v.old_number v.old) view ∙ (ap (λ (o : Option ℕ). input_on o (map (wire_back r.client r.window) r.line.old)) is ∙ ap (λ (xs : List Back). input_on (Some n) (map (wire_back r.client r.window) xs)) old) in
+      ap (λ (v : View). input_on v.old_number v.old) view ∙ (ap (λ (o : Option ℕ). input_on o (map (wire_back r.client r.window r.aliases) r.line.old)) is ∙ ap (λ (xs : List Back). input_on (Some n) (map (wire_back r.client r.window r.aliases) xs)) old) in
       taken_stands taken_old taken_old (input_on (view_of c w).old_number (view_of c w).old) asked goes unspent

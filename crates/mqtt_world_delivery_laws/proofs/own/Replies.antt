@@ -84,8 +84,8 @@ module _ (client : List ℕ) (birth n : ℕ) where
 pub read_owns : (limits : Limits) (choice : MemberChoice) (now : ℕ) (x : Answer) (r : Receiver) (l : BrokerLine) (s : Session) (b : Broker) (birth n : ℕ) → IsListening r l s b → HasNoConnect (x ∷ [])
     → Own r.client birth n b → Own r.client birth n (after_answer limits choice now l.number x r b)
 read_owns limits choice now x r l s b birth n a none own =
-    answer_owns r.client birth n limits choice now (wire_back r.client r.window (answers x)) (reply_to x (queue_on l.went s)) r l s b a
-    (answered_by x r.client r.window (env_of limits choice b) l s (heard_of now l.number b) none) own
+    answer_owns r.client birth n limits choice now (wire_back r.client r.window r.aliases (answers x)) (reply_to x (queue_on l.went s)) r l s b a
+    (answered_by x r.client r.window r.aliases (env_of limits choice b) l s (heard_of now l.number b) none) own
 
 -- and it has its place
 read_placed : (largest : ℕ) (ids : List CopyId) (ns : List ℕ) (limits : Limits) (choice : MemberChoice) (now : ℕ) (x : Answer) (rest : List Back) (r : Receiver) (b : Broker) (placed : IsPlaced largest ids ns r b) → IsSteady b
@@ -96,7 +96,7 @@ read_placed largest ids ns limits choice now x rest r b placed steady j none up 
     let l = h.line in
     let s = h.listens.session in
     let a = h.listens.listening in
-    let packet = wire_back r.client r.window (answers x) in
+    let packet = wire_back r.client r.window r.aliases (answers x) in
     let new = after_answer limits choice now l.number x r b in
     let owns = read_owns limits choice now x r l s b j.birth placed.line a none h.owns in
     let told = apart_still ids b.records new.records placed.told (step_fell limits choice now (Input l.number packet) b) in

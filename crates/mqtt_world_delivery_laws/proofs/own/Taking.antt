@@ -21,11 +21,12 @@ use Rattle.mqtt_rules.specs.Lines.{line_number}
 use Rattle.mqtt_rules.specs.Piece.{Front, begins_connect, call_by, code_of}
 use Rattle.mqtt_rules.specs.State.{Line as BrokerLine, Broker, line_at}
 use Rattle.mqtt_rules.specs.Step.{BadInput, Call, Input, Lost, NewLine, Pump, Tick, at_moment, can_link, opened, stepped, told}
+use Rattle.mqtt_rules.proofs.contents.PassedContents.{two}
 use Rattle.mqtt_rules.specs.declared.Limits.{Limits}
 use Rattle.mqtt_world_model.specs.Ends.{Back, Publisher, Receiver, answers, asks_for, hears, new_receiver, reads_publish, receiver_connack, receiver_reads, wire_back}
 use Rattle.mqtt_world_model.specs.Lines.{Down, gives_up, is_one_of, joined, left}
 use Rattle.mqtt_world_model.specs.Run.{Turn, setting, turned}
-use Rattle.mqtt_world_model.specs.World.{Asking, Event, Setting, Stranger, View, World, answers_rest, ask, asks, asks_wish, before, break, call_of, call_of_stranger, call_on, calls, calls_if, clock, comes, connect_end, first_step, give_up, happens, held_after, held_count, input_on, is_bad, is_bad_name, is_end, is_open_line, is_window, linked_at, links, lost_on, next_held, old_to_broker, publish, publisher, pump, pump_on, receiver, receiver_named, receiver_restarted, receiver_told, restart, restarts, stop_after, stop_before, stranger, stranger_named, subscribe, taken_old, taken_up, tick, to_broker, to_end, view_by, view_of, with_receiver}
+use Rattle.mqtt_world_model.specs.World.{are_aliases, Asking, Event, Setting, Stranger, View, World, answers_rest, ask, asks, asks_wish, before, break, call_of, call_of_stranger, call_on, calls, calls_if, clock, comes, connect_end, first_step, give_up, happens, held_after, held_count, input_on, is_bad, is_bad_name, is_end, is_open_line, is_window, linked_at, links, lost_on, next_held, old_to_broker, publish, publisher, pump, pump_on, receiver, receiver_named, receiver_restarted, receiver_told, restart, restarts, stop_after, stop_before, stranger, stranger_named, subscribe, taken_old, taken_up, tick, to_broker, to_end, view_by, view_of, with_receiver, may_take}
 use Rattle.mqtt_world_model.proofs.seats.Joins.{new_is}
 use Rattle.mqtt_world_model.proofs.others.Lists.{all_find}
 use Rattle.mqtt_world_acceptance_laws.specs.Fair.{IsNew}
@@ -143,19 +144,20 @@ outside_suits c ns window n (Input m (packets.Connect x)) among q = inl (apart_f
 outside_suits c ns window n call among q = tt
 
 -- its CONNECT has its Receive Maximum, and no Maximum Packet Size
-back_suits : (client : List ℕ) (window n m : ℕ) (x : Back) → Suits window n (Input m (wire_back client window x))
-back_suits client window n m (answers (connect clean)) = inr (refl, refl)
-back_suits client window n m (answers (puback i code)) = tt
-back_suits client window n m (answers (pubrec i code)) = tt
-back_suits client window n m (answers (pubcomp i code)) = tt
-back_suits client window n m (asks_for x) = tt
+back_suits : (client : List ℕ) (window aliases n m : ℕ) (x : Back) → Suits window n (Input m (wire_back client window aliases x))
+back_suits client window zero n m (answers (connect clean)) = inr (refl, refl)
+back_suits client window (suc more) n m (answers (connect clean)) = inr (refl, refl)
+back_suits client window aliases n m (answers (puback i code)) = tt
+back_suits client window aliases n m (answers (pubrec i code)) = tt
+back_suits client window aliases n m (answers (pubcomp i code)) = tt
+back_suits client window aliases n m (asks_for x) = tt
 
-input_suits : (client : List ℕ) (window n : ℕ) (x : Option ℕ) (xs : List Back) (call : Call) → input_on x (map (wire_back client window) xs) ≡ Some call → Suits window n call
-input_suits client window n None xs call e = absurd cc
-input_suits client window n (Some m) [] call e = absurd cc
-input_suits client window n (Some m) (x ∷ xs) call e =
-    let is : Input m (wire_back client window x) ≡ call = cc in
-    subst (Suits window n) is (back_suits client window n m x)
+input_suits : (client : List ℕ) (window aliases n : ℕ) (x : Option ℕ) (xs : List Back) (call : Call) → input_on x (map (wire_back client window aliases) xs) ≡ Some call → Suits window n call
+input_suits client window aliases n None xs call e = absurd cc
+input_suits client window aliases n (Some m) [] call e = absurd cc
+input_suits client window aliases n (Some m) (x ∷ xs) call e =
+    let is : Input m (wire_back client window aliases x) ≡ call = cc in
+    subst (Suits window n) is (back_suits client window aliases n m x)
 
 module _ (first : List CopyId) (c : List ℕ) (largest : ℕ) (set : Setting) (w : World) (s : Stands first c largest set.limits w) where
   its_listed : (r : Receiver) (n : ℕ) → receiver_named c w ≡ Some r → r.line.number ≡ Some n → is_one_of (Some n) (0 ∷ s.ns) ≡ true
@@ -183,12 +185,12 @@ module _ (first : List CopyId) (c : List ℕ) (largest : ℕ) (set : Setting) (w
   reads_suit : (d : List ℕ) (call : Call) → input_on (view_of d w).number (view_of d w).up ≡ Some call → ReceiverSuits (receiver_named c w) call
   reads_suit d call asked_is = end_suits d call
       (λ differ. let f = foreign c d set.limits s.ns w s.standing.around differ in input_outside c s.ns w.broker.given (view_of d w).number (view_of d w).up call f.number f.up asked_is)
-      (λ r e is n. input_suits r.client r.window n r.line.number r.line.up call (sym (ap (λ (v : View). input_on v.number v.up) (ap (λ (x : List ℕ). view_of x w) is ∙ its_view r e)) ∙ asked_is))
+      (λ r e is n. input_suits r.client r.window r.aliases n r.line.number r.line.up call (sym (ap (λ (v : View). input_on v.number v.up) (ap (λ (x : List ℕ). view_of x w) is ∙ its_view r e)) ∙ asked_is))
 
   old_reads_suit : (d : List ℕ) (call : Call) → input_on (view_of d w).old_number (view_of d w).old ≡ Some call → ReceiverSuits (receiver_named c w) call
   old_reads_suit d call asked_is = end_suits d call
       (λ differ. let f = foreign c d set.limits s.ns w s.standing.around differ in input_outside c s.ns w.broker.given (view_of d w).old_number (view_of d w).old call f.old_number f.old asked_is)
-      (λ r e is n. input_suits r.client r.window n r.line.old_number r.line.old call (sym (ap (λ (v : View). input_on v.old_number v.old) (ap (λ (x : List ℕ). view_of x w) is ∙ its_view r e)) ∙ asked_is))
+      (λ r e is n. input_suits r.client r.window r.aliases n r.line.old_number r.line.old call (sym (ap (λ (v : View). input_on v.old_number v.old) (ap (λ (x : List ℕ). view_of x w) is ∙ its_view r e)) ∙ asked_is))
 
 -- ---- a stranger's bytes
 
@@ -335,19 +337,19 @@ so_true : (t : Bool) → not t ≡ false → t ≡ true
 so_true true h = refl
 so_true false h = absurd cc
 
-receiver_takes : (c d : List ℕ) (window : ℕ) (set : Setting) (w : World) → ItsLineTakes c w → is_bad (receiver d window) w ≡ false → ItsLineTakes c (happens set (receiver d window) w)
-receiver_takes c d window set w h good = by (receiver_named c w) refl h
+receiver_takes : (c d : List ℕ) (window aliases : ℕ) (set : Setting) (w : World) → ItsLineTakes c w → is_bad (receiver d window aliases) w ≡ false → ItsLineTakes c (happens set (receiver d window aliases) w)
+receiver_takes c d window aliases set w h good = by (receiver_named c w) refl h
   where
     new : Receiver
-    new = new_receiver d window w.broker.records.births
+    new = new_receiver d window aliases w.broker.records.births
 
     right : is_window window ≡ true
-    right = so_true (is_window window) (either (is_end d w) (not (is_window window)) (either (is_bad_name d) (is_end d w || not (is_window window)) good).1).1
+    right = (two (is_window window) (are_aliases aliases) (so_true (may_take window aliases) (either (is_end d w) (not (may_take window aliases)) (either (is_bad_name d) (is_end d w || not (may_take window aliases)) good).1).1)).0
 
     test : Receiver → Bool
     test r = bytes_eq r.client c
 
-    by : (o : Option Receiver) → receiver_named c w ≡ o → EachTakes o w.broker → ItsLineTakes c (happens set (receiver d window) w)
+    by : (o : Option Receiver) → receiver_named c w ≡ o → EachTakes o w.broker → ItsLineTakes c (happens set (receiver d window aliases) w)
     by (Some r) e k = subst (λ (o : Option Receiver). EachTakes o w.broker) (sym (find_first test new r w.receivers e)) k
     by None e k = elim (cases_Bool (bytes_eq d c)) [
       | inl its ↦ subst (λ (o : Option Receiver). EachTakes o w.broker) (sym (find_last test new w.receivers its e)) (record { window = right; line = tt })
@@ -425,7 +427,7 @@ read_like t ds r = let k = read_there t ds r in record { client = k.client; wind
 
 happens_takes : (first : List CopyId) (e : Event) (c : List ℕ) (largest : ℕ) (set : Setting) (w : World) → Stands first c largest set.limits w → ItsLineTakes c w → is_bad e w ≡ false → ItsLineTakes c (happens set e w)
 happens_takes first (publisher d) c largest set w s h good = h
-happens_takes first (receiver d window) c largest set w s h good = receiver_takes c d window set w h good
+happens_takes first (receiver d window aliases) c largest set w s h good = receiver_takes c d window aliases set w h good
 happens_takes first (connect_end d clean) c largest set w s h good = joined_takes first c d clean largest set w s h
 happens_takes first (give_up d) c largest set w s h good = changed_takes c d (on_back (λ l. gives_up l.link l)) w (λ r. gives_like r.line.link r) h
 happens_takes first (publish d x) c largest set w s h good = h

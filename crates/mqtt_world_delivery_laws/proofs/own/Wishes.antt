@@ -106,10 +106,10 @@ module _ (client : List ℕ) (birth n : ℕ) where
   mine_subscribe true env line s p b = mine_offer (line_at line b) (suback p.identifier (map (λ (x : Asked). identifier_in_use) p.subscriptions))
   mine_subscribe false env line s p b = mine_answers _ line p.identifier b (mine_filters env s.birth _ p.subscriptions b)
 
-  wish_owns : (limits : Limits) (choice : MemberChoice) (now window : ℕ) (name : List ℕ) (w : Wish) (r : Receiver) (l : BrokerLine) (s : Session) (b : Broker) → IsListening r l s b
-      → Own client birth n b → Own client birth n (stepped limits choice now (Input l.number (wire_back name window (asks_for w))) b)
-  wish_owns limits choice now window name w r l s b a own =
-      packet_owns client birth n limits choice now (wire_back name window (asks_for w)) r l s b a (mine_subscribe (is_among 1 s.inbound) (env_of limits choice b) l.number s _ (heard_of now l.number b)) own
+  wish_owns : (limits : Limits) (choice : MemberChoice) (now window aliases : ℕ) (name : List ℕ) (w : Wish) (r : Receiver) (l : BrokerLine) (s : Session) (b : Broker) → IsListening r l s b
+      → Own client birth n b → Own client birth n (stepped limits choice now (Input l.number (wire_back name window aliases (asks_for w))) b)
+  wish_owns limits choice now window aliases name w r l s b a own =
+      packet_owns client birth n limits choice now (wire_back name window aliases (asks_for w)) r l s b a (mine_subscribe (is_among 1 s.inbound) (env_of limits choice b) l.number s _ (heard_of now l.number b)) own
 
 -- ---- retained messages, of which it brings copies
 
@@ -132,8 +132,8 @@ wish_placed largest ids ns limits choice now w rest r b placed steady tidy once 
     let x = subscribes_apart largest ids limits choice now j.birth ns w rest r l h.listens.session b h.step a tidy up in
     let more = x.0.more in
     let apart = apart_brought j.birth ids more b.records (stepped limits choice now call b).records placed.told (step_fell limits choice now call b) x.0.new (x.1 (retained_apart b steady once)) in
-    let owns = wish_owns r.client j.birth placed.line limits choice now r.window r.client w r l h.listens.session b a h.owns in
-    let after_ = placed_after largest ids ns limits j.birth r b placed j.own j.there choice now l.number (wire_back r.client r.window (asks_for w)) (ids ++ more) h.number owns apart j.at x.0.in_step in
+    let owns = wish_owns r.client j.birth placed.line limits choice now r.window r.aliases r.client w r l h.listens.session b a h.owns in
+    let after_ = placed_after largest ids ns limits j.birth r b placed j.own j.there choice now l.number (wire_back r.client r.window r.aliases (asks_for w)) (ids ++ more) h.number owns apart j.at x.0.in_step in
     subst (λ (m : ℕ). GoesFurther largest ids ns (receiver_after limits choice now (asking w r m) r b) (stepped limits choice now (asking w r m) b)) h.number (record { more = more; placed = after_ })
 
 -- ---- on the line that it gave up
@@ -149,8 +149,8 @@ old_wish_placed largest ids ns limits choice now w rest r b placed steady tidy o
     let x = old_subscribes_apart largest ids limits choice now j.birth ns w rest r l h.listens.session b h.step a tidy old in
     let more = x.0.more in
     let apart = apart_brought j.birth ids more b.records (stepped limits choice now call b).records placed.told (step_fell limits choice now call b) x.0.new (x.1 (retained_apart b steady once)) in
-    let owns = wish_owns r.client j.birth placed.line limits choice now r.window r.client w (turned_back r) l h.listens.session b a h.owns in
-    let after_ = placed_after_there largest ids ns limits j.birth r b placed j.own j.there choice now l.number (wire_back r.client r.window (asks_for w)) (ids ++ more) h.number owns apart j.at calm x.0.in_step in
+    let owns = wish_owns r.client j.birth placed.line limits choice now r.window r.aliases r.client w (turned_back r) l h.listens.session b a h.owns in
+    let after_ = placed_after_there largest ids ns limits j.birth r b placed j.own j.there choice now l.number (wire_back r.client r.window r.aliases (asks_for w)) (ids ++ more) h.number owns apart j.at calm x.0.in_step in
     subst (λ (m : ℕ). GoesFurther largest ids ns (reads_old_wish limits choice now m w r b) (stepped limits choice now (asking w r m) b)) h.number (record { more = more; placed = after_ })
 
 -- ---- as events

@@ -34,7 +34,7 @@ module _ (first : List CopyId) (c : List ℕ) (largest : ℕ) (a : Answer) (none
   placed = subst (IsSeen largest s.ids s.ns w.broker) e s.standing.seen
 
   abbrev call : ℕ → Call
-  call n = Input n (wire_back r.client r.window (answers a))
+  call n = Input n (wire_back r.client r.window r.aliases (answers a))
 
   -- a copy that ends as taken by an answer on its line had been read by the receiver
   pub answer_taken : r.line.up ≡ answers a ∷ rest → its_ends (read_first the_deeds set (to_broker c) w)
@@ -47,7 +47,7 @@ module _ (first : List CopyId) (c : List ℕ) (largest : ℕ) (a : Answer) (none
         let got = answered_got number largest x.after set.limits set.choice w.now a r r h.line h.listens.session w.broker x.run_is on (standing_by x.after r h.line h.listens.session w.broker x.run_is.queue_is on) none
         (λ place n d m takes at is. got_up largest x.run_is.events (seen number x.after r w.broker) x.run_is.seen_is a place n (filter_map answered rest) d m none takes at is (ap (filter_map answered) up)) in
         let asked : input_on (view_of c w).number (view_of c w).up ≡ Some (call placed.line) =
-        ap (λ (v : View). input_on v.number v.up) view ∙ (ap (λ (o : Option ℕ). input_on o (map (wire_back r.client r.window) r.line.up)) j.at ∙ ap (λ (xs : List Back). input_on (Some placed.line) (map (wire_back r.client r.window) xs)) up) in
+        ap (λ (v : View). input_on v.number v.up) view ∙ (ap (λ (o : Option ℕ). input_on o (map (wire_back r.client r.window r.aliases) r.line.up)) j.at ∙ ap (λ (xs : List Back). input_on (Some placed.line) (map (wire_back r.client r.window r.aliases) xs)) up) in
         subst (λ (o : Option Call). its_ends (read_if the_deeds set o (with_line c taken_up taken_up w))) (sym asked)
         (subst (λ (n : ℕ). its_ends (deeds set.limits set.choice w.now (call n) w.broker)) h.number got)
     | inr h ↦ absurd (no_connect a h.0 none h.1.packet)
@@ -65,7 +65,7 @@ module _ (first : List CopyId) (c : List ℕ) (largest : ℕ) (a : Answer) (none
         let got = answered_got number largest x.after set.limits set.choice w.now a r (turned_back r) h.line h.listens.session w.broker x.run_is on (standing_by x.after (turned_back r) h.line h.listens.session w.broker x.run_is.queue_is on) none
         (λ place n d m takes at is. got_old largest x.run_is.events (seen number x.after r w.broker) x.run_is.seen_is a place n (filter_map answered rest) d m none takes at is (ap (filter_map answered) old)) in
         let asked : input_on (view_of c w).old_number (view_of c w).old ≡ Some (call placed.line) =
-        ap (λ (v : View). input_on v.old_number v.old) view ∙ (ap (λ (o : Option ℕ). input_on o (map (wire_back r.client r.window) r.line.old)) j.at ∙ ap (λ (xs : List Back). input_on (Some placed.line) (map (wire_back r.client r.window) xs)) old) in
+        ap (λ (v : View). input_on v.old_number v.old) view ∙ (ap (λ (o : Option ℕ). input_on o (map (wire_back r.client r.window r.aliases) r.line.old)) j.at ∙ ap (λ (xs : List Back). input_on (Some placed.line) (map (wire_back r.client r.window r.aliases) xs)) old) in
         subst (λ (o : Option Call). its_ends (read_if the_deeds set o (with_line c taken_old taken_old w))) (sym asked)
         (subst (λ (n : ℕ). its_ends (deeds set.limits set.choice w.now (call n) w.broker)) h.number got)
     | inr h ↦ absurd (no_connect a false none h.packet)

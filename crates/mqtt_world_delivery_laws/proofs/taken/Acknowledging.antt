@@ -173,12 +173,12 @@ at_its_place k row (x ∷ queue) e = elim (cases_Bool (nat_eq x.place k)) [
 abbrev pub WasGot : Receiver → End → Type 0
 WasGot r x = x.by ≡ Taken → WasTaken x.qos x.copy r
 
-answer_is : (a : Answer) (env : Env) (l : BrokerLine) (s : Session) (c : Broker) (client : List ℕ) (window : ℕ) → HasNoConnect (a ∷ [])
-    → next_packet env l (wire_back client window (answers a)) s c ≡ on_answer (reply_to a (queue_on l.went s)) env l s c
-answer_is (connect clean) env l s c client window none = absurd none
-answer_is (puback i code) env l s c client window none = refl
-answer_is (pubrec i code) env l s c client window none = refl
-answer_is (pubcomp i code) env l s c client window none = refl
+answer_is : (a : Answer) (env : Env) (l : BrokerLine) (s : Session) (c : Broker) (client : List ℕ) (window aliases : ℕ) → HasNoConnect (a ∷ [])
+    → next_packet env l (wire_back client window aliases (answers a)) s c ≡ on_answer (reply_to a (queue_on l.went s)) env l s c
+answer_is (connect clean) env l s c client window aliases none = absurd none
+answer_is (puback i code) env l s c client window aliases none = refl
+answer_is (pubrec i code) env l s c client window aliases none = refl
+answer_is (pubcomp i code) env l s c client window aliases none = refl
 
 -- q has the line that it was read of as its own, or it is the receiver
 module _ (number : Numbering) (largest : ℕ) (copies : List Lot) (limits : Limits) (choice : MemberChoice) (now : ℕ) (a : Answer) (r q : Receiver) (l : BrokerLine) (s : Session) (b : Broker) (h : IsRun number largest copies r b)
@@ -225,12 +225,12 @@ module _ (number : Numbering) (largest : ℕ) (copies : List Lot) (limits : Limi
   answer_got env c (Err fault) e at = subst ends_got (sym (drop_is env protocol_error l s c at on.connected on.no_will on.no_end)) tt
 
   -- a copy that ends as taken by a receiver's answer had been read by the receiver
-  pub answered_got : ends_got (deeds limits choice now (Input l.number (wire_back q.client q.window (answers a))) b)
+  pub answered_got : ends_got (deeds limits choice now (Input l.number (wire_back q.client q.window q.aliases (answers a))) b)
   answered_got =
       let env = env_of limits choice b in
       let c = heard_of now l.number b in
-      let packet = wire_back q.client q.window (answers a) in
+      let packet = wire_back q.client q.window q.aliases (answers a) in
       let next = on_answer x env l s c in
       let is : deeds limits choice now (Input l.number packet) b ≡ On l.number Hear ∷ next =
-      input_is limits choice now packet l s b on.line on.connected on.session ∙ (ap (λ (ds : List Deed). On l.number Hear ∷ (ds ++ [])) (answer_is a env l s c q.client q.window none) ∙ ap (λ (ds : List Deed). On l.number Hear ∷ ds) (append-nil next)) in
+      input_is limits choice now packet l s b on.line on.connected on.session ∙ (ap (λ (ds : List Deed). On l.number Hear ∷ (ds ++ [])) (answer_is a env l s c q.client q.window q.aliases none) ∙ ap (λ (ds : List Deed). On l.number Hear ∷ ds) (append-nil next)) in
       subst ends_got (sym is) (answer_got env c x refl on.session)

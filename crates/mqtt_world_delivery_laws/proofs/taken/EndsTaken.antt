@@ -248,14 +248,14 @@ module _ (c : List ℕ) where
       calm_input (Some n) [] x b calm is = absurd cc
       calm_input (Some n) (packet ∷ rest) x b calm is = let it : Input n packet ≡ x = cc in subst (λ (call : Call). IsFree call b) it (inr calm)
 
-      calm_up : (xs : List Back) → r.line.up ≡ xs → BeginsCalm (map (wire_back r.client r.window) xs) → AreNone (read_first the_deeds set (to_broker c) w)
+      calm_up : (xs : List Back) → r.line.up ≡ xs → BeginsCalm (map (wire_back r.client r.window r.aliases) xs) → AreNone (read_first the_deeds set (to_broker c) w)
       calm_up xs up calm =
-          let all : BeginsCalm (view_of c w).up = subst (λ (v : View). BeginsCalm v.up) (sym its_view) (subst (λ (zs : List Back). BeginsCalm (map (wire_back r.client r.window) zs)) (sym up) calm) in
+          let all : BeginsCalm (view_of c w).up = subst (λ (v : View). BeginsCalm v.up) (sym its_view) (subst (λ (zs : List Back). BeginsCalm (map (wire_back r.client r.window r.aliases) zs)) (sym up) calm) in
           if_none set (call_of set (to_broker c) w) (before set (to_broker c) w) (λ x is. calm_input (view_of c w).number (view_of c w).up x w.broker all is)
 
-      calm_old : (xs : List Back) → r.line.old ≡ xs → BeginsCalm (map (wire_back r.client r.window) xs) → AreNone (read_first the_deeds set (old_to_broker c) w)
+      calm_old : (xs : List Back) → r.line.old ≡ xs → BeginsCalm (map (wire_back r.client r.window r.aliases) xs) → AreNone (read_first the_deeds set (old_to_broker c) w)
       calm_old xs old calm =
-          let all : BeginsCalm (view_of c w).old = subst (λ (v : View). BeginsCalm v.old) (sym its_view) (subst (λ (zs : List Back). BeginsCalm (map (wire_back r.client r.window) zs)) (sym old) calm) in
+          let all : BeginsCalm (view_of c w).old = subst (λ (v : View). BeginsCalm v.old) (sym its_view) (subst (λ (zs : List Back). BeginsCalm (map (wire_back r.client r.window r.aliases) zs)) (sym old) calm) in
           if_none set (call_of set (old_to_broker c) w) (before set (old_to_broker c) w) (λ x is. calm_input (view_of c w).old_number (view_of c w).old x w.broker all is)
 
       -- ---- and any
@@ -332,7 +332,7 @@ module _ (c : List ℕ) where
 
       happening_got : (x : Event) → is_bad x w ≡ false → read_in spending set x w ≡ false → AreGot r (read_in the_deeds set x w)
       happening_got (publisher d) good unspent = tt
-      happening_got (receiver d window) good unspent = tt
+      happening_got (receiver d window aliases) good unspent = tt
       happening_got (connect_end d clean) good unspent = none_got r (deeds set.limits set.choice w.now NewLine w.broker) (call_none set.limits set.choice w.now NewLine w.broker tt)
       happening_got (give_up d) good unspent = tt
       happening_got (publish d x) good unspent = tt

@@ -176,7 +176,7 @@ module _ (c : List ℕ) where
 
   happens_remains : (set : Setting) (e : Event) (w : World) → Remains c w (happens set e w)
   happens_remains set (publisher d) w = same_remains w (happens set (publisher d) w) refl
-  happens_remains set (receiver d window) w = λ q e. (q, find_first (λ (r : Receiver). bytes_eq r.client c) (new_receiver d window w.broker.records.births) q w.receivers e, grows_same q q refl refl refl)
+  happens_remains set (receiver d window aliases) w = λ q e. (q, find_first (λ (r : Receiver). bytes_eq r.client c) (new_receiver d window aliases w.broker.records.births) q w.receivers e, grows_same q q refl refl refl)
   happens_remains set (connect_end d clean) w = links_remain set (next_line w.broker) d clean w
   happens_remains set (give_up d) w = mapped_remains w (happens set (give_up d) w) (λ r. cond (bytes_eq r.client d) (on_back (λ l. gives_up l.link l) r) r) (keeping_one d (on_back (λ l. gives_up l.link l)) (keeping (on_back (λ l. gives_up l.link l)) (λ r. refl) (λ r. refl) (λ r. refl) (λ r. refl))) refl
   happens_remains set (publish d x) w = same_remains w (happens set (publish d x) w) refl

@@ -103,19 +103,19 @@ module _ (c : List ℕ) where
 
   event_comes : (set : Setting) (e : Event) (w : World) → is_bad e w ≡ false → begins_clean e w ≡ true → receiver_named c w ≡ None → (receiver_named c (happens set e w) ≡ None) ⊎ IsNewcomer (happens set e w)
   event_comes set (publisher d) w good begins none = inl none
-  event_comes set (receiver d window) w good begins none = elim (cases_Bool (bytes_eq d c)) [
+  event_comes set (receiver d window aliases) w good begins none = elim (cases_Bool (bytes_eq d c)) [
     | inl its ↦
-        let new = new_receiver d window w.broker.records.births in
+        let new = new_receiver d window aliases w.broker.records.births in
         let is : d ≡ c = (bytes_eq-Decides d c).0 its in
         inr (record {
           its = new;
           named = find_last (λ (r : Receiver). bytes_eq r.client c) new w.receivers its none;
           ledger = refl;
           down = refl;
-          queue = subst (λ (x : List ℕ). queue_at x (happens set (receiver d window) w) ≡ []) is (none_at_first d window set w good begins);
+          queue = subst (λ (x : List ℕ). queue_at x (happens set (receiver d window aliases) w) ≡ []) is (none_at_first d window aliases set w good begins);
           since = refl;
         })
-    | inr other ↦ inl (find_no_more (λ (r : Receiver). bytes_eq r.client c) (new_receiver d window w.broker.records.births) w.receivers other ∙ none)
+    | inr other ↦ inl (find_no_more (λ (r : Receiver). bytes_eq r.client c) (new_receiver d window aliases w.broker.records.births) w.receivers other ∙ none)
   ]
   event_comes set (connect_end d clean) w good begins none = inl (links_stay set (next_line w.broker) d clean w none)
   event_comes set (give_up d) w good begins none = inl (line_stays d (λ l. gives_up l.link l) w (happens set (give_up d) w) refl none)

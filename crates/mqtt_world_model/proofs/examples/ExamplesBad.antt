@@ -1,6 +1,6 @@
 -- Worked events that are bad, beside the nearest that are not: a name, a topic and a filter that are no text, a Receive
--- Maximum that no CONNECT carries, a SUBSCRIBE that no client may send, and a stranger's numbers that are no bytes (MQTT 5.0,
--- 1.5.4, 2.1, 3.1.2.11.3, 3.8.2.1.2, 3.8.3.1).
+-- Maximum or a Topic Alias Maximum that no CONNECT carries, a SUBSCRIBE that no client may send, and a stranger's numbers that
+-- are no bytes (MQTT 5.0, 1.5.4, 2.1, 3.1.2.11.3, 3.1.2.11.5, 3.8.2.1.2, 3.8.3.1).
 use Rattle.std.proofs.Common.{◌≡◌, ℕ, true, false, Bool, List, [], ◌∷◌, Some, refl}
 use Rattle.std.specs.Prelude.{codes, replicate}
 use Rattle.std.specs.Str.{is_utf8, chars}
@@ -28,12 +28,12 @@ unfolding is_utf8 chars encode
 a_name_with_byte_1_is_good = refl
 
 -- a byte 255
-pub a_name_with_byte_255_is_bad : is_bad (receiver (0x72 ∷ 0xff ∷ []) 1) start ≡ true
+pub a_name_with_byte_255_is_bad : is_bad (receiver (0x72 ∷ 0xff ∷ []) 1 0) start ≡ true
 unfolding is_utf8 chars encode
 a_name_with_byte_255_is_bad = refl
 
 -- a byte 127
-pub a_name_with_byte_127_is_good : is_bad (receiver (0x72 ∷ 0x7f ∷ []) 1) start ≡ false
+pub a_name_with_byte_127_is_good : is_bad (receiver (0x72 ∷ 0x7f ∷ []) 1 0) start ≡ false
 unfolding is_utf8 chars encode
 a_name_with_byte_127_is_good = refl
 
@@ -68,29 +68,39 @@ a_topic_with_byte_127_is_good = refl
 -- ---- a receiver
 
 -- a Receive Maximum of 0
-pub no_window_is_bad : is_bad (receiver r1 0) start ≡ true
+pub no_window_is_bad : is_bad (receiver r1 0 0) start ≡ true
 unfolding is_utf8 chars encode
 no_window_is_bad = refl
 
 -- of 1
-pub the_least_window_is_good : is_bad (receiver r1 1) start ≡ false
+pub the_least_window_is_good : is_bad (receiver r1 1 0) start ≡ false
 unfolding is_utf8 chars encode
 the_least_window_is_good = refl
 
 -- of 65,535
-pub the_greatest_window_is_good : is_bad (receiver r1 65535) start ≡ false
+pub the_greatest_window_is_good : is_bad (receiver r1 65535 0) start ≡ false
 unfolding is_utf8 chars encode
 the_greatest_window_is_good = refl
 
 -- of more
-pub a_window_of_three_bytes_is_bad : is_bad (receiver r1 65536) start ≡ true
+pub a_window_of_three_bytes_is_bad : is_bad (receiver r1 65536 0) start ≡ true
 unfolding is_utf8 chars encode
 a_window_of_three_bytes_is_bad = refl
+
+-- a Topic Alias Maximum of 65,535
+pub the_most_aliases_are_good : is_bad (receiver r1 1 65535) start ≡ false
+unfolding is_utf8 chars encode
+the_most_aliases_are_good = refl
+
+-- of more
+pub aliases_of_three_bytes_are_bad : is_bad (receiver r1 1 65536) start ≡ true
+unfolding is_utf8 chars encode
+aliases_of_three_bytes_are_bad = refl
 
 -- ---- r1 may ask, and wishes
 
 abbrev joined : World
-joined = after usual (turns (receiver r1 10 ∷ joins r1 false))
+joined = after usual (turns (receiver r1 10 0 ∷ joins r1 false))
 
 -- with a Subscription Identifier
 abbrev with_number : ℕ → Wish

@@ -56,7 +56,7 @@ round client = ask (pump client) ∷ to_end client ∷ ask (to_broker client) �
 -- r1 has subscribed to a/b at QoS 2, and the PUBLISH of p1 is under way to the broker
 abbrev pub published : List Event
 published =
-    receiver r1 10 ∷ publisher p1 ∷ connect_end r1 false ∷ ask (to_broker r1) ∷ to_end r1 ∷ subscribe r1 wish ∷ ask (to_broker r1) ∷ to_end r1
+    receiver r1 10 0 ∷ publisher p1 ∷ connect_end r1 false ∷ ask (to_broker r1) ∷ to_end r1 ∷ subscribe r1 wish ∷ ask (to_broker r1) ∷ to_end r1
     ∷ connect_end p1 false ∷ ask (to_broker p1) ∷ to_end p1 ∷ publish p1 draft ∷ []
 
 -- it is read, its copy goes out, and r1 is handed that

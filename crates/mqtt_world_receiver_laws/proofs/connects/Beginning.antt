@@ -33,7 +33,7 @@ use Rattle.mqtt_records_rows.specs.Order.{change_row, has_row, put_row, row_at}
 use Rattle.mqtt_rules.proofs.acts.Goods.{after_append}
 use Rattle.mqtt_rules.proofs.numbers.NumberBirths.{below_none}
 use Rattle.mqtt_rules.specs.Closing.{settle}
-use Rattle.mqtt_rules.specs.Connect.{begin, begin_named, clear, connack_properties, connect_by, fresh_row, joins, joins_after, of_client, on_connect, prepare, refused, take_over}
+use Rattle.mqtt_rules.specs.Connect.{begin, begin_named, clear, connack_properties, connect_by, joins, joins_after, of_client, on_connect, prepare, refused, take_over}
 use Rattle.mqtt_rules.specs.Deeds.{Act, Deed, Hear, On, after_all, closing, line_after, on_line, only_if, output, with_session}
 use Rattle.mqtt_rules.specs.Numbers.{HasGivenBirths}
 use Rattle.mqtt_rules.specs.Packets as packets_of
@@ -52,7 +52,7 @@ use Rattle.mqtt_world_receiver_laws.proofs.queue.Known.{receives_after}
 use Rattle.mqtt_world_receiver_laws.proofs.queue.Pumps.{down_first}
 use Rattle.mqtt_world_receiver_laws.proofs.connects.Refusals.{run_append}
 use Rattle.mqtt_world_receiver_laws.proofs.own.OldAnswers.{aside_lines, untold}
-use Rattle.mqtt_world_receiver_laws.proofs.connects.Resuming.{Beside, IsOffIt, Takes, call_is, greeted_went, greeting, refused_not, went_at, went_at_heard}
+use Rattle.mqtt_world_receiver_laws.proofs.connects.Resuming.{Beside, IsOffIt, Takes, begin_is, beginning, call_is, greeted_went, greeting, new_row, refused_not, went_at, went_at_heard}
 
 -- ---- the copies of a session that ended
 
@@ -87,8 +87,8 @@ fresh_at row ss new less =
 
 -- what comes before: no session of the name is left, and there is a place for a new one, which nobody has had
 pub record Clears (limits : Limits) (choice : MemberChoice) (now : ℕ) (clean : Bool) (r : Receiver) (l : BrokerLine) (b : Broker) (front : List Deed) (ns : List ℕ) : Type 0 where
-  pub deeds_are : deeds limits choice now (Input l.number (wire_back r.client r.window (answers (connect clean)))) b
-      ≡ On l.number Hear ∷ (front ++ begin l (greeting clean r.client r.window) false r.client (suc (after_all front (heard_of now l.number b)).records.births))
+  pub deeds_are : deeds limits choice now (Input l.number (wire_back r.client r.window r.aliases (answers (connect clean)))) b
+      ≡ On l.number Hear ∷ (front ++ beginning l r.window r.aliases r.client (suc (after_all front (heard_of now l.number b)).records.births))
   pub none : session_named r.client (after_all front (heard_of now l.number b)).records ≡ None
   pub births : HasGivenBirths (after_all front (heard_of now l.number b)).records
   pub room : length (after_all front (heard_of now l.number b)).records.sessions < SESSION_LIMIT
@@ -106,7 +106,7 @@ module _ (number : Numbering) (largest : ℕ) (copies : List Lot) (limits : Limi
   n = l.number
 
   abbrev packet : Packet
-  packet = wire_back r.client r.window (answers (connect clean))
+  packet = wire_back r.client r.window r.aliases (answers (connect clean))
 
   abbrev q : Receiver
   q = record r { line = taken_up r.line }
@@ -137,10 +137,10 @@ module _ (number : Numbering) (largest : ℕ) (copies : List Lot) (limits : Limi
     birth = suc d.records.births
 
     abbrev row : Columns
-    row = fresh_row birth r.client (greeting clean r.client r.window)
+    row = new_row birth r.client
 
     abbrev begins : List Deed
-    begins = begin l (greeting clean r.client r.window) false r.client birth
+    begins = beginning l r.window r.aliases r.client birth
 
     abbrev all_deeds : List Deed
     all_deeds = On n Hear ∷ (front ++ begins)
@@ -201,8 +201,8 @@ module _ (number : Numbering) (largest : ℕ) (copies : List Lot) (limits : Limi
         (subst (AreKnown m.session.queue) (sym went_ends) tt)
 
     -- wherever the receiver is
-    pub begins_takes : ((m : ℕ) → nat_eq l.number m ≡ false → Beside number (map id_of copies) limits choice now (Input l.number (wire_back r.client r.window (answers (connect clean)))) m b (is_one_of (Some m) ns))
-        → Takes number (map cut copies) (map id_of copies) limits choice now (Input l.number (wire_back r.client r.window (answers (connect clean)))) r.client l.number (suc (after_all front (heard_of now l.number b)).records.births) ns b
+    pub begins_takes : ((m : ℕ) → nat_eq l.number m ≡ false → Beside number (map id_of copies) limits choice now (Input l.number (wire_back r.client r.window r.aliases (answers (connect clean)))) m b (is_one_of (Some m) ns))
+        → Takes number (map cut copies) (map id_of copies) limits choice now (Input l.number (wire_back r.client r.window r.aliases (answers (connect clean)))) r.client l.number (suc (after_all front (heard_of now l.number b)).records.births) ns b
     begins_takes beside =
         let m = makes in
         record {
@@ -246,9 +246,9 @@ module _ (number : Numbering) (largest : ℕ) (copies : List Lot) (limits : Limi
 
 -- nothing becomes of another line
 pub first_beside : (number : Numbering) (ids : List CopyId) (limits : Limits) (choice : MemberChoice) (now : ℕ) (clean : Bool) (r : Receiver) (l : BrokerLine) (b : Broker) → Clears limits choice now clean r l b [] []
-    → (m : ℕ) → nat_eq l.number m ≡ false → Beside number ids limits choice now (Input l.number (wire_back r.client r.window (answers (connect clean)))) m b false
+    → (m : ℕ) → nat_eq l.number m ≡ false → Beside number ids limits choice now (Input l.number (wire_back r.client r.window r.aliases (answers (connect clean)))) m b false
 first_beside number ids limits choice now clean r l b c m other =
-    let call = Input l.number (wire_back r.client r.window (answers (connect clean))) in
+    let call = Input l.number (wire_back r.client r.window r.aliases (answers (connect clean))) in
     let ds = deeds limits choice now call b in
     let new = stepped limits choice now call b in
     let aside : AllByRecursion (IsAsideOf m) ds = subst (AllByRecursion (IsAsideOf m)) (sym c.deeds_are) (other, (tt, (other, (other, tt)))) in
@@ -260,8 +260,8 @@ first_beside number ids limits choice now clean r l b c m other =
     }
 
 -- for a client without a session nothing is prepared
-pub prepare_none : (env : Env) (clean : Bool) (client : List ℕ) (window : ℕ) (b : Broker) → session_named client b.records ≡ None → prepare env (greeting clean client window) b ≡ []
-prepare_none env clean client window b none =
+pub prepare_none : (env : Env) (clean : Bool) (client : List ℕ) (window aliases : ℕ) (b : Broker) → session_named client b.records ≡ None → prepare env (greeting clean client window aliases) b ≡ []
+prepare_none env clean client window aliases b none =
     let first : Act = of_client client (take_over env) in
     let second : Act = of_client client (λ z. settle env z.birth) in
     let third : Act = only_if clean (of_client client (clear env)) in
@@ -277,15 +277,15 @@ begins_by_room : (t e : Bool) (l : BrokerLine) (c : Greeting) (r : Records) → 
 begins_by_room false e l c r room is = absurd cc
 begins_by_room true e l c r room is = ap (λ (x : Bool). begin_named x l c r) is
 
-connect_begins : (env : Env) (l : BrokerLine) (clean : Bool) (client : List ℕ) (window : ℕ) (b : Broker)
+connect_begins : (env : Env) (l : BrokerLine) (clean : Bool) (client : List ℕ) (window aliases : ℕ) (b : Broker)
     → session_named client b.records ≡ None → nat_lt 64 (length client) ≡ false → starts_with nat_eq client auto ≡ false → is_empty client ≡ false → nat_lt (length b.records.sessions) env.limits.sessions ≡ true
-    → on_connect env l (greeting clean client window) b ≡ begin l (greeting clean client window) false client (suc b.records.births)
-connect_begins env l clean client window b none short plain some room =
-    let c = greeting clean client window in
-    ap (λ (z : Option ℕ). connect_by z env l c b) (refused_not clean client window b.records short plain)
-    ∙ (ap (λ (ds : List Deed). joins_after env l c b.now ds (after_all ds b).records) (prepare_none env clean client window b none)
+    → on_connect env l (greeting clean client window aliases) b ≡ beginning l window aliases client (suc b.records.births)
+connect_begins env l clean client window aliases b none short plain some room =
+    let c = greeting clean client window aliases in
+    ap (λ (z : Option ℕ). connect_by z env l c b) (refused_not clean client window aliases b.records short plain)
+    ∙ (ap (λ (ds : List Deed). joins_after env l c b.now ds (after_all ds b).records) (prepare_none env clean client window aliases b none)
     ∙ (ap (λ (z : Option Session). joins env l c b.now [] b.records z) none
-    ∙ begins_by_room (nat_lt (length b.records.sessions) env.limits.sessions) (is_empty client) l c b.records room some))
+    ∙ (begins_by_room (nat_lt (length b.records.sessions) env.limits.sessions) (is_empty client) l c b.records room some ∙ begin_is l clean client window aliases (suc b.records.births))))
 
 none_closed : (o : Option ℕ) → is_one_of o [] ≡ false
 none_closed None = refl
@@ -311,11 +311,11 @@ first_clears limits choice now clean r l b a room =
     let on : session_on n b.lines ≡ Some None = ap (option_map (λ (x : BrokerLine). x.session)) a.line ∙ ap Some a.waits in
     let less = ltb-true (length b.records.sessions) limits.sessions room in
     let within = a.within in
-    let begun = connect_begins env l clean r.client r.window heard_first a.none a.short a.plain a.some room in
-    let is : deeds limits choice now (Input n (wire_back r.client r.window (answers (connect clean)))) b
-    ≡ On n Hear ∷ begin l (greeting clean r.client r.window) false r.client (suc b.records.births) =
-    call_is limits choice now clean r.client r.window l b a.line a.waits
-    ∙ (ap (λ (ds : List Deed). On n Hear ∷ ds) (append-nil (on_connect env l (greeting clean r.client r.window) heard_first)) ∙ ap (λ (ds : List Deed). On n Hear ∷ ds) begun) in
+    let begun = connect_begins env l clean r.client r.window r.aliases heard_first a.none a.short a.plain a.some room in
+    let is : deeds limits choice now (Input n (wire_back r.client r.window r.aliases (answers (connect clean)))) b
+    ≡ On n Hear ∷ beginning l r.window r.aliases r.client (suc b.records.births) =
+    call_is limits choice now clean r.client r.window r.aliases l b a.line a.waits
+    ∙ (ap (λ (ds : List Deed). On n Hear ∷ ds) (append-nil (on_connect env l (greeting clean r.client r.window r.aliases) heard_first)) ∙ ap (λ (ds : List Deed). On n Hear ∷ ds) begun) in
     record {
       deeds_are = is;
       none = a.none;

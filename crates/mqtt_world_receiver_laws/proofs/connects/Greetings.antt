@@ -16,7 +16,7 @@ use Rattle.mqtt_world_model.proofs.others.Quiet.{session_on}
 use Rattle.mqtt_world_model.proofs.seats.Seeing.{done_lines}
 use Rattle.mqtt_records.specs.declared.session.Session.{Session}
 use Rattle.mqtt_rules.proofs.acts.Goods.{after_append}
-use Rattle.mqtt_rules.specs.Connect.{begin, on_connect, resume}
+use Rattle.mqtt_rules.specs.Connect.{on_connect}
 use Rattle.mqtt_rules.specs.Deeds.{Deed, Greet, Hear, On, Send, after, after_all, line_after, on_line, rows_of_all}
 use Rattle.mqtt_rules.specs.Outbound.{all_turn_deeds}
 use Rattle.mqtt_rules.specs.Packets.{pubrel}
@@ -28,7 +28,7 @@ use Rattle.mqtt_world_receiver_laws.specs.Connecting.{any_size}
 use Rattle.mqtt_world_receiver_laws.specs.Handing.{after_answer}
 use Rattle.mqtt_world_receiver_laws.proofs.connects.Beginning.{Clears, first_clears}
 use Rattle.mqtt_world_receiver_laws.proofs.connects.Renewing.{renewed_clears}
-use Rattle.mqtt_world_receiver_laws.proofs.connects.Resuming.{call_is, connect_is, greeting}
+use Rattle.mqtt_world_receiver_laws.proofs.connects.Resuming.{beginning, call_is, connect_is, granted, greeting, resuming}
 
 -- this session is connected on the line of this number, without Keep Alive, with this Receive Maximum and packets of any size
 pub record IsGreeted (n birth window : ℕ) (l : BrokerLine) : Type 0 where
@@ -47,16 +47,16 @@ pub record HasGreeted (n birth window : ℕ) (b : Broker) : Type 0 where
 abbrev found_in : ℕ → List BrokerLine → Option BrokerLine
 found_in n ls = find (λ (l : BrokerLine). nat_eq l.number n) ls
 
-greeted_in : (now n birth window : ℕ) (ls : List BrokerLine) → session_on n ls ≡ Some None
-    → (l : BrokerLine) × (found_in n (on_line now n (Greet birth 0 window any_size 0) ls) ≡ Some l) × IsGreeted n birth window l
-greeted_in now n birth window [] h = absurd cc
-greeted_in now n birth window (l ∷ ls) h = elim (cases_Bool (nat_eq l.number n)) [
-  | inl here ↦ (line_after now (Greet birth 0 window any_size 0) l, rw (here, here) refl, record { number = eqb-true l.number n here; connected = refl; quiet = refl; window_is = refl; largest_is = refl })
-  | inr further ↦ let x = greeted_in now n birth window ls (rw further at h) in (x.0, rw (further, further) x.1, x.2)
+greeted_in : (now n birth window most : ℕ) (ls : List BrokerLine) → session_on n ls ≡ Some None
+    → (l : BrokerLine) × (found_in n (on_line now n (Greet birth 0 window any_size most) ls) ≡ Some l) × IsGreeted n birth window l
+greeted_in now n birth window most [] h = absurd cc
+greeted_in now n birth window most (l ∷ ls) h = elim (cases_Bool (nat_eq l.number n)) [
+  | inl here ↦ (line_after now (Greet birth 0 window any_size most) l, rw (here, here) refl, record { number = eqb-true l.number n here; connected = refl; quiet = refl; window_is = refl; largest_is = refl })
+  | inr further ↦ let x = greeted_in now n birth window most ls (rw further at h) in (x.0, rw (further, further) x.1, x.2)
 ]
 
-greeted_by : (now n birth window : ℕ) (ls : List BrokerLine) (b : Broker) → session_on n ls ≡ Some None → b.lines ≡ on_line now n (Greet birth 0 window any_size 0) ls → HasGreeted n birth window b
-greeted_by now n birth window ls b on e = let x = greeted_in now n birth window ls on in record { line = x.0; at = ap (found_in n) e ∙ x.1; greeted = x.2 }
+greeted_by : (now n birth window most : ℕ) (ls : List BrokerLine) (b : Broker) → session_on n ls ≡ Some None → b.lines ≡ on_line now n (Greet birth 0 window any_size most) ls → HasGreeted n birth window b
+greeted_by now n birth window most ls b on e = let x = greeted_in now n birth window most ls on in record { line = x.0; at = ap (found_in n) e ∙ x.1; greeted = x.2 }
 
 -- what goes out again leaves the lines as they are
 repeats_lines : {X : Type 0} (now n : ℕ) (s : Session) (xs : List X) (id : X → ℕ) (b : Broker) → (after_all (all_turn_deeds now n s (map (λ x. turns.Repeat (id x)) xs)) b).lines ≡ b.lines
@@ -71,7 +71,7 @@ pub resumed_line : (limits : Limits) (choice : MemberChoice) (now : ℕ) (r : Re
     → HasGreeted l.number s.birth r.window (after_answer limits choice now l.number (connect false) r b)
 resumed_line limits choice now r l s b a =
     let n = l.number in
-    let call = Input n (wire_back r.client r.window (answers (connect false))) in
+    let call = Input n (wire_back r.client r.window r.aliases (answers (connect false))) in
     let ds = deeds limits choice now call b in
     let first = at_moment now b in
     let c = heard_of now n b in
@@ -83,35 +83,35 @@ resumed_line limits choice now r l s b a =
     let x = taken_from o c.now s in
     let front = left_by o s c.now in
     let left = after_all front c in
-    let resumes = resume l (greeting false r.client r.window) c.now x in
+    let resumes = resuming l r.window r.aliases c.now x in
     let is : ds ≡ On n Hear ∷ (front ++ resumes) =
-    call_is limits choice now false r.client r.window l b a.line a.waits
-    ∙ (ap (λ (zs : List Deed). On n Hear ∷ zs) (append-nil (on_connect env l (greeting false r.client r.window) c))
-    ∙ ap (λ (zs : List Deed). On n Hear ∷ zs) (connect_is o env l r.client r.window s c heard_line.1 t kept)) in
+    call_is limits choice now false r.client r.window r.aliases l b a.line a.waits
+    ∙ (ap (λ (zs : List Deed). On n Hear ∷ zs) (append-nil (on_connect env l (greeting false r.client r.window r.aliases) c))
+    ∙ ap (λ (zs : List Deed). On n Hear ∷ zs) (connect_is o env l r.client r.window r.aliases s c heard_line.1 t kept)) in
     let on : session_on n c.lines ≡ Some None = heard_on_line n first.now b.lines None (waits_on l b a.line a.waits) in
     let still : session_on n left.lines ≡ Some None = (left_leaves o s n c (Some None) t a.kept.session on).line_is in
     let dues = due_from [] (queue_on [] x) in
     let same : x.birth ≡ s.birth = taken_birth o c.now s in
-    let lines : (after_answer limits choice now n (connect false) r b).lines ≡ on_line left.now n (Greet x.birth 0 r.window any_size 0) left.lines =
+    let lines : (after_answer limits choice now n (connect false) r b).lines ≡ on_line left.now n (Greet x.birth 0 r.window any_size (granted r.aliases)) left.lines =
     done_lines (rows_of_all ds first.records) (after_all ds first)
     ∙ (ap (λ (zs : List Deed). (after_all zs first).lines) is
     ∙ (ap (λ (z : Broker). z.lines) (after_append front resumes c) ∙ repeats_lines c.now n x dues (λ d. d.identifier) _)) in
-    subst (λ (k : ℕ). HasGreeted n k r.window (after_answer limits choice now n (connect false) r b)) same (greeted_by left.now n x.birth r.window left.lines _ still lines)
+    subst (λ (k : ℕ). HasGreeted n k r.window (after_answer limits choice now n (connect false) r b)) same (greeted_by left.now n x.birth r.window (granted r.aliases) left.lines _ still lines)
 
 -- if one begins
 begun_line : (limits : Limits) (choice : MemberChoice) (now : ℕ) (clean : Bool) (r : Receiver) (l : BrokerLine) (b : Broker) (front : List Deed) (ns : List ℕ) → Clears limits choice now clean r l b front ns
     → HasGreeted l.number (suc (after_all front (heard_of now l.number b)).records.births) r.window (after_answer limits choice now l.number (connect clean) r b)
 begun_line limits choice now clean r l b front ns c =
     let n = l.number in
-    let ds = deeds limits choice now (Input n (wire_back r.client r.window (answers (connect clean)))) b in
+    let ds = deeds limits choice now (Input n (wire_back r.client r.window r.aliases (answers (connect clean)))) b in
     let first = at_moment now b in
     let d = after_all front (heard_of now n b) in
     let birth = suc d.records.births in
-    let begins = begin l (greeting clean r.client r.window) false r.client birth in
-    let lines : (after_answer limits choice now n (connect clean) r b).lines ≡ on_line d.now n (Greet birth 0 r.window any_size 0) d.lines =
+    let begins = beginning l r.window r.aliases r.client birth in
+    let lines : (after_answer limits choice now n (connect clean) r b).lines ≡ on_line d.now n (Greet birth 0 r.window any_size (granted r.aliases)) d.lines =
     done_lines (rows_of_all ds first.records) (after_all ds first)
     ∙ (ap (λ (zs : List Deed). (after_all zs first).lines) c.deeds_are ∙ ap (λ (z : Broker). z.lines) (after_append front begins (heard_of now n b))) in
-    greeted_by d.now n birth r.window d.lines _ c.waits lines
+    greeted_by d.now n birth r.window (granted r.aliases) d.lines _ c.waits lines
 
 -- the first of its name
 pub first_line : (limits : Limits) (choice : MemberChoice) (now : ℕ) (clean : Bool) (r : Receiver) (l : BrokerLine) (b : Broker) → IsBeginning limits r l b → nat_lt (length b.records.sessions) limits.sessions ≡ true

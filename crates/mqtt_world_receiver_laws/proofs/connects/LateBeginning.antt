@@ -55,7 +55,7 @@ module _ (number : Numbering) (largest : ℕ) (copies : List Lot) (limits : Limi
   clears : Clears limits choice now clean (left_alone r) l b [] []
   clears = first_clears limits choice now clean (left_alone r) l b a room
 
-  takes : Takes number (map cut copies) (map id_of copies) limits choice now (Input l.number (wire_back r.client r.window (answers (connect clean)))) r.client l.number (suc b.records.births) [] b
+  takes : Takes number (map cut copies) (map id_of copies) limits choice now (Input l.number (wire_back r.client r.window r.aliases (answers (connect clean)))) r.client l.number (suc b.records.births) [] b
   takes =
       begins_takes number largest copies limits choice now clean rest (left_alone r) l b a.number [] [] clears
       (λ m other. first_beside number (map id_of copies) limits choice now clean (left_alone r) l b clears m other)
@@ -113,7 +113,7 @@ module _ (number : Numbering) (largest : ℕ) (copies : List Lot) (limits : Limi
   abbrev birth : ℕ
   birth = suc (after_all front (heard_of now l.number b)).records.births
 
-  renews_takes : Takes number (map cut copies) (map id_of copies) limits choice now (Input l.number (wire_back r.client r.window (answers (connect true)))) r.client l.number birth ns b
+  renews_takes : Takes number (map cut copies) (map id_of copies) limits choice now (Input l.number (wire_back r.client r.window r.aliases (answers (connect true)))) r.client l.number birth ns b
   renews_takes =
       begins_takes number largest copies limits choice now true rest (left_alone r) l b a.resuming.number front ns renews.clears
       (λ m other. renewed_beside number (map id_of copies) limits choice now (left_alone r) l s b renews m other)
@@ -159,7 +159,7 @@ module _ (limits : Limits) (choice : MemberChoice) (now : ℕ) (clean : Bool) (r
   n = l.number
 
   abbrev ds : List Deed
-  ds = deeds limits choice now (Input n (wire_back r.client r.window (answers (connect clean)))) b
+  ds = deeds limits choice now (Input n (wire_back r.client r.window r.aliases (answers (connect clean)))) b
 
   abbrev new : Broker
   new = after_answer limits choice now n (connect clean) r b

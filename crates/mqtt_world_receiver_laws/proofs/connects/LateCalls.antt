@@ -48,9 +48,9 @@ closes_own false w ups left copies2 h u st =
 module _ (number : Numbering) (largest : ℕ) (copies copies2 : List Lot) (limits : Limits) (choice : MemberChoice) (now : ℕ) (clean : Bool) (rest : List Back) (r : Receiver)
     (n birth : ℕ) (ns : List ℕ) (b : Broker) (old : r.line.old ≡ answers (connect clean) ∷ rest) (number_is : r.line.old_number ≡ Some n) (apart : is_one_of r.line.number (n ∷ []) ≡ false)
     (linked_is_one : is_linked r.line.number b ≡ is_one_of r.line.number ns) (open_still : is_one_of (Some n) ns ≡ false) (ids_are : map id_of copies2 ≡ map id_of copies)
-    (takes : Takes number copies2 (map id_of copies) limits choice now (Input n (wire_back r.client r.window (answers (connect clean)))) r.client n birth ns b) where
+    (takes : Takes number copies2 (map id_of copies) limits choice now (Input n (wire_back r.client r.window r.aliases (answers (connect clean)))) r.client n birth ns b) where
   abbrev call : Call
-  call = Input n (wire_back r.client r.window (answers (connect clean)))
+  call = Input n (wire_back r.client r.window r.aliases (answers (connect clean)))
 
   abbrev first : Broker
   first = at_moment now b

@@ -44,7 +44,7 @@ module _ (number : Numbering) (largest : ℕ) (copies : List Lot) (limits : Limi
   abbrev ns : List ℕ
   ns = lines_left (line_of s.birth b)
 
-  takes : Takes number (map renewed copies) (map id_of copies) limits choice now (Input n (wire_back r.client r.window (answers (connect false)))) r.client n s.birth (lines_left (line_of s.birth b)) b
+  takes : Takes number (map renewed copies) (map id_of copies) limits choice now (Input n (wire_back r.client r.window r.aliases (answers (connect false)))) r.client n s.birth (lines_left (line_of s.birth b)) b
   takes = connect_makes number largest copies limits choice now rest (left_alone r) l s b h.queue_is (late_resuming r l s b a) old
 
   open_still : is_one_of (Some l.number) (lines_left (line_of s.birth b)) ≡ false

@@ -27,8 +27,8 @@ use Rattle.mqtt_rules.proofs.flight.FlightRows.{all_at, all_inserted}
 use Rattle.mqtt_rules.proofs.acts.Goods.{after_append}
 use Rattle.mqtt_rules.proofs.numbers.NumberBirths.{below_none}
 use Rattle.mqtt_rules.specs.Closing.{end_session}
-use Rattle.mqtt_rules.specs.Connect.{begin, connack_properties, fresh_row, greet, resume}
-use Rattle.mqtt_rules.specs.Deeds.{At, Begin, Deed, Finish, Hear, Leave, On, Send, after, after_all, line_after, on_line, rows_of_all, whose}
+use Rattle.mqtt_rules.specs.Connect.{connack_properties}
+use Rattle.mqtt_rules.specs.Deeds.{At, Begin, Deed, Finish, Greet, Hear, Leave, On, Send, after, after_all, line_after, on_line, rows_of_all, whose}
 use Rattle.mqtt_rules.specs.Numbers.{HasGivenBirths}
 use Rattle.mqtt_rules.specs.Packets as packets_of
 use Rattle.mqtt_rules.specs.State.{Line as BrokerLine, Broker, MemberChoice, is_of, line_of, queue_on, session_named}
@@ -42,7 +42,7 @@ use Rattle.mqtt_world_receiver_laws.proofs.connects.Beginning.{Clears, first_beg
 use Rattle.mqtt_world_receiver_laws.proofs.others.CallsOfOthers.{moment_served}
 use Rattle.mqtt_world_receiver_laws.proofs.own.Own.{AreSafe, IsSafe, call_served, runs_first, runs_for, safe_served, safe_turns}
 use Rattle.mqtt_world_receiver_laws.proofs.connects.Renewing.{off_place, renewal_receives, renewal_runs, renewed_clears}
-use Rattle.mqtt_world_receiver_laws.proofs.connects.Resuming.{IsOffIt, call_is, connect_is, connect_receives, connect_runs, greeting, left_lines, none_has, only_heard}
+use Rattle.mqtt_world_receiver_laws.proofs.connects.Resuming.{IsOffIt, beginning, call_is, connect_is, connect_receives, connect_runs, granted, new_row, resuming, left_lines, none_has, only_heard}
 
 -- ---- it is resumed
 
@@ -51,8 +51,8 @@ module _ (client : List ℕ) (birth : ℕ) (ns : List ℕ) where
   left_safe None s now = tt
   left_safe (Some l) s now = (tt, (tt, (tt, tt)))
 
-  resume_safe : (l : BrokerLine) (name : List ℕ) (window now : ℕ) (x : Session) → x.birth ≡ birth → is_one_of (Some l.number) ns ≡ true → AreSafe client birth ns (resume l (greeting false name window) now x)
-  resume_safe l name window now x e inside = ((refl, refl), ((e, inside), (tt, safe_turns client birth ns now l.number x (resumed_with (queue_on [] x)))))
+  resume_safe : (l : BrokerLine) (window aliases now : ℕ) (x : Session) → x.birth ≡ birth → is_one_of (Some l.number) ns ≡ true → AreSafe client birth ns (resuming l window aliases now x)
+  resume_safe l window aliases now x e inside = ((refl, refl), ((e, inside), (tt, safe_turns client birth ns now l.number x (resumed_with (queue_on [] x)))))
 
   -- a session that is resumed on a line of the receiver's own is the receiver's still
   pub resume_served : (limits : Limits) (choice : MemberChoice) (now : ℕ) (r : Receiver) (l : BrokerLine) (s : Session) (b : Broker) → IsResuming r l s b → s.birth ≡ birth → is_one_of (Some l.number) ns ≡ true
@@ -65,12 +65,12 @@ module _ (client : List ℕ) (birth : ℕ) (ns : List ℕ) where
       let x = taken_from o c.now s in
       let kept : IsKept r.client s c = record { session = a.kept.session; name = a.kept.name; only = a.kept.only; no_will = a.kept.no_will; no_end = a.kept.no_end; short = a.kept.short; plain = a.kept.plain } in
       let front = left_by o s c.now in
-      let back = resume l (greeting false r.client r.window) c.now x in
-      let is : deeds limits choice now (Input n (wire_back r.client r.window (answers (connect false)))) b ≡ On n Hear ∷ ((front ++ back) ++ []) =
-      call_is limits choice now false r.client r.window l b a.line a.waits
-      ∙ ap (λ (ds : List Deed). On n Hear ∷ (ds ++ [])) (connect_is o (env_of limits choice b) l r.client r.window s c heard_line.1 heard_line.2 kept) in
-      let safe = each_append (IsSafe client birth ns) front back (left_safe o s c.now) (resume_safe l r.client r.window c.now x (taken_birth o c.now s ∙ e) inside) in
-      call_served client birth ns limits choice now (Input n (wire_back r.client r.window (answers (connect false)))) b
+      let back = resuming l r.window r.aliases c.now x in
+      let is : deeds limits choice now (Input n (wire_back r.client r.window r.aliases (answers (connect false)))) b ≡ On n Hear ∷ ((front ++ back) ++ []) =
+      call_is limits choice now false r.client r.window r.aliases l b a.line a.waits
+      ∙ ap (λ (ds : List Deed). On n Hear ∷ (ds ++ [])) (connect_is o (env_of limits choice b) l r.client r.window r.aliases s c heard_line.1 heard_line.2 kept) in
+      let safe = each_append (IsSafe client birth ns) front back (left_safe o s c.now) (resume_safe l r.window r.aliases c.now x (taken_birth o c.now s ∙ e) inside) in
+      call_served client birth ns limits choice now (Input n (wire_back r.client r.window r.aliases (answers (connect false)))) b
       (subst (AreSafe client birth ns) (sym is) (tt, each_append (IsSafe client birth ns) (front ++ back) [] safe tt)) v
 
 -- a CONNECT to a session that stands leaves the receiver in step
@@ -107,15 +107,15 @@ free_own birth ns (l ∷ ls) free off = (
   free_own birth ns ls free.1 off.1,
 )
 
-module _ (client : List ℕ) (ns : List ℕ) (clean : Bool) (window : ℕ) (l : BrokerLine) (c : Broker) where
+module _ (client : List ℕ) (ns : List ℕ) (clean : Bool) (window aliases : ℕ) (l : BrokerLine) (c : Broker) where
   abbrev new_birth : ℕ
   new_birth = suc c.records.births
 
   abbrev row : Columns
-  row = fresh_row new_birth client (greeting clean client window)
+  row = new_row new_birth client
 
   abbrev begins : List Deed
-  begins = begin l (greeting clean client window) false client new_birth
+  begins = beginning l window aliases client new_birth
 
   begun_ours : (ss : List Session) → has_row birth_of new_birth ss ≡ false → AllByRecursion (IsOurs client new_birth) ss → AllByRecursion (IsOurs client new_birth) (put_session row ss)
   begun_ours ss new h = rw new (put_new (nat_lt (length ss) SESSION_LIMIT))
@@ -135,7 +135,7 @@ module _ (client : List ℕ) (ns : List ℕ) (clean : Bool) (window : ℕ) (l : 
         births = omega arith;
         given = given;
       } in
-      safe_served client new_birth ns (greet l (greeting clean client window) new_birth ∷ Send l.number (packets_of.connack false success (connack_properties false client)) ∷ []) (after (Begin row None) c)
+      safe_served client new_birth ns (On l.number (Greet new_birth 0 window 0xffffffff (granted aliases)) ∷ Send l.number (packets_of.connack false success (connack_properties false client)) ∷ []) (after (Begin row None) c)
       ((refl, inside), (tt, tt)) first
 
 -- a new, empty session is served
@@ -149,11 +149,11 @@ clears_served limits choice now clean r l b front closed ns c free given inside 
     let heard_first = heard_of now n b in
     let d = after_all front heard_first in
     let birth = suc d.records.births in
-    let ds = deeds limits choice now (Input n (wire_back r.client r.window (answers (connect clean)))) b in
-    let back = begin l (greeting clean r.client r.window) false r.client birth in
+    let ds = deeds limits choice now (Input n (wire_back r.client r.window r.aliases (answers (connect clean)))) b in
+    let back = beginning l r.window r.aliases r.client birth in
     let end : after_all ds first ≡ after_all back d = ap (λ (zs : List Deed). after_all zs first) c.deeds_are ∙ after_append front back heard_first in
     moment_served r.client birth ns (rows_of_all ds first.records) (after_all ds first)
-    (subst (IsServed r.client birth ns) (sym end) (begun_served r.client ns clean r.window l d c.none c.births free c.off given inside))
+    (subst (IsServed r.client birth ns) (sym end) (begun_served r.client ns clean r.window r.aliases l d c.none c.births free c.off given inside))
 
 -- hearing a line keeps the others free
 pub free_heard : (ns : List ℕ) (now n : ℕ) (ls : List BrokerLine) → AllByRecursion (IsFreeLine ns) ls → AllByRecursion (IsFreeLine ns) (on_line now n Hear ls)

@@ -1,5 +1,5 @@
 -- The broker refuses a receiver's CONNECT, since there is no place for a session more: the receiver awaits one as before.
-use Rattle.std.proofs.Common.{◌≡◌, ℕ, ◌≤◌, Bool, true, false, cond, not, List, [], ◌∷◌, ◌++◌, drop, filter, length, map, Option, Some, None, bytes_eq, nat_eq, nat_lt, refl, sym, ap, subst, ◌∙◌, inl, inr}
+use Rattle.std.proofs.Common.{◌≡◌, ℕ, zero, suc, ◌≤◌, Bool, true, false, cond, not, List, [], ◌∷◌, ◌++◌, drop, filter, length, map, Option, Some, None, bytes_eq, nat_eq, nat_lt, refl, sym, ap, subst, ◌∙◌, inl, inr}
 use Rattle.std.specs.Prelude.{filter_map, find, is_some, option_map}
 use Rattle.std.specs.List.{AllByRecursion, starts_with}
 use Rattle.std.proofs.lemmas.Bool.{cases_Bool}
@@ -41,15 +41,20 @@ use Rattle.mqtt_world_receiver_laws.proofs.connects.Resuming.{call_is, greeting,
 
 -- ---- the deeds of the CONNECT
 
-connect_refused : (env : Env) (l : BrokerLine) (clean : Bool) (client : List ℕ) (window : ℕ) (b : Broker)
+refused_is : (l : BrokerLine) (clean : Bool) (client : List ℕ) (window aliases : ℕ)
+    → refused l (greeting clean client window aliases) quota_exceeded ≡ Send l.number (packets_of.connack false quota_exceeded []) ∷ Gone l.number ∷ []
+refused_is l clean client window zero = refl
+refused_is l clean client window (suc more) = refl
+
+connect_refused : (env : Env) (l : BrokerLine) (clean : Bool) (client : List ℕ) (window aliases : ℕ) (b : Broker)
     → session_named client b.records ≡ None → nat_lt 64 (length client) ≡ false → starts_with nat_eq client auto ≡ false → nat_lt (length b.records.sessions) env.limits.sessions ≡ false
-    → on_connect env l (greeting clean client window) b ≡ refused l (greeting clean client window) quota_exceeded
-connect_refused env l clean client window b none short plain full =
-    let c = greeting clean client window in
-    ap (λ (z : Option ℕ). connect_by z env l c b) (refused_not clean client window b.records short plain)
-    ∙ (ap (λ (ds : List Deed). joins_after env l c b.now ds (after_all ds b).records) (prepare_none env clean client window b none)
+    → on_connect env l (greeting clean client window aliases) b ≡ Send l.number (packets_of.connack false quota_exceeded []) ∷ Gone l.number ∷ []
+connect_refused env l clean client window aliases b none short plain full =
+    let c = greeting clean client window aliases in
+    ap (λ (z : Option ℕ). connect_by z env l c b) (refused_not clean client window aliases b.records short plain)
+    ∙ (ap (λ (ds : List Deed). joins_after env l c b.now ds (after_all ds b).records) (prepare_none env clean client window aliases b none)
     ∙ (ap (λ (z : Option Session). joins env l c b.now [] b.records z) none
-    ∙ ap (λ (t : Bool). cond t ([] ++ begin_named (is_empty client) l c b.records) (refused l c quota_exceeded)) full))
+    ∙ (ap (λ (t : Bool). cond t ([] ++ begin_named (is_empty client) l c b.records) (refused l c quota_exceeded)) full ∙ refused_is l clean client window aliases)))
 
 -- the stored moment gives no line
 pub moment_given : (rows : List Change) (b : Broker) → (with_moment rows b).given ≡ b.given
@@ -77,7 +82,7 @@ module _ (limits : Limits) (choice : MemberChoice) (now : ℕ) (clean : Bool) (r
   n = l.number
 
   abbrev packet : Packet
-  packet = wire_back r.client r.window (answers (connect clean))
+  packet = wire_back r.client r.window r.aliases (answers (connect clean))
 
   abbrev first : Broker
   first = at_moment now b
@@ -94,8 +99,8 @@ module _ (limits : Limits) (choice : MemberChoice) (now : ℕ) (clean : Bool) (r
   -- a CONNECT for which there is no place is heard and refused, and its line goes
   pub deeds_are : ds ≡ refusing
   deeds_are =
-      call_is limits choice now clean r.client r.window l b a.line a.waits
-      ∙ ap (λ (xs : List Deed). On n Hear ∷ (xs ++ [])) (connect_refused (env_of limits choice b) l clean r.client r.window (heard_of now n b) a.none a.short a.plain full)
+      call_is limits choice now clean r.client r.window r.aliases l b a.line a.waits
+      ∙ ap (λ (xs : List Deed). On n Hear ∷ (xs ++ [])) (connect_refused (env_of limits choice b) l clean r.client r.window r.aliases (heard_of now n b) a.none a.short a.plain full)
 
   -- a refused CONNECT leaves the sessions as they are
   pub sessions_are : new.records.sessions ≡ b.records.sessions

@@ -23,7 +23,7 @@ use Rattle.mqtt_records.specs.declared.session.Session.{Session}
 use Rattle.mqtt_rules.proofs.acts.Goods.{after_append}
 use Rattle.mqtt_rules.proofs.numbers.NumberBirths.{given_all}
 use Rattle.mqtt_rules.specs.Closing.{end_session}
-use Rattle.mqtt_rules.specs.Connect.{begin, clear, connect_by, joins, joins_after, of_client, on_connect, prepare}
+use Rattle.mqtt_rules.specs.Connect.{clear, connect_by, joins, joins_after, of_client, on_connect, prepare}
 use Rattle.mqtt_rules.specs.Deeds.{At, Close, Deed, Finish, Hear, Leave, On, after, after_all, closing, only_if, output, whose, without_place}
 use Rattle.mqtt_rules.specs.State.{Line as BrokerLine, Broker, Env, MemberChoice, is_of, line_of, session_at, session_named}
 use Rattle.mqtt_rules.specs.Step.{Input, at_moment, deeds, env_of}
@@ -35,13 +35,13 @@ use Rattle.mqtt_world_receiver_laws.specs.Handing.{IsRun, RunsOn, after_answer, 
 use Rattle.mqtt_world_receiver_laws.specs.Seen.{Numbering, answered, seen}
 use Rattle.mqtt_world_receiver_laws.proofs.own.Answering.{IsAsideOf, all_join}
 use Rattle.mqtt_world_receiver_laws.proofs.connects.Beginning.{Clears, begins_is, begins_receives, cut_ids, off_heard}
-use Rattle.mqtt_world_receiver_laws.proofs.connects.Resuming.{Beside, IsOffIt, call_is, greeting, left_beside, left_closes, left_lines, left_untold, lines_without, refused_not, went_at, went_at_heard, went_at_left}
+use Rattle.mqtt_world_receiver_laws.proofs.connects.Resuming.{Beside, IsOffIt, begin_is, beginning, call_is, greeting, left_beside, left_closes, left_lines, left_untold, lines_without, refused_not, went_at, went_at_heard, went_at_left}
 
 -- ---- the deeds of the CONNECT
 
-prepare_is : (o : Option BrokerLine) (env : Env) (client : List ℕ) (window : ℕ) (s : Session) (n : ℕ) (b : Broker) → line_of s.birth b ≡ o → IsTaken o s.birth n → IsKept client s b
-    → prepare env (greeting true client window) b ≡ ended_by o s b.now
-prepare_is o env client window s n b e t k =
+prepare_is : (o : Option BrokerLine) (env : Env) (client : List ℕ) (window aliases : ℕ) (s : Session) (n : ℕ) (b : Broker) → line_of s.birth b ≡ o → IsTaken o s.birth n → IsKept client s b
+    → prepare env (greeting true client window aliases) b ≡ ended_by o s b.now
+prepare_is o env client window aliases s n b e t k =
     let ds = left_by o s b.now in
     let c = after_all ds b in
     prepare_front o env client s n b (only_if true (of_client client (clear env)) ∷ []) e t k
@@ -49,17 +49,17 @@ prepare_is o env client window s n b e t k =
     (append-nil (of_client client (clear env) c)
     ∙ clear_is env client (taken_from o b.now s) c (named_taken o client s b k) (taken_client o b.now s ∙ k.name) (taken_will o b.now s ∙ k.no_will))
 
-connect_is : (o : Option BrokerLine) (env : Env) (l : BrokerLine) (client : List ℕ) (window : ℕ) (s : Session) (b : Broker) → line_of s.birth b ≡ o → IsTaken o s.birth l.number → IsKept client s b → is_empty client ≡ false
+connect_is : (o : Option BrokerLine) (env : Env) (l : BrokerLine) (client : List ℕ) (window aliases : ℕ) (s : Session) (b : Broker) → line_of s.birth b ≡ o → IsTaken o s.birth l.number → IsKept client s b → is_empty client ≡ false
     → session_named client (after_all (ended_by o s b.now) b).records ≡ None → nat_lt (length (after_all (ended_by o s b.now) b).records.sessions) env.limits.sessions ≡ true
-    → on_connect env l (greeting true client window) b ≡ ended_by o s b.now ++ begin l (greeting true client window) false client (suc (after_all (ended_by o s b.now) b).records.births)
-connect_is o env l client window s b e t k some none room =
-    let c = greeting true client window in
+    → on_connect env l (greeting true client window aliases) b ≡ ended_by o s b.now ++ beginning l window aliases client (suc (after_all (ended_by o s b.now) b).records.births)
+connect_is o env l client window aliases s b e t k some none room =
+    let c = greeting true client window aliases in
     let ds = ended_by o s b.now in
     let r = (after_all ds b).records in
-    ap (λ (z : Option ℕ). connect_by z env l c b) (refused_not true client window b.records k.short k.plain)
-    ∙ (ap (λ (xs : List Deed). joins_after env l c b.now xs (after_all xs b).records) (prepare_is o env client window s l.number b e t k)
+    ap (λ (z : Option ℕ). connect_by z env l c b) (refused_not true client window aliases b.records k.short k.plain)
+    ∙ (ap (λ (xs : List Deed). joins_after env l c b.now xs (after_all xs b).records) (prepare_is o env client window aliases s l.number b e t k)
     ∙ (ap (λ (z : Option Session). joins env l c b.now ds r z) none
-    ∙ begins_by_room (nat_lt (length r.sessions) env.limits.sessions) (is_empty client) ds l c r room some))
+    ∙ (begins_by_room (nat_lt (length r.sessions) env.limits.sessions) (is_empty client) ds l c r room some ∙ ap (λ (xs : List Deed). ds ++ xs) (begin_is l true client window aliases (suc r.births)))))
 
 -- ---- what the end of a session leaves of the lines
 
@@ -216,10 +216,10 @@ renewed_clears limits choice now r l s b a =
     let room = a.room in
     let within = a.within in
     let fits : nat_lt (length d.records.sessions) limits.sessions ≡ true = lt-ltb (length d.records.sessions) limits.sessions (omega (arith, fewer, room)) in
-    let is : deeds limits choice now (Input n (wire_back r.client r.window (answers (connect true)))) b ≡ On n Hear ∷ (front ++ begin l (greeting true r.client r.window) false r.client (suc d.records.births)) =
-    call_is limits choice now true r.client r.window l b a.resuming.line a.resuming.waits
-    ∙ (ap (λ (ds : List Deed). On n Hear ∷ ds) (append-nil (on_connect env l (greeting true r.client r.window) heard_first))
-    ∙ ap (λ (ds : List Deed). On n Hear ∷ ds) (connect_is o env l r.client r.window s heard_first heard_line.1 t kept a.some clears.none fits)) in
+    let is : deeds limits choice now (Input n (wire_back r.client r.window r.aliases (answers (connect true)))) b ≡ On n Hear ∷ (front ++ beginning l r.window r.aliases r.client (suc d.records.births)) =
+    call_is limits choice now true r.client r.window r.aliases l b a.resuming.line a.resuming.waits
+    ∙ (ap (λ (ds : List Deed). On n Hear ∷ ds) (append-nil (on_connect env l (greeting true r.client r.window r.aliases) heard_first))
+    ∙ ap (λ (ds : List Deed). On n Hear ∷ ds) (connect_is o env l r.client r.window r.aliases s heard_first heard_line.1 t kept a.some clears.none fits)) in
     record {
       its = o;
       taken = t;
@@ -242,14 +242,14 @@ renewed_clears limits choice now r l s b a =
 
 -- what becomes of another line
 pub renewed_beside : (number : Numbering) (ids : List CopyId) (limits : Limits) (choice : MemberChoice) (now : ℕ) (r : Receiver) (l : BrokerLine) (s : Session) (b : Broker) → Renews limits choice now r l s b
-    → (m : ℕ) → nat_eq l.number m ≡ false → Beside number ids limits choice now (Input l.number (wire_back r.client r.window (answers (connect true)))) m b (is_one_of (Some m) (lines_left (line_of s.birth b)))
+    → (m : ℕ) → nat_eq l.number m ≡ false → Beside number ids limits choice now (Input l.number (wire_back r.client r.window r.aliases (answers (connect true)))) m b (is_one_of (Some m) (lines_left (line_of s.birth b)))
 renewed_beside number ids limits choice now r l s b x m other =
     let n = l.number in
     let c = heard_of now n b in
     let ends = end_session (taken_from x.its c.now s) in
-    let begins = begin l (greeting true r.client r.window) false r.client (suc (after_all (ended_by x.its s c.now) c).records.births) in
+    let begins = beginning l r.window r.aliases r.client (suc (after_all (ended_by x.its s c.now) c).records.births) in
     let ending = taken_from x.its c.now s in
-    left_beside number ids limits choice now (Input n (wire_back r.client r.window (answers (connect true)))) n x.its s (ends ++ begins) m b (is_one_of (Some m) (lines_left (line_of s.birth b)))
+    left_beside number ids limits choice now (Input n (wire_back r.client r.window r.aliases (answers (connect true)))) n x.its s (ends ++ begins) m b (is_one_of (Some m) (lines_left (line_of s.birth b)))
     (x.clears.deeds_are ∙ ap (λ (ds : List Deed). On n Hear ∷ ds) (append_assoc (left_by x.its s c.now) ends begins))
     (all_join (IsAsideOf m) ends begins (all_join (IsAsideOf m) (map (λ (e : CopyRow). At (whose ending) (Leave e SessionEnded)) ending.queue) (Finish (whose ending) ∷ []) (leaves_aside ending ending.queue) (tt, tt)) (tt, (other, (other, tt))))
     (ap (is_one_of (Some m)) x.same)

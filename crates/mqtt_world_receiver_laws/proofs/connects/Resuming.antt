@@ -1,6 +1,6 @@
 -- The broker reads CONNECT without Clean Start on a receiver's line while its session stands: it is resumed there, and its
 -- PUBRELs go out again. What the receiver sees of it is that event of its hop (MQTT 5.0, 3.1.2.4, 4.4).
-use Rattle.std.proofs.Common.{◌≡◌, ℕ, Bool, true, false, cond, not, ◌||◌, List, [], ◌∷◌, ◌++◌, drop, map, Option, Some, None, nat_eq, nat_lt, refl, sym, ap, subst, ◌∙◌, append-nil, inl, inr}
+use Rattle.std.proofs.Common.{◌≡◌, ℕ, zero, suc, Bool, true, false, cond, not, ◌||◌, List, [], ◌∷◌, ◌++◌, drop, map, Option, Some, None, nat_eq, nat_lt, refl, sym, ap, subst, ◌∙◌, append-nil, inl, inr}
 use Rattle.std.specs.Prelude.{⊤, filter, filter_map, find, is_some, length, option_map}
 use Rattle.std.specs.List.{AllByRecursion, starts_with}
 use Rattle.std.proofs.lemmas.Bool.{cases_Bool, eqb-true}
@@ -15,7 +15,7 @@ use Rattle.mqtt_flow.specs.OutboundWorld.{Lot, World as Hop, all_packets, connec
 use Rattle.mqtt_flow.specs.Receiver.{Answer, Output, connack, connect, disconnect, pubrel, spared}
 use Rattle.mqtt_flow.specs.declared.entry.Turn.{Turn}
 use Rattle.mqtt_flow.specs.declared.entry.Turn.TheVariants as turns
-use Rattle.mqtt_world_model.specs.Ends.{Back, Receiver, answers, wire_back}
+use Rattle.mqtt_world_model.specs.Ends.{Back, Receiver, answers, taking, wire_back}
 use Rattle.mqtt_world_model.specs.Hops.{IsKept, IsOnly, IsTaken, lines_left}
 use Rattle.mqtt_world_model.specs.Lines.{Down, is_one_of, sent_to}
 use Rattle.mqtt_world_model.specs.World.{taken_up}
@@ -37,8 +37,8 @@ use Rattle.mqtt_records_rows.specs.Order.{change_row, row_at}
 use Rattle.mqtt_rules.proofs.flight.FlightRows.{change_row-here}
 use Rattle.mqtt_rules.proofs.acts.Goods.{after_append}
 use Rattle.mqtt_rules.specs.Closing.{never}
-use Rattle.mqtt_rules.specs.Connect.{clear, connack_properties, connect_by, joins, joins_after, of_client, on_connect, prepare, refusal, resume}
-use Rattle.mqtt_rules.specs.Deeds.{At, Deed, Greet, Hear, On, Resume, Send, after, after_all, always, closing, line_after, on_line, only_if, output, part_rows_of, series, stored_after, whose, with_line}
+use Rattle.mqtt_rules.specs.Connect.{aliases_of, begin, clear, connack_properties, connect_by, joins, joins_after, of_client, on_connect, prepare, refusal, resume}
+use Rattle.mqtt_rules.specs.Deeds.{At, Begin, Deed, Greet, Hear, On, Resume, Send, after, after_all, always, closing, line_after, on_line, only_if, output, part_rows_of, series, stored_after, whose, with_line}
 use Rattle.mqtt_rules.specs.Outbound.{all_turn_deeds}
 use Rattle.mqtt_records_message.specs.PassedOn.{property}
 use Rattle.mqtt_rules.specs.Packets as packets_of
@@ -228,39 +228,73 @@ module _ (number : Numbering) (ids : List CopyId) (now n : ℕ) (x : Session) wh
 
 -- ---- the deeds of the CONNECT
 
-abbrev pub greeting : Bool → List ℕ → ℕ → Greeting
-greeting clean client window = record {
+abbrev pub greeting : Bool → List ℕ → ℕ → ℕ → Greeting
+greeting clean client window aliases = record {
   clean_start = clean;
   keep_alive = 0;
-  properties = property SessionExpiryInterval (U32 0xffffffff) ∷ property ReceiveMaximum (U16 window) ∷ [];
+  properties = property SessionExpiryInterval (U32 0xffffffff) ∷ property ReceiveMaximum (U16 window) ∷ taking aliases;
   client_identifier = client;
   will = None;
   user_name = None;
   password = None;
 }
 
+-- the most topics that it is told by aliases
+abbrev pub granted : ℕ → ℕ
+granted aliases = aliases_of (greeting false [] 0 aliases)
+
+-- the deeds of a resumption, and of a session that begins, as such a CONNECT asks for them, whatever aliases it takes
+abbrev pub resuming : BrokerLine → ℕ → ℕ → ℕ → Session → List Deed
+resuming l window aliases now x =
+    At (whose x) (Resume never None)
+    ∷ On l.number (Greet x.birth 0 window 0xffffffff (granted aliases))
+    ∷ Send l.number (packets_of.connack true success (connack_properties false []))
+    ∷ all_turn_deeds now l.number x (resumed_with (queue_on [] x))
+
+abbrev pub new_row : ℕ → List ℕ → Columns
+new_row birth client = record { birth = birth; client = client; expiry = never; closed = None }
+
+abbrev pub beginning : BrokerLine → ℕ → ℕ → List ℕ → ℕ → List Deed
+beginning l window aliases client birth =
+    Begin (new_row birth client) None
+    ∷ On l.number (Greet birth 0 window 0xffffffff (granted aliases))
+    ∷ Send l.number (packets_of.connack false success (connack_properties false client))
+    ∷ []
+
+-- a receiver whose session stands resumes it, and is granted as many
+resume_is : (l : BrokerLine) (clean : Bool) (client : List ℕ) (window aliases now : ℕ) (x : Session) → resume l (greeting clean client window aliases) now x ≡ resuming l window aliases now x
+resume_is l clean client window zero now x = refl
+resume_is l clean client window (suc more) now x = refl
+
+-- a receiver without a session begins one, and is granted as many aliases as it takes, ten at most
+pub begin_is : (l : BrokerLine) (clean : Bool) (client : List ℕ) (window aliases birth : ℕ) → begin l (greeting clean client window aliases) false client birth ≡ beginning l window aliases client birth
+begin_is l clean client window zero birth = refl
+begin_is l clean client window (suc more) birth = refl
+
 -- a receiver's CONNECT is not refused for its name
-pub refused_not : (clean : Bool) (client : List ℕ) (window : ℕ) (r : Records) → nat_lt 64 (length client) ≡ false → starts_with nat_eq client auto ≡ false → refusal (greeting clean client window) r ≡ None
-refused_not clean client window r short plain = rw (short, plain) refl
+pub refused_not : (clean : Bool) (client : List ℕ) (window aliases : ℕ) (r : Records) → nat_lt 64 (length client) ≡ false → starts_with nat_eq client auto ≡ false → refusal (greeting clean client window aliases) r ≡ None
+refused_not clean client window zero r short plain = rw (short, plain) refl
+refused_not clean client window (suc more) r short plain = rw (short, plain) refl
 
 -- a CONNECT to a session that stands is the takeover and the resumption
-pub connect_is : (o : Option BrokerLine) (env : Env) (l : BrokerLine) (client : List ℕ) (window : ℕ) (s : Session) (b : Broker) → line_of s.birth b ≡ o → IsTaken o s.birth l.number → IsKept client s b
-    → on_connect env l (greeting false client window) b ≡ left_by o s b.now ++ resume l (greeting false client window) b.now (taken_from o b.now s)
-connect_is o env l client window s b e t k =
-    let c = greeting false client window in
+pub connect_is : (o : Option BrokerLine) (env : Env) (l : BrokerLine) (client : List ℕ) (window aliases : ℕ) (s : Session) (b : Broker) → line_of s.birth b ≡ o → IsTaken o s.birth l.number → IsKept client s b
+    → on_connect env l (greeting false client window aliases) b ≡ left_by o s b.now ++ resuming l window aliases b.now (taken_from o b.now s)
+connect_is o env l client window aliases s b e t k =
+    let c = greeting false client window aliases in
     let prepared : prepare env c b ≡ left_by o s b.now =
     prepare_front o env client s l.number b (only_if false (of_client client (clear env)) ∷ []) e t k ∙ append-nil (left_by o s b.now) in
-    ap (λ (z : Option ℕ). connect_by z env l c b) (refused_not false client window b.records k.short k.plain)
+    ap (λ (z : Option ℕ). connect_by z env l c b) (refused_not false client window aliases b.records k.short k.plain)
     ∙ (ap (λ (ds : List Deed). joins_after env l c b.now ds (after_all ds b).records) prepared
-    ∙ ap (λ (z : Option Session). joins env l c b.now (left_by o s b.now) (after_all (left_by o s b.now) b).records z) (named_taken o client s b k))
+    ∙ (ap (λ (z : Option Session). joins env l c b.now (left_by o s b.now) (after_all (left_by o s b.now) b).records z) (named_taken o client s b k)
+    ∙ ap (λ (ds : List Deed). left_by o s b.now ++ ds) (resume_is l false client window aliases b.now (taken_from o b.now s))))
 
 -- the call of a CONNECT is to hear it and to connect
-pub call_is : (limits : Limits) (choice : MemberChoice) (now : ℕ) (clean : Bool) (client : List ℕ) (window : ℕ) (l : BrokerLine) (b : Broker) → line_at l.number b ≡ Some l → l.session ≡ None
-    → deeds limits choice now (Input l.number (Connect (greeting clean client window))) b
-    ≡ On l.number Hear ∷ (on_connect (env_of limits choice b) l (greeting clean client window) (heard_of now l.number b) ++ [])
-call_is limits choice now clean client window l b line waits =
+pub call_is : (limits : Limits) (choice : MemberChoice) (now : ℕ) (clean : Bool) (client : List ℕ) (window aliases : ℕ) (l : BrokerLine) (b : Broker) → line_at l.number b ≡ Some l → l.session ≡ None
+    → deeds limits choice now (Input l.number (Connect (greeting clean client window aliases))) b
+    ≡ On l.number Hear ∷ (on_connect (env_of limits choice b) l (greeting clean client window aliases) (heard_of now l.number b) ++ [])
+call_is limits choice now clean client window aliases l b line waits =
     let env = env_of limits choice b in
-    let packet = Connect (greeting clean client window) in
+    let packet = Connect (greeting clean client window aliases) in
     ap (λ (o : Option BrokerLine). with_line o (λ (x : BrokerLine). series (always (On l.number Hear ∷ []) ∷ on_packet env x packet x.session ∷ [])) (at_moment now b)) line
     ∙ ap (λ (o : Option ℕ). On l.number Hear ∷ (on_packet env l packet o (heard_of now l.number b) ++ [])) waits
 
@@ -371,7 +405,7 @@ module _ (number : Numbering) (largest : ℕ) (copies : List Lot) (limits : Limi
   n = l.number
 
   abbrev packet : Packet
-  packet = wire_back r.client r.window (answers (connect false))
+  packet = wire_back r.client r.window r.aliases (answers (connect false))
 
   abbrev q : Receiver
   q = record r { line = taken_up r.line }
@@ -406,7 +440,7 @@ module _ (number : Numbering) (largest : ℕ) (copies : List Lot) (limits : Limi
     are_repeats = all_repeats (due_from [] (queue_on [] x)) (λ d. d.identifier)
 
     abbrev resumes : List Deed
-    resumes = resume l (greeting false r.client r.window) heard_first.now x
+    resumes = resuming l r.window r.aliases heard_first.now x
 
     abbrev all_deeds : List Deed
     all_deeds = On n Hear ∷ (left_by o s heard_first.now ++ resumes)
@@ -415,16 +449,16 @@ module _ (number : Numbering) (largest : ℕ) (copies : List Lot) (limits : Limi
     left = after_all (left_by o s heard_first.now) heard_first
 
     abbrev end : Broker
-    end = after (On n (Greet x.birth 0 r.window 0xffffffff 0)) (after (At (whose x) (Resume never None)) left)
+    end = after (On n (Greet x.birth 0 r.window 0xffffffff (granted r.aliases))) (after (At (whose x) (Resume never None)) left)
 
     abbrev told_all : List Output
     told_all = connack true ∷ all_packets (resumed_with (queue_of copies)) copies
 
     deeds_are : deeds limits choice now (Input n packet) b ≡ all_deeds
     deeds_are =
-        call_is limits choice now false r.client r.window l b a.line a.waits
-        ∙ (ap (λ (ds : List Deed). On n Hear ∷ ds) (append-nil (on_connect (env_of limits choice b) l (greeting false r.client r.window) heard_first))
-        ∙ ap (λ (ds : List Deed). On n Hear ∷ ds) (connect_is o (env_of limits choice b) l r.client r.window s heard_first its t kept))
+        call_is limits choice now false r.client r.window r.aliases l b a.line a.waits
+        ∙ (ap (λ (ds : List Deed). On n Hear ∷ ds) (append-nil (on_connect (env_of limits choice b) l (greeting false r.client r.window r.aliases) heard_first))
+        ∙ ap (λ (ds : List Deed). On n Hear ∷ ds) (connect_is o (env_of limits choice b) l r.client r.window r.aliases s heard_first its t kept))
 
     ends : but_told (after_all all_deeds first) ≡ but_told end
     ends =
@@ -452,14 +486,14 @@ module _ (number : Numbering) (largest : ℕ) (copies : List Lot) (limits : Limi
         let off : AllByRecursion (IsOffIt s.birth) left.lines = subst (AllByRecursion (IsOffIt s.birth)) (sym lines) (none_has o s.birth heard_first.lines alone) in
         let went : went_at n left.lines ≡ Some [] =
         ap (went_at n) lines ∙ (went_at_left o s.birth n heard_first.lines t ∙ (went_at_heard first.now n b.lines ∙ (ap (option_map (λ (y : BrokerLine). y.went)) a.line ∙ ap Some a.fresh))) in
-        ap (λ (k : ℕ). its_went s.birth (on_line left.now n (Greet k 0 r.window 0xffffffff 0) left.lines)) birth_same
-        ∙ greeted_went left.now n s.birth 0 r.window 0xffffffff 0 left.lines off went
+        ap (λ (k : ℕ). its_went s.birth (on_line left.now n (Greet k 0 r.window 0xffffffff (granted r.aliases)) left.lines)) birth_same
+        ∙ greeted_went left.now n s.birth 0 r.window 0xffffffff (granted r.aliases) left.lines off went
 
     went_ends : its_went s.birth (after_all (deeds limits choice now (Input n packet) b) first).lines ≡ Some []
     went_ends = ap (λ (ds : List Deed). its_went s.birth (after_all ds first).lines) deeds_are ∙ (ap (λ (d : Broker). its_went s.birth d.lines) ends ∙ went_end)
 
     on_end : session_on n end.lines ≡ Some (Some x.birth)
-    on_end = greeted_line left.now n x.birth 0 r.window 0xffffffff 0 left.lines waits_still
+    on_end = greeted_line left.now n x.birth 0 r.window 0xffffffff (granted r.aliases) left.lines waits_still
 
     still_now : still_standing copies2 ≡ map (lot_on []) s.queue
     still_now =

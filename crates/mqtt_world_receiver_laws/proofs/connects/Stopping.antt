@@ -4,7 +4,11 @@ use Rattle.std.specs.List.{AllByRecursion, starts_with}
 use Rattle.std.specs.Prelude.{◌≢◌, is_some}
 use Rattle.std.proofs.lemmas.Bool.{cases_Bool}
 use Rattle.mqtt_base.specs.declared.session.CopyId.{CopyId}
+use Rattle.mqtt_codec.specs.declared.packet.Packet.{Packet}
+use Rattle.mqtt_codec.specs.declared.packet.Packet.TheVariants as packets
+use Rattle.mqtt_topic.specs.Aliases.{AliasTable, after_resolve, no_aliases}
 use Rattle.mqtt_world_model.specs.Ends.{Receiver}
+use Rattle.mqtt_world_model.specs.Lines.{known_by, restarted}
 use Rattle.mqtt_world_model.specs.World.{Asking, Setting, World, before, break, call_of, calls_if, happens, linked_at, old_to_broker, pump, receiver_restarted, receiver_told, restart, stop_after, stop_before, stranger, stranger_named, taken_old, taken_up, tick, to_broker}
 use Rattle.mqtt_records.specs.Session.{auto}
 use Rattle.mqtt_rules.proofs.numbers.Copies.{each_append}
@@ -12,8 +16,9 @@ use Rattle.mqtt_rules.proofs.flight.FlightRows.{all_more}
 use Rattle.mqtt_rules.proofs.numbers.NumberSteps.{opening_fell, step_fell}
 use Rattle.mqtt_rules.proofs.order.OrderedSteps.{opening-ordered, step-ordered}
 use Rattle.mqtt_rules.specs.State.{Broker, MemberChoice}
-use Rattle.mqtt_rules.specs.Step.{Call, NewLine, at_moment, can_link, opened, stepped, told}
+use Rattle.mqtt_rules.specs.Step.{Call, NewLine, Outcome, at_moment, can_link, opened, stepped, told}
 use Rattle.mqtt_rules.specs.declared.Limits.{Limits}
+use Rattle.mqtt_rules_telling_laws.specs.Meaning.{after_reading, after_reading_all, alias_on, on_line}
 use Rattle.mqtt_world_acceptance_laws.proofs.copies.Differ.{AreApart, differ_join}
 use Rattle.mqtt_world_receiver_laws.specs.Own.{IsInStep}
 use Rattle.mqtt_world_receiver_laws.specs.Restarts.{AreAlike, reopened, stopped_after}
@@ -65,6 +70,30 @@ goes_further largest ids birth ns ms before q r b c g first last h = record {
   served = h.served;
 }
 
+-- ---- after a restart what was told by aliases doesn't matter
+
+resolve_max : (table : AliasTable) (topic : List ℕ) (o : Option ℕ) → (after_resolve table topic o).max ≡ table.max
+resolve_max table topic None = refl
+resolve_max table [] (Some alias) = refl
+resolve_max table (c ∷ cs) (Some alias) = refl
+
+reading_max : (table : AliasTable) (packet : Packet) → (after_reading table packet).max ≡ table.max
+reading_max table (packets.Publish p) = resolve_max table p.topic (alias_on p)
+reading_max table packet = refl
+
+all_max : (table : AliasTable) (xs : List Packet) → (after_reading_all table xs).max ≡ table.max
+all_max table [] = refl
+all_max table (x ∷ xs) = all_max (after_reading table x) xs ∙ reading_max table x
+
+known_max : (number : Option ℕ) (wires : List (ℕ × Packet)) (table : AliasTable) → (known_by number wires table).max ≡ table.max
+known_max None wires table = refl
+known_max (Some n) wires table = all_max table (on_line n wires)
+
+-- a receiver that was told something is after a restart as one that wasn't
+told_restarts : (b : Broker) (out : Outcome) (r : Receiver) → receiver_restarted (receiver_told b out r) ≡ receiver_restarted r
+told_restarts b out r =
+    ap (λ (m : ℕ). record r { line = record (restarted r.line) { known = no_aliases m } }) (known_max r.line.number out.wires r.line.known)
+
 -- ---- after the commit of a call of others
 
 -- a step whose answers are lost leaves the hop going on
@@ -76,9 +105,10 @@ stopped_goes_on largest ids limits choice now call birth ns r b f v has tidy pla
     let c = stepped limits choice now call b in
     let q = receiver_told c (told limits choice now call b) r in
     let g = others_go_on largest ids limits choice now call birth ns r b f v has tidy plain its in
-    goes_further largest ids birth ns [] b.records.publications q (receiver_restarted r) c (reopened limits choice now c) g
+    subst (λ (x : Receiver). GoesOn largest ids birth [] b.records.publications x (stopped_after limits choice now call b)) (told_restarts c (told limits choice now call b) r)
+    (goes_further largest ids birth ns [] b.records.publications q (receiver_restarted q) c (reopened limits choice now c) g
     ((step_fell limits choice now call b).1) ((opening_fell limits choice now c.records).1)
-    (restart_goes_on largest (ids ++ g.more) limits choice now birth ns q c g.runs g.served (step_tidy limits choice now call b tidy) plain)
+    (restart_goes_on largest (ids ++ g.more) limits choice now birth ns q c g.runs g.served (step_tidy limits choice now call b tidy) plain))
 
 -- ---- what the receivers of the world make of a stop
 
@@ -107,11 +137,13 @@ before_receivers set (stranger name bytes) w = by (is_some (stranger_named name 
   where
     by : (t : Bool) → map receiver_restarted (linked_at set t name bytes w).receivers ≡ map receiver_restarted w.receivers
     by true = refl
-    by false = same_restarted (receiver_told (stepped set.limits set.choice w.now NewLine w.broker) (told set.limits set.choice w.now NewLine w.broker)) (λ r. refl) w.receivers
+    by false = same_restarted (receiver_told (stepped set.limits set.choice w.now NewLine w.broker) (told set.limits set.choice w.now NewLine w.broker))
+        (told_restarts (stepped set.limits set.choice w.now NewLine w.broker) (told set.limits set.choice w.now NewLine w.broker)) w.receivers
 
 called_receivers : (set : Setting) (o : Option Call) (w : World) → map receiver_restarted (calls_if set o w).receivers ≡ map receiver_restarted w.receivers
 called_receivers set None w = refl
-called_receivers set (Some call) w = same_restarted (receiver_told (stepped set.limits set.choice w.now call w.broker) (told set.limits set.choice w.now call w.broker)) (λ r. refl) w.receivers
+called_receivers set (Some call) w = same_restarted (receiver_told (stepped set.limits set.choice w.now call w.broker) (told set.limits set.choice w.now call w.broker))
+    (told_restarts (stepped set.limits set.choice w.now call w.broker) (told set.limits set.choice w.now call w.broker)) w.receivers
 
 -- behind a stop receivers are as behind a restart
 pub receivers_after : (set : Setting) (a : Asking) (w : World) → (happens set (stop_after a) w).receivers ≡ (happens set restart w).receivers

@@ -6,9 +6,10 @@ use Rattle.std.proofs.lemmas.Option.{slice_get-map}
 use Rattle.mqtt_base.specs.declared.session.CopyId.{CopyId}
 use Rattle.mqtt_flow.specs.OutboundWorld.{Lot, cut, past, queue_of, renewed, standing}
 use Rattle.mqtt_flow.specs.Receiver.{connect}
+use Rattle.mqtt_topic.specs.Aliases.{AliasTable}
 use Rattle.mqtt_world_model.specs.Ends.{Back, Receiver, answers, wire_back}
 use Rattle.mqtt_world_model.specs.Hops.{IsOurs}
-use Rattle.mqtt_world_model.specs.Lines.{Down, is_one_of, sent_to, unless_closed}
+use Rattle.mqtt_world_model.specs.Lines.{Down, is_one_of, sent_to, unless_closed, known_by}
 use Rattle.mqtt_world_model.specs.Run.{Turn, run}
 use Rattle.mqtt_world_model.specs.Seen.{is_linked}
 use Rattle.mqtt_world_model.specs.World.{Setting, World, ask, calls, publisher_named, pump, receiver_named, receiver_told, taken_up, to_broker, to_end}
@@ -68,13 +69,18 @@ none_sent : (o : Option ℕ) (b : Broker) → sent_to o b [] ≡ []
 none_sent None b = refl
 none_sent (Some n) b = refl
 
+none_known : (o : Option ℕ) (table : AliasTable) → known_by o [] table ≡ table
+none_known None table = refl
+none_known (Some n) table = refl
+
 -- whoever is told nothing stays as it is
 untold_same : (call : Call) (b : Broker) (r : Receiver) → receiver_told b (outcome_of call [] b) r ≡ r
 untold_same call b r =
     let closed = none_closed r.line.number in
     let old_closed = none_closed r.line.old_number in
     let downs : r.line.down ++ sent_to r.line.number b [] ≡ r.line.down = ap (λ (ds : List Down). r.line.down ++ ds) (none_sent r.line.number b) ∙ append-nil r.line.down in
-    λ i. record r { line = record r.line { up = unless_closed (closed i) r.line.up; down = downs i; old = unless_closed (old_closed i) r.line.old } }
+    let knows = none_known r.line.number r.line.known in
+    λ i. record r { line = record r.line { up = unless_closed (closed i) r.line.up; down = downs i; old = unless_closed (old_closed i) r.line.old; known = knows i } }
 
 -- ---- the first round
 
@@ -93,7 +99,7 @@ module _ (limits : Limits) (choice : MemberChoice) (clean : Bool) (client : List
   first = at_moment w.now b
 
   abbrev call : Call
-  call = Input n (wire_back r.client r.window (answers (connect clean)))
+  call = Input n (wire_back r.client r.window r.aliases (answers (connect clean)))
 
   abbrev q : Receiver
   q = record r { line = taken_up r.line }

@@ -226,7 +226,7 @@ module _ (number : Numbering) (largest window : ℕ) (ids : List CopyId) (birth 
 
   answered_at : (limits : Limits) (choice : MemberChoice) (now : ℕ) (a : Answer) (rest : List Back) (hop : Hop) (r : Receiver) (b : Broker) (x : At number largest window ids birth ns hop r b) (y : rules.Answer)
       → r.line.up ≡ answers a ∷ rest → (s : Session) → IsListening r x.connected.line s b
-      → next_packet (env_of limits choice b) x.connected.line (wire_back r.client r.window (answers a)) s (heard_of now x.connected.line.number b) ≡ on_answer y (env_of limits choice b) x.connected.line s (heard_of now x.connected.line.number b)
+      → next_packet (env_of limits choice b) x.connected.line (wire_back r.client r.window r.aliases (answers a)) s (heard_of now x.connected.line.number b) ≡ on_answer y (env_of limits choice b) x.connected.line s (heard_of now x.connected.line.number b)
       → step largest (seen number x.copies r b) (to_broker false) ≡ replied y (filter_map answered rest) (seen number x.copies r b)
       → Follows number largest x.copies (to_broker false) r b (reads_answer limits choice now x.connected.line.number a r b) (after_answer limits choice now x.connected.line.number a r b)
       → IsInStep largest ids birth ns (reads_answer limits choice now x.connected.line.number a r b) (after_answer limits choice now x.connected.line.number a r b)
@@ -235,7 +235,7 @@ module _ (number : Numbering) (largest window : ℕ) (ids : List CopyId) (birth 
       let c = x.connected in
       let l = c.line in
       let n = l.number in
-      let packet = wire_back r.client r.window (answers a) in
+      let packet = wire_back r.client r.window r.aliases (answers a) in
       let call = Input n packet in
       let q = reads_answer limits choice now n a r b in
       let new = after_answer limits choice now n a r b in
@@ -272,7 +272,7 @@ module _ (number : Numbering) (largest window : ℕ) (ids : List CopyId) (birth 
       let l = x.connected.line in
       let li = listens_now r b x.connected in
       let s = li.session in
-      answered_at limits choice now a rest hop r b x (reply_to a (queue_on l.went s)) up s li.listening (answered_by a r.client r.window (env_of limits choice b) l s (heard_of now l.number b) none)
+      answered_at limits choice now a rest hop r b x (reply_to a (queue_on l.went s)) up s li.listening (answered_by a r.client r.window r.aliases (env_of limits choice b) l s (heard_of now l.number b) none)
       (answer_comes number largest x.copies limits choice now a rest r l s b none x.run_is li.listening up)
       (answers_follow number largest x.copies limits choice now a rest r l s b none x.run_is li.listening up)
       (answers_in_step largest ids birth ns limits choice now a rest r l s b none x.connected.in_step li.listening up)

@@ -102,7 +102,7 @@ apart_from birth subscribes (x ∷ ids) more older new = (unlike birth subscribe
 
 module _ (number : Numbering) (largest window : ℕ) (ids : List CopyId) (birth : ℕ) (ns : List ℕ) where
   abbrev asking : Receiver → ℕ → Wish → Call
-  asking r n w = Input n (wire_back r.client r.window (asks_for w))
+  asking r n w = Input n (wire_back r.client r.window r.aliases (asks_for w))
 
   -- connected with some copies more, of which no two are one
   pub record HasWished (limits : Limits) (choice : MemberChoice) (now : ℕ) (w : Wish) (rest : List Back) (n : ℕ) (r : Receiver) (b : Broker) : Type 0 where
@@ -122,7 +122,7 @@ module _ (number : Numbering) (largest window : ℕ) (ids : List CopyId) (birth 
       let l = c.line in
       let n = l.number in
       let call = asking r n w in
-      let packet = wire_back r.client r.window (asks_for w) in
+      let packet = wire_back r.client r.window r.aliases (asks_for w) in
       let li = listens_now number largest window ids birth ns r b c in
       let s = li.session in
       let first = at_moment now b in

@@ -117,7 +117,7 @@ module _ (limits : Limits) (choice : MemberChoice) (client : List ℕ) where
 
   -- to have the first packet of the receiver's line read is the broker's call on it
   pub back_is : (w : World) (r : Receiver) (n : ℕ) (u : Back) (rest : List Back) → receiver_named client w ≡ Some r → publisher_named client w ≡ None → r.line.number ≡ Some n → r.line.up ≡ u ∷ rest
-      → turned limits (turn_of choice (ask (to_broker client))) w ≡ calls set (Input n (wire_back r.client r.window u)) (taken_off w)
+      → turned limits (turn_of choice (ask (to_broker client))) w ≡ calls set (Input n (wire_back r.client r.window r.aliases u)) (taken_off w)
   back_is w r n u rest named alone number up = rw (named, alone, number, up) refl
 
   module _ (number : Numbering) (largest window : ℕ) (ids : List CopyId) (birth : ℕ) (ns : List ℕ) where
@@ -201,7 +201,7 @@ module _ (limits : Limits) (choice : MemberChoice) (client : List ℕ) where
     answers_one a rest h w x =
         let r = x.receiver in
         let n = x.at.connected.line.number in
-        let call = Input n (wire_back r.client r.window (answers a)) in
+        let call = Input n (wire_back r.client r.window r.aliases (answers a)) in
         let before = taken_off w in
         let later = calls set call before in
         let y = answer_at number largest window ids birth ns limits choice w.now a rest h r w.broker x.at x.up in
@@ -457,7 +457,7 @@ module _ (limits : Limits) (choice : MemberChoice) (client : List ℕ) (number :
   answer_orderly a rest h w x o =
       let r = x.receiver in
       let n = x.at.connected.line.number in
-      let call = Input n (wire_back r.client r.window (answers a)) in
+      let call = Input n (wire_back r.client r.window r.aliases (answers a)) in
       let later = calls (record { limits = limits; choice = choice }) call (taken_off limits choice client w) in
       subst (Orderly limits ids granted kept) (sym (back_is limits choice client w r n (answers a) rest x.named x.alone x.at.connected.number x.up))
       (orderly_on limits ids granted kept w later (step_tidy limits choice w.now call w.broker o.tidy) (answer_at number largest window ids birth ns limits choice w.now a rest h r w.broker x.at x.up).same o)
@@ -480,7 +480,7 @@ module _ (limits : Limits) (choice : MemberChoice) (client : List ℕ) (number :
     wish_read u rest h w x o brings all p =
         let r = x.receiver in
         let n = x.at.connected.line.number in
-        let call = Input n (wire_back r.client r.window (asks_for u)) in
+        let call = Input n (wire_back r.client r.window r.aliases (asks_for u)) in
         let set : Setting = record { limits = limits; choice = choice } in
         let before = taken_off limits choice client w in
         let later = calls set call before in

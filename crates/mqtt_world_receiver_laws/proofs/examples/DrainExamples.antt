@@ -61,7 +61,7 @@ sum_after es = let w = after usual (turns es) in sum_of (drained usual first r1 
 
 abbrev both_wait : ℕ → List Event
 both_wait window =
-    receiver r1 window ∷ publisher p1 ∷ joins r1 false ++ (subscribes r1 ++ (joins p1 false
+    receiver r1 window 0 ∷ publisher p1 ∷ joins r1 false ++ (subscribes r1 ++ (joins p1 false
     ++ (publish p1 draft ∷ publish p1 draft ∷ ask (to_broker p1) ∷ ask (to_broker p1) ∷ [])))
 
 -- two copies through a window of one take four rounds
@@ -129,7 +129,7 @@ kept_draft = record draft { content = record draft.content { retain = true } }
 
 abbrev asks_while_full : List Event
 asks_while_full =
-    receiver r1 1 ∷ publisher p1 ∷ joins r1 false ++ (subscribes r1 ++ (joins p1 false
+    receiver r1 1 0 ∷ publisher p1 ∷ joins r1 false ++ (subscribes r1 ++ (joins p1 false
     ++ (publish p1 kept_draft ∷ publish p1 kept_draft ∷ ask (to_broker p1) ∷ ask (to_broker p1) ∷ subscribe r1 wish ∷ [])))
 
 abbrev brought : CopyId
@@ -156,7 +156,7 @@ refusing = record usual { queue = 2 }
 abbrev opened_smaller : Limits → World
 opened_smaller limits =
     let w = after usual (turns (both_wait 1 ++ publish p1 draft ∷ ask (to_broker p1) ∷ [])) in
-    run limits (turns (receiver r1 1 ∷ joins r1 false)) (opened_world limits first 0 w.broker.records)
+    run limits (turns (receiver r1 1 0 ∷ joins r1 false)) (opened_world limits first 0 w.broker.records)
 
 -- a broker with a smaller limit than what waits
 pub more_wait_than_may : copies_left r1 (opened_smaller refusing) ≡ 3
@@ -178,7 +178,7 @@ none_of_three_makes_way = refl
 -- ---- an empty queue takes no round; nobody drains a publisher, or an end without a line
 
 -- nothing to drain takes no round
-pub nothing_waits : rounds_taken usual first r1 1 (after usual (turns (receiver r1 10 ∷ joins r1 false))) ≡ 0
+pub nothing_waits : rounds_taken usual first r1 1 (after usual (turns (receiver r1 10 0 ∷ joins r1 false))) ≡ 0
 unfolding varint is_utf8 chars encode
 nothing_waits = refl
 

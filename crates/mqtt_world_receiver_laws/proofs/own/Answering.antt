@@ -287,7 +287,7 @@ module _ (number : Numbering) (largest : ℕ) (copies : List Lot) (limits : Limi
   n = l.number
 
   abbrev pub packet : Packet
-  packet = wire_back r.client r.window (answers a)
+  packet = wire_back r.client r.window r.aliases (answers a)
 
   abbrev pub done_deeds : List Deed
   done_deeds = deeds limits choice now (Input n packet) b
@@ -599,12 +599,12 @@ is_reply (pubrec i code) q = reply_pubrec i code (next_order q) (holder i q)
 is_reply (pubcomp i code) q = reply_pubcomp (holder i q)
 
 -- the broker does that
-pub answered_by : (a : Answer) (client : List ℕ) (window : ℕ) (env : Env) (l : BrokerLine) (s : Session) (b : Broker) → HasNoConnect (a ∷ [])
-    → next_packet env l (wire_back client window (answers a)) s b ≡ on_answer (reply_to a (queue_on l.went s)) env l s b
-answered_by (connect clean) client window env l s b none = absurd none
-answered_by (puback i code) client window env l s b none = refl
-answered_by (pubrec i code) client window env l s b none = refl
-answered_by (pubcomp i code) client window env l s b none = refl
+pub answered_by : (a : Answer) (client : List ℕ) (window aliases : ℕ) (env : Env) (l : BrokerLine) (s : Session) (b : Broker) → HasNoConnect (a ∷ [])
+    → next_packet env l (wire_back client window aliases (answers a)) s b ≡ on_answer (reply_to a (queue_on l.went s)) env l s b
+answered_by (connect clean) client window aliases env l s b none = absurd none
+answered_by (puback i code) client window aliases env l s b none = refl
+answered_by (pubrec i code) client window aliases env l s b none = refl
+answered_by (pubcomp i code) client window aliases env l s b none = refl
 
 -- and so does the hop, on either line
 hop_answers : (a : Answer) (rest : List Answer) (w : Hop) → HasNoConnect (a ∷ []) → up_comes false (a ∷ rest) w ≡ replied (reply_to a (queue_of w.copies)) rest w
@@ -637,7 +637,7 @@ pub answers_follow : (number : Numbering) (largest : ℕ) (copies : List Lot) (l
 answers_follow number largest copies limits choice now a rest r l s b none h c up =
     let q = queue_on l.went s in
     answer_follows number largest copies limits choice now a rest r l s b (standing_by copies r l s b h.queue_is c) c up h.tagged (reply_to a q) (is_reply a q)
-    (answered_by a r.client r.window (env_of limits choice b) l s (heard_of now l.number b) none)
+    (answered_by a r.client r.window r.aliases (env_of limits choice b) l s (heard_of now l.number b) none)
     (answer_comes number largest copies limits choice now a rest r l s b none h c up)
 
 -- so it is a run of their hop again
@@ -655,4 +655,4 @@ pub answers_receive : (number : Numbering) (largest : ℕ) (copies : List Lot) (
 answers_receive number largest copies limits choice now a rest r l s b none h c x up =
     let q = queue_on l.went s in
     answer_receives number largest copies limits choice now a rest r l s b (standing_by copies r l s b h.queue_is c) c up (reads_answer limits choice now l.number a r b) refl x.known (reply_to a q) (is_reply a q)
-    (answered_by a r.client r.window (env_of limits choice b) l s (heard_of now l.number b) none)
+    (answered_by a r.client r.window r.aliases (env_of limits choice b) l s (heard_of now l.number b) none)

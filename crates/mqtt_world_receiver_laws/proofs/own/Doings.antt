@@ -334,8 +334,8 @@ doing_asks number largest copies t w r b h =
 -- ---- it comes, if no session of its name stands
 
 -- and a new receiver
-pub doing_comes : (number : Numbering) (largest : ℕ) (client : List ℕ) (window since : ℕ) (b : Broker) → session_named client b.records ≡ None → IsRun number largest [] (new_receiver client window since) b
-doing_comes number largest client window since b none =
+pub doing_comes : (number : Numbering) (largest : ℕ) (client : List ℕ) (window aliases since : ℕ) (b : Broker) → session_named client b.records ≡ None → IsRun number largest [] (new_receiver client window aliases since) b
+doing_comes number largest client window aliases since b none =
     let stands : is_some (session_named client b.records) ≡ false = ap is_some none in
     record {
       events = [];

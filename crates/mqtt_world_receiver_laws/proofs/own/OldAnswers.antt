@@ -91,7 +91,7 @@ module _ (number : Numbering) (largest : ℕ) (copies : List Lot) (limits : Limi
   n = l.number
 
   abbrev packet : Packet
-  packet = wire_back r.client r.window (answers a)
+  packet = wire_back r.client r.window r.aliases (answers a)
 
   abbrev done_deeds : List Deed
   done_deeds = deeds limits choice now (Input n packet) b
@@ -207,7 +207,7 @@ pub old_answers_run : (number : Numbering) (largest : ℕ) (copies : List Lot) (
 old_answers_run number largest copies limits choice now a rest r l s b none h c old =
     let w = seen number copies r b in
     let q = queue_on l.went s in
-    answer_there number largest copies limits choice now a rest r l s b h c old (reply_to a q) (is_reply a q) (answered_by a r.client r.window (env_of limits choice b) l s (heard_of now l.number b) none)
+    answer_there number largest copies limits choice now a rest r l s b h c old (reply_to a q) (is_reply a q) (answered_by a r.client r.window r.aliases (env_of limits choice b) l s (heard_of now l.number b) none)
     (ap (λ (xs : List Answer). old_comes false xs w) (ap (filter_map answered) old)
     ∙ (hop_answers_old a (filter_map answered rest) w none
     ∙ ap (λ (es : List FlowEntry). replied_old (reply_to a es) (filter_map answered rest) w) (same_entries copies l.went s.queue (standing_by copies (turned_back r) l s b h.queue_is c))))
@@ -219,4 +219,4 @@ pub old_answers_receive : (number : Numbering) (largest : ℕ) (copies : List Lo
 old_answers_receive number largest copies limits choice now a rest r l s b none h c x old =
     let q = queue_on l.went s in
     old_answer_receives number largest copies limits choice now a rest r l s b h c old x.known (reply_to a q) (is_reply a q)
-    (answered_by a r.client r.window (env_of limits choice b) l s (heard_of now l.number b) none)
+    (answered_by a r.client r.window r.aliases (env_of limits choice b) l s (heard_of now l.number b) none)

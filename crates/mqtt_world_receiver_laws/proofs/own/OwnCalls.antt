@@ -53,9 +53,9 @@ pub answers_in_step : (largest : ℕ) (ids : List CopyId) (birth : ℕ) (ns : Li
     → HasNoConnect (x ∷ []) → IsInStep largest ids birth ns r b → IsListening r l s b → r.line.up ≡ answers x ∷ rest
     → IsInStep largest ids birth ns (reads_answer limits choice now l.number x r b) (after_answer limits choice now l.number x r b)
 answers_in_step largest ids birth ns limits choice now x rest r l s b none k a up =
-    let packet = wire_back r.client r.window (answers x) in
+    let packet = wire_back r.client r.window r.aliases (answers x) in
     let reply = reply_to x (queue_on l.went s) in
-    let served = answer_served r.client birth ns r l s b a limits choice now packet reply (answered_by x r.client r.window (env_of limits choice b) l s (heard_of now l.number b) none) k.served in
+    let served = answer_served r.client birth ns r l s b a limits choice now packet reply (answered_by x r.client r.window r.aliases (env_of limits choice b) l s (heard_of now l.number b) none) k.served in
     record {
       runs = runs_for largest ids birth birth ns r (reads_answer limits choice now l.number x r b) b (after_answer limits choice now l.number x r b) k.runs served
           (λ number h. answers_run number largest h.after limits choice now x rest r l s b none h.run_is a up)
@@ -69,9 +69,9 @@ pub old_answers_in_step : (largest : ℕ) (ids : List CopyId) (birth : ℕ) (ns 
     → HasNoConnect (x ∷ []) → IsInStep largest ids birth ns r b → IsLingering r l s b → r.line.old ≡ answers x ∷ rest
     → IsInStep largest ids birth ns (reads_old_answer limits choice now l.number x r b) (after_answer limits choice now l.number x r b)
 old_answers_in_step largest ids birth ns limits choice now x rest r l s b none k a old =
-    let packet = wire_back r.client r.window (answers x) in
+    let packet = wire_back r.client r.window r.aliases (answers x) in
     let reply = reply_to x (queue_on l.went s) in
-    let served = answer_served r.client birth ns (turned_back r) l s b a limits choice now packet reply (answered_by x r.client r.window (env_of limits choice b) l s (heard_of now l.number b) none) k.served in
+    let served = answer_served r.client birth ns (turned_back r) l s b a limits choice now packet reply (answered_by x r.client r.window r.aliases (env_of limits choice b) l s (heard_of now l.number b) none) k.served in
     record {
       runs = runs_for largest ids birth birth ns r (reads_old_answer limits choice now l.number x r b) b (after_answer limits choice now l.number x r b) k.runs served
           (λ number h. old_answers_run number largest h.after limits choice now x rest r l s b none h.run_is a old)

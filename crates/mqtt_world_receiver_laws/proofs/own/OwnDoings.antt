@@ -136,9 +136,9 @@ asks_in_step largest ids birth ns t w r b k =
     done_in_step largest ids birth ns r (asks_wish t w r) b (λ number size copies h. doing_asks number size copies t w r b h) refl (record { own = k.lines.own; old = k.lines.old }) k
 
 -- a new receiver waits for its session
-pub comes_awaiting : (largest : ℕ) (client : List ℕ) (window since : ℕ) (b : Broker) → session_named client b.records ≡ None → IsAwaiting largest [] [] (new_receiver client window since) b
-comes_awaiting largest client window since b none = record {
-  runs = λ number numbered. record { after = []; same = refl; run_is = doing_comes number largest client window since b none };
+pub comes_awaiting : (largest : ℕ) (client : List ℕ) (window aliases since : ℕ) (b : Broker) → session_named client b.records ≡ None → IsAwaiting largest [] [] (new_receiver client window aliases since) b
+comes_awaiting largest client window aliases since b none = record {
+  runs = λ number numbered. record { after = []; same = refl; run_is = doing_comes number largest client window aliases since b none };
   free = none_own b.lines;
   given = λ n inside. absurd cc;
   lines = record { own = λ n e. absurd cc; old = λ n e. absurd cc };

@@ -198,14 +198,14 @@ hush_queue (At who part ∷ ds) q = (tt, hush_queue ds q.1)
 hush_queue (d ∷ ds) q = absurd q.0
 
 -- the SUBSCRIBE is taken off a line, which leaves these packets, and nothing of copies comes to it
-told_hushed_run : (number : Numbering) (largest : ℕ) (lots : List Lot) (r : Receiver) (call : Call) (up old : List Back) (ds : List Deed) (new : Broker) → AllByRecursion IsHushed ds
+told_hushed_run : (number : Numbering) (largest : ℕ) (lots : List Lot) (r : Receiver) (call : Call) (up old : List Back) (ds : List Deed) (first new : Broker) → AllByRecursion IsHushed ds
     → filter_map answered up ≡ filter_map answered r.line.up → filter_map answered old ≡ filter_map answered r.line.old
-    → IsRun number largest lots r new → IsRun number largest lots (receiver_told new (outcome_of call ds new) (record r { line = record r.line { up = up; old = old } })) new
-told_hushed_run number largest lots r call up old ds new hush same_up same_old h =
+    → IsRun number largest lots r new → IsRun number largest lots (receiver_told new (outcome_of call ds first) (record r { line = record r.line { up = up; old = old } })) new
+told_hushed_run number largest lots r call up old ds first new hush same_up same_old h =
     let ids = map id_of lots in
     let x = hushed_on number ids r.line.number new ds hush in
     let none = hush_closes ds hush in
-    let out = outcome_of call ds new in
+    let out = outcome_of call ds first in
     let q = receiver_told new out (record r { line = record r.line { up = up; old = old } }) in
     let sent = sent_to r.line.number new (filter_map output ds) in
     let ups : filter_map answered (unless_closed (is_one_of r.line.number (filter_map closing ds)) up) ≡ filter_map answered r.line.up =
@@ -223,14 +223,14 @@ told_hushed_run number largest lots r call up old ds new hush same_up same_old h
       tagged = record { down = all_join (IsTagged number ids) r.line.down sent h.tagged.down x.tagged; ledger = h.tagged.ledger; once = h.tagged.once };
     }
 
-told_hushed : (number : Numbering) (largest : ℕ) (all : List CopyId) (birth : ℕ) (r : Receiver) (call : Call) (up old : List Back) (ds : List Deed) (new : Broker) → AllByRecursion IsHushed ds
+told_hushed : (number : Numbering) (largest : ℕ) (all : List CopyId) (birth : ℕ) (r : Receiver) (call : Call) (up old : List Back) (ds : List Deed) (first new : Broker) → AllByRecursion IsHushed ds
     → filter_map answered up ≡ filter_map answered r.line.up → filter_map answered old ≡ filter_map answered r.line.old
-    → RunsWithAll number largest all birth r new → RunsWithAll number largest all birth (receiver_told new (outcome_of call ds new) (record r { line = record r.line { up = up; old = old } })) new
-told_hushed number largest all birth r call up old ds new hush same_up same_old h =
+    → RunsWithAll number largest all birth r new → RunsWithAll number largest all birth (receiver_told new (outcome_of call ds first) (record r { line = record r.line { up = up; old = old } })) new
+told_hushed number largest all birth r call up old ds first new hush same_up same_old h =
     record {
       after = h.after;
       same = h.same;
-      run_is = told_hushed_run number largest h.after r call up old ds new hush same_up same_old h.run_is;
+      run_is = told_hushed_run number largest h.after r call up old ds first new hush same_up same_old h.run_is;
       session = h.session;
       birth_is = h.birth_is;
       receiving = record { session = h.receiving.session; client = h.receiving.client; only = h.receiving.only; known = h.receiving.known };
@@ -640,7 +640,7 @@ module _ (largest : ℕ) (env : Env) (small : env.limits.queue ≤ QUEUE_LIMIT) 
 -- ---- the call
 
 abbrev pub asking : Wish → Receiver → ℕ → Call
-asking w r n = Input n (wire_back r.client r.window (asks_for w))
+asking w r n = Input n (wire_back r.client r.window r.aliases (asks_for w))
 
 -- what it brings, on whatever line
 pub record Brings (largest : ℕ) (ids : List CopyId) (limits : Limits) (choice : MemberChoice) (now birth : ℕ) (ns : List ℕ) (w : Wish) (r : Receiver) (n : ℕ) (b : Broker) : Type 0 where
@@ -660,7 +660,7 @@ pub brings : (largest : ℕ) (ids : List CopyId) (limits : Limits) (choice : Mem
 brings largest ids limits choice now birth ns w r there l s b k name a tidy =
     let env = env_of limits choice b in
     let n = l.number in
-    let packet = wire_back r.client r.window (asks_for w) in
+    let packet = wire_back r.client r.window r.aliases (asks_for w) in
     let call = Input n packet in
     let first = at_moment now b in
     let c = heard_of now n b in
@@ -724,12 +724,12 @@ brings largest ids limits choice now birth ns w r there l s b k name a tidy =
 
 -- the two are in step, with copies that differ, if no two retained messages are of one publication
 pub record Wished (largest : ℕ) (ids : List CopyId) (limits : Limits) (choice : MemberChoice) (now birth : ℕ) (ns : List ℕ) (w : Wish) (r : Receiver) (n : ℕ) (b : Broker) : Type 0 where
-  pub after : Subscribed largest ids birth ns (suc b.records.subscribes) (receiver_after limits choice now (Input n (wire_back r.client r.window (asks_for w))) r b) (stepped limits choice now (Input n (wire_back r.client r.window (asks_for w))) b)
-  pub longer : (most : ℕ) → IsUpTo birth most b → IsUpTo birth (most + length after.more) (stepped limits choice now (Input n (wire_back r.client r.window (asks_for w))) b)
+  pub after : Subscribed largest ids birth ns (suc b.records.subscribes) (receiver_after limits choice now (Input n (wire_back r.client r.window r.aliases (asks_for w))) r b) (stepped limits choice now (Input n (wire_back r.client r.window r.aliases (asks_for w))) b)
+  pub longer : (most : ℕ) → IsUpTo birth most b → IsUpTo birth (most + length after.more) (stepped limits choice now (Input n (wire_back r.client r.window r.aliases (asks_for w))) b)
   pub lots : (number : Numbering) (copies : List Lot) → AreNumbered number (ids ++ after.more) → IsRun number largest copies r b → map id_of copies ≡ ids
-      → LotsOn number largest copies (ids ++ after.more) (receiver_after limits choice now (Input n (wire_back r.client r.window (asks_for w))) r b) (stepped limits choice now (Input n (wire_back r.client r.window (asks_for w))) b)
+      → LotsOn number largest copies (ids ++ after.more) (receiver_after limits choice now (Input n (wire_back r.client r.window r.aliases (asks_for w))) r b) (stepped limits choice now (Input n (wire_back r.client r.window r.aliases (asks_for w))) b)
   pub differ : AllDiffer (map number_of b.records.retained) → AllDiffer after.more
-  pub apart : AreRetainedApart b → AreToldApart after.more (stepped limits choice now (Input n (wire_back r.client r.window (asks_for w))) b).records
+  pub apart : AreRetainedApart b → AreToldApart after.more (stepped limits choice now (Input n (wire_back r.client r.window r.aliases (asks_for w))) b).records
 
 -- a subscription brings the copies that the definition has
 pub wished : (largest : ℕ) (ids : List CopyId) (limits : Limits) (choice : MemberChoice) (now birth : ℕ) (ns : List ℕ) (w : Wish) (rest : List Back) (r : Receiver) (l : BrokerLine) (s : Session) (b : Broker)
@@ -743,7 +743,7 @@ wished largest ids limits choice now birth ns w rest r l s b k a tidy up =
         more = x.more;
         new = x.new;
         in_step = record {
-          runs = λ number m. told_hushed number largest (ids ++ x.more) birth r call (drop 1 r.line.up) r.line.old (deeds_in limits choice now call b) (stepped limits choice now call b) x.hush same refl (x.runs number m);
+          runs = λ number m. told_hushed number largest (ids ++ x.more) birth r call (drop 1 r.line.up) r.line.old (deeds_in limits choice now call b) (at_moment now b) (stepped limits choice now call b) x.hush same refl (x.runs number m);
           served = x.served;
           lines = record { own = k.lines.own; old = k.lines.old };
         };
@@ -751,7 +751,7 @@ wished largest ids limits choice now birth ns w rest r l s b k a tidy up =
       longer = x.longer;
       lots = λ number copies m before all.
           let y = x.lots number copies m before all in
-          record { after = y.after; same = y.same; run_is = told_hushed_run number largest y.after r call (drop 1 r.line.up) r.line.old (deeds_in limits choice now call b) (stepped limits choice now call b) x.hush same refl y.run_is; way = y.way };
+          record { after = y.after; same = y.same; run_is = told_hushed_run number largest y.after r call (drop 1 r.line.up) r.line.old (deeds_in limits choice now call b) (at_moment now b) (stepped limits choice now call b) x.hush same refl y.run_is; way = y.way };
       differ = x.differ;
       apart = x.apart;
     }
@@ -759,8 +759,8 @@ wished largest ids limits choice now birth ns w rest r l s b k a tidy up =
 -- with what tells them apart
 pub subscribes_apart : (largest : ℕ) (ids : List CopyId) (limits : Limits) (choice : MemberChoice) (now birth : ℕ) (ns : List ℕ) (w : Wish) (rest : List Back) (r : Receiver) (l : BrokerLine) (s : Session) (b : Broker)
     → IsInStep largest ids birth ns r b → IsListening r l s b → IsTidy limits b → r.line.up ≡ asks_for w ∷ rest
-    → (x : Subscribed largest ids birth ns (suc b.records.subscribes) (receiver_after limits choice now (Input l.number (wire_back r.client r.window (asks_for w))) r b) (stepped limits choice now (Input l.number (wire_back r.client r.window (asks_for w))) b))
-    × (AreRetainedApart b → AreToldApart x.more (stepped limits choice now (Input l.number (wire_back r.client r.window (asks_for w))) b).records)
+    → (x : Subscribed largest ids birth ns (suc b.records.subscribes) (receiver_after limits choice now (Input l.number (wire_back r.client r.window r.aliases (asks_for w))) r b) (stepped limits choice now (Input l.number (wire_back r.client r.window r.aliases (asks_for w))) b))
+    × (AreRetainedApart b → AreToldApart x.more (stepped limits choice now (Input l.number (wire_back r.client r.window r.aliases (asks_for w))) b).records)
 subscribes_apart largest ids limits choice now birth ns w rest r l s b k a tidy up =
     let x = wished largest ids limits choice now birth ns w rest r l s b k a tidy up in
     (x.after, x.apart)
@@ -768,14 +768,14 @@ subscribes_apart largest ids limits choice now birth ns w rest r l s b k a tidy 
 -- and leaves the receiver in step
 pub subscribes_in_step : (largest : ℕ) (ids : List CopyId) (limits : Limits) (choice : MemberChoice) (now birth : ℕ) (ns : List ℕ) (w : Wish) (rest : List Back) (r : Receiver) (l : BrokerLine) (s : Session) (b : Broker)
     → IsInStep largest ids birth ns r b → IsListening r l s b → IsTidy limits b → r.line.up ≡ asks_for w ∷ rest
-    → Subscribed largest ids birth ns (suc b.records.subscribes) (receiver_after limits choice now (Input l.number (wire_back r.client r.window (asks_for w))) r b) (stepped limits choice now (Input l.number (wire_back r.client r.window (asks_for w))) b)
+    → Subscribed largest ids birth ns (suc b.records.subscribes) (receiver_after limits choice now (Input l.number (wire_back r.client r.window r.aliases (asks_for w))) r b) (stepped limits choice now (Input l.number (wire_back r.client r.window r.aliases (asks_for w))) b)
 subscribes_in_step largest ids limits choice now birth ns w rest r l s b k a tidy up = (wished largest ids limits choice now birth ns w rest r l s b k a tidy up).after
 
 -- on the line that it gave up
 pub old_subscribes_apart : (largest : ℕ) (ids : List CopyId) (limits : Limits) (choice : MemberChoice) (now birth : ℕ) (ns : List ℕ) (w : Wish) (rest : List Back) (r : Receiver) (l : BrokerLine) (s : Session) (b : Broker)
     → IsInStep largest ids birth ns r b → IsLingering r l s b → IsTidy limits b → r.line.old ≡ asks_for w ∷ rest
-    → (x : Subscribed largest ids birth ns (suc b.records.subscribes) (reads_old_wish limits choice now l.number w r b) (stepped limits choice now (Input l.number (wire_back r.client r.window (asks_for w))) b))
-    × (AreRetainedApart b → AreToldApart x.more (stepped limits choice now (Input l.number (wire_back r.client r.window (asks_for w))) b).records)
+    → (x : Subscribed largest ids birth ns (suc b.records.subscribes) (reads_old_wish limits choice now l.number w r b) (stepped limits choice now (Input l.number (wire_back r.client r.window r.aliases (asks_for w))) b))
+    × (AreRetainedApart b → AreToldApart x.more (stepped limits choice now (Input l.number (wire_back r.client r.window r.aliases (asks_for w))) b).records)
 old_subscribes_apart largest ids limits choice now birth ns w rest r l s b k a tidy old =
     let call = asking w r l.number in
     let x = brings largest ids limits choice now birth ns w r (turned_back r) l s b k refl a tidy in
@@ -784,7 +784,7 @@ old_subscribes_apart largest ids limits choice now birth ns w rest r l s b k a t
         more = x.more;
         new = x.new;
         in_step = record {
-          runs = λ number m. told_hushed number largest (ids ++ x.more) birth r call r.line.up (drop 1 r.line.old) (deeds_in limits choice now call b) (stepped limits choice now call b) x.hush refl same (x.runs number m);
+          runs = λ number m. told_hushed number largest (ids ++ x.more) birth r call r.line.up (drop 1 r.line.old) (deeds_in limits choice now call b) (at_moment now b) (stepped limits choice now call b) x.hush refl same (x.runs number m);
           served = x.served;
           lines = record { own = k.lines.own; old = k.lines.old };
         };
@@ -795,5 +795,5 @@ old_subscribes_apart largest ids limits choice now birth ns w rest r l s b k a t
 -- also on the old line
 pub old_subscribes_in_step : (largest : ℕ) (ids : List CopyId) (limits : Limits) (choice : MemberChoice) (now birth : ℕ) (ns : List ℕ) (w : Wish) (rest : List Back) (r : Receiver) (l : BrokerLine) (s : Session) (b : Broker)
     → IsInStep largest ids birth ns r b → IsLingering r l s b → IsTidy limits b → r.line.old ≡ asks_for w ∷ rest
-    → Subscribed largest ids birth ns (suc b.records.subscribes) (reads_old_wish limits choice now l.number w r b) (stepped limits choice now (Input l.number (wire_back r.client r.window (asks_for w))) b)
+    → Subscribed largest ids birth ns (suc b.records.subscribes) (reads_old_wish limits choice now l.number w r b) (stepped limits choice now (Input l.number (wire_back r.client r.window r.aliases (asks_for w))) b)
 old_subscribes_in_step largest ids limits choice now birth ns w rest r l s b k a tidy old = (old_subscribes_apart largest ids limits choice now birth ns w rest r l s b k a tidy old).0

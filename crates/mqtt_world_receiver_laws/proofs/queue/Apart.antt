@@ -64,10 +64,10 @@ apart_brought birth ids more old new h fell brought apart =
 pub apart_subscribed : (largest : ℕ) (ids : List CopyId) (limits : Limits) (choice : MemberChoice) (now birth : ℕ) (ns : List ℕ) (w : Wish) (rest : List Back) (r : Receiver) (l : BrokerLine) (s : Session) (b : Broker)
     → IsInStep largest ids birth ns r b → IsListening r l s b → IsTidy limits b → r.line.up ≡ asks_for w ∷ rest
     → AreToldApart ids b.records → AllDiffer (map (λ (k : RetainedMessage). k.publication) b.records.retained) → HasAcceptedNumbers b.records
-    → (x : Subscribed largest ids birth ns (suc b.records.subscribes) (receiver_after limits choice now (Input l.number (wire_back r.client r.window (asks_for w))) r b) (stepped limits choice now (Input l.number (wire_back r.client r.window (asks_for w))) b))
-    × AreToldApart (ids ++ x.more) (stepped limits choice now (Input l.number (wire_back r.client r.window (asks_for w))) b).records
+    → (x : Subscribed largest ids birth ns (suc b.records.subscribes) (receiver_after limits choice now (Input l.number (wire_back r.client r.window r.aliases (asks_for w))) r b) (stepped limits choice now (Input l.number (wire_back r.client r.window r.aliases (asks_for w))) b))
+    × AreToldApart (ids ++ x.more) (stepped limits choice now (Input l.number (wire_back r.client r.window r.aliases (asks_for w))) b).records
 apart_subscribed largest ids limits choice now birth ns w rest r l s b k a tidy up apart differ accepted =
-    let call = Input l.number (wire_back r.client r.window (asks_for w)) in
+    let call = Input l.number (wire_back r.client r.window r.aliases (asks_for w)) in
     let both = subscribes_apart largest ids limits choice now birth ns w rest r l s b k a tidy up in
     let told = both.1 (record { differ = differ; upto = accepted.1 }) in
     (both.0, apart_brought birth ids both.0.more b.records (stepped limits choice now call b).records apart (step_fell limits choice now call b) both.0.new told)
@@ -76,10 +76,10 @@ apart_subscribed largest ids limits choice now birth ns w rest r l s b k a tidy 
 pub apart_old_subscribed : (largest : ℕ) (ids : List CopyId) (limits : Limits) (choice : MemberChoice) (now birth : ℕ) (ns : List ℕ) (w : Wish) (rest : List Back) (r : Receiver) (l : BrokerLine) (s : Session) (b : Broker)
     → IsInStep largest ids birth ns r b → IsLingering r l s b → IsTidy limits b → r.line.old ≡ asks_for w ∷ rest
     → AreToldApart ids b.records → AllDiffer (map (λ (k : RetainedMessage). k.publication) b.records.retained) → HasAcceptedNumbers b.records
-    → (x : Subscribed largest ids birth ns (suc b.records.subscribes) (reads_old_wish limits choice now l.number w r b) (stepped limits choice now (Input l.number (wire_back r.client r.window (asks_for w))) b))
-    × AreToldApart (ids ++ x.more) (stepped limits choice now (Input l.number (wire_back r.client r.window (asks_for w))) b).records
+    → (x : Subscribed largest ids birth ns (suc b.records.subscribes) (reads_old_wish limits choice now l.number w r b) (stepped limits choice now (Input l.number (wire_back r.client r.window r.aliases (asks_for w))) b))
+    × AreToldApart (ids ++ x.more) (stepped limits choice now (Input l.number (wire_back r.client r.window r.aliases (asks_for w))) b).records
 apart_old_subscribed largest ids limits choice now birth ns w rest r l s b k a tidy old apart differ accepted =
-    let call = Input l.number (wire_back r.client r.window (asks_for w)) in
+    let call = Input l.number (wire_back r.client r.window r.aliases (asks_for w)) in
     let both = old_subscribes_apart largest ids limits choice now birth ns w rest r l s b k a tidy old in
     let told = both.1 (record { differ = differ; upto = accepted.1 }) in
     (both.0, apart_brought birth ids both.0.more b.records (stepped limits choice now call b).records apart (step_fell limits choice now call b) both.0.new told)
