@@ -1,3 +1,5 @@
 pub mod Calls
 pub mod Ends
+pub mod Reading
+pub mod Spelling
 pub mod Worlds

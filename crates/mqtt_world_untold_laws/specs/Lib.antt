@@ -1,1 +1,1 @@
-pub mod Untold
+pub mod Knowing
