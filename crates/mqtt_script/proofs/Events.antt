@@ -12,11 +12,11 @@ use Rattle.mqtt_script.specs.declared.fault.ScriptFault.{ScriptFault}
 use Rattle.mqtt_script.specs.declared.fault.ScriptFault.TheVariants.{Memory}
 use Rattle.mqtt_script.specs.Words.{words_of, flag_word, qos_word, handling_word}
 use Rattle.mqtt_script.specs.Lines.{first_word, asking_word, AskingFollows, IsAsking, Follows, IsLineOf, IsNoLine}
-use Rattle.mqtt_script.specs.Reading.{◌>>=◌, IsReadAs, name_at, flag_at, qos_at, handling_at, number_at, window_at, identifier_at, payload_at, alone, receiver_in, connect_in, draft_in, publish_in, options_in, wish_in, subscribe_in, clock_in, asking_named, asking_in, asked, is_asking_word, end_named, event_named, event_in}
+use Rattle.mqtt_script.specs.Reading.{◌>>=◌, IsReadAs, name_at, flag_at, qos_at, handling_at, number_at, window_at, identifier_at, payload_at, alone, aliases_in, receiver_in, connect_in, draft_in, publish_in, options_in, wish_in, subscribe_in, clock_in, asking_named, asking_in, asked, is_asking_word, end_named, event_named, event_in}
 use Rattle.mqtt_script.proofs.Askings as askings
 use Rattle.mqtt_script.proofs.Askings.{one_name_is_read, by_name, asking_named_says, asking_says, asking_named_is_read, asking_is_read}
 use Rattle.mqtt_script.proofs.Cases.{same_some, bound, named, either, nothing}
-use Rattle.mqtt_script.proofs.Meanings.{name_says, name_is_read, flag_says, flag_is_read, qos_says, qos_is_read, handling_says, handling_is_read, number_says, number_is_read, window_says, window_is_read, identifier_says, identifier_is_read, payload_says, payload_is_read}
+use Rattle.mqtt_script.proofs.Meanings.{name_says, name_is_read, flag_says, flag_is_read, qos_says, qos_is_read, handling_says, handling_is_read, number_says, number_is_read, window_says, window_is_read, aliases_say, aliases_are_read, identifier_says, identifier_is_read, payload_says, payload_is_read}
 
 -- this first word and those behind it are the event's
 abbrev Says : List ℕ → List (List ℕ) → Event → Type 0
@@ -26,12 +26,13 @@ Says first more e = (first ≡ first_word e) × Follows e more
 
 receiver_says : (words : List (List ℕ)) (e : Event) → receiver_in words ≡ Some e → Says (codes "receiver") words e
 unfolding receiver_in
-receiver_says (client ∷ max ∷ []) e is =
+receiver_says (client ∷ max ∷ more) e is =
     let w = bound (window_at max) _ e is in
-    let c = bound (name_at client) _ e w.2 in
+    let a = bound (aliases_in more) _ e w.2 in
+    let c = bound (name_at client) _ e a.2 in
     let name = name_says client c.0 c.1 in
-    subst (λ (e : Event). Says (codes "receiver") (client ∷ max ∷ []) e) (same_some (Receiver c.0 w.0) e c.2)
-    (refl, (max, ap (λ (v : List ℕ). v ∷ max ∷ []) name.0, name.1, window_says max w.0 w.1))
+    subst (λ (e : Event). Says (codes "receiver") (client ∷ max ∷ more) e) (same_some (Receiver c.0 w.0 a.0) e c.2)
+    (refl, (max, more, ap (λ (v : List ℕ). v ∷ max ∷ more) name.0, name.1, window_says max w.0 w.1, aliases_say more a.0 a.1))
 receiver_says words e is = cc
 
 connect_says : (words : List (List ℕ)) (e : Event) → connect_in words ≡ Some e → Says (codes "connect") words e
@@ -200,8 +201,8 @@ asked_is_read a more is = ap (λ o. o >>= (λ a. Some (asked a))) (asking_named_
 event_named_is_read : (e : Event) (more : List (List ℕ)) → Follows e more → event_named (first_word e) more ≡ Some e
 unfolding event_named end_named receiver_in connect_in draft_in publish_in options_in wish_in subscribe_in clock_in alone
 event_named_is_read (Publisher client) more is = rw (one_name_is_read more client is)
-event_named_is_read (Receiver client window) more (max, is, name, most) =
-    rw (is, window_is_read max window most, name_is_read client name)
+event_named_is_read (Receiver client window aliases) more (max, last, is, name, most, taken) =
+    rw (is, window_is_read max window most, aliases_are_read last aliases taken, name_is_read client name)
 event_named_is_read (Connect client clean) more is =
     rw (is.0, flag_is_read clean, name_is_read client is.1)
 event_named_is_read (GiveUp client) more is = rw (one_name_is_read more client is)

@@ -1,5 +1,5 @@
 -- What a word is read as is what it is the text of.
-use Rattle.std.proofs.Common.{◌≡◌, refl, sym, ap, subst, ◌∙◌, ℕ, zero, suc, ◌<◌, ◌^◌, nat_lt, Bool, true, false, true≢false, ◌&&◌, if◌then◌else◌, List, [], length, codes, Option, Some, None, Ok, bytes_eq, inl, inr, arith}
+use Rattle.std.proofs.Common.{◌≡◌, refl, sym, ap, subst, ◌∙◌, ℕ, zero, suc, ◌<◌, ◌^◌, nat_lt, Bool, true, false, true≢false, ◌&&◌, if◌then◌else◌, List, [], ◌∷◌, length, codes, Option, Some, None, Ok, bytes_eq, inl, inr, arith}
 use Rattle.std.specs.Prelude.{decimal}
 use Rattle.std.specs.Bool.{Decides}
 use Rattle.std.specs.Result.{result_ok}
@@ -14,8 +14,8 @@ use Rattle.mqtt_base.specs.declared.session.Qos.{Qos}
 use Rattle.mqtt_base.specs.declared.session.Qos.TheVariants.{AtMostOnce, AtLeastOnce, ExactlyOnce}
 use Rattle.mqtt_base.specs.declared.session.RetainHandling.{RetainHandling}
 use Rattle.mqtt_base.specs.declared.session.RetainHandling.TheVariants.{SendAlways, SendIfNew, DoNotSend}
-use Rattle.mqtt_script.specs.Words.{IsName, IsNumber, flag_word, qos_word, handling_word, IsHex, IsPayload, IsWindow, IsIdentifier}
-use Rattle.mqtt_script.specs.Reading.{name_at, flag_at, qos_at, handling_at, number_at, number_by, window_at, window_by, identifier_at, identifier_by, bytes_at, payload_at}
+use Rattle.mqtt_script.specs.Words.{IsName, IsNumber, flag_word, qos_word, handling_word, IsHex, IsPayload, IsWindow, IsAliasMaximum, AreAliases, IsIdentifier}
+use Rattle.mqtt_script.specs.Reading.{name_at, flag_at, qos_at, handling_at, number_at, number_by, window_at, window_by, alias_maximum_at, alias_maximum_by, aliases_in, identifier_at, identifier_by, bytes_at, payload_at}
 use Rattle.mqtt_script.proofs.Cases.{same_some, decided, granted, bound, goes_on, was_ok}
 
 -- ---- names
@@ -151,6 +151,33 @@ unfolding window_at
 window_is_read word n is =
     goes_on (number_at word) window_by n (number_is_read word n (omega arith, is.2))
     ∙ granted _ (window_decides n) (Some n) (is.0, is.1)
+
+alias_maximum_says : (word : List ℕ) (n : ℕ) → alias_maximum_at word ≡ Some n → IsAliasMaximum n word
+unfolding alias_maximum_at
+alias_maximum_says word n e =
+    let step = bound (number_at word) alias_maximum_by n e in
+    let found = decided _ (Decides-ltb step.0 (2 ^ 16)) (Some step.0) n step.2 in
+    let same = same_some step.0 n found.1 in
+    subst (λ k. IsAliasMaximum k word) same (found.0, (number_says word step.0 step.1).1)
+
+alias_maximum_is_read : (word : List ℕ) (n : ℕ) → IsAliasMaximum n word → alias_maximum_at word ≡ Some n
+unfolding alias_maximum_at
+alias_maximum_is_read word n is =
+    goes_on (number_at word) alias_maximum_by n (number_is_read word n (omega arith, is.1))
+    ∙ granted _ (Decides-ltb n (2 ^ 16)) (Some n) is.0
+
+-- words that are read as a Topic Alias Maximum say it
+pub aliases_say : (words : List (List ℕ)) (n : ℕ) → aliases_in words ≡ Some n → AreAliases n words
+unfolding aliases_in
+aliases_say [] n e = inl (refl, sym (same_some 0 n e))
+aliases_say (word ∷ []) n e = inr (word, refl, alias_maximum_says word n e)
+aliases_say (word ∷ next ∷ more) n e = cc
+
+-- words that say one are read so
+pub aliases_are_read : (words : List (List ℕ)) (n : ℕ) → AreAliases n words → aliases_in words ≡ Some n
+unfolding aliases_in
+aliases_are_read words n (inl is) = rw is.0 (ap (λ m. Some m) (sym is.1))
+aliases_are_read words n (inr (word, is, says)) = rw is (alias_maximum_is_read word n says)
 
 identifier_chosen : (word : List ℕ) (n : ℕ) (some : Bool) → Decides some (0 < n) → n < VARINT_LIMIT → word ≡ decimal n
     → (i : Option ℕ) → (if some then Some (Some n) else Some None) ≡ Some i → IsIdentifier i word

@@ -5,7 +5,7 @@ use Rattle.mqtt_script.specs.declared.event.Asking.{Asking}
 use Rattle.mqtt_script.specs.declared.event.Asking.TheVariants as asking
 use Rattle.mqtt_script.specs.declared.event.Event.{Event}
 use Rattle.mqtt_script.specs.declared.event.Event.TheVariants.{Publisher, Receiver, Connect, GiveUp, Publish, Subscribe, ToBroker, ToEnd, Break, Pump, Clock, Tick, Restart, StopBefore, StopAfter, Stranger, Drain}
-use Rattle.mqtt_script.specs.Words.{words_of, IsName, IsNumber, flag_word, qos_word, handling_word, IsHex, IsPayload, IsWindow, IsIdentifier}
+use Rattle.mqtt_script.specs.Words.{words_of, IsName, IsNumber, flag_word, qos_word, handling_word, IsHex, IsPayload, IsWindow, AreAliases, IsIdentifier}
 
 -- ---- the first word
 
@@ -18,7 +18,7 @@ asking_word (asking.Stranger name bytes) = codes "stranger"
 
 abbrev pub first_word : Event → List ℕ
 first_word (Publisher client) = codes "publisher"
-first_word (Receiver client window) = codes "receiver"
+first_word (Receiver client window aliases) = codes "receiver"
 first_word (Connect client clean_start) = codes "connect"
 first_word (GiveUp client) = codes "giveup"
 first_word (Publish client draft) = codes "publish"
@@ -63,8 +63,9 @@ IsAsking a words = (more : List (List ℕ)) × (words ≡ asking_word a ∷ more
 
 abbrev pub Follows : Event → List (List ℕ) → Type 0
 Follows (Publisher client) words = IsOneName client words
-Follows (Receiver client window) words =
-    (max : List ℕ) × (words ≡ client ∷ max ∷ []) × IsName client × IsWindow window max
+Follows (Receiver client window aliases) words =
+    (max : List ℕ) × (more : List (List ℕ)) × (words ≡ client ∷ max ∷ more) × IsName client × IsWindow window max
+    × AreAliases aliases more
 Follows (Connect client clean_start) words = (words ≡ client ∷ flag_word clean_start ∷ []) × IsName client
 Follows (GiveUp client) words = IsOneName client words
 Follows (Publish client draft) words =

@@ -76,6 +76,12 @@ window_by n = if nat_lt 0 n && nat_lt n (2 ^ 16) then Some n else None
 unfoldable pub window_at : List ℕ → Option ℕ
 window_at word = number_at word >>= window_by
 
+abbrev pub alias_maximum_by : ℕ → Option ℕ
+alias_maximum_by n = if nat_lt n (2 ^ 16) then Some n else None
+
+unfoldable pub alias_maximum_at : List ℕ → Option ℕ
+alias_maximum_at word = number_at word >>= alias_maximum_by
+
 abbrev pub identifier_by : ℕ → Option (Option ℕ)
 identifier_by n =
     if nat_lt n VARINT_LIMIT then (if nat_lt 0 n then Some (Some n) else Some None) else None
@@ -101,11 +107,18 @@ unfoldable pub alone : Event → List (List ℕ) → Option Event
 alone e [] = Some e
 alone e words = None
 
+-- 0 if there is none
+unfoldable pub aliases_in : List (List ℕ) → Option ℕ
+aliases_in [] = Some 0
+aliases_in (word ∷ []) = alias_maximum_at word
+aliases_in words = None
+
 unfoldable pub receiver_in : List (List ℕ) → Option Event
-receiver_in (client ∷ max ∷ []) = do
+receiver_in (client ∷ max ∷ more) = do
   window ← window_at max
+  aliases ← aliases_in more
   name ← name_at client
-  Some (Receiver name window)
+  Some (Receiver name window aliases)
 receiver_in words = None
 
 unfoldable pub connect_in : List (List ℕ) → Option Event

@@ -1,5 +1,5 @@
 -- The words of a line, and what each stands for (ours).
-use Rattle.std.specs.Prelude.{◌≡◌, ℕ, ◌<◌, ◌^◌, ◌==◌, ◌⊎◌, Bool, true, false, List, [], length}
+use Rattle.std.specs.Prelude.{◌≡◌, ℕ, ◌<◌, ◌^◌, ◌==◌, ◌⊎◌, Bool, true, false, List, [], ◌∷◌, length}
 use Rattle.std.specs.Prelude.{codes, Option, Some, None, Ok, decimal}
 use Rattle.std.specs.List.{slice_split}
 use Rattle.hex.specs.Hex.{decode_of}
@@ -52,6 +52,14 @@ IsPayload payload word = ((word ≡ codes "-") × (payload ≡ [])) ⊎ IsHex pa
 -- a Receive Maximum (3.1.2.11.3)
 abbrev pub IsWindow : ℕ → List ℕ → Type 0
 IsWindow n word = (0 < n) × (n < 2 ^ 16) × (word ≡ decimal n)
+
+-- a Topic Alias Maximum (3.1.2.11.5)
+abbrev pub IsAliasMaximum : ℕ → List ℕ → Type 0
+IsAliasMaximum n word = (n < 2 ^ 16) × (word ≡ decimal n)
+
+-- a Topic Alias Maximum, which is 0 if no word says it
+abbrev pub AreAliases : ℕ → List (List ℕ) → Type 0
+AreAliases n words = ((words ≡ []) × (n ≡ 0)) ⊎ ((word : List ℕ) × (words ≡ word ∷ []) × IsAliasMaximum n word)
 
 -- a Subscription Identifier (3.8.2.1.2), or 0 for none
 abbrev pub IsIdentifier : Option ℕ → List ℕ → Type 0

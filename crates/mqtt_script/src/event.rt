@@ -120,6 +120,8 @@ pub enum Event {
         client: Text,
         /// Its Receive Maximum, from 1 (3.1.2.11.3).
         window: u16,
+        /// Its Topic Alias Maximum, 0 if it takes none (3.1.2.11.5).
+        aliases: u16,
     },
     /// An end sends CONNECT on a new line.
     Connect {
@@ -230,9 +232,14 @@ impl Clone for Event {
             Event::Publisher { client } => Event::Publisher {
                 client: client.clone()?,
             },
-            Event::Receiver { client, window } => Event::Receiver {
+            Event::Receiver {
+                client,
+                window,
+                aliases,
+            } => Event::Receiver {
                 client: client.clone()?,
                 window: *window,
+                aliases: *aliases,
             },
             Event::Connect {
                 client,

@@ -3,13 +3,13 @@
 ghost use Rattle.std.specs.Prelude.{◌≡◌, ◌≢◌, IfOk, IfErr};
 ghost use Rattle.mqtt_script.specs.Lines.{IsLineOf, IsNoLine, is_passed_over};
 ghost use Rattle.mqtt_script.specs.Words.{words_of};
-ghost use Rattle.mqtt_script.specs.Reading.{IsReadAs, alone, asked, asking_in, asking_named, clock_in, connect_in, draft_in, end_named, event_in, event_named, is_asking_word, late_in, one_name_in, options_in, publish_in, receiver_in, stranger_in, subscribe_in, texts, tick_in, to_broker_in, wish_in};
+ghost use Rattle.mqtt_script.specs.Reading.{IsReadAs, aliases_in, alone, asked, asking_in, asking_named, clock_in, connect_in, draft_in, end_named, event_in, event_named, is_asking_word, late_in, one_name_in, options_in, publish_in, receiver_in, stranger_in, subscribe_in, texts, tick_in, to_broker_in, wish_in};
 
 use crate::event::{Asking, Content, Draft, Event, Wish};
 use crate::fault::ScriptFault;
 use crate::words::{
-    bytes_read, flag_read, handling_read, identifier_read, name_read, number_read, payload_read,
-    qos_read, window_read,
+    alias_maximum_read, bytes_read, flag_read, handling_read, identifier_read, name_read,
+    number_read, payload_read, qos_read, window_read,
 };
 use mqtt_base::{SubscriptionOptions, Text};
 use std::alloc::{AllocError, Global};
@@ -24,7 +24,7 @@ pub fn is_passed_over(line: &[u8]) -> bool
 /// Reads the event whose line this is, without its line feed: ASCII, its words with one space
 /// between them.
 ///
-/// - `publisher E`, `receiver E MAX`, `connect E C`, `giveup E`;
+/// - `publisher E`, `receiver E MAX`, `receiver E MAX ALIASES`, `connect E C`, `giveup E`;
 /// - `publish E QOS RETAIN TOPIC HEX`, with `-` for no payload;
 /// - `subscribe E QOS NL RAP RH ID FILTER`, with ID 0 for none;
 /// - `tobroker E`, `tobroker E old`, `toend E`, `break E`, `pump E`, `drain E`;
@@ -174,16 +174,33 @@ fn one_name_read(alloc: Global, words: &[&str]) -> Result<Text, ScriptFault>
     }
 }
 
+/// Reads a Topic Alias Maximum from its word (3.1.2.11.5); it is 0 if there is none.
+#[tactic(auto, unfolding(crate::specs::Reading::aliases_in))]
+fn aliases_read(words: &[&str]) -> Result<u16, ScriptFault>
+    ensures { IsReadAs (aliases_in (texts words.now)) result }
+{
+    match words {
+        [] => Ok(0),
+        [word] => alias_maximum_read(word),
+        _ => Err(ScriptFault::NoEvent),
+    }
+}
+
 #[tactic(auto, unfolding(crate::specs::Reading::receiver_in))]
 fn receiver_read(alloc: Global, words: &[&str]) -> Result<Event, ScriptFault>
     ensures { IsReadAs (receiver_in (texts words.now)) result }
 {
-    let [client, max] = words else {
+    let [client, max, more @ ..] = words else {
         return Err(ScriptFault::NoEvent);
     };
     let window = window_read(max)?;
+    let aliases = aliases_read(more)?;
     let client = name_read(alloc, client)?;
-    Ok(Event::Receiver { client, window })
+    Ok(Event::Receiver {
+        client,
+        window,
+        aliases,
+    })
 }
 
 #[tactic(auto, unfolding(crate::specs::Reading::connect_in))]

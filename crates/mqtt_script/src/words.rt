@@ -1,7 +1,7 @@
 //! What a word of a line stands for (ours).
 
 ghost use Rattle.std.specs.Prelude.{◌≡◌, IfOk, IfErr};
-ghost use Rattle.mqtt_script.specs.Reading.{IsReadAs, is_led, name_at, flag_at, qos_at, handling_at, number_at, window_at, identifier_at, bytes_at, payload_at};
+ghost use Rattle.mqtt_script.specs.Reading.{IsReadAs, is_led, name_at, flag_at, qos_at, handling_at, number_at, window_at, alias_maximum_at, identifier_at, bytes_at, payload_at};
 
 use crate::fault::ScriptFault;
 use bytes::Bytes;
@@ -89,6 +89,19 @@ pub(crate) fn window_read(word: &str) -> Result<u16, ScriptFault>
 {
     let number = number_read(word)?;
     if 0 < number && number < 1 << 16 {
+        Ok(number as u16)
+    } else {
+        Err(ScriptFault::NoEvent)
+    }
+}
+
+/// Reads a Topic Alias Maximum (3.1.2.11.5).
+#[tactic(auto, unfolding(crate::specs::Reading::alias_maximum_at))]
+pub(crate) fn alias_maximum_read(word: &str) -> Result<u16, ScriptFault>
+    ensures { IsReadAs (alias_maximum_at word.now) result }
+{
+    let number = number_read(word)?;
+    if number < 1 << 16 {
         Ok(number as u16)
     } else {
         Err(ScriptFault::NoEvent)

@@ -22,7 +22,7 @@ both_true false b h = absurd cc
 no_end : (o : Option Event) (w : World) → makes_end o ≡ false → IsMadeAnewIf o w
 no_end None w h = tt
 no_end (Some (publisher client)) w h = absurd cc
-no_end (Some (receiver client window)) w h = absurd cc
+no_end (Some (receiver client window aliases)) w h = absurd cc
 no_end (Some e) w h = tt
 
 none_made : (limits : Limits) (es : List Line) (w : World) → makes_no_end es ≡ true → AreMadeAnew limits es w
@@ -46,10 +46,10 @@ broker_stays limits (publisher client) t w makes is =
     let set = setting limits t in
     ap (λ (e : Event). (cond (is_bad e w) w (happens set e w)).broker) is
     ∙ still (is_bad (publisher client) w) w (happens set (publisher client) w) refl
-broker_stays limits (receiver client window) t w makes is =
+broker_stays limits (receiver client window aliases) t w makes is =
     let set = setting limits t in
     ap (λ (e : Event). (cond (is_bad e w) w (happens set e w)).broker) is
-    ∙ still (is_bad (receiver client window) w) w (happens set (receiver client window) w) refl
+    ∙ still (is_bad (receiver client window aliases) w) w (happens set (receiver client window aliases) w) refl
 broker_stays limits (connect_end client clean) t w makes is = absurd cc
 broker_stays limits (give_up client) t w makes is = absurd cc
 broker_stays limits (publish client d) t w makes is = absurd cc
@@ -69,7 +69,7 @@ one_stays limits x (t ∷ []) w makes are = let same : t.event ≡ x = cc in bro
 
 alone : (x : Event) (w : World) (es : List Event) → makes_end (Some x) ≡ true → Unrolls x w es → es ≡ x ∷ []
 alone (publisher client) w es makes is = is
-alone (receiver client window) w es makes is = is
+alone (receiver client window aliases) w es makes is = is
 alone (connect_end client clean) w es makes is = absurd cc
 alone (give_up client) w es makes is = absurd cc
 alone (publish client d) w es makes is = absurd cc
@@ -94,7 +94,7 @@ made_stays limits e turns w makes (of_drain client at drain) =
 by_broker : (o : Option Event) (w v : World) → v.broker ≡ w.broker → IsMadeAnewIf o w → IsMadeAnewIf o v
 by_broker None w v same h = tt
 by_broker (Some (publisher client)) w v same h = ap (λ (b : Broker). session_named client b.records) same ∙ h
-by_broker (Some (receiver client window)) w v same h = ap (λ (b : Broker). session_named client b.records) same ∙ h
+by_broker (Some (receiver client window aliases)) w v same h = ap (λ (b : Broker). session_named client b.records) same ∙ h
 by_broker (Some e) w v same h = tt
 
 -- a script that makes its ends first, over records without sessions of theirs, makes each anew
@@ -119,7 +119,7 @@ made_first limits (e ∷ es) w h none = elim (cases_Bool (makes_end (event_of e)
 no_sessions : (o : Option Event) → IsMadeAnewIf o start
 no_sessions None = tt
 no_sessions (Some (publisher client)) = refl
-no_sessions (Some (receiver client window)) = refl
+no_sessions (Some (receiver client window aliases)) = refl
 no_sessions (Some e) = tt
 
 none_stored : (es : List Line) → HaveNoSession es start

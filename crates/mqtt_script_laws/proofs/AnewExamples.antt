@@ -22,12 +22,12 @@ abbrev taken : World
 taken = after usual (turns (ask (stranger (codes "s1") (bytes "10 14 00 04 4d 51 54 54 05 00 00 00 05 11 ff ff ff ff 00 02 72 31")) ∷ []))
 
 -- an end whose name has a session may be made
-pub an_end_is_made_all_the_same : is_bad (receiver r1 10) taken ≡ false
+pub an_end_is_made_all_the_same : is_bad (receiver r1 10 0) taken ≡ false
 unfolding varint first_of size_at packet_at frame_at versioned_at lawful_at body_at connect_at fields_at will_at user_name_at password_at layout_at block_at items_at items_in text_at blob_at is_utf8 chars encode varint_at groups_at prop_at value_at
 an_end_is_made_all_the_same = refl
 
 -- but it does not begin clean
-pub its_beginning_is_not_clean : begins_clean (receiver r1 10) taken ≡ false
+pub its_beginning_is_not_clean : begins_clean (receiver r1 10 0) taken ≡ false
 unfolding varint first_of size_at packet_at frame_at versioned_at lawful_at body_at connect_at fields_at will_at user_name_at password_at layout_at block_at items_at items_in text_at blob_at is_utf8 chars encode varint_at groups_at prop_at value_at
 its_beginning_is_not_clean = refl
 

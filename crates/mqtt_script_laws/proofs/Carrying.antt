@@ -59,7 +59,7 @@ not_waiting names client w known other = by (waits_clean client w) refl
 
 event_carries : (e : Event) (names : List (List ℕ)) (w : World) → Known names w → keeps_clean names e ≡ true → IsMadeAnew e w → begins_clean e w ≡ true
 event_carries (publisher client) names w known keeps made = ap is_none made
-event_carries (receiver client window) names w known keeps made = ap is_none made
+event_carries (receiver client window aliases) names w known keeps made = ap is_none made
 event_carries (connect_end client true) names w known keeps made = refl
 event_carries (connect_end client false) names w known keeps made = ap not (not_waiting names client w known keeps)
 event_carries (give_up client) names w known keeps made = by (is_asked (link_of client w)) (waits_clean client w) (not_waiting names client w known keeps)
@@ -138,7 +138,7 @@ stop_comes names (stranger name bytes) w es (part, more, joined, found, none, is
 
 event_comes : (names : List (List ℕ)) (e : Event) (w : World) (es : List Event) → keeps_clean names e ≡ true → Unrolls e w es → Comes names e es
 event_comes names (publisher client) w es keeps is = alone names (publisher client) es keeps is
-event_comes names (receiver client window) w es keeps is = alone names (receiver client window) es keeps is
+event_comes names (receiver client window aliases) w es keeps is = alone names (receiver client window aliases) es keeps is
 event_comes names (connect_end client clean) w es keeps is = alone names (connect_end client clean) es keeps is
 event_comes names (give_up client) w es keeps is = alone names (give_up client) es keeps is
 event_comes names (publish client d) w es keeps is = alone names (publish client d) es keeps is

@@ -106,12 +106,12 @@ module _ (d : MemberChoice) (env : Env) (l : BrokerLine) (s : Session) (b : Brok
   answered (Ok t) = refl
   answered (Err fault) = line_dropped protocol_error
 
-  heard : (client : List ℕ) (window : ℕ) (x : Back) → next_packet env l (wire_back client window x) s b ≡ next_packet (chosen d env) l (wire_back client window x) s b
-  heard client window (answers (connect clean)) = line_dropped protocol_error
-  heard client window (answers (puback i code)) = answered (rules.puback i code (queue_on l.went s))
-  heard client window (answers (pubrec i code)) = answered (rules.pubrec i code (queue_on l.went s))
-  heard client window (answers (pubcomp i code)) = answered (rules.pubcomp i (queue_on l.went s))
-  heard client window (asks_for w) = subscribed d env (is_among 1 s.inbound) l.number s _ b
+  heard : (client : List ℕ) (window aliases : ℕ) (x : Back) → next_packet env l (wire_back client window aliases x) s b ≡ next_packet (chosen d env) l (wire_back client window aliases x) s b
+  heard client window aliases (answers (connect clean)) = line_dropped protocol_error
+  heard client window aliases (answers (puback i code)) = answered (rules.puback i code (queue_on l.went s))
+  heard client window aliases (answers (pubrec i code)) = answered (rules.pubrec i code (queue_on l.went s))
+  heard client window aliases (answers (pubcomp i code)) = answered (rules.pubcomp i (queue_on l.went s))
+  heard client window aliases (asks_for w) = subscribed d env (is_among 1 s.inbound) l.number s _ b
 
 -- ---- a CONNECT
 
@@ -136,9 +136,9 @@ abbrev cleared_by : Bool → Session → List Deed
 cleared_by true s = end_session s
 cleared_by false s = []
 
-module _ (clean : Bool) (client : List ℕ) (window : ℕ) (b : Broker) where
+module _ (clean : Bool) (client : List ℕ) (window aliases : ℕ) (b : Broker) where
   abbrev hello : Greeting
-  hello = greeting clean client window
+  hello = greeting clean client window aliases
 
   -- no session of its name stands
   none_prepared : (env : Env) → session_named client b.records ≡ None → prepare env hello b ≡ []
@@ -186,13 +186,13 @@ module _ (clean : Bool) (client : List ℕ) (window : ℕ) (b : Broker) where
 
 module _ (limits : Limits) (c d : MemberChoice) (now : ℕ) (r : Receiver) (b : Broker) where
   abbrev IsSameOf : ℕ → Back → Type 0
-  IsSameOf n x = deeds limits c now (Input n (wire_back r.client r.window x)) b ≡ deeds limits d now (Input n (wire_back r.client r.window x)) b
+  IsSameOf n x = deeds limits c now (Input n (wire_back r.client r.window r.aliases x)) b ≡ deeds limits d now (Input n (wire_back r.client r.window r.aliases x)) b
 
   on_its_line : (n : ℕ) (x : Back) (s : Session) (l : BrokerLine) → l.number ≡ n → line_at n b ≡ Some l → l.session ≡ Some s.birth → IsKept r.client s b → IsSameOf n x
   on_its_line n x s l number at on k =
-      let packet = wire_back r.client r.window x in
+      let packet = wire_back r.client r.window r.aliases x in
       let there : line_at l.number b ≡ Some l = ap (λ (m : ℕ). line_at m b) number ∙ at in
-      let same = heard d (env_of limits c b) l s (heard_of now l.number b) k.session on k.no_will k.no_end r.client r.window x in
+      let same = heard d (env_of limits c b) l s (heard_of now l.number b) k.session on k.no_will k.no_end r.client r.window r.aliases x in
       subst (λ (m : ℕ). IsSameOf m x) number
       (input_is limits c now packet l s b there on k.session
       ∙ (ap (λ (ds : List Deed). On l.number Hear ∷ (ds ++ [])) same
@@ -203,27 +203,27 @@ module _ (limits : Limits) (c d : MemberChoice) (now : ℕ) (r : Receiver) (b : 
   first_of_line k o clean l at waits his named =
       let env = env_of limits c b in
       let h = heard_of now l.number b in
-      call_is limits c now clean r.client r.window l b at waits
-      ∙ (ap (λ (ds : List Deed). On l.number Hear ∷ (ds ++ [])) (connected clean r.client r.window h d env l (prepared o his))
-      ∙ sym (call_is limits d now clean r.client r.window l b at waits))
+      call_is limits c now clean r.client r.window r.aliases l b at waits
+      ∙ (ap (λ (ds : List Deed). On l.number Hear ∷ (ds ++ [])) (connected clean r.client r.window r.aliases h d env l (prepared o his))
+      ∙ sym (call_is limits d now clean r.client r.window r.aliases l b at waits))
     where
       prepared : (p : Option ℕ) → IsHis r.client p k b
-          → prepare (env_of limits c b) (greeting clean r.client r.window) (heard_of now l.number b) ≡ prepare (env_of limits d b) (greeting clean r.client r.window) (heard_of now l.number b)
+          → prepare (env_of limits c b) (greeting clean r.client r.window r.aliases) (heard_of now l.number b) ≡ prepare (env_of limits d b) (greeting clean r.client r.window r.aliases) (heard_of now l.number b)
       prepared None none =
           let h = heard_of now l.number b in
-          none_prepared clean r.client r.window h (env_of limits c b) none ∙ sym (none_prepared clean r.client r.window h (env_of limits d b) none)
+          none_prepared clean r.client r.window r.aliases h (env_of limits c b) none ∙ sym (none_prepared clean r.client r.window r.aliases h (env_of limits d b) none)
       prepared (Some birth) own =
           let h = heard_of now l.number b in
           let x = kept_of r.client birth k b own.0 own.1 named.short named.plain in
           let s = x.0 in
           let a = x.2 in
           let kept : IsKept r.client s h = record { session = a.session; name = a.name; only = a.only; no_will = a.no_will; no_end = a.no_end; short = a.short; plain = a.plain } in
-          its_prepared clean r.client r.window h (env_of limits c b) (line_of s.birth h) s refl kept
-          ∙ sym (its_prepared clean r.client r.window h (env_of limits d b) (line_of s.birth h) s refl kept)
+          its_prepared clean r.client r.window r.aliases h (env_of limits c b) (line_of s.birth h) s refl kept
+          ∙ sym (its_prepared clean r.client r.window r.aliases h (env_of limits d b) (line_of s.birth h) s refl kept)
 
   -- what a receiver sends does the same whatever members are chosen
   pub deeds_same : (largest : ℕ) (ids : List CopyId) (ns : List ℕ) (n : ℕ) (x : Back) (rest : List Back) → IsPlaced largest ids ns r b → r.line.number ≡ Some n → r.line.up ≡ x ∷ rest
-      → deeds limits c now (Input n (wire_back r.client r.window x)) b ≡ deeds limits d now (Input n (wire_back r.client r.window x)) b
+      → deeds limits c now (Input n (wire_back r.client r.window r.aliases x)) b ≡ deeds limits d now (Input n (wire_back r.client r.window r.aliases x)) b
   deeds_same largest ids ns n x rest placed number up = elim (front placed.birth placed.line x rest r b placed.seat.present up) [
     | inl j ↦ where_joined j
     | inr h ↦ where_waiting h.0 h.1

@@ -2,13 +2,14 @@
 use Rattle.std.proofs.Common.{◌≡◌, ℕ, suc, Bool, true, false, cond, List, [], ◌∷◌, ◌++◌, map, Option, Some, None, bytes_eq, refl, sym, ap, ◌∙◌}
 use Rattle.std.specs.Prelude.{Ok, is_some, option_map}
 use Rattle.std.proofs.lemmas.List.{append-nil, map-append}
+use Rattle.mqtt_codec.specs.declared.packet.Packet.{Packet}
 use Rattle.mqtt_packet.specs.Front.{first_of}
 use Rattle.mqtt_rules.specs.Deeds.{Link}
 use Rattle.mqtt_rules.specs.State.{Broker, MemberChoice}
 use Rattle.mqtt_rules.specs.Step.{Call, NewLine, Outcome, at_moment, can_link, done, is_opening_spent, opened, outcome_of, stepped, told}
 use Rattle.mqtt_rules.specs.declared.Limits.{Limits}
 use Rattle.mqtt_world_model.specs.Ends.{Publisher, Receiver}
-use Rattle.mqtt_world_model.specs.Lines.{Down, Line, is_one_of, sent_to, told_by, unless_closed}
+use Rattle.mqtt_world_model.specs.Lines.{Down, Line, is_one_of, known_by, sent_to, told_by, unless_closed}
 use Rattle.mqtt_world_model.specs.Run.{Reading, read_asked, read_if, read_rest, the_deeds}
 use Rattle.mqtt_world_model.specs.Tellings.{Telling, silent, telling}
 use Rattle.mqtt_world_model.specs.World.{Asking, Setting, Stranger, World, ask, before, break, call_of_stranger, call_on, calls, calls_if, comes}
@@ -196,16 +197,25 @@ none_sent : (number : Option ℕ) (b : Broker) → sent_to number b [] ≡ []
 none_sent None b = refl
 none_sent (Some n) b = refl
 
-nothing_told_by : {U : Type 0} (b : Broker) (out : Outcome) (l : Line U) → out.outputs ≡ [] → out.closed ≡ [] → told_by b out l ≡ l
-nothing_told_by {U} b out l none shut =
-    ap (λ (ns : List ℕ). told_on (is_one_of l.number ns) (sent_to l.number b out.outputs) (is_one_of l.old_number ns)) shut
-    ∙ (ap (λ (t : Bool). told_on t (sent_to l.number b out.outputs) (is_one_of l.old_number [])) (none_closed l.number)
-    ∙ (ap (λ (t : Bool). told_on false (sent_to l.number b out.outputs) t) (none_closed l.old_number)
-    ∙ ap (λ (ds : List Down). record l { down = ds })
-    (ap (λ (ds : List Down). l.down ++ ds) (ap (sent_to l.number b) none ∙ none_sent l.number b) ∙ append-nil l.down)))
-  where
-    told_on : Bool → List Down → Bool → Line U
-    told_on closed ds old = record l { up = unless_closed closed l.up; down = l.down ++ ds; old = unless_closed old l.old }
+none_known : {U : Type 0} (number : Option ℕ) (l : Line U) → known_by number [] l.known ≡ l.known
+none_known None l = refl
+none_known (Some n) l = refl
+
+nothing_told_by : {U : Type 0} (b : Broker) (out : Outcome) (l : Line U) → out.outputs ≡ [] → out.wires ≡ [] → out.closed ≡ []
+    → told_by b out l ≡ l
+nothing_told_by {U} b out l none bare shut =
+    let closed : is_one_of l.number out.closed ≡ false = ap (is_one_of l.number) shut ∙ none_closed l.number in
+    let old_closed : is_one_of l.old_number out.closed ≡ false = ap (is_one_of l.old_number) shut ∙ none_closed l.old_number in
+    let downs : l.down ++ sent_to l.number b out.outputs ≡ l.down =
+    ap (λ (ds : List Down). l.down ++ ds) (ap (sent_to l.number b) none ∙ none_sent l.number b) ∙ append-nil l.down in
+    let knows : known_by l.number out.wires l.known ≡ l.known =
+    ap (λ (ps : List (ℕ × Packet)). known_by l.number ps l.known) bare ∙ none_known l.number l in
+    λ i. record l {
+      up = unless_closed (closed i) l.up;
+      down = downs i;
+      old = unless_closed (old_closed i) l.old;
+      known = knows i;
+    }
 
 map_same : {X : Type 0} (f : X → X) (xs : List X) → ((x : X) → f x ≡ x) → map f xs ≡ xs
 map_same f [] h = refl
@@ -219,17 +229,22 @@ link_closed : (can : Bool) (n : ℕ) (b : Broker) → (outcome_of NewLine (cond 
 link_closed true n b = refl
 link_closed false n b = refl
 
+link_wires : (can : Bool) (n : ℕ) (b : Broker) → (outcome_of NewLine (cond can (Link n ∷ []) []) b).wires ≡ []
+link_wires true n b = refl
+link_wires false n b = refl
+
 -- a new line is a call of the broker's
 pub line_begins : (set : Setting) (w : World) → calls set NewLine w ≡ record w { broker = stepped set.limits set.choice w.now NewLine w.broker }
 line_begins set w =
     let b = stepped set.limits set.choice w.now NewLine w.broker in
     let out = told set.limits set.choice w.now NewLine w.broker in
     let none = link_out (can_link w.broker) (suc w.broker.given) w.broker in
+    let bare = link_wires (can_link w.broker) (suc w.broker.given) (at_moment w.now w.broker) in
     let shut = link_closed (can_link w.broker) (suc w.broker.given) w.broker in
     ap (λ (ps : List Publisher). record (calls set NewLine w) { publishers = ps })
-    (map_same (publisher_told b out) w.publishers (λ p. ap (λ (l : Line _). record p { line = l }) (nothing_told_by b out p.line none shut)))
+    (map_same (publisher_told b out) w.publishers (λ p. ap (λ (l : Line _). record p { line = l }) (nothing_told_by b out p.line none bare shut)))
     ∙ ap (λ (rs : List Receiver). record w { broker = b; receivers = rs })
-    (map_same (receiver_told b out) w.receivers (λ r. ap (λ (l : Line _). record r { line = l }) (nothing_told_by b out r.line none shut)))
+    (map_same (receiver_told b out) w.receivers (λ r. ap (λ (l : Line _). record r { line = l }) (nothing_told_by b out r.line none bare shut)))
 
 link_stored : (can : Bool) (n : ℕ) (b : Broker) → (done (cond can (Link n ∷ []) []) b).records ≡ b.records
 link_stored true n b = refl

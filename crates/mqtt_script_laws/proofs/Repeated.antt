@@ -130,11 +130,11 @@ module _ (limits : Limits) (c d : MemberChoice) where
       taken = with_line client taken_up taken_up w
 
       called : (r : Receiver) → IsPlaced any_size h.kept.stands.ids h.kept.stands.ns r w.broker → (number : Option ℕ) (up : List Back) → r.line.number ≡ number → r.line.up ≡ up → (call : Call)
-          → input_on number (map (wire_back r.client r.window) up) ≡ Some call → deeds limits c w.now call w.broker ≡ deeds limits d w.now call w.broker
+          → input_on number (map (wire_back r.client r.window r.aliases) up) ≡ Some call → deeds limits c w.now call w.broker ≡ deeds limits d w.now call w.broker
       called r placed None up is ups call e = absurd cc
       called r placed (Some n) [] is ups call e = absurd cc
       called r placed (Some n) (x ∷ rest) is ups call e =
-          let same : Input n (wire_back r.client r.window x) ≡ call = cc in
+          let same : Input n (wire_back r.client r.window r.aliases x) ≡ call = cc in
           subst (λ (y : Call). deeds limits c w.now y w.broker ≡ deeds limits d w.now y w.broker) same
           (deeds_same limits c d w.now r w.broker any_size h.kept.stands.ids h.kept.stands.ns n x rest placed is ups)
 
@@ -145,7 +145,7 @@ module _ (limits : Limits) (c d : MemberChoice) where
           let v = view_of client w in
           let placed : IsPlaced any_size h.kept.stands.ids h.kept.stands.ns r w.broker = subst (IsSeen any_size h.kept.stands.ids h.kept.stands.ns w.broker) e s.seen in
           let view : v ≡ view_by None (Some r) = ap (λ (o : Option Publisher). view_by o (receiver_named client w)) (s.around.alone (ap is_some e)) ∙ ap (λ (o : Option Receiver). view_by None o) e in
-          let asked : input_on v.number v.up ≡ input_on r.line.number (map (wire_back r.client r.window) r.line.up) = ap (λ (x : View). input_on x.number x.up) view in
+          let asked : input_on v.number v.up ≡ input_on r.line.number (map (wire_back r.client r.window r.aliases) r.line.up) = ap (λ (x : View). input_on x.number x.up) view in
           let x = call_same (input_on v.number v.up) taken (λ call is. called r placed r.line.number r.line.up refl refl call (sym asked ∙ is)) in
           record { does = x.does; spends = x.spends; deeds_are = x.deeds_are }
 

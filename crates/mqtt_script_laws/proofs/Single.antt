@@ -55,7 +55,7 @@ turn_happens limits e t w after unrolls does = record {
 -- a quiet event happens without telling anything
 pub quiet : (limits : Limits) (choice : MemberChoice) (e : Event) (w after : World) → IsQuiet e → is_bad e w ≡ false → after ≡ happens (by_choice limits choice) e w → Happens limits e silent w after
 quiet limits choice (publisher client) w after q good is = turn_happens limits (publisher client) silent w after refl (record { choice = choice; good = good; unspent = refl; is = is; told = refl })
-quiet limits choice (receiver client window) w after q good is = turn_happens limits (receiver client window) silent w after refl (record { choice = choice; good = good; unspent = refl; is = is; told = refl })
+quiet limits choice (receiver client window aliases) w after q good is = turn_happens limits (receiver client window aliases) silent w after refl (record { choice = choice; good = good; unspent = refl; is = is; told = refl })
 quiet limits choice (connect_end client clean) w after q good is = absurd q
 quiet limits choice (give_up client) w after q good is = turn_happens limits (give_up client) silent w after refl (record { choice = choice; good = good; unspent = refl; is = is; told = refl })
 quiet limits choice (publish client d) w after q good is = turn_happens limits (publish client d) silent w after refl (record { choice = choice; good = good; unspent = refl; is = is; told = refl })
@@ -207,7 +207,7 @@ nothing_read false = refl
 -- what a turn tells is what its event tells
 pub turn_tells : (limits : Limits) (choice : MemberChoice) (e : Event) (w : World) → tells_in limits e (turn choice e ∷ []) w ≡ tells (by_choice limits choice) e w
 turn_tells limits choice (publisher client) w = nothing_read (is_bad (publisher client) w)
-turn_tells limits choice (receiver client window) w = nothing_read (is_bad (receiver client window) w)
+turn_tells limits choice (receiver client window aliases) w = nothing_read (is_bad (receiver client window aliases) w)
 turn_tells limits choice (connect_end client clean) w = one_telling limits choice (connect_end client clean) w
 turn_tells limits choice (give_up client) w = nothing_read (is_bad (give_up client) w)
 turn_tells limits choice (publish client d) w = nothing_read (is_bad (publish client d) w)

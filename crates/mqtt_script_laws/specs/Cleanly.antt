@@ -41,7 +41,7 @@ keep_clean_starts names (e ∷ es) = keeps_if names (event_of e) && keep_clean_s
 -- where an end is made, no session of its name stands
 abbrev pub IsMadeAnew : world.Event → World → Type 0
 IsMadeAnew (world.publisher client) w = session_named client w.broker.records ≡ None
-IsMadeAnew (world.receiver client window) w = session_named client w.broker.records ≡ None
+IsMadeAnew (world.receiver client window aliases) w = session_named client w.broker.records ≡ None
 IsMadeAnew e w = ⊤
 
 abbrev pub IsMadeAnewIf : Option world.Event → World → Type 0
@@ -65,7 +65,7 @@ pub record BeginClean (limits : Limits) (es : List Event) (w : World) : Type 0 w
 abbrev pub makes_end : Option world.Event → Bool
 makes_end None = false
 makes_end (Some (world.publisher client)) = true
-makes_end (Some (world.receiver client window)) = true
+makes_end (Some (world.receiver client window aliases)) = true
 makes_end (Some e) = false
 
 abbrev pub makes_no_end : List Event → Bool

@@ -40,7 +40,7 @@ asking_of (asking.Stranger name bytes) = world.stranger name bytes
 -- a drain is none of them
 abbrev pub event_of : Event → Option world.Event
 event_of (Publisher client) = Some (world.publisher client)
-event_of (Receiver client window) = Some (world.receiver client window)
+event_of (Receiver client window aliases) = Some (world.receiver client window aliases)
 event_of (Connect client clean_start) = Some (world.connect_end client clean_start)
 event_of (GiveUp client) = Some (world.give_up client)
 event_of (Publish client draft) = Some (world.publish client (draft_of draft))
@@ -62,7 +62,7 @@ event_of (Drain client) = None
 -- the broker's packets are lost, and nobody hears of what it did, if it stops or restarts
 abbrev pub is_heard : world.Event → Bool
 is_heard (world.publisher client) = true
-is_heard (world.receiver client window) = true
+is_heard (world.receiver client window aliases) = true
 is_heard (world.connect_end client clean) = true
 is_heard (world.give_up client) = true
 is_heard (world.publish client d) = true

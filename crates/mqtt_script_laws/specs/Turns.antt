@@ -37,7 +37,7 @@ both_tell t u = record { reports = t.reports ++ u.reports; out = t.out + u.out }
 -- the broker is asked for nothing
 abbrev pub IsQuiet : Event → Type 0
 IsQuiet (publisher client) = ⊤
-IsQuiet (receiver client window) = ⊤
+IsQuiet (receiver client window aliases) = ⊤
 IsQuiet (connect_end client clean) = ⊥
 IsQuiet (give_up client) = ⊤
 IsQuiet (publish client d) = ⊤

@@ -9,9 +9,20 @@ use std::test::Fail;
 fn lines() -> &'static [(&'static str, &'static str, &'static str)] {
     &[
         ("publisher p1", "a publisher p1", "publisher"),
-        ("receiver r1 10", "a receiver r1 of 10", "receiver"),
-        ("receiver r1 1", "a receiver r1 of 1", "receiver"),
-        ("receiver r1 65535", "a receiver r1 of 65535", "receiver"),
+        ("receiver r1 10", "a receiver r1 of 10 and 0", "receiver"),
+        ("receiver r1 1", "a receiver r1 of 1 and 0", "receiver"),
+        (
+            "receiver r1 65535",
+            "a receiver r1 of 65535 and 0",
+            "receiver",
+        ),
+        ("receiver r1 10 0", "a receiver r1 of 10 and 0", "receiver"),
+        ("receiver r1 1 2", "a receiver r1 of 1 and 2", "receiver"),
+        (
+            "receiver r1 2 65535",
+            "a receiver r1 of 2 and 65535",
+            "receiver",
+        ),
         ("connect r1 0", "r1 connects, clean false", "connect"),
         ("connect r1 1", "r1 connects, clean true", "connect"),
         ("giveup p1", "p1 gives up", "giveup"),

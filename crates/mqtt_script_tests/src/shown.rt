@@ -57,9 +57,15 @@ pub(crate) fn push_shown(
 ) -> Result<(), AllocError> {
     match event {
         Event::Publisher { client } => write!(text, "a publisher {}", client.as_str()),
-        Event::Receiver { client, window } => {
-            write!(text, "a receiver {} of {window}", client.as_str())
-        }
+        Event::Receiver {
+            client,
+            window,
+            aliases,
+        } => write!(
+            text,
+            "a receiver {} of {window} and {aliases}",
+            client.as_str()
+        ),
         Event::Connect {
             client,
             clean_start,

@@ -1,5 +1,5 @@
 -- What a receiver makes of a packet that carries no message, and what it was handed.
-use Rattle.std.proofs.Common.{◌≡◌, refl, sym, ap, ◌∙◌, ℕ, ◌+◌, ◌<◌, Bool, List, [], ◌∷◌, ◌++◌, map, length, take, get_or}
+use Rattle.std.proofs.Common.{◌≡◌, ◌≢◌, refl, sym, ap, ◌∙◌, ℕ, zero, suc, ◌+◌, ◌<◌, Bool, List, [], ◌∷◌, ◌++◌, map, length, take, get_or}
 use Rattle.std.proofs.Common.{Option, None, Some}
 use Rattle.std.specs.Prelude.{option_map, option_to_list}
 use Rattle.std.proofs.lemmas.List.{append-nil, map-append, take_more}
@@ -7,7 +7,10 @@ use Rattle.std.proofs.lemmas.List.Elements.{filter_map-append}
 use Rattle.mqtt_base.specs.declared.session.CopyId.{CopyId}
 use Rattle.mqtt_codec.specs.declared.packet.Packet.{Packet}
 use Rattle.mqtt_codec.specs.declared.packet.Packet.TheVariants.{Connect, Connack, Publish, Puback, Pubrec, Pubrel, Pubcomp, Subscribe, Suback, Unsubscribe, Unsuback, Pingreq, Pingresp, Disconnect, Auth}
-use Rattle.mqtt_world_model.specs.Ends.{Entry, Receiver, hears}
+use Rattle.mqtt_props.specs.Properties.{U16}
+use Rattle.mqtt_props.specs.declared.table.PropName.TheVariants.{TopicAliasMaximum}
+use Rattle.mqtt_records_message.specs.PassedOn.{property}
+use Rattle.mqtt_world_model.specs.Ends.{Entry, Receiver, hears, taking}
 use Rattle.mqtt_world_model.specs.Laws.{copies_in}
 use Rattle.mqtt_world_peers.specs.Receivers.{hears_control, IsControl, number_of, publication_of, publications_of}
 
@@ -29,6 +32,11 @@ control_heard stands copy Pingreq r other = refl
 control_heard stands copy Pingresp r other = refl
 control_heard stands copy (Disconnect a) r other = refl
 control_heard stands copy (Auth a) r other = refl
+
+-- who takes some aliases says how many
+pub taking_some : (aliases : ℕ) → aliases ≢ 0 → property TopicAliasMaximum (U16 aliases) ∷ [] ≡ taking aliases
+taking_some zero some = absurd (some refl)
+taking_some (suc more) some = refl
 
 -- ---- what was handed over
 

@@ -107,14 +107,15 @@ impl Back {
         }
     }
 
-    /// The packet on the wire, of the receiver with that client identifier and Receive Maximum.
+    /// The packet on the wire, of the receiver with that client identifier, Receive Maximum and Topic Alias Maximum.
     pub(crate) fn to_packet(
         &self,
         alloc: Global,
         client: &Text,
         window: u16,
+        aliases: u16,
     ) -> Result<Packet, AllocError>
-        ensures { IfOk result (λ packet. packet ≡ wire_back client.now window self.now) }
+        ensures { IfOk result (λ packet. packet ≡ wire_back client.now window aliases self.now) }
     {
         match &self.packet {
             BackPacket::Connect { clean_start } => connect(
@@ -122,6 +123,7 @@ impl Back {
                 client,
                 *clean_start,
                 Some(window),
+                aliases,
             ),
             BackPacket::Puback { identifier, code } => Ok(Packet::Puback(ack(*identifier, *code))),
             BackPacket::Pubrec { identifier, code } => Ok(Packet::Pubrec(ack(*identifier, *code))),

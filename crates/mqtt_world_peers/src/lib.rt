@@ -4,6 +4,7 @@
 mod back;
 mod heard;
 mod input;
+mod known;
 mod line;
 mod publisher;
 mod receiver;

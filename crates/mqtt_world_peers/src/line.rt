@@ -1,16 +1,19 @@
 //! A line between an end and the broker as the end sees it, with the line that it gave up last (MQTT 5.0, 4.2, 4.4).
 
 ghost use Rattle.std.specs.Prelude.{◌≡◌, [], ◌∷◌, ◌++◌, drop, false, if◌then◌else◌, length, option_copied, slice_get};
-ghost use Rattle.std.specs.Prelude.{MatchOption, OnErr, OnOk};
+ghost use Rattle.std.specs.Prelude.{IfErr, IfOk, MatchOption, OnErr, OnOk};
 ghost use Rattle.mqtt_flow_inbound.specs.Identifiers.{is_among};
 ghost use Rattle.mqtt_flow_inbound.specs.Line.{live};
+ghost use Rattle.mqtt_topic.specs.Aliases.{RefusesAlias, Resolves, after_resolve};
 ghost use Rattle.mqtt_world_model.specs.Ends.{goes};
-ghost use Rattle.mqtt_world_model.specs.Lines.{gives_up, is_one_of, joined, left, no_line, restarted, unless_closed};
+ghost use Rattle.mqtt_world_model.specs.Lines.{gives_up, is_one_of, joined, left, no_line_taking, restarted, unless_closed};
 ghost use Rattle.mqtt_world_model.specs.World.{taken_old, taken_up};
 ghost use Rattle.mqtt_world_peers.specs.Lines.{link_of};
 
+use crate::known::Known;
 use mqtt_base::CopyId;
 use mqtt_codec::Packet;
+use mqtt_topic::{TopicFault, TopicName};
 use std::alloc::{AllocError, Global};
 use std::collections::VecDeque;
 use std::marker::Model;
@@ -44,7 +47,7 @@ impl Model for Down {
 }
 
 /// A line of an end that sends `U`, and the line that it gave up last.
-#[derive(Debug, Drop)]
+#[derive(Drop)]
 pub struct Line<U: Drop> {
     link: Link,
     clean: bool,
@@ -53,6 +56,7 @@ pub struct Line<U: Drop> {
     down: VecDeque<Down>,
     old_number: Option<u64>,
     old: VecDeque<U>,
+    known: Known,
 }
 
 impl<U: Drop> Model for Line<U> {
@@ -70,13 +74,14 @@ impl<U: Drop> Model for Line<U> {
       down = l.down.items;
       old_number = l.old_number;
       old = l.old.items;
+      known = l.known;
     } };
 }
 
 impl<U: Drop> Line<U> {
-    /// There is no line. Takes no memory.
-    pub(crate) fn new(alloc: Global) -> Line<U>
-        ensures { result ≡ no_line }
+    /// There is no line, of an end that takes so many topic aliases (3.1.2.11.5). Takes no memory.
+    pub(crate) fn new(alloc: Global, aliases: u16) -> Line<U>
+        ensures { result ≡ no_line_taking aliases }
     {
         Line {
             link: Link::Away,
@@ -86,6 +91,7 @@ impl<U: Drop> Line<U> {
             down: VecDeque::new(alloc),
             old_number: None,
             old: VecDeque::new(alloc),
+            known: Known::new(alloc, aliases),
         }
     }
 
@@ -152,6 +158,7 @@ impl<U: Drop> Line<U> {
         self.leave();
         self.old_number = None;
         self.old.clear();
+        self.known.forget();
     }
 
     /// The end gives its line up, and the broker may still read what is under way there. Takes no memory.
@@ -168,7 +175,7 @@ impl<U: Drop> Line<U> {
         }
     }
 
-    /// CONNECT goes out on a new line (3.1). Without memory nothing changes.
+    /// CONNECT goes out on a new line, on which no alias stands for anything yet (3.1). Without memory nothing changes.
     pub fn join(&mut self, connect: U, number: u64, clean: bool) -> Result<(), AllocError>
         ensures ok { OnOk result (self.exit.now ≡ joined connect number clean self.entry.now) }
         ensures err { OnErr result (self.exit.now ≡ self.entry.now) }
@@ -180,6 +187,7 @@ impl<U: Drop> Line<U> {
         self.link = Link::Asked;
         self.clean = clean;
         self.number = Some(number);
+        self.known.forget();
         Ok(())
     }
 
@@ -241,6 +249,18 @@ impl<U: Drop> Line<U> {
     {
         self.down.push_back(down)?;
         Ok(())
+    }
+
+    /// The topic that a PUBLISH with this topic and alias means to the end; a topic beside an alias is what that stands for
+    /// from then on (3.3.2.3.4). If it means none, nothing changes.
+    pub fn resolve(&mut self, topic: &str, alias: Option<u16>) -> Result<TopicName, TopicFault>
+        ensures found { IfOk result (Resolves self.entry.now.known topic.now alias) }
+        ensures ok { OnOk result (self.exit.now
+            ≡ record self.entry.now { known = after_resolve self.entry.now.known topic.now alias }) }
+        ensures refused { IfErr result (RefusesAlias self.entry.now.known topic.now alias) }
+        ensures err { OnErr result (self.exit.now ≡ self.entry.now) }
+    {
+        self.known.resolve(topic, alias)
     }
 
     /// The broker closed these lines: what is under way to it there isn't read. Takes no memory.

@@ -62,7 +62,7 @@ impl PublisherEnd {
             handshakes: Handshakes::new(alloc),
             contents: Vec::new(alloc),
             unsent: VecDeque::new(alloc),
-            line: Line::new(alloc),
+            line: Line::new(alloc, 0),
         }
     }
 

@@ -70,6 +70,7 @@ impl Entry {
 pub struct ReceiverEnd {
     client: Text,
     window: u16,
+    aliases: u16,
     since: u64,
     asking: bool,
     kept: Vec<u16>,
@@ -87,6 +88,7 @@ impl Model for ReceiverEnd {
     ghost view = { λ r. record {
       client = r.client;
       window = r.window;
+      aliases = r.aliases;
       since = r.since;
       asking = r.asking;
       kept = r.kept.items;
@@ -135,20 +137,21 @@ fn publications(alloc: Global, entries: &[Entry]) -> Result<Vec<u64>, AllocError
 }
 
 impl ReceiverEnd {
-    /// It has read nothing. `window` is its Receive Maximum (3.1.2.11.3), `since` the last birth of a session before it
-    /// was made. Takes no memory.
-    pub fn new(alloc: Global, client: Text, window: u16, since: u64) -> ReceiverEnd
-        ensures { result ≡ new_receiver client window since }
+    /// It has read nothing. `window` is its Receive Maximum (3.1.2.11.3), `aliases` its Topic Alias Maximum (3.1.2.11.5),
+    /// `since` the last birth of a session before it was made. Takes no memory.
+    pub fn new(alloc: Global, client: Text, window: u16, aliases: u16, since: u64) -> ReceiverEnd
+        ensures { result ≡ new_receiver client window aliases since }
     {
         ReceiverEnd {
             client,
             window,
+            aliases,
             since,
             asking: false,
             kept: Vec::new(alloc),
             ledger: Vec::new(alloc),
             once: Vec::new(alloc),
-            line: Line::new(alloc),
+            line: Line::new(alloc, aliases),
         }
     }
 
@@ -168,13 +171,14 @@ impl ReceiverEnd {
 
     /// The first packet under way from it, or on the line that it gave up last, as it is on the wire.
     pub fn front(&self, old: bool) -> Result<Option<Packet>, AllocError>
-        ensures { IfOk result (λ packet. packet ≡ option_map (wire_back self.now.client self.now.window)
+        ensures { IfOk result (λ packet. packet ≡ option_map (wire_back self.now.client self.now.window self.now.aliases)
             (slice_get (if old then self.now.line.old else self.now.line.up) 0)) }
     {
+        let alloc = *self.kept.allocator();
         match self.line.front(old) {
             None => Ok(None),
             Some(back) => back
-                .to_packet(*self.kept.allocator(), &self.client, self.window)
+                .to_packet(alloc, self.client(), self.window, self.aliases)
                 .map(Some),
         }
     }

@@ -92,7 +92,7 @@ fn shake_packet(
         ≡ wire client.now (map content_of contents.now) (shake (packet_of packet))) }
 {
     match packet {
-        Shake::Connect { clean_start } => connect(alloc, client, clean_start, None),
+        Shake::Connect { clean_start } => connect(alloc, client, clean_start, None, 0),
         Shake::PublishOnce {
             identifier,
             message,

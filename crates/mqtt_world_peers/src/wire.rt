@@ -5,7 +5,7 @@ ghost use Rattle.mqtt_props.specs.Properties.{U16, U32};
 ghost use Rattle.mqtt_props.specs.Views.{prop_of};
 ghost use Rattle.mqtt_props.specs.declared.table.PropName.TheVariants as names;
 ghost use Rattle.mqtt_records_message.specs.PassedOn.{property};
-ghost use Rattle.mqtt_world_model.specs.Ends.{connect_with, content_at, identified, no_content, publish_with, subscribe_with};
+ghost use Rattle.mqtt_world_model.specs.Ends.{connect_with, content_at, identified, no_content, publish_with, subscribe_with, taking};
 ghost use Rattle.mqtt_world_peers.specs.Publishers.{content_of};
 ghost use Rattle.mqtt_world_peers.specs.Receivers.{windowed, wish_of};
 
@@ -92,13 +92,17 @@ fn add(
 }
 
 /// The properties of an end's CONNECT: its session doesn't expire (3.1.2.11.2), and a receiver's has its Receive
-/// Maximum (3.1.2.11.3).
-fn connect_properties(alloc: Global, window: Option<u16>) -> Result<PropList, AllocError>
+/// Maximum (3.1.2.11.3) and, if it takes any topic alias, its Topic Alias Maximum (3.1.2.11.5).
+fn connect_properties(
+    alloc: Global,
+    window: Option<u16>,
+    aliases: u16,
+) -> Result<PropList, AllocError>
     ensures { IfOk result (λ properties. properties
-        ≡ property names.SessionExpiryInterval (U32 0xffffffff) ∷ windowed window) }
+        ≡ property names.SessionExpiryInterval (U32 0xffffffff) ∷ (windowed window ++ taking aliases)) }
 {
     let mut properties = PropList::new();
-    let added = add_all(alloc, &mut properties, window);
+    let added = add_all(alloc, &mut properties, window, aliases);
     match added {
         Ok(()) => Ok(properties),
         Err(error) => {
@@ -108,16 +112,30 @@ fn connect_properties(alloc: Global, window: Option<u16>) -> Result<PropList, Al
     }
 }
 
-fn add_all(alloc: Global, properties: &mut PropList, window: Option<u16>) -> Result<(), AllocError>
-    ensures { OnOk result (properties.new
-        ≡ properties.old ++ (property names.SessionExpiryInterval (U32 0xffffffff) ∷ windowed window)) }
+/// A Topic Alias Maximum, unless it is 0 (3.1.2.11.5).
+#[tactic(auto, using(crate::proofs::Receivers::taking_some))]
+fn add_aliases(alloc: Global, properties: &mut PropList, aliases: u16) -> Result<(), AllocError>
+    ensures { OnOk result (properties.new ≡ properties.old ++ taking aliases) }
 {
+    if aliases == 0 {
+        return Ok(());
+    }
     add(
         alloc,
         properties,
-        PropName::SessionExpiryInterval,
-        ValueRef::U32(u32::MAX),
-    )?;
+        PropName::TopicAliasMaximum,
+        ValueRef::U16(aliases),
+    )
+}
+
+/// A Receive Maximum, if there is one (3.1.2.11.3).
+fn add_window(
+    alloc: Global,
+    properties: &mut PropList,
+    window: Option<u16>,
+) -> Result<(), AllocError>
+    ensures { OnOk result (properties.new ≡ properties.old ++ windowed window) }
+{
     match window {
         None => Ok(()),
         Some(window) => add(
@@ -129,18 +147,38 @@ fn add_all(alloc: Global, properties: &mut PropList, window: Option<u16>) -> Res
     }
 }
 
-/// CONNECT with Keep Alive 0 and no Will, of a session that doesn't expire, with its Receive Maximum if it has one
-/// (3.1).
+fn add_all(
+    alloc: Global,
+    properties: &mut PropList,
+    window: Option<u16>,
+    aliases: u16,
+) -> Result<(), AllocError>
+    ensures { OnOk result (properties.new ≡ properties.old
+        ++ (property names.SessionExpiryInterval (U32 0xffffffff) ∷ (windowed window ++ taking aliases))) }
+{
+    add(
+        alloc,
+        properties,
+        PropName::SessionExpiryInterval,
+        ValueRef::U32(u32::MAX),
+    )?;
+    add_window(alloc, properties, window)?;
+    add_aliases(alloc, properties, aliases)
+}
+
+/// CONNECT with Keep Alive 0 and no Will, of a session that doesn't expire, with its Receive Maximum if it has one, and its
+/// Topic Alias Maximum if it takes any alias (3.1).
 pub(crate) fn connect(
     alloc: Global,
     client: &Text,
     clean_start: bool,
     window: Option<u16>,
+    aliases: u16,
 ) -> Result<Packet, AllocError>
-    ensures { IfOk result (λ packet. packet ≡ connect_with client.now clean_start (windowed window)) }
+    ensures { IfOk result (λ packet. packet ≡ connect_with client.now clean_start (windowed window ++ taking aliases)) }
 {
     let client_identifier = client.clone()?;
-    let properties = connect_properties(alloc, window)?;
+    let properties = connect_properties(alloc, window, aliases)?;
     Ok(Packet::Connect(Connect {
         clean_start,
         keep_alive: 0,

@@ -183,7 +183,7 @@ fn a_publisher_is_answered(rt: HostRuntime) -> Result<(), AllocError> {
 #[test]
 fn a_receiver_answers(rt: HostRuntime) -> Result<(), AllocError> {
     let alloc = rt.alloc();
-    let mut end = ReceiverEnd::new(alloc, text(alloc, "r1")?, 10, 0);
+    let mut end = ReceiverEnd::new(alloc, text(alloc, "r1")?, 10, 0, 0);
     let done = receiver_lives(&rt, alloc, &mut end);
     drop(end);
     done

@@ -12,9 +12,9 @@ use std::test::*;
 /// CONNECT of p1 with Clean Start: its session doesn't expire (3.1.2.4, 3.1.2.11.2).
 const CONNECT: &[u8] = b"\x10\x14\x00\x04MQTT\x05\x02\x00\x00\x05\x11\xff\xff\xff\xff\x00\x02p1";
 
-/// CONNECT of r1 without it, with a Receive Maximum of 10 (3.1.2.11.3).
+/// CONNECT of r1 without it, with a Receive Maximum of 10 and a Topic Alias Maximum of 2 (3.1.2.11.3, 3.1.2.11.5).
 const CONNECT_BACK: &[u8] =
-    b"\x10\x17\x00\x04MQTT\x05\x00\x00\x00\x08\x11\xff\xff\xff\xff\x21\x00\x0a\x00\x02r1";
+    b"\x10\x1a\x00\x04MQTT\x05\x00\x00\x00\x0b\x11\xff\xff\xff\xff\x21\x00\x0a\x22\x00\x02\x00\x02r1";
 
 /// PUBLISH of QoS 2 to a/b under the identifier 1 (3.3).
 const PUBLISH: &[u8] = b"\x34\x08\x00\x03a/b\x00\x01\x00";
@@ -134,7 +134,7 @@ fn a_publisher_on_the_wire(rt: HostRuntime) -> Result<(), AllocError> {
 #[test]
 fn a_receiver_on_the_wire(rt: HostRuntime) -> Result<(), AllocError> {
     let alloc = rt.alloc();
-    let mut end = ReceiverEnd::new(alloc, text(alloc, "r1")?, 10, 0);
+    let mut end = ReceiverEnd::new(alloc, text(alloc, "r1")?, 10, 2, 0);
     let mut done = joins_back(&rt, alloc, &mut end);
     if done.is_ok() {
         done = asks(&rt, alloc, &mut end);
