@@ -11,7 +11,7 @@ ghost use Rattle.mqtt_rules.specs.Step.{Outcome as Told};
 ghost use Rattle.mqtt_broker_engine.specs.Calling.{Tells};
 ghost use Rattle.mqtt_world_clients.specs.Ends.{Become, BecomeAt, joins, reading};
 ghost use Rattle.mqtt_world_clients.specs.Lines.{changed};
-ghost use Rattle.mqtt_world_untold_laws.specs.Untold.{AllGoesAsMeant};
+ghost use Rattle.mqtt_world_untold_laws.specs.Knowing.{AllIsUnderstood};
 ghost use Rattle.mqtt_world_clients.specs.Telling.{AreSpelled, ends_told};
 
 use crate::lines::Change;
@@ -61,14 +61,19 @@ impl Clients {
         Ok(())
     }
 
-    /// A receiver that has read nothing. `window` is its Receive Maximum (3.1.2.11.3), `since` the last birth of a
-    /// session before it is made.
-    pub fn add_receiver(&mut self, client: Text, window: u16, since: u64) -> Result<(), AllocError>
+    /// A receiver that has read nothing. `window` is its Receive Maximum (3.1.2.11.3), `aliases` its Topic Alias Maximum
+    /// (3.1.2.11.5), `since` the last birth of a session before it is made.
+    pub fn add_receiver(
+        &mut self,
+        client: Text,
+        window: u16,
+        aliases: u16,
+        since: u64,
+    ) -> Result<(), AllocError>
         ensures { OnOk result (self.new
-            ≡ record self.old { receivers = self.old.receivers ++ new_receiver client window since ∷ [] }) }
+            ≡ record self.old { receivers = self.old.receivers ++ new_receiver client window aliases since ∷ [] }) }
     {
-        self.receivers
-            .push(ReceiverEnd::new(self.alloc, client, window, since))?;
+        self.receivers.push(ReceiverEnd::new(self.alloc, client, window, aliases, since))?;
         Ok(())
     }
 
@@ -162,7 +167,7 @@ impl Clients {
     /// What the broker answered reaches all ends. The engine is as the call left it.
     pub fn tell<K: Keep>(&mut self, engine: &Engine<K>, outcome: &Outcome) -> Result<(), AllocError>
         ensures told { (told : Told) → Tells told outcome.now → AreSpelled told
-            → AllGoesAsMeant told self.old.publishers self.old.receivers
+            → AllIsUnderstood told self.old.publishers self.old.receivers
             → OnOk result (self.new ≡ ends_told engine.now.broker told self.old) }
     {
         publishers::tell(self.alloc, &mut self.publishers, engine, outcome)?;

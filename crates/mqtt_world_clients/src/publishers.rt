@@ -8,7 +8,7 @@ ghost use Rattle.mqtt_broker_engine.specs.Calling.{Tells};
 ghost use Rattle.mqtt_world_clients.specs.Ends.{asked_by, if_publisher, input_of, on_publisher_line, published_at};
 ghost use Rattle.mqtt_world_clients.specs.Ends.{publisher_joined, publisher_reads_at};
 ghost use Rattle.mqtt_world_clients.specs.Lines.{changed};
-ghost use Rattle.mqtt_world_untold_laws.specs.Untold.{GoesAsMeant, OnPublishers};
+ghost use Rattle.mqtt_world_untold_laws.specs.Knowing.{IsUnderstood, OnPublishers};
 ghost use Rattle.mqtt_world_clients.specs.Telling.{AreSpelled};
 
 use crate::lines::{Change, change_line, number_on, paired};
@@ -189,7 +189,7 @@ fn tell_one<K: Keep>(
     outcome: &Outcome,
 ) -> Result<(), AllocError>
     ensures { (told : Told) → Tells told outcome.now → AreSpelled told
-        → GoesAsMeant told.wires told.outputs publisher.old.line.number
+        → IsUnderstood told.wires told.outputs publisher.old.line.number publisher.old.line.known
         → OnOk result (publisher.new ≡ publisher_told engine.now.broker told publisher.old) }
 {
     tell_line(alloc, &mut publisher.line, engine, outcome)
@@ -203,7 +203,7 @@ pub(crate) fn tell<K: Keep>(
     outcome: &Outcome,
 ) -> Result<(), AllocError>
     ensures { (told : Told) → Tells told outcome.now → AreSpelled told
-        → OnPublishers (GoesAsMeant told.wires told.outputs) publishers.old.items
+        → OnPublishers (λ e. IsUnderstood told.wires told.outputs e.number e.known) publishers.old.items
         → OnOk result (publishers.new.items
         ≡ map (publisher_told engine.now.broker told) publishers.old.items) }
 {

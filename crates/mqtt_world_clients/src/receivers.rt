@@ -8,7 +8,7 @@ ghost use Rattle.mqtt_broker_engine.specs.Calling.{Tells};
 ghost use Rattle.mqtt_world_clients.specs.Ends.{asked_by, asks_at, if_receiver, input_of, on_receiver_line};
 ghost use Rattle.mqtt_world_clients.specs.Ends.{receiver_joined, receiver_reads_at};
 ghost use Rattle.mqtt_world_clients.specs.Lines.{changed};
-ghost use Rattle.mqtt_world_untold_laws.specs.Untold.{GoesAsMeant, OnReceivers};
+ghost use Rattle.mqtt_world_untold_laws.specs.Knowing.{IsUnderstood, OnReceivers};
 ghost use Rattle.mqtt_world_clients.specs.Telling.{AreSpelled};
 
 use crate::lines::{Change, change_line, number_on, paired};
@@ -194,7 +194,7 @@ fn tell_one<K: Keep>(
     outcome: &Outcome,
 ) -> Result<(), AllocError>
     ensures { (told : Told) → Tells told outcome.now → AreSpelled told
-        → GoesAsMeant told.wires told.outputs receiver.old.line.number
+        → IsUnderstood told.wires told.outputs receiver.old.line.number receiver.old.line.known
         → OnOk result (receiver.new ≡ receiver_told engine.now.broker told receiver.old) }
 {
     tell_line(alloc, &mut receiver.line, engine, outcome)
@@ -208,7 +208,7 @@ pub(crate) fn tell<K: Keep>(
     outcome: &Outcome,
 ) -> Result<(), AllocError>
     ensures { (told : Told) → Tells told outcome.now → AreSpelled told
-        → OnReceivers (GoesAsMeant told.wires told.outputs) receivers.old.items
+        → OnReceivers (λ e. IsUnderstood told.wires told.outputs e.number e.known) receivers.old.items
         → OnOk result (receivers.new.items
         ≡ map (receiver_told engine.now.broker told) receivers.old.items) }
 {

@@ -1,21 +1,22 @@
 //! What the broker answers reaches the ends (MQTT 5.0, 4.2).
 
 ghost use Rattle.std.specs.List.{AllByRecursion};
-ghost use Rattle.std.specs.Prelude.{◌≡◌, [], ◌∷◌, ℕ, List, IfOk, OnOk};
+ghost use Rattle.std.specs.Prelude.{◌≡◌, [], ◌∷◌, ℕ, List, IfOk, OnOk, Some};
 ghost use Rattle.mqtt_codec.specs.declared.packet.Packet.{Packet as ThePacket};
 ghost use Rattle.mqtt_codec.specs.Packets.{HasSpelling, shortest_of};
 ghost use Rattle.mqtt_world_model.specs.Lines.{copy_in, stands, told_by};
 ghost use Rattle.mqtt_rules.specs.State.{Broker};
 ghost use Rattle.mqtt_rules.specs.Step.{Outcome as Told};
 ghost use Rattle.mqtt_broker_engine.specs.Calling.{Tells};
-ghost use Rattle.mqtt_rules_telling_laws.specs.Meaning.{on_line};
-ghost use Rattle.mqtt_world_untold_laws.specs.Untold.{GoesAsMeant};
-ghost use Rattle.mqtt_world_clients.specs.Telling.{AreSpelled, HaveSpellings, copy_for, spelled, with_packet, with_packets};
+ghost use Rattle.mqtt_rules_telling_laws.specs.Meaning.{after_reading, alias_on, on_line};
+ghost use Rattle.mqtt_world_untold_laws.specs.Knowing.{AllReadAs, IsUnderstood, as_read};
+ghost use Rattle.mqtt_world_clients.specs.Telling.{AreSpelled, copy_for, spelled, with_all_read, with_read, with_told};
 
 use bytes::Bytes;
 use mqtt_base::CopyId;
 use mqtt_broker_engine::{Engine, Outcome};
-use mqtt_codec::{Delivery, Packet, decode};
+use mqtt_codec::{Delivery, Packet, Publish, decode};
+use mqtt_props::{PropName, ValueRef};
 use mqtt_records::Keep;
 use mqtt_world_peers::{Down, Line};
 use std::alloc::{AllocError, Global};
@@ -99,7 +100,67 @@ fn packet_in(alloc: Global, bytes: &[u8]) -> Result<Packet, AllocError>
     }
 }
 
-/// Bytes of the broker are under way to the end of a line.
+/// The Topic Alias of a PUBLISH, if it has one (3.3.2.3.4). Takes no memory.
+fn alias_on(publish: &Publish) -> Option<u16>
+    ensures { result ≡ alias_on publish.now }
+{
+    let list = publish.properties.lend();
+    match list.get(PropName::TopicAlias) {
+        Some(prop) => match prop.value {
+            ValueRef::U16(alias) => Some(alias),
+            _ => None,
+        },
+        None => None,
+    }
+}
+
+/// A PUBLISH as the end of the line reads it: of the topic that it means, without its Topic Alias (3.3.2.3.4).
+fn read_publish<U: Drop>(
+    alloc: Global,
+    line: &mut Line<U>,
+    publish: Publish,
+) -> Result<Packet, AllocError>
+    ensures read { IfOk result (λ packet. as_read line.entry.now.known (Packet.Publish publish) ≡ Some packet) }
+    ensures line { OnOk result (line.exit.now ≡ record line.entry.now {
+      known = after_reading line.entry.now.known (Packet.Publish publish);
+    }) }
+{
+    let alias = alias_on(&publish);
+    let properties = publish
+        .properties
+        .lend()
+        .without(alloc, PropName::TopicAlias)?;
+    let Ok(topic) = line.resolve(publish.topic.as_str(), alias) else {
+        return Err(AllocError);
+    };
+    let Publish {
+        delivery,
+        retain,
+        payload,
+        ..
+    } = publish;
+    Ok(Packet::Publish(Publish {
+        delivery,
+        retain,
+        topic: topic.into_text(),
+        properties,
+        payload,
+    }))
+}
+
+/// A packet as the end of the line reads it (3.3.2.3.4).
+fn read<U: Drop>(alloc: Global, line: &mut Line<U>, packet: Packet) -> Result<Packet, AllocError>
+    ensures read { IfOk result (λ meant. as_read line.entry.now.known packet ≡ Some meant) }
+    ensures line { OnOk result (line.exit.now
+        ≡ record line.entry.now { known = after_reading line.entry.now.known packet }) }
+{
+    match packet {
+        Packet::Publish(publish) => read_publish(alloc, line, publish),
+        other => Ok(other),
+    }
+}
+
+/// Bytes of the broker are read by the end of a line, and are under way to it as what they mean.
 fn push_bytes<K: Keep, U: Drop>(
     alloc: Global,
     line: &mut Line<U>,
@@ -107,11 +168,12 @@ fn push_bytes<K: Keep, U: Drop>(
     number: u64,
     bytes: &[u8],
 ) -> Result<(), AllocError>
-    ensures { (p : ThePacket) → HasSpelling p → bytes.now ≡ shortest_of p
-        → OnOk result (line.exit.now ≡ with_packet number engine.now.broker p line.entry.now) }
+    ensures { (p m : ThePacket) → HasSpelling p → bytes.now ≡ shortest_of p → as_read line.entry.now.known p ≡ Some m
+        → OnOk result (line.exit.now ≡ with_read number engine.now.broker p m line.entry.now) }
 {
     let packet = packet_in(alloc, bytes)?;
-    let down = tagged(engine, number, packet)?;
+    let meant = read(alloc, line, packet)?;
+    let down = tagged(engine, number, meant)?;
     line.push_down(down)
 }
 
@@ -123,14 +185,15 @@ fn push_if<K: Keep, U: Drop>(
     number: u64,
     output: &(u64, Bytes),
 ) -> Result<(), AllocError>
-    ensures { (x : ℕ × ThePacket) → AllByRecursion HasSpelling (on_line number (x ∷ []))
+    ensures { (x : ℕ × ThePacket) (meant : List ThePacket) → AllByRecursion HasSpelling (on_line number (x ∷ []))
         → output.now ≡ (x.0, shortest_of x.1)
+        → AllReadAs line.entry.now.known (on_line number (x ∷ [])) meant
         → OnOk result (line.exit.now
-        ≡ with_packets number engine.now.broker (x ∷ []) line.entry.now) }
+        ≡ with_all_read number engine.now.broker (on_line number (x ∷ [])) meant line.entry.now) }
 {
     let (at, bytes) = output;
     if *at == number {
-        push_bytes(alloc, line, engine, number, bytes)?;
+        return push_bytes(alloc, line, engine, number, bytes);
     }
     Ok(())
 }
@@ -143,10 +206,11 @@ fn push_all<K: Keep, U: Drop>(
     number: u64,
     outputs: &[(u64, Bytes)],
 ) -> Result<(), AllocError>
-    ensures { (packets : List (ℕ × ThePacket)) → outputs.now ≡ spelled packets
+    ensures { (packets : List (ℕ × ThePacket)) (meant : List ThePacket) → outputs.now ≡ spelled packets
         → AllByRecursion HasSpelling (on_line number packets)
+        → AllReadAs line.entry.now.known (on_line number packets) meant
         → OnOk result (line.exit.now
-        ≡ with_packets number engine.now.broker packets line.entry.now) }
+        ≡ with_all_read number engine.now.broker (on_line number packets) meant line.entry.now) }
 {
     for output in outputs {
         push_if(alloc, line, engine, number, output)?;
@@ -154,20 +218,21 @@ fn push_all<K: Keep, U: Drop>(
     Ok(())
 }
 
-/// The same, of what goes out as it is meant: to an end that takes no aliases all does (3.3.2.3.4).
-fn push_meant<K: Keep, U: Drop>(
+/// What the broker answered is under way to the end of a line, if it has one.
+fn push_told<K: Keep, U: Drop>(
     alloc: Global,
     line: &mut Line<U>,
     engine: &Engine<K>,
-    number: u64,
     outputs: &[(u64, Bytes)],
 ) -> Result<(), AllocError>
-    ensures { (packets meant : List (ℕ × ThePacket)) → outputs.now ≡ spelled packets → HaveSpellings meant
-        → on_line number packets ≡ on_line number meant
-        → OnOk result (line.exit.now
-        ≡ with_packets number engine.now.broker meant line.entry.now) }
+    ensures { (told : Told) → outputs.now ≡ spelled told.wires → AreSpelled told
+        → IsUnderstood told.wires told.outputs line.entry.now.number line.entry.now.known
+        → OnOk result (line.exit.now ≡ with_told engine.now.broker told line.entry.now) }
 {
-    push_all(alloc, line, engine, number, outputs)
+    match line.number() {
+        Some(number) => push_all(alloc, line, engine, number, outputs),
+        None => Ok(()),
+    }
 }
 
 /// What the broker answered reaches the end of a line: packets to it are under way, and what is under way on a line that
@@ -179,12 +244,10 @@ pub(crate) fn tell_line<K: Keep, U: Drop>(
     outcome: &Outcome,
 ) -> Result<(), AllocError>
     ensures { (told : Told) → Tells told outcome.now → AreSpelled told
-        → GoesAsMeant told.wires told.outputs line.entry.now.number
+        → IsUnderstood told.wires told.outputs line.entry.now.number line.entry.now.known
         → OnOk result (line.exit.now ≡ told_by engine.now.broker told line.entry.now) }
 {
-    if let Some(number) = line.number() {
-        push_meant(alloc, line, engine, number, &outcome.outputs)?;
-    }
+    push_told(alloc, line, engine, &outcome.outputs)?;
     line.close(&outcome.closed);
     Ok(())
 }

@@ -150,30 +150,46 @@ fn publish<K: Keep>(alloc: Global, ends: &mut Clients, engine: &mut Engine<K>) -
     rounds(ends, engine, "p", 2)
 }
 
-fn play<K: Keep>(alloc: Global, ends: &mut Clients, engine: &mut Engine<K>) -> Result<(), Fail> {
+/// So many messages of one topic go from a publisher to a receiver that takes so many topic aliases.
+fn play<K: Keep>(
+    alloc: Global,
+    ends: &mut Clients,
+    engine: &mut Engine<K>,
+    aliases: u16,
+    messages: u8,
+) -> Result<(), Fail> {
     ends.add_publisher(text(alloc, "p")?)?;
-    ends.add_receiver(text(alloc, "r")?, 10, engine.births())?;
+    ends.add_receiver(text(alloc, "r")?, 10, aliases, engine.births())?;
     join(ends, engine, "r")?;
     join(ends, engine, "p")?;
     subscribe(alloc, ends, engine)?;
-    publish(alloc, ends, engine)?;
-    rounds(ends, engine, "r", 3)
+    for _ in 0..messages {
+        publish(alloc, ends, engine)?;
+        rounds(ends, engine, "r", 3)?;
+    }
+    Ok(())
 }
 
 /// Over a broker that begins with nothing.
-fn play_over(alloc: Global, hasher: RandomState, ends: &mut Clients) -> Result<(), Fail> {
+fn play_over(
+    alloc: Global,
+    hasher: RandomState,
+    ends: &mut Clients,
+    aliases: u16,
+    messages: u8,
+) -> Result<(), Fail> {
     let Ok(mut engine) = Engine::open(alloc, MemKeep::new(alloc)?, 0, LIMITS, hasher) else {
         return Err(Fail::from("the broker can't be opened"));
     };
-    let done = play(alloc, ends, &mut engine);
+    let done = play(alloc, ends, &mut engine, aliases, messages);
     drop(engine.close());
     done
 }
 
-/// Whether the receiver was handed the first publication, once.
-fn was_handed(alloc: Global, ends: &Clients) -> Result<bool, AllocError> {
+/// Whether the receiver was handed these publications, each once and in their order.
+fn was_handed(alloc: Global, ends: &Clients, publications: &[u64]) -> Result<bool, AllocError> {
     match ends.handed(alloc, "r")? {
-        Some(handed) => Ok(handed.as_slice() == [1].as_slice()),
+        Some(handed) => Ok(handed.as_slice() == publications),
         None => Ok(false),
     }
 }
@@ -182,12 +198,27 @@ fn was_handed(alloc: Global, ends: &Clients) -> Result<bool, AllocError> {
 fn a_message_is_handed_over_and_completed(rt: HostRuntime) -> Result<(), Fail> {
     let alloc = rt.alloc();
     let mut ends = Clients::new(alloc);
-    let played = play_over(alloc, RandomState::new(&rt)?, &mut ends);
-    let was_handed = was_handed(alloc, &ends);
+    let played = play_over(alloc, RandomState::new(&rt)?, &mut ends, 0, 1);
+    let was_handed = was_handed(alloc, &ends, &[1]);
     let done = ends.done("p");
     drop(ends);
     played?;
     assert!(rt; was_handed?, "the first publication, once");
     assert_eq!(rt; done, Some(1), "the message is completed");
+    Ok(())
+}
+
+// The second comes without its topic, with the alias that the first brought (3.3.2.3.4).
+#[test]
+fn a_topic_is_read_by_its_alias(rt: HostRuntime) -> Result<(), Fail> {
+    let alloc = rt.alloc();
+    let mut ends = Clients::new(alloc);
+    let played = play_over(alloc, RandomState::new(&rt)?, &mut ends, 5, 2);
+    let was_handed = was_handed(alloc, &ends, &[1, 2]);
+    let done = ends.done("p");
+    drop(ends);
+    played?;
+    assert!(rt; was_handed?, "both publications, once");
+    assert_eq!(rt; done, Some(2), "both messages are completed");
     Ok(())
 }

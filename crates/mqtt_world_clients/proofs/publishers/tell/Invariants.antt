@@ -2,12 +2,12 @@ use Rattle.std.proofs.Common.{◌≡◌, ◌++◌, drop, map, take}
 use Rattle.mqtt_rules.specs.Step.{Outcome as Told}
 use Rattle.mqtt_broker_engine.specs.Calling.{Tells}
 use Rattle.mqtt_world_model.specs.World.{publisher_told}
-use Rattle.mqtt_world_untold_laws.specs.Untold.{GoesAsMeant, OnPublishers}
+use Rattle.mqtt_world_untold_laws.specs.Knowing.{IsUnderstood, OnPublishers}
 use Rattle.mqtt_world_clients.specs.Telling.{AreSpelled}
 use Rattle.mqtt_world_clients.proofs.publishers.tell.Given as goal
 
 abbrev pub invariant-loop-publisher : goal.invariant-loop-publisher
 invariant-loop-publisher g l =
-    (told : Told) → Tells told l.outcome → AreSpelled told → OnPublishers (GoesAsMeant told.wires told.outputs) l.fn.publishers.items
+    (told : Told) → Tells told l.outcome → AreSpelled told → OnPublishers (λ e. IsUnderstood told.wires told.outputs e.number e.known) l.fn.publishers.items
     → l.publisher-items
     ≡ map (publisher_told l.engine.broker told) (take l.publisher-index l.fn.publishers.items) ++ drop l.publisher-index l.fn.publishers.items

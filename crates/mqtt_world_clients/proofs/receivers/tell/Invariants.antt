@@ -2,12 +2,12 @@ use Rattle.std.proofs.Common.{◌≡◌, ◌++◌, drop, map, take}
 use Rattle.mqtt_rules.specs.Step.{Outcome as Told}
 use Rattle.mqtt_broker_engine.specs.Calling.{Tells}
 use Rattle.mqtt_world_model.specs.World.{receiver_told}
-use Rattle.mqtt_world_untold_laws.specs.Untold.{GoesAsMeant, OnReceivers}
+use Rattle.mqtt_world_untold_laws.specs.Knowing.{IsUnderstood, OnReceivers}
 use Rattle.mqtt_world_clients.specs.Telling.{AreSpelled}
 use Rattle.mqtt_world_clients.proofs.receivers.tell.Given as goal
 
 abbrev pub invariant-loop-receiver : goal.invariant-loop-receiver
 invariant-loop-receiver g l =
-    (told : Told) → Tells told l.outcome → AreSpelled told → OnReceivers (GoesAsMeant told.wires told.outputs) l.fn.receivers.items
+    (told : Told) → Tells told l.outcome → AreSpelled told → OnReceivers (λ e. IsUnderstood told.wires told.outputs e.number e.known) l.fn.receivers.items
     → l.receiver-items
     ≡ map (receiver_told l.engine.broker told) (take l.receiver-index l.fn.receivers.items) ++ drop l.receiver-index l.fn.receivers.items
