@@ -15,7 +15,7 @@ use Rattle.mqtt_broker.specs.Serving.{Serving, Served, has_closed}
 use Rattle.mqtt_broker.specs.Framers.{HeldLine}
 use Rattle.mqtt_world_scene.specs.declared.over.Over.{Over}
 use Rattle.mqtt_world_clients.specs.Ends.{Ends}
-use Rattle.mqtt_world_untold_laws.specs.Untold.{AllGoesAsMeant}
+use Rattle.mqtt_world_untold_laws.specs.Knowing.{AllIsUnderstood}
 use Rattle.mqtt_world_clients.specs.Telling.{AreSpelled, ends_told}
 use Rattle.mqtt_world_scene.specs.Scenes.{Calls, HoldNone, HoldsNone, IsPlayable, Played}
 
@@ -75,7 +75,7 @@ none_held keeps (x ∷ held) h = kept_none (keeps x) x (filter keeps held) h.0 (
 module _ {K : Type 0} (g : Ghosts K) (now : ℕ) (call : Call) (old new : Played K) (out : Outcome) where
   -- what the engine answered to a call is that call of the scene, if its ends are told of it
   pub called : (r : Result Telling Over) → IsPlayable g old → Served g (min now LAST_NUMBER) call old.engine (Ok out) new.engine
-      → ((answer : Answer) → Tells answer out → AreSpelled answer → AllGoesAsMeant answer old.ends.publishers old.ends.receivers → OnOk r (new.ends ≡ ends_told new.engine.running.broker answer old.ends))
+      → ((answer : Answer) → Tells answer out → AreSpelled answer → AllIsUnderstood answer old.ends.publishers old.ends.receivers → OnOk r (new.ends ≡ ends_told new.engine.running.broker answer old.ends))
       → ((answer : Answer) → Tells answer out → IfOk r (λ (t : Telling). t ≡ record { reports = answer.reports; out = length answer.wires }))
       → IfOk r (λ (t : Telling). Calls g now call old t new)
   called (Err fault) playable served ends tells = tt
@@ -91,7 +91,7 @@ module _ {K : Type 0} (g : Ghosts K) (now : ℕ) (call : Call) (old new : Played
         unspent = sym (spent_capped limits choice now call b) ∙ a.step.unspent;
         broker = broker_is;
         ends = λ spelled goes.
-            let is = ends a.told a.tells (subst AreSpelled (sym answer_is) spelled) (subst (λ (x : Answer). AllGoesAsMeant x old.ends.publishers old.ends.receivers) (sym answer_is) goes) in
+            let is = ends a.told a.tells (subst AreSpelled (sym answer_is) spelled) (subst (λ (x : Answer). AllIsUnderstood x old.ends.publishers old.ends.receivers) (sym answer_is) goes) in
             is ∙ ap (λ x. ends_told x a.told old.ends) broker_is ∙ ap (λ x. ends_told (stepped limits choice now call b) x old.ends) answer_is;
         told_is = tells a.told a.tells ∙ ap (λ (x : Answer). record { reports = x.reports; out = length x.wires }) answer_is
             ∙ told_count limits choice now call b;
@@ -107,7 +107,7 @@ module _ {K : Type 0} (g : Ghosts K) (now : ℕ) (call : Call) (old new : Played
 -- the same, as a call of the engine and the telling behind it say it
 pub answered : {K : Type 0} (g : Ghosts K) (now moment : ℕ) (call : Call) (old new : Played K) (mid : Serving K) (out : Outcome) (result : Result Outcome EngineError) (r : Result Telling Over)
     → IsPlayable g old → moment ≡ min now LAST_NUMBER → result ≡ Ok out → Served g moment call old.engine result mid → new.engine ≡ mid
-    → ((answer : Answer) → Tells answer out → AreSpelled answer → AllGoesAsMeant answer old.ends.publishers old.ends.receivers → OnOk r (new.ends ≡ ends_told mid.running.broker answer old.ends))
+    → ((answer : Answer) → Tells answer out → AreSpelled answer → AllIsUnderstood answer old.ends.publishers old.ends.receivers → OnOk r (new.ends ≡ ends_told mid.running.broker answer old.ends))
     → ((answer : Answer) → Tells answer out → IfOk r (λ (t : Telling). t ≡ record { reports = answer.reports; out = length answer.wires }))
     → IfOk r (λ (t : Telling). Calls g now call old t new)
 answered {K} g now moment call old new mid out result r playable moment_is is served same ends tells =
@@ -116,14 +116,14 @@ answered {K} g now moment call old new mid out result r playable moment_is is se
     (subst (λ (x : Result Outcome EngineError). Served g (min now LAST_NUMBER) call old.engine x mid) is
     (subst (λ (n : ℕ). Served g n call old.engine result mid) moment_is served)) in
     called g now call old new out r playable at
-    (subst (λ (e : Serving K). (answer : Answer) → Tells answer out → AreSpelled answer → AllGoesAsMeant answer old.ends.publishers old.ends.receivers → OnOk r (new.ends ≡ ends_told e.running.broker answer old.ends)) (sym same) ends)
+    (subst (λ (e : Serving K). (answer : Answer) → Tells answer out → AreSpelled answer → AllIsUnderstood answer old.ends.publishers old.ends.receivers → OnOk r (new.ends ≡ ends_told e.running.broker answer old.ends)) (sym same) ends)
     tells
 
 -- and of a scene as it is seen
 pub answered_in : {K : Type 0} (g : Ghosts K) (now moment : ℕ) (call : Call) (old new : Played K) (engine mid : Serving K) (ends : Ends) (out : Outcome) (result : Result Outcome EngineError) (r : Result Telling Over)
     → old ≡ record { engine = engine; ends = ends }
     → IsPlayable g old → moment ≡ min now LAST_NUMBER → result ≡ Ok out → Served g moment call engine result mid → new.engine ≡ mid
-    → ((answer : Answer) → Tells answer out → AreSpelled answer → AllGoesAsMeant answer ends.publishers ends.receivers → OnOk r (new.ends ≡ ends_told mid.running.broker answer ends))
+    → ((answer : Answer) → Tells answer out → AreSpelled answer → AllIsUnderstood answer ends.publishers ends.receivers → OnOk r (new.ends ≡ ends_told mid.running.broker answer ends))
     → ((answer : Answer) → Tells answer out → IfOk r (λ (t : Telling). t ≡ record { reports = answer.reports; out = length answer.wires }))
     → IfOk r (λ (t : Telling). Calls g now call old t new)
 answered_in {K} g now moment call old new engine mid ends out result r view playable moment_is is served same reached tells =

@@ -11,8 +11,8 @@ use Rattle.mqtt_broker.specs.Serving.{Serving}
 use Rattle.mqtt_broker_engine.specs.Running.{Running}
 use Rattle.mqtt_rules.specs.declared.Limits.{Limits}
 use Rattle.mqtt_world_clients.specs.Ends.{Ends, in_world}
-use Rattle.mqtt_world_untold_laws.specs.Untold.{HasUntoldEnds}
-use Rattle.mqtt_world_scene.proofs.StayUntold.{repeats_untold, rounds_untold, turn_untold}
+use Rattle.mqtt_world_untold_laws.specs.Knowing.{HasKnowingEnds}
+use Rattle.mqtt_world_scene.proofs.StayKnowing.{repeats_knowing, rounds_knowing, turn_knowing}
 use Rattle.mqtt_world_scene.specs.declared.over.Over.{Over}
 use Rattle.mqtt_script_laws.specs.Drains.{IsRound, Repeats}
 use Rattle.mqtt_script_laws.specs.Scripted.{Happens}
@@ -124,7 +124,7 @@ module _ {K : Type 0} (g : Ghosts K) (now : ℕ) where
     reached = λ reached. reached;
     t = silent;
     told = nothing_behind told;
-    done = λ spells reached ss untold. none s.engine.running.limits (world_of now ss s);
+    done = λ spells reached ss knowing. none s.engine.running.limits (world_of now ss s);
   }
 
   -- the same, said in other words of these worlds
@@ -139,11 +139,11 @@ module _ {K : Type 0} (g : Ghosts K) (now : ℕ) where
     reached = x.reached;
     t = x.t;
     told = x.told;
-    done = λ spells reached ss untold. says old.engine.running.limits x.t ss (x.done spells reached ss untold);
+    done = λ spells reached ss knowing. says old.engine.running.limits x.t ss (x.done spells reached ss knowing);
   }
 
   goes_behind : (P Q R : Limits → Telling → World → World → Type 0) (old mid new : Played K) (before between after : Telling)
-      → ((limits : Limits) (t : Telling) (w v : World) → P limits t w v → HasUntoldEnds w → HasUntoldEnds v)
+      → ((limits : Limits) (t : Telling) (w v : World) → P limits t w v → HasKnowingEnds w → HasKnowingEnds v)
       → ((limits : Limits) (t u : Telling) (w v x : World) → P limits t w v → Q limits u v x → R limits (both_tell t u) w x)
       → GoesOn g now P old before between mid → GoesOn g now Q mid between after new → GoesOn g now R old before after new
   goes_behind P Q R old mid new before between after keeps joins x y =
@@ -157,12 +157,12 @@ module _ {K : Type 0} (g : Ghosts K) (now : ℕ) where
             (y.reached (subst (λ (l : Limits). IsReached l mid.engine.running.broker) (sym x.limits) (x.reached reached)));
         t = both_tell x.t y.t;
         told = y.told ∙ (ap (λ (z : Telling). both_tell z y.t) x.told ∙ tells_after before x.t y.t);
-        done = λ spells reached ss untold.
-            let first = x.done spells reached ss untold in
+        done = λ spells reached ss knowing.
+            let first = x.done spells reached ss knowing in
             joins limits x.t y.t (world_of now ss old) (world_of now ss mid) (world_of now ss new) first
             (subst (λ (l : Limits). Q l y.t (world_of now ss mid) (world_of now ss new)) x.limits
             (y.done (subst SpellsAll (sym x.limits) spells)
-            (subst (λ (l : Limits). IsReached l mid.engine.running.broker) (sym x.limits) (x.reached reached)) ss (keeps limits x.t (world_of now ss old) (world_of now ss mid) first untold)));
+            (subst (λ (l : Limits). IsReached l mid.engine.running.broker) (sym x.limits) (x.reached reached)) ss (keeps limits x.t (world_of now ss old) (world_of now ss mid) first knowing)));
       }
 
   -- ---- one turn
@@ -177,7 +177,7 @@ module _ {K : Type 0} (g : Ghosts K) (now : ℕ) where
     reached = does.reached;
     t = t;
     told = told;
-    done = λ spells reached ss untold. turns old.engine.running.limits t (world_of now ss old) (world_of now ss new) (does.done spells reached ss untold);
+    done = λ spells reached ss knowing. turns old.engine.running.limits t (world_of now ss old) (world_of now ss new) (does.done spells reached ss knowing);
   }
 
   -- if what is told was added
@@ -201,7 +201,7 @@ module _ {K : Type 0} (g : Ghosts K) (now : ℕ) where
   one_more n m e old mid new before between after is x y =
       subst (λ (k : ℕ). GoesOn g now (so_often k e) old before after new) (sym is)
       (goes_behind (so_often n e) (once e) (so_often (suc n) e) old mid new before between after
-      (λ limits t w v does h. repeats_untold limits n e t w v does h)
+      (λ limits t w v does h. repeats_knowing limits n e t w v does h)
       (λ limits t u w v z h does. once_more limits n e t u w v z h does) x y)
 
   -- if a receiver read as often as packets were under way to it, it read all of them
@@ -246,9 +246,9 @@ module _ {K : Type 0} (g : Ghosts K) (now : ℕ) where
       → GoesOn g now (once (ask (pump client))) old a b sent → GoesOn g now (reads_all client) sent b c read
       → OnOk r (GoesOn g now (answers_all client) read c d new) → OnOk r (GoesOn g now (one_round client) old a d new)
   goes_round client old sent read new a b c d (Ok x) sends reads answers =
-      goes_behind (once (ask (pump client))) (reads_and_answers client) (one_round client) old sent new a b d (λ limits t w v does h. turn_untold limits (ask (pump client)) t w v does h) (round_is client) sends
+      goes_behind (once (ask (pump client))) (reads_and_answers client) (one_round client) old sent new a b d (λ limits t w v does h. turn_knowing limits (ask (pump client)) t w v does h) (round_is client) sends
       (goes_behind (reads_all client) (answers_all client) (reads_and_answers client) sent read new b c d
-      (λ limits t w v does h. repeats_untold limits (downs_by (receiver_named client w)) (to_end client) t w v does h)
+      (λ limits t w v does h. repeats_knowing limits (downs_by (receiver_named client w)) (to_end client) t w v does h)
       (λ limits t u w v after first then. (t, u, v, first, then, refl)) reads answers)
   goes_round client old sent read new a b c d (Err f) sends reads answers = tt
 
@@ -269,7 +269,7 @@ module _ {K : Type 0} (g : Ghosts K) (now : ℕ) where
   one_round_more client n m old mid new before between after over is looks on x y =
       subst (λ (k : ℕ). GoesOn g now (so_many_rounds client k) old before after new) (sym is)
       (goes_behind (so_many_rounds client n) (going_round client) (so_many_rounds client (suc n)) old mid new before between after
-      (λ limits t w v does h. rounds_untold limits client n t w v does h)
+      (λ limits t w v does h. rounds_knowing limits client n t w v does h)
       (λ limits t u w v z made goes. a_round_more limits client n t u w v z made goes.0 goes.1) x
       (goes_as (one_round client) (going_round client) mid new between after (λ limits t ss h. (sym (looks ss) ∙ on, h)) y))
 
@@ -290,7 +290,7 @@ module _ {K : Type 0} (g : Ghosts K) (now : ℕ) where
     limits = refl;
     sound = λ sound. sound;
     reached = λ reached. reached;
-    done = λ spells reached ss untold. (sym (looks ss) ∙ is, refl);
+    done = λ spells reached ss knowing. (sym (looks ss) ∙ is, refl);
   }
 
   -- if it can, it is all its rounds, and tells what they told
@@ -304,8 +304,8 @@ module _ {K : Type 0} (g : Ghosts K) (now : ℕ) where
         limits = x.limits;
         sound = x.sound;
         reached = x.reached;
-        done = λ spells reached ss untold.
-            let made = x.done spells reached ss untold in
+        done = λ spells reached ss knowing.
+            let made = x.done spells reached ss knowing in
             (record { good = sym (looks ss) ∙ good; rounds = n; made = made.0; over = made.1 }, refl);
       })
 

@@ -13,9 +13,9 @@ use Rattle.mqtt_world_clients.specs.Ends.{Ends, reading}
 use Rattle.mqtt_script_laws.specs.Scripted.{Happens, IsBadEvent, front_of, packet_of, IsRefused}
 use Rattle.mqtt_script_laws.specs.Turns.{IsPlain, IsQuiet, by_choice}
 use Rattle.mqtt_script_laws.proofs.Single.{asks_call, asks_nothing, left_by, plain_happens, quiet}
-use Rattle.mqtt_world_untold_laws.specs.Untold.{HasUntoldEnds, TakesNoneOfEnds}
+use Rattle.mqtt_world_untold_laws.specs.Knowing.{HasKnowingEnds, TakesAsEnds}
 use Rattle.mqtt_world_untold_laws.proofs.Calls.{meant_out}
-use Rattle.mqtt_world_untold_laws.proofs.Worlds.{asked_takes, before_untold}
+use Rattle.mqtt_world_untold_laws.proofs.Worlds.{asked_takes, before_knowing}
 use Rattle.mqtt_world_scene.specs.Scenes.{Calls, IsPlayable, Played}
 use Rattle.mqtt_world_scene.specs.Events.{Does, IsReached, SpellsAll, TakesPacket, played, steps, world_of}
 
@@ -32,7 +32,7 @@ module _ {K : Type 0} (g : Ghosts K) (now : ℕ) where
 
   -- an event that can't happen changes nothing
   pub bad_done : (e : Event) (s : Played K) → IsPlayable g s → ((ss : List Stranger) → IsBadEvent e (world_of now ss s)) → Does g now e s None s
-  bad_done e s playable is = record { playable = playable; limits = refl; sound = λ sound. sound; reached = λ reached. reached; done = λ spells reached ss untold. (is ss, refl) }
+  bad_done e s playable is = record { playable = playable; limits = refl; sound = λ sound. sound; reached = λ reached. reached; done = λ spells reached ss knowing. (is ss, refl) }
 
   -- ---- what ends do
 
@@ -46,7 +46,7 @@ module _ {K : Type 0} (g : Ghosts K) (now : ℕ) where
     limits = refl;
     sound = λ sound. sound;
     reached = λ reached. reached;
-    done = λ spells reached ss untold.
+    done = λ spells reached ss knowing.
         let limits = E.running.limits in
         let w = world_of now ss (played E O) in
         let after = world_of now ss (played E N) in
@@ -66,7 +66,7 @@ module _ {K : Type 0} (g : Ghosts K) (now : ℕ) where
     limits = refl;
     sound = λ sound. sound;
     reached = λ reached. reached;
-    done = λ spells reached ss untold.
+    done = λ spells reached ss knowing.
         let limits = E.running.limits in
         let set = by_choice limits any_choice in
         let w = world_of now ss (played E O) in
@@ -83,14 +83,14 @@ module _ {K : Type 0} (g : Ghosts K) (now : ℕ) where
 
   -- what a call makes of the broker and its ends it makes of their world, whatever strangers there are
   pub world_called : (call : Call) (old new : Played K) (t : Telling) (ss : List Stranger) → IsReached old.engine.running.limits old.engine.running.broker → TakesPacket call → (c : Calls g now call old t new)
-      → SpellsAll old.engine.running.limits → HasUntoldEnds (world_of now ss old) → TakesNoneOfEnds call (world_of now ss old)
+      → SpellsAll old.engine.running.limits → HasKnowingEnds (world_of now ss old) → TakesAsEnds call (world_of now ss old)
       → world_of now ss new ≡ calls (by_choice old.engine.running.limits c.choice) call (world_of now ss old)
-  world_called call old new t ss reached takes c spells untold none =
+  world_called call old new t ss reached takes c spells knowing few =
       let limits = old.engine.running.limits in
       let b = old.engine.running.broker in
       let stands : Broker → Ends → World = λ x e. record { broker = x; now = now; publishers = e.publishers; receivers = e.receivers; strangers = ss } in
       ap (λ (x : Broker). stands x new.ends) c.broker
-      ∙ ap (stands (stepped limits c.choice now call b)) (c.ends (spells c.choice now call b reached takes c.unspent) (meant_out (by_choice limits c.choice) call (world_of now ss old) untold none))
+      ∙ ap (stands (stepped limits c.choice now call b)) (c.ends (spells c.choice now call b reached takes c.unspent) (meant_out (by_choice limits c.choice) call (world_of now ss old) knowing few))
 
   -- what is asked is done by the call, with what its end does before it and behind it
   pub called_done : (a : Asking) (call : Call) (E F : Serving K) (O M P N : Ends) (t : Telling) → IsPlain a → IsPlayable g (played E O)
@@ -106,7 +106,7 @@ module _ {K : Type 0} (g : Ghosts K) (now : ℕ) where
         limits = c.limits;
         sound = c.sound;
         reached = reached_after call (played E M) (played F P) t takes c;
-        done = λ spells reached ss untold.
+        done = λ spells reached ss knowing.
             let limits = E.running.limits in
             let set = by_choice limits c.choice in
             let w = world_of now ss (played E O) in
@@ -116,7 +116,7 @@ module _ {K : Type 0} (g : Ghosts K) (now : ℕ) where
             (asks_call limits c.choice a call t w after p (good ss) (some set ss)
             (subst (λ (x : World). is_step_spent limits c.choice x.now call x.broker ≡ false) same c.unspent)
             (last ss ∙ ap (left_by a) (world_called call (played E M) (played F P) t ss reached takes c spells
-            (subst HasUntoldEnds (sym same) (before_untold set a w untold)) (subst (TakesNoneOfEnds call) (sym same) (asked_takes set a call w untold (some set ss)))
+            (subst HasKnowingEnds (sym same) (before_knowing set a w knowing)) (subst (TakesAsEnds call) (sym same) (asked_takes set a call w knowing (some set ss)))
             ∙ ap (calls set call) same))
             (subst (λ (x : World). t ≡ telling (deeds limits c.choice x.now call x.broker)) same c.told_is));
       }

@@ -30,7 +30,7 @@ use Rattle.mqtt_broker.specs.Framers.{HeldLine, changed_at, framing_at, framing_
 use Rattle.mqtt_records_rows.specs.Order.{row_at}
 use Rattle.mqtt_world_scene.specs.declared.over.Over.{Over}
 use Rattle.mqtt_world_clients.specs.Ends.{Ends}
-use Rattle.mqtt_world_untold_laws.specs.Untold.{AllGoesAsMeant, GoesAsMeant, OnEachLine}
+use Rattle.mqtt_world_untold_laws.specs.Knowing.{AllIsUnderstood, IsUnderstood, OnEachEnd}
 use Rattle.mqtt_world_clients.specs.Telling.{AreSpelled, ends_told}
 use Rattle.mqtt_world_scene.specs.Scenes.{Calls, HoldNone, IsPlayable, Played}
 use Rattle.mqtt_world_scene.proofs.Answered.{kept_none, none_held, spent_capped, stepped_capped, told_capped, told_count}
@@ -91,8 +91,8 @@ fault_closed limits choice now line is_connect code b l there =
 
 -- ---- the step of a piece is that of its call
 
-abbrev with_told : Broker → Ends → List (ℕ × Packet) → List ℕ → Ends
-with_told b e outputs closed = ends_told b (record nothing_told { outputs = outputs; closed = closed }) e
+abbrev with_told : Broker → Ends → List (ℕ × Packet) → List (ℕ × Packet) → List ℕ → Ends
+with_told b e wires outputs closed = ends_told b (record nothing_told { outputs = outputs; wires = wires; closed = closed }) e
 
 module _ {K : Type 0} (g : Ghosts K) (now line : ℕ) (call : Call) (piece : List ℕ) (old new : Played K) (out : Outcome) where
   abbrev limits : Limits
@@ -215,7 +215,7 @@ module _ {K : Type 0} (g : Ghosts K) (now line : ℕ) (call : Call) (piece : Lis
   -- bytes that are one call, given on a line that holds nothing, are that call of the scene
   pub given : (moment : ℕ) (mid : Serving K) (result : Result Outcome EngineError) (r : Result Telling Over) → IsPlayable g old → held_after piece ≡ [] → length piece ≤ PACKET_LIMIT → first_call line piece ≡ Some call
       → moment ≡ m → result ≡ Ok out → PieceCalled g moment line piece old.engine result mid → new.engine ≡ mid
-      → ((answer : Answer) → Tells answer out → AreSpelled answer → AllGoesAsMeant answer old.ends.publishers old.ends.receivers → OnOk r (new.ends ≡ ends_told mid.running.broker answer old.ends))
+      → ((answer : Answer) → Tells answer out → AreSpelled answer → AllIsUnderstood answer old.ends.publishers old.ends.receivers → OnOk r (new.ends ≡ ends_told mid.running.broker answer old.ends))
       → ((answer : Answer) → Tells answer out → IfOk r (λ (t : Telling). t ≡ record { reports = answer.reports; out = length answer.wires }))
       → IfOk r (λ (t : Telling). Calls g now call old t new)
   given moment mid result (Err fault) playable left within asks moment_is is called same ends tells = tt
@@ -239,11 +239,12 @@ module _ {K : Type 0} (g : Ghosts K) (now line : ℕ) (call : Call) (piece : Lis
         broker = ap (λ (e : Serving K). e.running.broker) same ∙ mid_is;
         ends = λ spelled goes.
             let first = ends a.after.out a.tells (subst (λ (os : List (ℕ × Packet)). AllByRecursion (λ (y : ℕ × Packet). HasSpelling y.1) os) (sym outputs) spelled)
-            (subst (λ (ws : List (ℕ × Packet)). OnEachLine (GoesAsMeant ws a.after.out.outputs) old.ends.publishers old.ends.receivers) (sym wires)
-            (subst (λ (os : List (ℕ × Packet)). OnEachLine (GoesAsMeant (told limits choice now call b).wires os) old.ends.publishers old.ends.receivers) (sym outputs) goes)) in
+            (subst (λ (ws : List (ℕ × Packet)). OnEachEnd (λ e. IsUnderstood ws a.after.out.outputs e.number e.known) old.ends.publishers old.ends.receivers) (sym wires)
+            (subst (λ (os : List (ℕ × Packet)). OnEachEnd (λ e. IsUnderstood (told limits choice now call b).wires os e.number e.known) old.ends.publishers old.ends.receivers) (sym outputs) goes)) in
             first ∙ ap (λ (z : Broker). ends_told z a.after.out old.ends) mid_is
-            ∙ ap (λ (os : List (ℕ × Packet)). with_told to old.ends os a.after.out.closed) outputs
-            ∙ ap (λ (cs : List ℕ). with_told to old.ends (told limits choice now call b).outputs cs) closed;
+            ∙ ap (λ (ws : List (ℕ × Packet)). with_told to old.ends ws a.after.out.outputs a.after.out.closed) wires
+            ∙ ap (λ (os : List (ℕ × Packet)). with_told to old.ends (told limits choice now call b).wires os a.after.out.closed) outputs
+            ∙ ap (λ (cs : List ℕ). with_told to old.ends (told limits choice now call b).wires (told limits choice now call b).outputs cs) closed;
         told_is = tells a.after.out a.tells
             ∙ ap (λ (ws : List (ℕ × Packet)). record { reports = a.after.out.reports; out = length ws }) wires
             ∙ ap (λ rs. record { reports = rs; out = length (told limits choice now call b).wires }) reports
@@ -262,7 +263,7 @@ pub given_in : {K : Type 0} (g : Ghosts K) (now moment line : ℕ) (call : Call)
     → old ≡ record { engine = engine; ends = ends }
     → IsPlayable g old → held_after piece ≡ [] → length piece ≤ PACKET_LIMIT → first_call line piece ≡ Some call
     → moment ≡ min now LAST_NUMBER → result ≡ Ok out → PieceCalled g moment line piece engine result mid → new.engine ≡ mid
-    → ((answer : Answer) → Tells answer out → AreSpelled answer → AllGoesAsMeant answer ends.publishers ends.receivers → OnOk r (new.ends ≡ ends_told mid.running.broker answer ends))
+    → ((answer : Answer) → Tells answer out → AreSpelled answer → AllIsUnderstood answer ends.publishers ends.receivers → OnOk r (new.ends ≡ ends_told mid.running.broker answer ends))
     → ((answer : Answer) → Tells answer out → IfOk r (λ (t : Telling). t ≡ record { reports = answer.reports; out = length answer.wires }))
     → IfOk r (λ (t : Telling). Calls g now call old t new)
 given_in {K} g now moment line call piece old new engine mid ends out result r view playable left within asks moment_is is called same reached tells =

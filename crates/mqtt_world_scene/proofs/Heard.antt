@@ -14,9 +14,9 @@ use Rattle.mqtt_rules.specs.Piece.{Front, begins_connect, call_by, code_of, firs
 use Rattle.mqtt_rules.specs.Step.{BadInput, Call, Input}
 use Rattle.mqtt_rules.specs.declared.Report.{Report}
 use Rattle.mqtt_script_laws.specs.Turns.{both_tell}
-use Rattle.mqtt_world_untold_laws.specs.Untold.{TakesNoneOfEnds}
+use Rattle.mqtt_world_untold_laws.specs.Knowing.{TakesAsEnds}
 use Rattle.mqtt_world_scene.specs.Events.{TakesPacket}
-use Rattle.mqtt_world_scene.specs.Hearing.{Asks, Hears, TakesNoneIf}
+use Rattle.mqtt_world_scene.specs.Hearing.{Asks, Hears, TakesAsEndsIf}
 use Rattle.mqtt_world_scene.specs.Scenes.{Calls, IsPlayable, Played}
 use Rattle.mqtt_world_scene.proofs.Eventful.{any_choice, reached_after, world_called}
 
@@ -58,8 +58,8 @@ some_asked line bytes each left some = by (first_of bytes) refl
     by (Ok (Some x)) e = (Input line x.0, ap (call_by line bytes) e, first_taken bytes x.0 x.1 each e)
     by (Err fault) e = (BadInput line (begins_connect bytes) (code_of (answer_to fault)), ap (call_by line bytes) e, (fault, refl))
 
--- what is asked brings no CONNECT of a client that takes aliases, if no call does that it may come to
-pub takes_if : (o : Option Call) (w : World) → ((call : Call) → o ≡ Some call → TakesNoneOfEnds call w) → TakesNoneIf o w
+-- what is asked brings no CONNECT of a client that takes more aliases than the line's end, if no call does that it may come to
+pub takes_if : (o : Option Call) (w : World) → ((call : Call) → o ≡ Some call → TakesAsEnds call w) → TakesAsEndsIf o w
 takes_if None w h = tt
 takes_if (Some call) w h = h call refl
 
@@ -74,7 +74,7 @@ module _ {K : Type 0} (g : Ghosts K) (now : ℕ) where
     reached = λ reached. reached;
     unspent = λ ss. refl;
     told = λ ss. refl;
-    done = λ spells reached ss untold none. refl;
+    done = λ spells reached ss knowing few. refl;
   }
 
   asks_call : (call : Call) (old new : Played K) (t : Telling) → TakesPacket call → Calls g now call old t new → Asks g now (Some call) old t new
@@ -86,7 +86,7 @@ module _ {K : Type 0} (g : Ghosts K) (now : ℕ) where
     reached = reached_after g now call old new t takes c;
     unspent = λ ss. c.unspent;
     told = λ ss. c.told_is;
-    done = λ spells reached ss untold none. world_called g now call old new t ss reached takes c spells untold none;
+    done = λ spells reached ss knowing few. world_called g now call old new t ss reached takes c spells knowing few;
   }
 
   -- nothing came, or there is no line

@@ -45,13 +45,13 @@ module _ {K : Type 0} (g : Ghosts K) (now : ℕ) (client : List ℕ) (clean : Bo
         limits = c.limits;
         sound = c.sound;
         reached = reached_after g now NewLine s (played F P) silent tt c;
-        done = λ spells reached ss untold.
+        done = λ spells reached ss knowing.
             let limits = s.engine.running.limits in
             let set = by_choice limits c.choice in
             let w = world_of now ss s in
             let v = world_of now ss (played F N) in
             let at : v ≡ links set (Some line) client clean w =
-            become (world_of now ss (played F P)) ∙ ap (joins line client clean) (world_called g now NewLine s (played F P) silent ss reached tt c spells untold (new_line_takes w)) in
+            become (world_of now ss (played F P)) ∙ ap (joins line client clean) (world_called g now NewLine s (played F P) silent ss reached tt c spells knowing (new_line_takes w)) in
             subst (λ (x : Telling). Happens limits (connect_end client clean) x w v) (sym told)
             (single.joins limits c.choice client clean w v
             (ap (λ (x : Played K). is_bad (connect_end client clean) (world_of now ss x)) (sym before) ∙ good ss)
@@ -66,7 +66,7 @@ module _ {K : Type 0} (g : Ghosts K) (now : ℕ) (client : List ℕ) (clean : Bo
     limits = refl;
     sound = λ sound. sound;
     reached = λ reached. reached;
-    done = λ spells reached ss untold.
+    done = λ spells reached ss knowing.
         let limits = s.engine.running.limits in
         let choice = (any_setting limits).choice in
         let set = by_choice limits choice in

@@ -10,6 +10,6 @@ pub mod Linked
 pub mod Played
 pub mod ReadAsSent
 pub mod Reopened
-pub mod StayUntold
+pub mod StayKnowing
 pub mod TakenOff
 pub mod Unasked

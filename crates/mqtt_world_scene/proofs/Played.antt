@@ -21,12 +21,12 @@ use Rattle.mqtt_world_scene.specs.Scenes.{Played}
 -- ---- which events they are
 
 -- any other than those by which ends and the broker alone do something
-pub other_events : (e : Event) → ((c : List ℕ) → e ≢ Publisher c) → ((c : List ℕ) (n : ℕ) → e ≢ Receiver c n) → ((c : List ℕ) (b : Bool) → e ≢ Connect c b)
+pub other_events : (e : Event) → ((c : List ℕ) → e ≢ Publisher c) → ((c : List ℕ) (n m : ℕ) → e ≢ Receiver c n m) → ((c : List ℕ) (b : Bool) → e ≢ Connect c b)
     → ((c : List ℕ) → e ≢ GiveUp c) → ((c : List ℕ) (d : Draft) → e ≢ Publish c d) → ((c : List ℕ) (x : Wish) → e ≢ Subscribe c x)
     → ((c : List ℕ) (b : Bool) → e ≢ ToBroker c b) → ((c : List ℕ) → e ≢ ToEnd c) → ((c : List ℕ) → e ≢ Break c) → ((c : List ℕ) → e ≢ Pump c) → e ≢ Tick
     → IsOfEnds e → ⊥
 other_events (Publisher c) n1 n2 n3 n4 n5 n6 n7 n8 n9 n10 n11 is = n1 c refl
-other_events (Receiver c n) n1 n2 n3 n4 n5 n6 n7 n8 n9 n10 n11 is = n2 c n refl
+other_events (Receiver c n m) n1 n2 n3 n4 n5 n6 n7 n8 n9 n10 n11 is = n2 c n m refl
 other_events (Connect c b) n1 n2 n3 n4 n5 n6 n7 n8 n9 n10 n11 is = n3 c b refl
 other_events (GiveUp c) n1 n2 n3 n4 n5 n6 n7 n8 n9 n10 n11 is = n4 c refl
 other_events (Publish c d) n1 n2 n3 n4 n5 n6 n7 n8 n9 n10 n11 is = n5 c d refl

@@ -34,7 +34,8 @@ pub or_either : (a b x t : Bool) → t ≡ (a || b) → t ≡ true → t ≡ (a 
 or_either true b x t same is = is
 or_either false b x t same is = or_first b x t same is
 
-and_true : (a b : Bool) → b ≡ true → a ≡ (a && b)
+-- if the second of two tests says yes, the first decides
+pub and_true : (a b : Bool) → b ≡ true → a ≡ (a && b)
 and_true true b is = sym is
 and_true false b is = refl
 
@@ -60,13 +61,13 @@ publisher_made client made b O N same is set w at =
     ∙ ap (λ (n : List ℕ). in_world (record O { publishers = O.publishers ++ new_publisher n ∷ [] }) w) same
 
 -- if a receiver is put behind the others, made at the last birth so far, that is what happens if one is made
-pub receiver_made : (client made : List ℕ) (window since : ℕ) (b : Broker) (O N : Ends) → made ≡ client → since ≡ b.records.births
-    → N ≡ record O { receivers = O.receivers ++ new_receiver made window since ∷ [] }
-    → (set : Setting) → BecomeAt b (happens set (receiver client window)) O N
-receiver_made client made window since b O N same last is set w at =
+pub receiver_made : (client made : List ℕ) (window aliases since : ℕ) (b : Broker) (O N : Ends) → made ≡ client → since ≡ b.records.births
+    → N ≡ record O { receivers = O.receivers ++ new_receiver made window aliases since ∷ [] }
+    → (set : Setting) → BecomeAt b (happens set (receiver client window aliases)) O N
+receiver_made client made window aliases since b O N same last is set w at =
     ap (λ (e : Ends). in_world e w) is
-    ∙ (ap (λ (n : List ℕ). in_world (record O { receivers = O.receivers ++ new_receiver n window since ∷ [] }) w) same
-    ∙ ap (λ (n : ℕ). in_world (record O { receivers = O.receivers ++ new_receiver client window n ∷ [] }) w)
+    ∙ (ap (λ (n : List ℕ). in_world (record O { receivers = O.receivers ++ new_receiver n window aliases since ∷ [] }) w) same
+    ∙ ap (λ (n : ℕ). in_world (record O { receivers = O.receivers ++ new_receiver client window aliases n ∷ [] }) w)
     (last ∙ ap (λ (x : Broker). x.records.births) (sym at)))
 
 -- ---- events

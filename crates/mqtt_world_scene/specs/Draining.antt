@@ -7,7 +7,7 @@ use Rattle.mqtt_world_receiver_laws.specs.Drains.{downs_by, is_bad_drain, is_ove
 use Rattle.mqtt_rules.specs.declared.Limits.{Limits}
 use Rattle.mqtt_script_laws.specs.Drains.{DrainHappens, IsRound, MakesRounds, Repeats}
 use Rattle.mqtt_script_laws.specs.Turns.{IsTurn, both_tell}
-use Rattle.mqtt_world_untold_laws.specs.Untold.{HasUntoldEnds}
+use Rattle.mqtt_world_untold_laws.specs.Knowing.{HasKnowingEnds}
 use Rattle.mqtt_world_scene.specs.Events.{IsReached, SpellsAll, world_of}
 use Rattle.mqtt_world_scene.specs.Scenes.{IsPlayable, Played, WasSound}
 
@@ -47,7 +47,7 @@ pub record GoesOn {K : Type 0} (g : Ghosts K) (now : ℕ) (leads : Limits → Te
   pub t : Telling
   pub told : after ≡ both_tell before t
   pub done : SpellsAll old.engine.running.limits → IsReached old.engine.running.limits old.engine.running.broker
-      → (strangers : List Stranger) → HasUntoldEnds (world_of now strangers old)
+      → (strangers : List Stranger) → HasKnowingEnds (world_of now strangers old)
       → leads old.engine.running.limits t (world_of now strangers old) (world_of now strangers new)
 
 -- ---- a drain
@@ -64,5 +64,5 @@ pub record Drains {K : Type 0} (g : Ghosts K) (now : ℕ) (client : List ℕ) (o
   pub sound : WasSound g old new
   pub reached : IsReached old.engine.running.limits old.engine.running.broker → IsReached old.engine.running.limits new.engine.running.broker
   pub done : SpellsAll old.engine.running.limits → IsReached old.engine.running.limits old.engine.running.broker
-      → (strangers : List Stranger) → HasUntoldEnds (world_of now strangers old)
+      → (strangers : List Stranger) → HasKnowingEnds (world_of now strangers old)
       → IsDrainDone old.engine.running.limits client x (world_of now strangers old) (world_of now strangers new)

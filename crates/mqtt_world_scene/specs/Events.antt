@@ -17,7 +17,7 @@ use Rattle.mqtt_world_clients.specs.Ends.{Ends}
 use Rattle.mqtt_world_clients.specs.Telling.{AreSpelled}
 use Rattle.mqtt_script_laws.specs.Scripted.{Happens, IsBadEvent}
 use Rattle.mqtt_rules_spelling_laws.specs.Sending.{HaveSentPhases}
-use Rattle.mqtt_world_untold_laws.specs.Untold.{HasUntoldEnds}
+use Rattle.mqtt_world_untold_laws.specs.Knowing.{HasKnowingEnds}
 use Rattle.mqtt_world_scene.specs.Scenes.{IsPlayable, Played, WasSound}
 
 -- ---- the brokers that there are: what opens on lawful records with identifiers of two bytes, what steps lead to, and what opens again on what they left
@@ -72,5 +72,5 @@ pub record Does {K : Type 0} (g : Ghosts K) (now : ℕ) (e : Event) (old : Playe
   pub sound : WasSound g old new
   pub reached : IsReached old.engine.running.limits old.engine.running.broker → IsReached old.engine.running.limits new.engine.running.broker
   pub done : SpellsAll old.engine.running.limits → IsReached old.engine.running.limits old.engine.running.broker
-      → (strangers : List Stranger) → HasUntoldEnds (world_of now strangers old)
+      → (strangers : List Stranger) → HasKnowingEnds (world_of now strangers old)
       → IsDone old.engine.running.limits e t (world_of now strangers old) (world_of now strangers new)

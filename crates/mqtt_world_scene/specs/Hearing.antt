@@ -8,14 +8,14 @@ use Rattle.mqtt_rules.specs.State.{MemberChoice}
 use Rattle.mqtt_rules.specs.Step.{Call}
 use Rattle.mqtt_world_acceptance_laws.specs.Spending.{spending}
 use Rattle.mqtt_script_laws.specs.Turns.{both_tell, by_choice}
-use Rattle.mqtt_world_untold_laws.specs.Untold.{HasUntoldEnds, TakesNoneOfEnds}
+use Rattle.mqtt_world_untold_laws.specs.Knowing.{HasKnowingEnds, TakesAsEnds}
 use Rattle.mqtt_world_scene.specs.Events.{IsReached, SpellsAll, world_of}
 use Rattle.mqtt_world_scene.specs.Scenes.{IsPlayable, Played, WasSound}
 
--- the call, if there is one, brings no CONNECT on the line of an end that takes aliases
-abbrev pub TakesNoneIf : Option Call → World → Type 0
-TakesNoneIf None w = ⊤
-TakesNoneIf (Some call) w = TakesNoneOfEnds call w
+-- the call, if there is one, brings no CONNECT on the line of an end that takes more aliases than that end (3.1.2.11.5)
+abbrev pub TakesAsEndsIf : Option Call → World → Type 0
+TakesAsEndsIf None w = ⊤
+TakesAsEndsIf (Some call) w = TakesAsEnds call w
 
 -- ---- the broker is asked for this, if for anything: for some choice of members that spends no number, whatever strangers
 -- there are
@@ -31,8 +31,8 @@ pub record Asks {K : Type 0} (g : Ghosts K) (now : ℕ) (call : Option Call) (ol
   pub told : (strangers : List Stranger)
       → t ≡ telling (read_if the_deeds (by_choice old.engine.running.limits choice) call (world_of now strangers old))
   pub done : SpellsAll old.engine.running.limits → IsReached old.engine.running.limits old.engine.running.broker
-      → (strangers : List Stranger) → HasUntoldEnds (world_of now strangers old)
-      → TakesNoneIf call (world_of now strangers old)
+      → (strangers : List Stranger) → HasKnowingEnds (world_of now strangers old)
+      → TakesAsEndsIf call (world_of now strangers old)
       → world_of now strangers new ≡ calls_if (by_choice old.engine.running.limits choice) call (world_of now strangers old)
 
 -- and what it tells is told behind what was told before

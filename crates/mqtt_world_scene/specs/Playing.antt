@@ -13,7 +13,7 @@ use Rattle.mqtt_world_scene.specs.Scenes.{Played}
 -- ends and the broker alone take part in it, and the broker stays open
 abbrev pub IsOfEnds : Event → Type 0
 IsOfEnds (Publisher client) = ⊤
-IsOfEnds (Receiver client window) = ⊤
+IsOfEnds (Receiver client window aliases) = ⊤
 IsOfEnds (Connect client clean_start) = ⊤
 IsOfEnds (GiveUp client) = ⊤
 IsOfEnds (Publish client draft) = ⊤

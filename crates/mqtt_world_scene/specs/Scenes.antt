@@ -8,7 +8,7 @@ use Rattle.mqtt_rules.specs.Step.{Call, deeds, is_step_spent, stepped, told}
 use Rattle.mqtt_broker.specs.Serving.{Serving}
 use Rattle.mqtt_broker.specs.Framers.{HeldLine}
 use Rattle.mqtt_world_clients.specs.Ends.{Ends}
-use Rattle.mqtt_world_untold_laws.specs.Untold.{AllGoesAsMeant}
+use Rattle.mqtt_world_untold_laws.specs.Knowing.{AllIsUnderstood}
 use Rattle.mqtt_world_clients.specs.Telling.{AreSpelled, ends_told}
 
 pub record Played (K : Type 0) : Type 0 where
@@ -33,13 +33,13 @@ abbrev pub WasSound : {K : Type 0} → Ghosts K → Played K → Played K → Ty
 WasSound g old new = g.is_sound new.engine.running.keep → g.is_sound old.engine.running.keep
 
 -- A call was a step of the broker, for some choice of members, that spends no number; each end was told, if the packets
--- that went out have spellings, and went out to it as they were meant; and this is what it told.
+-- have spellings, and what went out means to it what was meant, and is read as that; and this is what it told.
 pub record Calls {K : Type 0} (g : Ghosts K) (now : ℕ) (call : Call) (old : Played K) (t : Telling) (new : Played K) : Type 0 where
   pub choice : MemberChoice
   pub unspent : is_step_spent old.engine.running.limits choice now call old.engine.running.broker ≡ false
   pub broker : new.engine.running.broker ≡ stepped old.engine.running.limits choice now call old.engine.running.broker
   pub ends : AreSpelled (told old.engine.running.limits choice now call old.engine.running.broker)
-      → AllGoesAsMeant (told old.engine.running.limits choice now call old.engine.running.broker)
+      → AllIsUnderstood (told old.engine.running.limits choice now call old.engine.running.broker)
       old.ends.publishers old.ends.receivers
       → new.ends ≡ ends_told (stepped old.engine.running.limits choice now call old.engine.running.broker)
       (told old.engine.running.limits choice now call old.engine.running.broker) old.ends

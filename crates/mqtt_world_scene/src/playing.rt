@@ -21,7 +21,11 @@ impl<K: Keep> Scene<K> {
     {
         match event {
             Event::Publisher { client } => self.make_publisher(alloc, client),
-            Event::Receiver { client, window } => self.make_receiver(alloc, client, *window),
+            Event::Receiver {
+                client,
+                window,
+                aliases,
+            } => self.make_receiver(alloc, client, *window, *aliases),
             Event::Connect {
                 client,
                 clean_start,

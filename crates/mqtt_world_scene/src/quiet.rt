@@ -1,6 +1,6 @@
 //! How ends come to be, and what they do while the broker is asked for nothing (MQTT 5.0, 3.1.3.1, 3.3, 3.8, 4.4).
-ghost use Rattle.std.specs.Prelude.{◌≡◌, ℕ, List, IfOk};
-ghost use Rattle.mqtt_world_model.specs.World.{Stranger, give_up, is_bad, is_bad_name, is_window, publish};
+ghost use Rattle.std.specs.Prelude.{◌≡◌, ℕ, true, List, IfOk};
+ghost use Rattle.mqtt_world_model.specs.World.{Stranger, are_aliases, give_up, is_bad, is_bad_name, is_window, publish};
 ghost use Rattle.mqtt_world_model.specs.World.{publisher, receiver, subscribe, to_end};
 ghost use Rattle.mqtt_world_peers.specs.Publishers.{draft_of};
 ghost use Rattle.mqtt_world_peers.specs.Receivers.{wish_of};
@@ -40,9 +40,10 @@ impl<K: Keep> Scene<K> {
         is_bad_name(client) || self.clients.is_end(client.as_str())
     }
 
+    /// Whatever its Topic Alias Maximum is: each number of two bytes may be one (3.1.2.11.5).
     fn is_bad_receiver(&self, client: &Text, window: u16) -> bool
-        ensures { (now : ℕ) (ss : List Stranger) → result
-            ≡ is_bad (receiver client.now window) (world_of now ss self.now) }
+        ensures { (aliases now : ℕ) (ss : List Stranger) → are_aliases aliases ≡ true → result
+            ≡ is_bad (receiver client.now window aliases) (world_of now ss self.now) }
     {
         self.is_bad_publisher(client) || !is_window(window)
     }
@@ -78,22 +79,24 @@ impl<K: Keep> Scene<K> {
         Ok(Some(Told::silent(alloc)))
     }
 
-    /// A receiver is made, if no end has the name. `window` is its Receive Maximum (3.1.2.11.3).
+    /// A receiver is made, if no end has the name. `window` is its Receive Maximum (3.1.2.11.3), `aliases` its
+    /// Topic Alias Maximum (3.1.2.11.5).
     pub(crate) fn make_receiver(
         &mut self,
         alloc: Global,
         client: &Text,
         window: u16,
+        aliases: u16,
     ) -> Result<Option<Told>, Halt<K>>
         requires { IsPlayable K.Keep self.old }
-        ensures { IfOk result (λ t. (now : ℕ) → Does K.Keep now (receiver client.now window) self.old t self.new) }
+        ensures { IfOk result (λ t. (now : ℕ) → Does K.Keep now (receiver client.now window aliases) self.old t self.new) }
     {
         if self.is_bad_receiver(client, window) {
             return Ok(None);
         }
         let client = client.clone()?;
         self.clients
-            .add_receiver(client, window, self.engine.births())?;
+            .add_receiver(client, window, aliases, self.engine.births())?;
         Ok(Some(Told::silent(alloc)))
     }
 

@@ -7,7 +7,7 @@ ghost use Rattle.mqtt_rules.specs.Piece.{first_call};
 ghost use Rattle.mqtt_rules.specs.Step.{Call, Input, Lost, NewLine, Outcome as Answer, Pump, Tick};
 ghost use Rattle.mqtt_world_model.specs.Tellings.{silent};
 ghost use Rattle.mqtt_world_model.specs.World.{held_after, next_line};
-ghost use Rattle.mqtt_world_untold_laws.specs.Untold.{AllGoesAsMeant};
+ghost use Rattle.mqtt_world_untold_laws.specs.Knowing.{AllIsUnderstood};
 ghost use Rattle.mqtt_world_clients.specs.Telling.{AreSpelled, ends_told};
 ghost use Rattle.mqtt_world_scene.specs.Scenes.{Calls, IsPlayable};
 
@@ -67,7 +67,7 @@ impl<K: Keep> Scene<K> {
     fn tell(&mut self, outcome: Outcome) -> Result<Told, Halt<K>>
         ensures same { self.new.engine ≡ self.old.engine }
         ensures ends { (told : Answer) → Tells told outcome → AreSpelled told
-            → AllGoesAsMeant told self.old.ends.publishers self.old.ends.receivers
+            → AllIsUnderstood told self.old.ends.publishers self.old.ends.receivers
             → OnOk result (self.new.ends ≡ ends_told self.old.engine.running.broker told self.old.ends) }
         ensures told { (told : Answer) → Tells told outcome
             → IfOk result (λ t. t ≡ record { reports = told.reports; out = length told.wires }) }

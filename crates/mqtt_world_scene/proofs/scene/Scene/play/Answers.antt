@@ -17,7 +17,7 @@ returns-in-Publisher g c = λ is.
 pub returns-in-Receiver : goal.returns-in-Receiver
 returns-in-Receiver g c = λ is.
     let client = c.in-Receiver.client in
-    does_at g.K.Keep c.args.now c.args.event.now c.args.self.now c.make_receiver.new.self (λ n. world.receiver n c.in-Receiver.window) client client
+    does_at g.K.Keep c.args.now c.args.event.now c.args.self.now c.make_receiver.new.self (λ n. world.receiver n c.in-Receiver.window c.in-Receiver.aliases) client client
     c.make_receiver.result (ap event_of c.in-Receiver.is) refl c.make_receiver.ensures
 
 pub returns-in-Connect : goal.returns-in-Connect
