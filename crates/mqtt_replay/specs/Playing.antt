@@ -52,7 +52,7 @@ start w = record { number = 0; ends = []; world = w }
 -- the end that an event makes
 abbrev pub made_by : Event → Option End
 made_by (Publisher client) = Some (end.Publisher client)
-made_by (Receiver client window) = Some (end.Receiver client)
+made_by (Receiver client window aliases) = Some (end.Receiver client)
 made_by e = None
 
 -- ---- what a script's event comes to: it happens, and this is its line

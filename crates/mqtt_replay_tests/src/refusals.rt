@@ -23,6 +23,8 @@ fn bad_lines() -> &'static [&'static str] {
         "receiver r1 0",
         "receiver r1 65536",
         "receiver r1 01",
+        "receiver r1 1 65536",
+        "receiver r1 1 2 3",
         "connect r1 2",
         "publish p1 3 0 a/b -",
         "publish p1 0 0 a/b 686",

@@ -177,7 +177,7 @@ module _ {K : Type 0} (g : Ghosts K) where
           let limits_are : h.from.limits ≡ limits = ap (λ (s : Staged K). s.limits) same ∙ starts.limits_are in
           let world_is : world_at h.from ≡ begun = ap (λ (s : Staged K). world_at s) same ∙ starts.world in
           subst (λ (x : World). RunsTo limits es ts x (world_at h.to)) world_is
-          (subst (λ (l : Limits). RunsTo l es ts (world_at h.from) (world_at h.to)) limits_are (h.runs.runs sound came.reached came.untold))
+          (subst (λ (l : Limits). RunsTo l es ts (world_at h.from) (world_at h.to)) limits_are (h.runs.runs sound came.reached came.knowing))
 
       runs_lines : (lines : List (List ℕ)) (text : List ℕ) (end : Standing (Lasting K)) → (c : Comes g lines (start w) text end)
           → IsSoundAt g c.happen.to → RunsLines limits lines begun text c.events (world_at c.happen.to)

@@ -1,6 +1,6 @@
 //! The scripts of examples/ without their notes, and what stands beside them: an answer that is lost, a broker that is killed
-//! between commit and answer, a CONNECT that comes late, a queue that is drained, a full queue that drops (MQTT 5.0, 3.1.4, 4.1,
-//! 4.3.3, 4.4, 4.6).
+//! between commit and answer, a CONNECT that comes late, a queue that is drained, a full queue that drops, topics that are
+//! told by aliases (MQTT 5.0, 3.1.2.11.5, 3.1.4, 3.3.2.3.4, 4.1, 4.3.3, 4.4, 4.6).
 
 use crate::limits::is_so_in_queues_of_two;
 use crate::playing::is_so;
@@ -91,6 +91,25 @@ const FULL_QUEUE_TEXT: &str =
     38 tobroker ended=2>r1:Taken\n39 tobroker ended=3>r1:Taken\nr1 handed=2,3 queue=0\n\
     p1 sent=3 done=3\nbroker publications=3 sessions=2\n";
 
+/// Two topics are told by aliases, and again on a new line.
+const TOLD_TOPICS: &str = "receiver r1 10 2\npublisher p1\nconnect r1 0\ntobroker r1\ntoend r1\n\
+    subscribe r1 2 0 0 0 0 home/#\ntobroker r1\ntoend r1\nconnect p1 0\ntobroker p1\ntoend p1\n\
+    publish p1 2 0 home/temperature 31392e35\npublish p1 2 0 home/temperature 31392e37\n\
+    publish p1 2 0 home/humidity 3430\ntobroker p1\ntobroker p1\ntobroker p1\ntoend p1\ntoend p1\n\
+    toend p1\ntobroker p1\ntobroker p1\ntobroker p1\ntoend p1\ntoend p1\ntoend p1\npump r1\n\
+    toend r1\ntoend r1\nbreak r1\nconnect r1 0\ntobroker r1\ntoend r1\npump r1\ndrain r1\n";
+
+const TOLD_TOPICS_TEXT: &str =
+    "1 receiver\n2 publisher\n3 connect\n4 tobroker out=1\n5 toend\n6 subscribe\n7 tobroker out=1\n\
+    8 toend\n9 connect\n10 tobroker out=1\n11 toend\n12 publish\n13 publish\n14 publish\n\
+    15 tobroker accepted=1 entered=1>r1 out=1\n16 tobroker accepted=2 entered=2>r1 out=1\n\
+    17 tobroker accepted=3 entered=3>r1 out=1\n18 toend\n19 toend\n20 toend\n\
+    21 tobroker released=1 out=1\n22 tobroker released=2 out=1\n23 tobroker released=3 out=1\n\
+    24 toend\n25 toend\n26 toend\n27 pump out=3\n28 toend\n29 toend\n30 break\n31 connect\n\
+    32 tobroker out=1\n33 toend\n34 pump out=3\n\
+    35 drain ended=1>r1:Taken ended=2>r1:Taken ended=3>r1:Taken out=3\nr1 handed=1,2,3 queue=0\n\
+    p1 sent=3 done=3\nbroker publications=3 sessions=2\n";
+
 /// The scripts, and their texts.
 fn scripts() -> &'static [(&'static str, &'static str)] {
     &[
@@ -98,6 +117,7 @@ fn scripts() -> &'static [(&'static str, &'static str)] {
         (KILLED_BROKER, KILLED_BROKER_TEXT),
         (LATE_CONNECT, LATE_CONNECT_TEXT),
         (DRAINED_QUEUE, DRAINED_QUEUE_TEXT),
+        (TOLD_TOPICS, TOLD_TOPICS_TEXT),
     ]
 }
 

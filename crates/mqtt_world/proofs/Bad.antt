@@ -57,7 +57,7 @@ module _ {K : Type 0} (g : Ghosts K) where
       → IsSoundAt g h.to → IsBad e (world_at h.from) → ⊥
   happened_is_good start e t old new come h sound bad =
       let c = come h.from h.was (h.runs.sound sound) in
-      let (mid, passes, rest) = h.runs.runs sound c.reached c.untold in
+      let (mid, passes, rest) = h.runs.runs sound c.reached c.knowing in
       passed_is_good h.from.limits e t (world_at h.from) mid passes bad
 
   -- ---- one event
@@ -120,7 +120,7 @@ module _ {K : Type 0} (g : Ghosts K) where
       let mid : HasCome g start s.mid = come_on g start s.before s.tells old s.mid s.happened come in
       let same : new.events ≡ s.mid.events = n.kept ∙ append-nil s.mid.events in
       let came = mid n.from n.was (n.runs.sound here) in
-      let stays : world_at n.to ≡ world_at n.from = (n.runs.runs here came.reached came.untold).1 in
+      let stays : world_at n.to ≡ world_at n.from = (n.runs.runs here came.reached came.knowing).1 in
       let at : world_at n.from ≡ world_at to = sym stays ∙ ap (λ (x : Staged K). world_at x) ends in (
         record {
           before = s.before;

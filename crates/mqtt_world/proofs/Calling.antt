@@ -20,10 +20,10 @@ use Rattle.mqtt_script_laws.proofs.Comings.{piece_first, piece_there}
 use Rattle.mqtt_world_strangers.specs.Fronts.{AsksFor, IsNextPiece, NamesThese, is_end_among}
 use Rattle.mqtt_world_strangers.specs.Strangers.{Comes, held_of, in_world as among_strangers, line_of, named, newcomer}
 use Rattle.mqtt_world_strangers.proofs.Steps.{first_good, good_first}
-use Rattle.mqtt_world_untold_laws.specs.Untold.{HasUntoldEnds}
-use Rattle.mqtt_world_untold_laws.proofs.Worlds.{held_untold, holds, named_takes, new_line_takes, stranger_linked}
+use Rattle.mqtt_world_untold_laws.specs.Knowing.{HasKnowingEnds}
+use Rattle.mqtt_world_untold_laws.proofs.Worlds.{held_knowing, holds, named_takes, new_line_takes, stranger_linked}
 use Rattle.mqtt_world_scene.specs.Events.{IsReached, SpellsAll, world_of}
-use Rattle.mqtt_world_scene.specs.Hearing.{Asks, Hears, TakesNoneIf}
+use Rattle.mqtt_world_scene.specs.Hearing.{Asks, Hears, TakesAsEndsIf}
 use Rattle.mqtt_world_scene.specs.Scenes.{Calls, IsPlayable, Played}
 use Rattle.mqtt_world_scene.proofs.Eventful.{reached_after, world_called}
 use Rattle.mqtt_world_scene.proofs.Heard.{asks_nothing, takes_if, tells_none}
@@ -103,9 +103,9 @@ module _ {K : Type 0} (g : Ghosts K) (name : List ℕ) where
     waits = waits;
     were_alike = alike;
     alike = alike;
-    untold = λ spells reached untold. untold;
-    good = λ spells reached untold piece good. good;
-    turn = λ spells reached untold piece t after good turn. turn;
+    knowing = λ spells reached knowing. knowing;
+    good = λ spells reached knowing piece good. good;
+    turn = λ spells reached knowing piece t after good turn. turn;
   }
 
   module _ (now : ℕ) (P N : Played K) (ss : List Stranger) (line : Option ℕ) where
@@ -124,12 +124,12 @@ module _ {K : Type 0} (g : Ghosts K) (name : List ℕ) where
       alike =
           subst (λ (held : List ℕ). AllByRecursion (HoldsThese name held) all) (sym (ap bytes_held found))
           (holds_one_more name [] n ss (none_holds name [] ss none) refl);
-      untold = λ spells reached untold. subst HasUntoldEnds (sym (at spells reached untold)) (stranger_linked set name [] w untold);
-      good = λ spells reached untold piece good.
-          subst (λ (v : World). is_bad (comes_in name piece) v ≡ false) (sym (at spells reached untold)) (first_good set name piece w none good);
-      turn = λ spells reached untold piece t after good turn.
+      knowing = λ spells reached knowing. subst HasKnowingEnds (sym (at spells reached knowing)) (stranger_linked set name [] w knowing);
+      good = λ spells reached knowing piece good.
+          subst (λ (v : World). is_bad (comes_in name piece) v ≡ false) (sym (at spells reached knowing)) (first_good set name piece w none good);
+      turn = λ spells reached knowing piece t after good turn.
           piece_first P.engine.running.limits c.choice name piece t w after none good
-          (subst (λ (v : World). IsTurn P.engine.running.limits (comes_in name piece) t v after) (at spells reached untold) turn);
+          (subst (λ (v : World). IsTurn P.engine.running.limits (comes_in name piece) t v after) (at spells reached knowing) turn);
     }
       where
         n : Stranger
@@ -147,10 +147,10 @@ module _ {K : Type 0} (g : Ghosts K) (name : List ℕ) where
         found : named name all ≡ Some n
         found = find_one_more name n ss refl none
 
-        at : SpellsAll P.engine.running.limits → IsReached P.engine.running.limits P.engine.running.broker → HasUntoldEnds w
+        at : SpellsAll P.engine.running.limits → IsReached P.engine.running.limits P.engine.running.broker → HasKnowingEnds w
             → world_of now all N ≡ welcomed set name w
-        at spells reached untold =
-            ap (λ (v : World). record v { strangers = all }) (world_called g now NewLine P N silent ss reached tt c spells untold (new_line_takes w))
+        at spells reached knowing =
+            ap (λ (v : World). record v { strangers = all }) (world_called g now NewLine P N silent ss reached tt c spells knowing (new_line_takes w))
             ∙ ap (λ (l : Option ℕ). record (calls set NewLine w) { strangers = ss ++ newcomer name l ∷ [] }) line_is
 
   -- a stranger that comes first is put behind the others, with the line that the broker gave it, and is welcome
@@ -211,7 +211,7 @@ module _ {K : Type 0} (g : Ghosts K) (name bytes : List ℕ) (now taken : ℕ) (
     next = c.next;
     further = further_on (held_of name ss) bytes taken waits c.next.ends;
     alike = alike;
-    turn = λ spells reached untold good. by spells reached untold good (named name ss) refl there;
+    turn = λ spells reached knowing good. by spells reached knowing good (named name ss) refl there;
   }
     where
       w : World
@@ -220,19 +220,19 @@ module _ {K : Type 0} (g : Ghosts K) (name bytes : List ℕ) (now taken : ℕ) (
       piece : List ℕ
       piece = take taken bytes
 
-      by : SpellsAll P.engine.running.limits → IsReached P.engine.running.limits P.engine.running.broker → HasUntoldEnds w → is_bad (comes_in name piece) w ≡ false
+      by : SpellsAll P.engine.running.limits → IsReached P.engine.running.limits P.engine.running.broker → HasKnowingEnds w → is_bad (comes_in name piece) w ≡ false
           → (o : Option Stranger) → named name ss ≡ o → is_some o ≡ true → IsTurn P.engine.running.limits (comes_in name piece) t w (world_of now new N)
-      by spells reached untold good None e h = let clash : false ≡ true = h in absurd cc
-      by spells reached untold good (Some s) e h =
+      by spells reached knowing good None e h = let clash : false ≡ true = h in absurd cc
+      by spells reached knowing good (Some s) e h =
           let at : Asks g now (call_on s.number (s.held ++ piece)) P t N =
           subst (λ (o : Option Stranger). Asks g now (call_on (line_of o) (bytes_held o ++ piece)) P t N) e
           (subst (λ (l : Option ℕ). Asks g now (call_on l (held_of name ss ++ piece)) P t N) line_is a) in
           let set : Setting = by_choice P.engine.running.limits at.choice in
-          let came : HasUntoldEnds (world_of now new P) =
-          subst HasUntoldEnds (sym (c.becomes w))
-          (held_untold name (λ x. held_after x.held) (with_stranger name (holds (λ x. x.held ++ piece)) w) (held_untold name (λ x. x.held ++ piece) w untold)) in
-          let none : TakesNoneIf (call_on s.number (s.held ++ piece)) (world_of now new P) =
-          takes_if (call_on s.number (s.held ++ piece)) (world_of now new P) (λ call asks. named_takes call w untold name (s.held ++ piece) s e asks) in
+          let came : HasKnowingEnds (world_of now new P) =
+          subst HasKnowingEnds (sym (c.becomes w))
+          (held_knowing name (λ x. held_after x.held) (with_stranger name (holds (λ x. x.held ++ piece)) w) (held_knowing name (λ x. x.held ++ piece) w knowing)) in
+          let none : TakesAsEndsIf (call_on s.number (s.held ++ piece)) (world_of now new P) =
+          takes_if (call_on s.number (s.held ++ piece)) (world_of now new P) (λ call asks. named_takes call w knowing name (s.held ++ piece) s e asks) in
           piece_there P.engine.running.limits at.choice name piece s t w (world_of now new N) e alike c.next.one good (at.unspent ss)
           (at.done spells reached new came none ∙ ap (calls_if set (call_on s.number (s.held ++ piece))) (c.becomes w)) (at.told ss)
 
@@ -290,11 +290,11 @@ module _ {K : Type 0} (g : Ghosts K) (name bytes : List ℕ) (old mid new : Stag
     next = subst (λ (held : List ℕ). IsNextPiece held (take taken bytes) (drop taken bytes)) w.same p.next;
     further = p.further;
     alike = w.were_alike;
-    turn = λ spells reached untold good.
-        w.turn spells reached untold (take taken bytes) t (world_at new) good
-        (subst (λ (l : Limits). SpellsAll l → IsReached l (broker_of mid) → HasUntoldEnds (world_at mid) → is_bad (comes_in name (take taken bytes)) (world_at mid) ≡ false
+    turn = λ spells reached knowing good.
+        w.turn spells reached knowing (take taken bytes) t (world_at new) good
+        (subst (λ (l : Limits). SpellsAll l → IsReached l (broker_of mid) → HasKnowingEnds (world_at mid) → is_bad (comes_in name (take taken bytes)) (world_at mid) ≡ false
         → IsTurn l (comes_in name (take taken bytes)) t (world_at mid) (world_at new)) w.limits p.turn
-        spells (w.reached reached) (w.untold spells reached untold) (w.good spells reached untold (take taken bytes) good));
+        spells (w.reached reached) (w.knowing spells reached knowing) (w.good spells reached knowing (take taken bytes) good));
   }
 
   -- a welcome and the piece behind it are one piece of the stranger, and tell the same

@@ -23,8 +23,8 @@ use Rattle.mqtt_world.specs.Stages.{IsSoundAt, IsStanding, PlaysDrain, Staged, b
 use Rattle.mqtt_world.specs.Worlds.{Came, CantHappen, DrainEmpties, Happen, HappenDrained, HasCome, HasDelivered, IfBegunWell, IfSound, Lasting, Performs, Refuses, Runs, Stops, over_by, performs_drain, performs_event, with_stage}
 use Rattle.mqtt_world_scene.specs.declared.over.Over.{Over}
 use Rattle.mqtt_world_scene.specs.declared.over.Over.TheVariants as over
-use Rattle.mqtt_world_untold_laws.specs.Untold.{HasUntoldEnds}
-use Rattle.mqtt_world_scene.proofs.StayUntold.{runs_untold}
+use Rattle.mqtt_world_untold_laws.specs.Knowing.{HasKnowingEnds}
+use Rattle.mqtt_world_scene.proofs.StayKnowing.{runs_knowing}
 use Rattle.mqtt_world_scene.proofs.ReadAsSent.{spells_all}
 
 -- ---- results
@@ -46,16 +46,16 @@ module _ {K : Type 0} (g : Ghosts K) where
 
   -- if no event comes, the stage stays as it is
   pub runs_none : (s : Staged K) → Runs g [] s [] s
-  runs_none s = record { limits = refl; sound = λ sound. sound; reached = λ sound reached untold. reached; runs = λ sound reached untold. (refl, refl) }
+  runs_none s = record { limits = refl; sound = λ sound. sound; reached = λ sound reached knowing. reached; runs = λ sound reached knowing. (refl, refl) }
 
   reached_on : (es : List Event) (old : Staged K) (ts : List Telling) (new : Staged K) → Runs g es old ts new → IsSoundAt g new
-      → IsReached old.limits (broker_of old) → HasUntoldEnds (world_at old) → IsReached new.limits (broker_of new)
-  reached_on es old ts new r sound reached untold = subst (λ (l : Limits). IsReached l (broker_of new)) (sym r.limits) (r.reached sound reached untold)
+      → IsReached old.limits (broker_of old) → HasKnowingEnds (world_at old) → IsReached new.limits (broker_of new)
+  reached_on es old ts new r sound reached knowing = subst (λ (l : Limits). IsReached l (broker_of new)) (sym r.limits) (r.reached sound reached knowing)
 
-  -- what ran has told the ends nothing
-  untold_on : (es : List Event) (old : Staged K) (ts : List Telling) (new : Staged K) → Runs g es old ts new → IsSoundAt g new
-      → IsReached old.limits (broker_of old) → HasUntoldEnds (world_at old) → HasUntoldEnds (world_at new)
-  untold_on es old ts new r sound reached untold = runs_untold old.limits es ts (world_at old) (world_at new) (r.runs sound reached untold) untold
+  -- the ends know what they were told by what ran
+  knowing_on : (es : List Event) (old : Staged K) (ts : List Telling) (new : Staged K) → Runs g es old ts new → IsSoundAt g new
+      → IsReached old.limits (broker_of old) → HasKnowingEnds (world_at old) → HasKnowingEnds (world_at new)
+  knowing_on es old ts new r sound reached knowing = runs_knowing old.limits es ts (world_at old) (world_at new) (r.runs sound reached knowing) knowing
 
   -- events that ran, and more that ran from there, ran one after the other
   pub runs_joined : (es more : List Event) (ts us : List Telling) (old mid new : Staged K) → Runs g es old ts mid → Runs g more mid us new
@@ -63,13 +63,13 @@ module _ {K : Type 0} (g : Ghosts K) where
   runs_joined es more ts us old mid new a b = record {
     limits = b.limits ∙ a.limits;
     sound = λ sound. a.sound (b.sound sound);
-    reached = λ sound reached untold.
+    reached = λ sound reached knowing.
         subst (λ (l : Limits). IsReached l (broker_of new)) a.limits
-        (b.reached sound (reached_on es old ts mid a (b.sound sound) reached untold) (untold_on es old ts mid a (b.sound sound) reached untold));
-    runs = λ sound reached untold.
-        runs_join old.limits es more ts us (world_at old) (world_at mid) (world_at new) (a.runs (b.sound sound) reached untold)
+        (b.reached sound (reached_on es old ts mid a (b.sound sound) reached knowing) (knowing_on es old ts mid a (b.sound sound) reached knowing));
+    runs = λ sound reached knowing.
+        runs_join old.limits es more ts us (world_at old) (world_at mid) (world_at new) (a.runs (b.sound sound) reached knowing)
         (subst (λ (l : Limits). RunsTo l more us (world_at mid) (world_at new)) a.limits
-        (b.runs sound (reached_on es old ts mid a (b.sound sound) reached untold) (untold_on es old ts mid a (b.sound sound) reached untold)));
+        (b.runs sound (reached_on es old ts mid a (b.sound sound) reached knowing) (knowing_on es old ts mid a (b.sound sound) reached knowing)));
   }
 
   -- whatever it comes to, what stands can go on
@@ -82,16 +82,16 @@ module _ {K : Type 0} (g : Ghosts K) where
   played_one e old t new (performs_event x is p) = record {
     limits = p.limits;
     sound = p.sound;
-    reached = λ sound reached untold. p.reached sound reached;
-    runs = λ sound reached untold. (world_at new, as_event x is (p.done sound (spells_all old.limits) reached untold), (refl, refl));
+    reached = λ sound reached knowing. p.reached sound reached;
+    runs = λ sound reached knowing. (world_at new, as_event x is (p.done sound (spells_all old.limits) reached knowing), (refl, refl));
   }
   played_one e old t new (performs_drain client is (None, told, p)) = absurd (cc)
   played_one e old t new (performs_drain client is (Some x, told, p)) = record {
     limits = p.limits;
     sound = p.sound;
-    reached = λ sound reached untold. p.reached sound reached;
-    runs = λ sound reached untold.
-        let happens : DrainHappens old.limits client x.0 (world_at old) (world_at new) = (p.done sound (spells_all old.limits) reached untold).0 in
+    reached = λ sound reached knowing. p.reached sound reached;
+    runs = λ sound reached knowing.
+        let happens : DrainHappens old.limits client x.0 (world_at old) (world_at new) = (p.done sound (spells_all old.limits) reached knowing).0 in
         let same : t ≡ x.0 = cc in
         (world_at new, as_drain client is (subst (λ (u : Telling). DrainHappens old.limits client u (world_at old) (world_at new)) (sym same) happens), (refl, refl));
   }
@@ -101,20 +101,20 @@ module _ {K : Type 0} (g : Ghosts K) where
   played_none e old new (performs_event x is p) = record {
     limits = p.limits;
     sound = p.sound;
-    reached = λ sound reached untold. p.reached sound reached;
-    runs = λ sound reached untold. (refl, (p.done sound (spells_all old.limits) reached untold).1);
+    reached = λ sound reached knowing. p.reached sound reached;
+    runs = λ sound reached knowing. (refl, (p.done sound (spells_all old.limits) reached knowing).1);
   }
   played_none e old new (performs_drain client is (None, told, p)) = record {
     limits = p.limits;
     sound = p.sound;
-    reached = λ sound reached untold. p.reached sound reached;
-    runs = λ sound reached untold. (refl, (p.done sound (spells_all old.limits) reached untold).1);
+    reached = λ sound reached knowing. p.reached sound reached;
+    runs = λ sound reached knowing. (refl, (p.done sound (spells_all old.limits) reached knowing).1);
   }
   played_none e old new (performs_drain client is (Some x, told, p)) = absurd (cc)
 
   played_bad : (e : Event) (old new : Staged K) → Performs g e old None new → IfSound g old new (IsBadHere e (world_at old))
-  played_bad e old new (performs_event x is p) = λ sound reached untold. bad_event x is (p.done sound (spells_all old.limits) reached untold).0
-  played_bad e old new (performs_drain client is (None, told, p)) = λ sound reached untold. bad_drain client is (p.done sound (spells_all old.limits) reached untold).0
+  played_bad e old new (performs_event x is p) = λ sound reached knowing. bad_event x is (p.done sound (spells_all old.limits) reached knowing).0
+  played_bad e old new (performs_drain client is (None, told, p)) = λ sound reached knowing. bad_drain client is (p.done sound (spells_all old.limits) reached knowing).0
   played_bad e old new (performs_drain client is (Some x, told, p)) = absurd (cc)
 
   -- where the kept events have led, it is bad by the definitions alone
@@ -122,7 +122,7 @@ module _ {K : Type 0} (g : Ghosts K) where
       → HasCome g start (with_stage s w) → IfBegunWell g start n (IsBad e (world_at s))
   bad_after start e s n w p come = λ sound nobody sends.
       let c = come s refl ((played_none e s n p).sound sound) in
-      script_refuses s.limits w.events c.tells start (world_at s) nobody sends c.runs e (played_bad e s n p sound c.reached c.untold)
+      script_refuses s.limits w.events c.tells start (world_at s) nobody sends c.runs e (played_bad e s n p sound c.reached c.knowing)
 
   -- ---- in the world
 
@@ -176,11 +176,11 @@ module _ {K : Type 0} (g : Ghosts K) where
       → Came start (es ++ more) n
   came_on start es more us s n sound c r = record {
     within = subst (λ (l : Limits). AreWithin l) (sym r.limits) c.within;
-    reached = reached_on more s us n r sound c.reached c.untold;
-    untold = untold_on more s us n r sound c.reached c.untold;
+    reached = reached_on more s us n r sound c.reached c.knowing;
+    knowing = knowing_on more s us n r sound c.reached c.knowing;
     tells = c.tells ++ us;
     runs = subst (λ (l : Limits). RunsTo l (es ++ more) (c.tells ++ us) start (world_at n)) (sym r.limits)
-        (runs_join s.limits es more c.tells us start (world_at s) (world_at n) c.runs (r.runs sound c.reached c.untold));
+        (runs_join s.limits es more c.tells us start (world_at s) (world_at n) c.runs (r.runs sound c.reached c.knowing));
   }
 
   -- if the kept events led to a world, they lead on with those that happened since
@@ -263,7 +263,7 @@ module _ {K : Type 0} (g : Ghosts K) where
             let ends : n ≡ to = ok_is new.stage n to stage goes in
             subst (λ (x : Staged K). IfSound g x to ((h : DrainHappens x.limits client told (world_at x) (world_at to)) × (h.rounds ≡ rounds))) begins
             (subst (λ (x : Staged K). IfSound g s x ((h : DrainHappens s.limits client told (world_at s) (world_at x)) × (h.rounds ≡ rounds))) ends
-            (λ sound reached untold. p.done sound (spells_all s.limits) reached untold));
+            (λ sound reached knowing. p.done sound (spells_all s.limits) reached knowing));
       }
   kept_drain e client rounds s n told w new (Err f) is p kept = tt
 
@@ -365,7 +365,7 @@ module _ {K : Type 0} (g : Ghosts K) where
       let begins : h.happened.from ≡ from = ok_is old.stage h.happened.from from h.happened.was was in
       let here : IsSoundAt g h.happened.to = subst (λ (x : Staged K). IsSoundAt g x) (sym ends) sound in
       let c = come from was (subst (λ (x : Staged K). IsSoundAt g x) begins (h.happened.runs.sound here)) in
-      let d = h.drained from to was is sound c.reached c.untold in
+      let d = h.drained from to was is sound c.reached c.knowing in
       subst (λ (k : ℕ). IsEmptied from.limits client k (world_at from) (world_at to)) d.1
       (script_empties from.limits old.events c.tells client start (world_at from) c.within untouched clean c.runs h.t (world_at to) d.0)
   drain_empties start client (Err f) old new h come = tt

@@ -30,7 +30,7 @@ use Rattle.mqtt_world.proofs.Staged.{plays_in, staged}
 pub events_of_ends : (e : Event) → e ≢ Restart → ((a : Asking) → e ≢ StopBefore a) → ((a : Asking) → e ≢ StopAfter a) → ((n : ℕ) → e ≢ Clock n)
     → ((name bytes : List ℕ) → e ≢ Stranger name bytes) → ((c : List ℕ) → e ≢ Drain c) → IsOfEnds e
 events_of_ends (Publisher c) n1 n2 n3 n4 n5 n6 = tt
-events_of_ends (Receiver c n) n1 n2 n3 n4 n5 n6 = tt
+events_of_ends (Receiver c n m) n1 n2 n3 n4 n5 n6 = tt
 events_of_ends (Connect c b) n1 n2 n3 n4 n5 n6 = tt
 events_of_ends (GiveUp c) n1 n2 n3 n4 n5 n6 = tt
 events_of_ends (Publish c d) n1 n2 n3 n4 n5 n6 = tt
@@ -95,7 +95,7 @@ module _ {K : Type 0} (g : Ghosts K) (e : Event) (x : world.Event) (s : Staged K
 -- of one in which ends and the broker alone take part
 of_ends_if : {K : Type 0} (g : Ghosts K) (e : Event) (s n : Staged K) (t : Option Telling) → IsOfEnds e → PlaysIf g (event_of e) s t n → Performs g e s t n
 of_ends_if g (Publisher c) s n t is p = performs_event (world.publisher c) refl p
-of_ends_if g (Receiver c window) s n t is p = performs_event (world.receiver c window) refl p
+of_ends_if g (Receiver c window aliases) s n t is p = performs_event (world.receiver c window aliases) refl p
 of_ends_if g (Connect c b) s n t is p = performs_event (world.connect_end c b) refl p
 of_ends_if g (GiveUp c) s n t is p = performs_event (world.give_up c) refl p
 of_ends_if g (Publish c d) s n t is p = performs_event (world.publish c (draft_of d)) refl p

@@ -57,9 +57,9 @@ module _ {K : Type 0} (g : Ghosts K) where
         reached = λ sound reached.
             subst (λ (l : Limits). IsReached l P.engine.running.broker) (sym here)
             (does.reached (subst (λ (l : Limits). IsReached l S.engine.running.broker) here reached));
-        done = λ sound spells reached untold.
+        done = λ sound spells reached knowing.
             subst (λ (l : Limits). IsDone l e t (world_of now ss S) (world_of now ss P)) (sym here)
-            (does.done (subst SpellsAll here spells) (subst (λ (l : Limits). IsReached l S.engine.running.broker) here reached) ss untold);
+            (does.done (subst SpellsAll here spells) (subst (λ (l : Limits). IsReached l S.engine.running.broker) here reached) ss knowing);
       }
 
   -- what an event makes of the scene it makes of the stage, whose strangers and moment it leaves alone
@@ -86,7 +86,7 @@ module _ {K : Type 0} (g : Ghosts K) where
     limits = refl;
     sound = λ sound. sound;
     reached = λ sound reached. reached;
-    done = λ sound spells reached untold.
+    done = λ sound spells reached knowing.
         quiet limits any_choice (clock wait) (world_of now ss S) (world_of after ss S) tt refl (ap (λ (n : ℕ). world_of n ss S) is);
   }
 
@@ -143,7 +143,7 @@ module _ {K : Type 0} (g : Ghosts K) where
         limits = r.limits;
         sound = r.reopens.sound;
         reached = reached_at old new t r;
-        done = λ sound spells reached untold. reopens old.limits (world_at old) (world_at new) (reopened_at old new t r sound);
+        done = λ sound spells reached knowing. reopens old.limits (world_at old) (world_at new) (reopened_at old new t r sound);
       })
 
   -- behind what was asked it is a stop
@@ -158,8 +158,8 @@ module _ {K : Type 0} (g : Ghosts K) where
             subst (λ (l : Limits). IsReached l (broker_of new)) asked.limits
             (reached_at mid new t r sound
             (subst (λ (l : Limits). IsReached l (broker_of mid)) (sym asked.limits) (asked.reached (r.reopens.sound sound) reached)));
-        done = λ sound spells reached untold.
-            stops_behind old.limits a u (world_at old) (world_at mid) (world_at new) plain (asked.done (r.reopens.sound sound) spells reached untold)
+        done = λ sound spells reached knowing.
+            stops_behind old.limits a u (world_at old) (world_at mid) (world_at new) plain (asked.done (r.reopens.sound sound) spells reached knowing)
             (subst (λ (l : Limits). IsReopened l (world_at mid) (world_at new)) asked.limits (reopened_at mid new t r sound));
       })
 
@@ -198,7 +198,7 @@ module _ {K : Type 0} (g : Ghosts K) where
         reached = λ sound reached.
             reached_at mid new t r sound
             (subst (λ (e : Serving K). IsReached old.limits e.running.broker) (sym off.engine) reached);
-        done = λ sound spells reached untold.
+        done = λ sound spells reached knowing.
             let o = reopened_at mid new t r sound in
             let is = off.is (by_choice old.limits o.choice) old.now old.strangers in
             stops_before old.limits o.choice a (world_at old) (world_at new) (off.good old.now old.strangers)
@@ -221,7 +221,7 @@ module _ {K : Type 0} (g : Ghosts K) where
         limits = refl;
         sound = λ sound. sound;
         reached = λ sound reached. reached;
-        done = λ sound spells reached untold. (is, refl);
+        done = λ sound spells reached knowing. (is, refl);
       })
 
   -- what can't be asked can't be stopped before

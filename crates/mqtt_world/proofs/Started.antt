@@ -1,29 +1,65 @@
 -- A world that begins, from what the opening of its broker is (MQTT 5.0, 4.1).
-use Rattle.std.proofs.Common.{◌≡◌, ℕ, List, [], refl, sym, ap, subst, ◌∙◌}
+use Rattle.std.proofs.Common.{◌≡◌, ℕ, List, [], ◌∷◌, refl, sym, ap, subst, ◌∙◌}
 use Rattle.std.specs.Prelude.{Ok}
+use Rattle.std.specs.List.{AllByRecursion}
+use Rattle.mqtt_topic.specs.Names.{IsTopicName}
 use Rattle.mqtt_records_lawful.specs.Lawful.{IsLawful}
 use Rattle.mqtt_records.specs.declared.keep.Keep.{Ghosts}
 use Rattle.mqtt_records.specs.declared.records.Records.{Records}
 use Rattle.mqtt_world_model.specs.World.{Stranger, World}
 use Rattle.mqtt_script.specs.declared.event.Event.{Event}
+use Rattle.mqtt_rules_granting_laws.specs.Naming.{HasNames, NamesTopics, StoresPassedOn}
+use Rattle.mqtt_rules_granting_laws.proofs.Steps.{stored_named}
 use Rattle.mqtt_rules_spelling_laws.specs.Sending.{HaveSentPhases}
 use Rattle.mqtt_rules_spelling_laws.proofs.Steps.{well_begun}
 use Rattle.mqtt_world_acceptance_laws.specs.Fair.{opened_world}
 use Rattle.mqtt_world_reading_laws.specs.UnderWay.{IsUninhabited}
+use Rattle.mqtt_rules.specs.Contents.{AreContentsLawful, HasTopics, IsTopic}
 use Rattle.mqtt_rules.specs.Laws.{AreWithin}
-use Rattle.mqtt_rules.specs.State.{Broker, MemberChoice}
+use Rattle.mqtt_rules.specs.State.{Broker, Line, MemberChoice}
 use Rattle.mqtt_rules.specs.Step.{opened}
 use Rattle.mqtt_rules.specs.declared.Limits.{Limits}
 use Rattle.mqtt_world_clients.specs.Ends.{Ends}
 use Rattle.mqtt_world_scene.specs.Events.{IsReached, opens, world_of}
 use Rattle.mqtt_world_scene.specs.Openings.{Begins, Opens, no_ends}
-use Rattle.mqtt_world_untold_laws.specs.Untold.{HasUntoldEnds}
-use Rattle.mqtt_world_untold_laws.proofs.Worlds.{opened_world_untold}
+use Rattle.mqtt_world_untold_laws.specs.Knowing.{HasKnowingEnds}
+use Rattle.mqtt_world_untold_laws.proofs.Calls.{opened_untold}
+use Rattle.mqtt_world_telling_laws.proofs.Given.{opening_numbered}
 use Rattle.mqtt_world_scene.specs.Scenes.{Played}
 use Rattle.mqtt_world.specs.Stages.{IsStanding}
 use Rattle.mqtt_world.specs.Worlds.{Came, Starts}
 use Rattle.mqtt_world.proofs.Course.{ok_is}
 use Rattle.mqtt_world.proofs.Staged.{staged}
+
+-- ---- what is stored names its topics, so ends know what they will be told
+
+topics_named : (es : List (ℕ × List ℕ)) → AllByRecursion (λ e. IsTopic e.1) es → AllByRecursion (λ e. IsTopicName e.1) es
+topics_named [] h = tt
+topics_named (e ∷ es) h = (h.0.name, topics_named es h.1)
+
+lines_named : (ls : List Line) → AllByRecursion HasTopics ls → AllByRecursion HasNames ls
+lines_named [] h = tt
+lines_named (l ∷ ls) h = (topics_named l.aliases.topics h.0, lines_named ls h.1)
+
+-- lawful contents do, whose properties were passed on
+names_topics : (b : Broker) → AreContentsLawful b → StoresPassedOn b.records → NamesTopics b
+names_topics b h passed = record { stored = stored_named b.records h.stored passed; lines = lines_named b.lines h.lines }
+
+knowing_first : (limits : Limits) (choice : MemberChoice) (now : ℕ) (r : Records) → NamesTopics (opened limits choice now r)
+    → HasKnowingEnds (opened_world limits choice now r)
+knowing_first limits choice now r named = record {
+  takes = λ client. 0;
+  most = λ n. 0;
+  so = record {
+    ends = (tt, tt);
+    strangers = tt;
+    lines = opening_numbered limits choice now r;
+    unused = λ n less. opened_untold limits choice now r n;
+    names = named;
+  };
+}
+
+-- ---- a beginning
 
 module _ {K : Type 0} (g : Ghosts K) (limits : Limits) (r : Records) (s : Played K) where
   world_began : (o : Opens g limits 0 r s) → s.ends ≡ no_ends → world_of 0 [] s ≡ opened_world limits o.choice 0 r
@@ -32,12 +68,13 @@ module _ {K : Type 0} (g : Ghosts K) (limits : Limits) (r : Records) (s : Played
       ap (λ (b : Broker). at b s.ends) o.broker ∙ ap (at (opened limits o.choice 0 r)) none
 
   came_first : (events : List Event) (o : Opens g limits 0 r s) → s.ends ≡ no_ends → events ≡ [] → AreWithin limits → IsLawful r → HaveSentPhases r
-      → Came (opened_world limits o.choice 0 r) events (staged s [] 0 limits)
-  came_first events o none nothing within lawful phases =
+      → StoresPassedOn s.engine.running.broker.records → Came (opened_world limits o.choice 0 r) events (staged s [] 0 limits)
+  came_first events o none nothing within lawful phases passed =
       subst (λ (es : List Event). Came (opened_world limits o.choice 0 r) es (staged s [] 0 limits)) (sym nothing) (record {
         within = within;
         reached = subst (IsReached limits) (sym o.broker) (opens o.choice 0 r lawful phases o.unspent);
-        untold = subst HasUntoldEnds (sym (world_began o none)) (opened_world_untold limits o.choice 0 r);
+        knowing = subst HasKnowingEnds (sym (world_began o none)) (knowing_first limits o.choice 0 r (names_topics (opened limits o.choice 0 r)
+            (well_begun limits o.choice 0 r o.unspent lawful phases).contents (subst (λ (b : Broker). StoresPassedOn b.records) o.broker passed)));
         tells = [];
         runs = (refl, world_began o none);
       })
@@ -51,9 +88,9 @@ module _ {K : Type 0} (g : Ghosts K) (limits : Limits) (keep : K) (s : Played K)
   pub begun_stands : AreWithin limits → (b : Begins g limits 0 keep s) → IsStanding g (staged s [] 0 limits)
   begun_stands within b = record { playable = b.opens.playable; limits = sym b.opens.limits_are; within = within }
 
-  starts : (events : List Event) → AreWithin limits → Begins g limits 0 keep s → events ≡ []
+  starts : (events : List Event) → AreWithin limits → Begins g limits 0 keep s → StoresPassedOn s.engine.running.broker.records → events ≡ []
       → Starts g limits keep (record { stage = Ok (staged s [] 0 limits); events = events })
-  starts events within b nothing = record {
+  starts events within b passed nothing = record {
     loaded = b.loaded;
     records = b.records;
     load = b.load;
@@ -68,7 +105,7 @@ module _ {K : Type 0} (g : Ghosts K) (limits : Limits) (keep : K) (s : Played K)
     events = nothing;
     comes = λ phases t is sound.
         subst (Came (opened_world limits b.opens.choice 0 b.records) events) (ok_is (Ok (staged s [] 0 limits)) (staged s [] 0 limits) t refl is)
-        (came_first g limits b.records s events b.opens b.ends nothing within b.lawful phases);
+        (came_first g limits b.records s events b.opens b.ends nothing within b.lawful phases passed);
     alone = alone_at_first limits b.opens.choice 0 b.records;
     sends = λ phases. well_begun limits b.opens.choice 0 b.records b.opens.unspent b.lawful phases;
   }
@@ -79,7 +116,7 @@ module _ {K : Type 0} (g : Ghosts K) (limits : Limits) (keep : K) (s : Played K)
 
   -- an opening on lawful records starts a world, if there is no stranger yet and no event has happened
   pub starts_in : (ss : List Stranger) (events : List Event) → ss ≡ [] → events ≡ [] → AreWithin limits → Begins g limits 0 keep s
-      → Starts g limits keep (record { stage = Ok (staged s ss 0 limits); events = events })
-  starts_in ss events nobody nothing within b =
+      → StoresPassedOn s.engine.running.broker.records → Starts g limits keep (record { stage = Ok (staged s ss 0 limits); events = events })
+  starts_in ss events nobody nothing within b passed =
       subst (λ (xs : List Stranger). Starts g limits keep (record { stage = Ok (staged s xs 0 limits); events = events })) (sym nobody)
-      (starts events within b nothing)
+      (starts events within b passed nothing)

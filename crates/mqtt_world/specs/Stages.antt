@@ -6,7 +6,7 @@ use Rattle.mqtt_world_model.specs.World.{Event, Stranger, World, unlinked}
 use Rattle.mqtt_rules.specs.Laws.{AreWithin}
 use Rattle.mqtt_rules.specs.State.{Broker}
 use Rattle.mqtt_rules.specs.declared.Limits.{Limits}
-use Rattle.mqtt_world_untold_laws.specs.Untold.{HasUntoldEnds}
+use Rattle.mqtt_world_untold_laws.specs.Knowing.{HasKnowingEnds}
 use Rattle.mqtt_world_scene.specs.Draining.{IsDrainDone}
 use Rattle.mqtt_world_scene.specs.Events.{IsDone, IsReached, SpellsAll, world_of}
 use Rattle.mqtt_world_scene.specs.Openings.{Reopens}
@@ -42,7 +42,7 @@ pub record Plays {K : Type 0} (g : Ghosts K) (e : Event) (old : Staged K) (t : O
   pub sound : WasSound g old.played new.played
   pub reached : IsSoundAt g new → IsReached old.limits (broker_of old) → IsReached old.limits (broker_of new)
   pub done : IsSoundAt g new → SpellsAll old.limits → IsReached old.limits (broker_of old)
-      → HasUntoldEnds (world_at old) → IsDone old.limits e t (world_at old) (world_at new)
+      → HasKnowingEnds (world_at old) → IsDone old.limits e t (world_at old) (world_at new)
 
 -- the broker is opened again on what is stored; no line is left, of an end or of a stranger, and nothing is told
 pub record Restages {K : Type 0} (g : Ghosts K) (old : Staged K) (t : Option Telling) (new : Staged K) : Type 0 where
@@ -61,7 +61,7 @@ pub record PlaysDrain {K : Type 0} (g : Ghosts K) (client : List ℕ) (old : Sta
   pub sound : WasSound g old.played new.played
   pub reached : IsSoundAt g new → IsReached old.limits (broker_of old) → IsReached old.limits (broker_of new)
   pub done : IsSoundAt g new → SpellsAll old.limits → IsReached old.limits (broker_of old)
-      → HasUntoldEnds (world_at old) → IsDrainDone old.limits client x (world_at old) (world_at new)
+      → HasKnowingEnds (world_at old) → IsDrainDone old.limits client x (world_at old) (world_at new)
 
 -- and it is told, but for its rounds
 abbrev pub TellsDrain : {K : Type 0} → Ghosts K → List ℕ → Staged K → Option Telling → Staged K → Type 0

@@ -26,7 +26,7 @@ use Rattle.mqtt_rules.specs.Laws.{AreWithin}
 use Rattle.mqtt_rules.specs.State.{MemberChoice, session_named}
 use Rattle.mqtt_rules.specs.Step.{is_opening_spent}
 use Rattle.mqtt_rules.specs.declared.Limits.{Limits}
-use Rattle.mqtt_world_untold_laws.specs.Untold.{HasUntoldEnds}
+use Rattle.mqtt_world_untold_laws.specs.Knowing.{HasKnowingEnds}
 use Rattle.mqtt_world_scene.specs.declared.over.Over.{Over}
 use Rattle.mqtt_world_scene.specs.declared.over.Over.TheVariants as over
 use Rattle.mqtt_world_scene.specs.Events.{IsReached}
@@ -47,9 +47,9 @@ pub data Performs {K : Type 0} (g : Ghosts K) (e : Event) (old : Staged K) (t : 
 
 -- ---- events, one after the other
 
--- over a store whose device is sound after it, from a broker that there is, which has told its ends nothing by aliases
+-- over a store whose device is sound after it, from a broker that there is, whose ends know what they were told by aliases
 abbrev pub IfSound : {K : Type 0} → Ghosts K → Staged K → Staged K → Type 0 → Type 0
-IfSound g old new P = IsSoundAt g new → IsReached old.limits (broker_of old) → HasUntoldEnds (world_at old) → P
+IfSound g old new P = IsSoundAt g new → IsReached old.limits (broker_of old) → HasKnowingEnds (world_at old) → P
 
 -- they happen in the definitions' world, with what each tells
 pub record Runs {K : Type 0} (g : Ghosts K) (es : List Event) (old : Staged K) (ts : List Telling) (new : Staged K) : Type 0 where
@@ -76,7 +76,7 @@ over_by o w = record w { stage = Err o }
 pub record Came {K : Type 0} (start : World) (es : List Event) (s : Staged K) : Type 0 where
   pub within : AreWithin s.limits
   pub reached : IsReached s.limits (broker_of s)
-  pub untold : HasUntoldEnds (world_at s)
+  pub knowing : HasKnowingEnds (world_at s)
   pub tells : List Telling
   pub runs : RunsTo s.limits es tells start (world_at s)
 

@@ -13,6 +13,7 @@ ghost use Rattle.mqtt_world_receiver_laws.specs.Drains.{Doing};
 ghost use Rattle.mqtt_world_delivery_laws.specs.Retaining.{AreRetainedOnce};
 ghost use Rattle.mqtt_world_headline_laws.specs.Delivery.{DoingsDeliver};
 ghost use Rattle.mqtt_world_headline_laws.specs.Lives.{BeginsWell, IsFairScript};
+ghost use Rattle.mqtt_rules_granting_laws.specs.Naming.{StoresNamed};
 ghost use Rattle.mqtt_rules_spelling_laws.specs.Sending.{HaveSentPhases, SendsWell};
 ghost use Rattle.mqtt_broker_reopening_laws.specs.Written.{IsWritten};
 ghost use Rattle.mqtt_world_reopening_laws.specs.Reached.{WasLeft};
@@ -29,6 +30,12 @@ pub fn what_a_broker_wrote_is_told_apart()
 pub fn what_a_broker_left_has_identifiers_of_two_bytes()
     ensures written { (r : Records) → WasLeft r → IsWritten r }
     ensures identifiers { (r : Records) → WasLeft r → HaveSentPhases r }
+{}
+
+/// And it names its topics: copies and retained messages have a topic name and no Topic Alias, and Wills a topic name. So a
+/// run may begin on it whose ends take aliases (3.3.2.1, 3.3.2.3.4).
+pub fn what_a_broker_left_names_its_topics()
+    ensures named { (r : Records) → WasLeft r → StoresNamed r }
 {}
 
 /// So a run may begin when the broker is opened on what any broker wrote, under whatever limits, also if more sessions stand

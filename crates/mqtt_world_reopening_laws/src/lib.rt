@@ -5,5 +5,5 @@ mod laws;
 
 pub use laws::{
     a_world_may_begin_on_what_a_broker_wrote, what_a_broker_left_has_identifiers_of_two_bytes,
-    what_a_broker_wrote_is_told_apart,
+    what_a_broker_left_names_its_topics, what_a_broker_wrote_is_told_apart,
 };
