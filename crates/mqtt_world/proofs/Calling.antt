@@ -20,8 +20,8 @@ use Rattle.mqtt_script_laws.proofs.Comings.{piece_first, piece_there}
 use Rattle.mqtt_world_strangers.specs.Fronts.{AsksFor, IsNextPiece, NamesThese, is_end_among}
 use Rattle.mqtt_world_strangers.specs.Strangers.{Comes, held_of, in_world as among_strangers, line_of, named, newcomer}
 use Rattle.mqtt_world_strangers.proofs.Steps.{first_good, good_first}
-use Rattle.mqtt_world_untold_laws.specs.Knowing.{HasKnowingEnds}
-use Rattle.mqtt_world_untold_laws.proofs.Worlds.{held_knowing, holds, named_takes, new_line_takes, stranger_linked}
+use Rattle.mqtt_world_knowing_laws.specs.Knowing.{HasKnowingEnds}
+use Rattle.mqtt_world_knowing_laws.proofs.Worlds.{held_knowing, holds, named_takes, new_line_takes, stranger_linked}
 use Rattle.mqtt_world_scene.specs.Events.{IsReached, SpellsAll, world_of}
 use Rattle.mqtt_world_scene.specs.Hearing.{Asks, Hears, TakesAsEndsIf}
 use Rattle.mqtt_world_scene.specs.Scenes.{Calls, IsPlayable, Played}

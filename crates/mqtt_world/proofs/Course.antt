@@ -23,7 +23,7 @@ use Rattle.mqtt_world.specs.Stages.{IsSoundAt, IsStanding, PlaysDrain, Staged, b
 use Rattle.mqtt_world.specs.Worlds.{Came, CantHappen, DrainEmpties, Happen, HappenDrained, HasCome, HasDelivered, IfBegunWell, IfSound, Lasting, Performs, Refuses, Runs, Stops, over_by, performs_drain, performs_event, with_stage}
 use Rattle.mqtt_world_scene.specs.declared.over.Over.{Over}
 use Rattle.mqtt_world_scene.specs.declared.over.Over.TheVariants as over
-use Rattle.mqtt_world_untold_laws.specs.Knowing.{HasKnowingEnds}
+use Rattle.mqtt_world_knowing_laws.specs.Knowing.{HasKnowingEnds}
 use Rattle.mqtt_world_scene.proofs.StayKnowing.{runs_knowing}
 use Rattle.mqtt_world_scene.proofs.ReadAsSent.{spells_all}
 

@@ -22,8 +22,8 @@ use Rattle.mqtt_rules.specs.declared.Limits.{Limits}
 use Rattle.mqtt_world_clients.specs.Ends.{Ends}
 use Rattle.mqtt_world_scene.specs.Events.{IsReached, opens, world_of}
 use Rattle.mqtt_world_scene.specs.Openings.{Begins, Opens, no_ends}
-use Rattle.mqtt_world_untold_laws.specs.Knowing.{HasKnowingEnds}
-use Rattle.mqtt_world_untold_laws.proofs.Calls.{opened_untold}
+use Rattle.mqtt_world_knowing_laws.specs.Knowing.{HasKnowingEnds}
+use Rattle.mqtt_world_knowing_laws.proofs.Calls.{opened_untold}
 use Rattle.mqtt_world_telling_laws.proofs.Given.{opening_numbered}
 use Rattle.mqtt_world_scene.specs.Scenes.{Played}
 use Rattle.mqtt_world.specs.Stages.{IsStanding}

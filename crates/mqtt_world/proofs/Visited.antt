@@ -15,7 +15,7 @@ use Rattle.mqtt_world_strangers.specs.Strangers.{named, newcomer}
 use Rattle.mqtt_world_strangers.proofs.Steps.{good_rest}
 use Rattle.mqtt_world_scene.specs.Events.{IsReached, SpellsAll, world_of}
 use Rattle.mqtt_world_scene.specs.Scenes.{Played, WasSound}
-use Rattle.mqtt_world_untold_laws.specs.Knowing.{HasKnowingEnds}
+use Rattle.mqtt_world_knowing_laws.specs.Knowing.{HasKnowingEnds}
 use Rattle.mqtt_world_scene.proofs.StayKnowing.{turn_knowing}
 use Rattle.mqtt_world_scene.proofs.Heard.{none_tells, tells_after}
 use Rattle.mqtt_world.specs.Stages.{IsStanding, Plays, Restages, Staged, broker_of, world_at}

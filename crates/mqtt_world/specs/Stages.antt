@@ -6,7 +6,7 @@ use Rattle.mqtt_world_model.specs.World.{Event, Stranger, World, unlinked}
 use Rattle.mqtt_rules.specs.Laws.{AreWithin}
 use Rattle.mqtt_rules.specs.State.{Broker}
 use Rattle.mqtt_rules.specs.declared.Limits.{Limits}
-use Rattle.mqtt_world_untold_laws.specs.Knowing.{HasKnowingEnds}
+use Rattle.mqtt_world_knowing_laws.specs.Knowing.{HasKnowingEnds}
 use Rattle.mqtt_world_scene.specs.Draining.{IsDrainDone}
 use Rattle.mqtt_world_scene.specs.Events.{IsDone, IsReached, SpellsAll, world_of}
 use Rattle.mqtt_world_scene.specs.Openings.{Reopens}

@@ -9,7 +9,7 @@ use Rattle.mqtt_script_laws.specs.Scripted.{Happens}
 use Rattle.mqtt_script_laws.specs.Turns.{IsReopened, IsTurn, both_tell}
 use Rattle.mqtt_world_strangers.specs.Fronts.{IsNextPiece}
 use Rattle.mqtt_world_strangers.specs.Strangers.{held_of, named}
-use Rattle.mqtt_world_untold_laws.specs.Knowing.{HasKnowingEnds}
+use Rattle.mqtt_world_knowing_laws.specs.Knowing.{HasKnowingEnds}
 use Rattle.mqtt_world_scene.specs.Events.{IsReached, SpellsAll}
 use Rattle.mqtt_world_scene.specs.Scenes.{WasSound}
 use Rattle.mqtt_world.specs.Stages.{IsStanding, Staged, broker_of, world_at}

@@ -12,7 +12,7 @@ use Rattle.mqtt_codec.specs.Packets.{HasSpelling, shortest_of}
 use Rattle.mqtt_rules.specs.State.{Broker}
 use Rattle.mqtt_rules.specs.Step.{Outcome}
 use Rattle.mqtt_rules_telling_laws.specs.Meaning.{after_reading, after_reading_all, on_line}
-use Rattle.mqtt_world_untold_laws.specs.Knowing.{AllReadAs, IsUnderstood, IsUnderstoodOn, as_read}
+use Rattle.mqtt_world_knowing_laws.specs.Knowing.{AllReadAs, IsUnderstood, IsUnderstoodOn, as_read}
 use Rattle.mqtt_world_model.specs.Lines.{Down, Line, copy_in, down_on, known_by, sent_to}
 use Rattle.mqtt_world_clients.specs.Telling.{AreSpelled, HaveSpellings, spelled, with_all_read, with_read, with_told}
 

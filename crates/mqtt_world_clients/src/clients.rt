@@ -11,7 +11,7 @@ ghost use Rattle.mqtt_rules.specs.Step.{Outcome as Told};
 ghost use Rattle.mqtt_broker_engine.specs.Calling.{Tells};
 ghost use Rattle.mqtt_world_clients.specs.Ends.{Become, BecomeAt, joins, reading};
 ghost use Rattle.mqtt_world_clients.specs.Lines.{changed};
-ghost use Rattle.mqtt_world_untold_laws.specs.Knowing.{AllIsUnderstood};
+ghost use Rattle.mqtt_world_knowing_laws.specs.Knowing.{AllIsUnderstood};
 ghost use Rattle.mqtt_world_clients.specs.Telling.{AreSpelled, ends_told};
 
 use crate::lines::Change;

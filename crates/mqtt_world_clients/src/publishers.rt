@@ -8,7 +8,7 @@ ghost use Rattle.mqtt_broker_engine.specs.Calling.{Tells};
 ghost use Rattle.mqtt_world_clients.specs.Ends.{asked_by, if_publisher, input_of, on_publisher_line, published_at};
 ghost use Rattle.mqtt_world_clients.specs.Ends.{publisher_joined, publisher_reads_at};
 ghost use Rattle.mqtt_world_clients.specs.Lines.{changed};
-ghost use Rattle.mqtt_world_untold_laws.specs.Knowing.{IsUnderstood, OnPublishers};
+ghost use Rattle.mqtt_world_knowing_laws.specs.Knowing.{IsUnderstood, OnPublishers};
 ghost use Rattle.mqtt_world_clients.specs.Telling.{AreSpelled};
 
 use crate::lines::{Change, change_line, number_on, paired};

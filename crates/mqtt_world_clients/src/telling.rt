@@ -9,7 +9,7 @@ ghost use Rattle.mqtt_rules.specs.State.{Broker};
 ghost use Rattle.mqtt_rules.specs.Step.{Outcome as Told};
 ghost use Rattle.mqtt_broker_engine.specs.Calling.{Tells};
 ghost use Rattle.mqtt_rules_telling_laws.specs.Meaning.{after_reading, alias_on, on_line};
-ghost use Rattle.mqtt_world_untold_laws.specs.Knowing.{AllReadAs, IsUnderstood, as_read};
+ghost use Rattle.mqtt_world_knowing_laws.specs.Knowing.{AllReadAs, IsUnderstood, as_read};
 ghost use Rattle.mqtt_world_clients.specs.Telling.{AreSpelled, copy_for, spelled, with_all_read, with_read, with_told};
 
 use bytes::Bytes;

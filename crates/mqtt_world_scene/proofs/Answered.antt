@@ -15,7 +15,7 @@ use Rattle.mqtt_broker.specs.Serving.{Serving, Served, has_closed}
 use Rattle.mqtt_broker.specs.Framers.{HeldLine}
 use Rattle.mqtt_world_scene.specs.declared.over.Over.{Over}
 use Rattle.mqtt_world_clients.specs.Ends.{Ends}
-use Rattle.mqtt_world_untold_laws.specs.Knowing.{AllIsUnderstood}
+use Rattle.mqtt_world_knowing_laws.specs.Knowing.{AllIsUnderstood}
 use Rattle.mqtt_world_clients.specs.Telling.{AreSpelled, ends_told}
 use Rattle.mqtt_world_scene.specs.Scenes.{Calls, HoldNone, HoldsNone, IsPlayable, Played}
 

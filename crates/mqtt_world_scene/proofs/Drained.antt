@@ -11,7 +11,7 @@ use Rattle.mqtt_broker.specs.Serving.{Serving}
 use Rattle.mqtt_broker_engine.specs.Running.{Running}
 use Rattle.mqtt_rules.specs.declared.Limits.{Limits}
 use Rattle.mqtt_world_clients.specs.Ends.{Ends, in_world}
-use Rattle.mqtt_world_untold_laws.specs.Knowing.{HasKnowingEnds}
+use Rattle.mqtt_world_knowing_laws.specs.Knowing.{HasKnowingEnds}
 use Rattle.mqtt_world_scene.proofs.StayKnowing.{repeats_knowing, rounds_knowing, turn_knowing}
 use Rattle.mqtt_world_scene.specs.declared.over.Over.{Over}
 use Rattle.mqtt_script_laws.specs.Drains.{IsRound, Repeats}

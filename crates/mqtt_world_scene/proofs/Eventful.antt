@@ -13,9 +13,9 @@ use Rattle.mqtt_world_clients.specs.Ends.{Ends, reading}
 use Rattle.mqtt_script_laws.specs.Scripted.{Happens, IsBadEvent, front_of, packet_of, IsRefused}
 use Rattle.mqtt_script_laws.specs.Turns.{IsPlain, IsQuiet, by_choice}
 use Rattle.mqtt_script_laws.proofs.Single.{asks_call, asks_nothing, left_by, plain_happens, quiet}
-use Rattle.mqtt_world_untold_laws.specs.Knowing.{HasKnowingEnds, TakesAsEnds}
-use Rattle.mqtt_world_untold_laws.proofs.Calls.{meant_out}
-use Rattle.mqtt_world_untold_laws.proofs.Worlds.{asked_takes, before_knowing}
+use Rattle.mqtt_world_knowing_laws.specs.Knowing.{HasKnowingEnds, TakesAsEnds}
+use Rattle.mqtt_world_knowing_laws.proofs.Calls.{meant_out}
+use Rattle.mqtt_world_knowing_laws.proofs.Worlds.{asked_takes, before_knowing}
 use Rattle.mqtt_world_scene.specs.Scenes.{Calls, IsPlayable, Played}
 use Rattle.mqtt_world_scene.specs.Events.{Does, IsReached, SpellsAll, TakesPacket, played, steps, world_of}
 

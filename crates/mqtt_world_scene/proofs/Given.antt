@@ -30,7 +30,7 @@ use Rattle.mqtt_broker.specs.Framers.{HeldLine, changed_at, framing_at, framing_
 use Rattle.mqtt_records_rows.specs.Order.{row_at}
 use Rattle.mqtt_world_scene.specs.declared.over.Over.{Over}
 use Rattle.mqtt_world_clients.specs.Ends.{Ends}
-use Rattle.mqtt_world_untold_laws.specs.Knowing.{AllIsUnderstood, IsUnderstood, OnEachEnd}
+use Rattle.mqtt_world_knowing_laws.specs.Knowing.{AllIsUnderstood, IsUnderstood, OnEachEnd}
 use Rattle.mqtt_world_clients.specs.Telling.{AreSpelled, ends_told}
 use Rattle.mqtt_world_scene.specs.Scenes.{Calls, HoldNone, IsPlayable, Played}
 use Rattle.mqtt_world_scene.proofs.Answered.{kept_none, none_held, spent_capped, stepped_capped, told_capped, told_count}

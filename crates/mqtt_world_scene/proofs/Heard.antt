@@ -14,7 +14,7 @@ use Rattle.mqtt_rules.specs.Piece.{Front, begins_connect, call_by, code_of, firs
 use Rattle.mqtt_rules.specs.Step.{BadInput, Call, Input}
 use Rattle.mqtt_rules.specs.declared.Report.{Report}
 use Rattle.mqtt_script_laws.specs.Turns.{both_tell}
-use Rattle.mqtt_world_untold_laws.specs.Knowing.{TakesAsEnds}
+use Rattle.mqtt_world_knowing_laws.specs.Knowing.{TakesAsEnds}
 use Rattle.mqtt_world_scene.specs.Events.{TakesPacket}
 use Rattle.mqtt_world_scene.specs.Hearing.{Asks, Hears, TakesAsEndsIf}
 use Rattle.mqtt_world_scene.specs.Scenes.{Calls, IsPlayable, Played}

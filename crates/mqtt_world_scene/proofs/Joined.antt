@@ -10,7 +10,7 @@ use Rattle.mqtt_world_clients.specs.Ends.{Become, Ends, joins}
 use Rattle.mqtt_script_laws.specs.Scripted.{Happens}
 use Rattle.mqtt_script_laws.specs.Turns.{by_choice}
 use Rattle.mqtt_script_laws.proofs.Single as single
-use Rattle.mqtt_world_untold_laws.proofs.Worlds.{new_line_takes}
+use Rattle.mqtt_world_knowing_laws.proofs.Worlds.{new_line_takes}
 use Rattle.mqtt_world_scene.specs.Scenes.{Calls, IsPlayable, Played}
 use Rattle.mqtt_world_scene.specs.Events.{Does, played, world_of}
 use Rattle.mqtt_world_scene.proofs.Eventful.{any_setting, playable_still, reached_after, world_called}

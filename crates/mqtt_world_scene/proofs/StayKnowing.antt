@@ -9,8 +9,8 @@ use Rattle.mqtt_script_laws.specs.Turns.{IsTurn, by_choice}
 use Rattle.mqtt_world_model.specs.Tellings.{Telling}
 use Rattle.mqtt_world_model.specs.World.{Event, World, receiver_named, to_broker, to_end, ask}
 use Rattle.mqtt_world_receiver_laws.specs.Drains.{downs_by, ups_by}
-use Rattle.mqtt_world_untold_laws.specs.Knowing.{HasKnowingEnds}
-use Rattle.mqtt_world_untold_laws.proofs.Worlds.{happens_knowing, run_knowing}
+use Rattle.mqtt_world_knowing_laws.specs.Knowing.{HasKnowingEnds}
+use Rattle.mqtt_world_knowing_laws.proofs.Worlds.{happens_knowing, run_knowing}
 
 module _ (limits : Limits) where
   -- a turn does

@@ -7,7 +7,7 @@ use Rattle.mqtt_world_receiver_laws.specs.Drains.{downs_by, is_bad_drain, is_ove
 use Rattle.mqtt_rules.specs.declared.Limits.{Limits}
 use Rattle.mqtt_script_laws.specs.Drains.{DrainHappens, IsRound, MakesRounds, Repeats}
 use Rattle.mqtt_script_laws.specs.Turns.{IsTurn, both_tell}
-use Rattle.mqtt_world_untold_laws.specs.Knowing.{HasKnowingEnds}
+use Rattle.mqtt_world_knowing_laws.specs.Knowing.{HasKnowingEnds}
 use Rattle.mqtt_world_scene.specs.Events.{IsReached, SpellsAll, world_of}
 use Rattle.mqtt_world_scene.specs.Scenes.{IsPlayable, Played, WasSound}
 

@@ -17,7 +17,7 @@ use Rattle.mqtt_world_clients.specs.Ends.{Ends}
 use Rattle.mqtt_world_clients.specs.Telling.{AreSpelled}
 use Rattle.mqtt_script_laws.specs.Scripted.{Happens, IsBadEvent}
 use Rattle.mqtt_rules_spelling_laws.specs.Sending.{HaveSentPhases}
-use Rattle.mqtt_world_untold_laws.specs.Knowing.{HasKnowingEnds}
+use Rattle.mqtt_world_knowing_laws.specs.Knowing.{HasKnowingEnds}
 use Rattle.mqtt_world_scene.specs.Scenes.{IsPlayable, Played, WasSound}
 
 -- ---- the brokers that there are: what opens on lawful records with identifiers of two bytes, what steps lead to, and what opens again on what they left

@@ -8,7 +8,7 @@ use Rattle.mqtt_rules.specs.State.{MemberChoice}
 use Rattle.mqtt_rules.specs.Step.{Call}
 use Rattle.mqtt_world_acceptance_laws.specs.Spending.{spending}
 use Rattle.mqtt_script_laws.specs.Turns.{both_tell, by_choice}
-use Rattle.mqtt_world_untold_laws.specs.Knowing.{HasKnowingEnds, TakesAsEnds}
+use Rattle.mqtt_world_knowing_laws.specs.Knowing.{HasKnowingEnds, TakesAsEnds}
 use Rattle.mqtt_world_scene.specs.Events.{IsReached, SpellsAll, world_of}
 use Rattle.mqtt_world_scene.specs.Scenes.{IsPlayable, Played, WasSound}
 

@@ -8,7 +8,7 @@ use Rattle.mqtt_rules.specs.Step.{Call, deeds, is_step_spent, stepped, told}
 use Rattle.mqtt_broker.specs.Serving.{Serving}
 use Rattle.mqtt_broker.specs.Framers.{HeldLine}
 use Rattle.mqtt_world_clients.specs.Ends.{Ends}
-use Rattle.mqtt_world_untold_laws.specs.Knowing.{AllIsUnderstood}
+use Rattle.mqtt_world_knowing_laws.specs.Knowing.{AllIsUnderstood}
 use Rattle.mqtt_world_clients.specs.Telling.{AreSpelled, ends_told}
 
 pub record Played (K : Type 0) : Type 0 where

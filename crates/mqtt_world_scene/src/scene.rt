@@ -7,7 +7,7 @@ ghost use Rattle.mqtt_rules.specs.Piece.{first_call};
 ghost use Rattle.mqtt_rules.specs.Step.{Call, Input, Lost, NewLine, Outcome as Answer, Pump, Tick};
 ghost use Rattle.mqtt_world_model.specs.Tellings.{silent};
 ghost use Rattle.mqtt_world_model.specs.World.{held_after, next_line};
-ghost use Rattle.mqtt_world_untold_laws.specs.Knowing.{AllIsUnderstood};
+ghost use Rattle.mqtt_world_knowing_laws.specs.Knowing.{AllIsUnderstood};
 ghost use Rattle.mqtt_world_clients.specs.Telling.{AreSpelled, ends_told};
 ghost use Rattle.mqtt_world_scene.specs.Scenes.{Calls, IsPlayable};
 

@@ -1,6 +1,6 @@
 use Rattle.mqtt_world_model.specs.Ends.{Publisher}
 use Rattle.mqtt_world_model.specs.World.{publisher_told}
-use Rattle.mqtt_world_untold_laws.specs.Knowing.{IsUnderstood}
+use Rattle.mqtt_world_knowing_laws.specs.Knowing.{IsUnderstood}
 use Rattle.mqtt_world_clients.proofs.Many.{one_more_of}
 use Rattle.mqtt_world_clients.proofs.publishers.tell.Goals as goal
 

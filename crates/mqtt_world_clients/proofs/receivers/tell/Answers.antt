@@ -1,6 +1,6 @@
 use Rattle.mqtt_world_model.specs.Ends.{Receiver}
 use Rattle.mqtt_world_model.specs.World.{receiver_told}
-use Rattle.mqtt_world_untold_laws.specs.Knowing.{IsUnderstood}
+use Rattle.mqtt_world_knowing_laws.specs.Knowing.{IsUnderstood}
 use Rattle.mqtt_world_clients.proofs.Many.{one_more_of}
 use Rattle.mqtt_world_clients.proofs.receivers.tell.Goals as goal
 

@@ -2,7 +2,7 @@ use Rattle.std.proofs.Common.{◌≡◌, ◌++◌, drop, map, take}
 use Rattle.mqtt_rules.specs.Step.{Outcome as Told}
 use Rattle.mqtt_broker_engine.specs.Calling.{Tells}
 use Rattle.mqtt_world_model.specs.World.{receiver_told}
-use Rattle.mqtt_world_untold_laws.specs.Knowing.{IsUnderstood, OnReceivers}
+use Rattle.mqtt_world_knowing_laws.specs.Knowing.{IsUnderstood, OnReceivers}
 use Rattle.mqtt_world_clients.specs.Telling.{AreSpelled}
 use Rattle.mqtt_world_clients.proofs.receivers.tell.Given as goal
 

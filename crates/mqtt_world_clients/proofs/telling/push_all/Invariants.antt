@@ -1,7 +1,7 @@
 use Rattle.std.proofs.Common.{◌≡◌, ℕ, List, drop}
 use Rattle.mqtt_codec.specs.declared.packet.Packet.{Packet}
 use Rattle.mqtt_rules_telling_laws.specs.Meaning.{on_line}
-use Rattle.mqtt_world_untold_laws.specs.Knowing.{AllReadAs}
+use Rattle.mqtt_world_knowing_laws.specs.Knowing.{AllReadAs}
 use Rattle.mqtt_world_clients.specs.Telling.{spelled}
 use Rattle.mqtt_world_clients.proofs.Told.{IsLeft, SpelledOn}
 use Rattle.mqtt_world_clients.proofs.telling.push_all.Given as goal

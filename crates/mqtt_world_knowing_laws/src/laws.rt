@@ -11,7 +11,7 @@ ghost use Rattle.mqtt_topic.specs.Aliases.{AliasTable};
 ghost use Rattle.mqtt_world_acceptance_laws.specs.Fair.{opened_world};
 ghost use Rattle.mqtt_world_model.specs.Run.{Turn, run};
 ghost use Rattle.mqtt_world_model.specs.World.{Asking, Event, Setting, World, before, call_of, calls, happens, is_bad};
-ghost use Rattle.mqtt_world_untold_laws.specs.Knowing.{AllIsUnderstood, HasKnowingEnds, TakesAsEnds, as_read};
+ghost use Rattle.mqtt_world_knowing_laws.specs.Knowing.{AllIsUnderstood, HasKnowingEnds, TakesAsEnds, as_read};
 
 /// A packet that means another to a reader is read as that one: a PUBLISH that was meant has its topic and no alias,
 /// and its User Properties come last (3.3.2.3, 3.3.2.3.4).

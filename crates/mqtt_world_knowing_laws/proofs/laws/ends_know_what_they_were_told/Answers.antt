@@ -1,5 +1,5 @@
-use Rattle.mqtt_world_untold_laws.proofs.Worlds.{asked_takes, happens_knowing, opened_world_knowing, run_knowing}
-use Rattle.mqtt_world_untold_laws.proofs.laws.ends_know_what_they_were_told.Goals as goal
+use Rattle.mqtt_world_knowing_laws.proofs.Worlds.{asked_takes, happens_knowing, opened_world_knowing, run_knowing}
+use Rattle.mqtt_world_knowing_laws.proofs.laws.ends_know_what_they_were_told.Goals as goal
 
 pub returns-clause-opened : goal.returns-clause-opened
 returns-clause-opened c = opened_world_knowing

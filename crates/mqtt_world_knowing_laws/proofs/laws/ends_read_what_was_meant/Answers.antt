@@ -1,5 +1,5 @@
-use Rattle.mqtt_world_untold_laws.proofs.Calls.{knowing_called, meant_out}
-use Rattle.mqtt_world_untold_laws.proofs.laws.ends_read_what_was_meant.Goals as goal
+use Rattle.mqtt_world_knowing_laws.proofs.Calls.{knowing_called, meant_out}
+use Rattle.mqtt_world_knowing_laws.proofs.laws.ends_read_what_was_meant.Goals as goal
 
 pub returns-clause-out : goal.returns-clause-out
 returns-clause-out c = meant_out

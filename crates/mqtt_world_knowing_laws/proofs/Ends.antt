@@ -12,7 +12,7 @@ use Rattle.mqtt_codec.specs.declared.packet.Packet.{Packet}
 use Rattle.mqtt_codec.specs.declared.packet.Packet.TheVariants.{Connack, Publish, Pubrel, Suback, Disconnect}
 use Rattle.mqtt_flow_inbound.specs.Line.{Link, away, asked, live}
 use Rattle.mqtt_flow_inbound.specs.Publisher.{ToPublisher, CONNACK, CONNACK_REFUSED, PUBACK, PUBREC, PUBCOMP, DISCONNECT, in_flight, on_new_session, on_puback, on_pubcomp, on_pubrec, pubrel_for, resent_from}
-use Rattle.mqtt_world_untold_laws.specs.Knowing.{End, end_of, of_publisher, of_receiver}
+use Rattle.mqtt_world_knowing_laws.specs.Knowing.{End, end_of, of_publisher, of_receiver}
 use Rattle.mqtt_world_model.specs.Lines.{Down, Line, gives_up, left}
 use Rattle.mqtt_world_model.specs.Ends.{Content, Draft, Publisher, Receiver, connected, goes, goes_out, greeted, heard, hears, publisher_reads, published, reads, reads_connack, reads_if, reads_publish, receiver_connack, receiver_reads, send_all, send_one, send_unsent, shake}
 

@@ -21,7 +21,7 @@ use Rattle.mqtt_rules.proofs.acts.Meanings.{resolved_means}
 use Rattle.mqtt_rules.proofs.numbers.Copies.{each_filter}
 use Rattle.mqtt_rules_granting_laws.specs.Naming.{EndsWithUsers, HasNoAlias, HasUsersLast, SendsUsersLast}
 use Rattle.mqtt_rules_telling_laws.specs.Meaning.{AllMean, HasItsTopic, Knows, Means, SendsItsTopic, after_reading, after_reading_all, alias_on, on_line}
-use Rattle.mqtt_world_untold_laws.specs.Knowing.{AllReadAs, as_read, of_topic}
+use Rattle.mqtt_world_knowing_laws.specs.Knowing.{AllReadAs, as_read, of_topic}
 
 -- ---- a block
 

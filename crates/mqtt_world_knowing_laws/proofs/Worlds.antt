@@ -28,10 +28,10 @@ use Rattle.mqtt_world_model.specs.Ends.{Back, Content, Publisher, Receiver, Sent
 use Rattle.mqtt_world_model.specs.Run.{Turn, run, setting, turned}
 use Rattle.mqtt_world_model.specs.World.{Asking, Event, Setting, Stranger, World, answers_rest, are_aliases, ask, asks, asks_wish, before, break, call_of, call_of_stranger, call_on, calls, calls_if, clock, comes, connect_end, first_step, give_up, happens, held_after, held_count, input_on, is_bad, is_bad_name, is_end, is_open_line, is_window, linked_at, links, may_take, next_held, next_line, old_to_broker, publish, publisher, publisher_named, publisher_restarted, pump, receiver, receiver_named, receiver_restarted, restart, restarts, stop_after, stop_before, stranger, stranger_named, subscribe, taken_old, taken_up, tick, to_broker, to_end, unlinked, view_by, view_of, with_publisher, with_receiver, with_stranger}
 use Rattle.mqtt_world_telling_laws.proofs.Given.{opening_numbered}
-use Rattle.mqtt_world_untold_laws.specs.Knowing.{AreKnowing, End, HasKnowingEnds, IsItsFormer, IsItsLine, IsKnowing, IsOwn, OnEachEnd, TakesAsEnds, TakesFew, WasGiven, of_publisher, of_receiver}
-use Rattle.mqtt_world_untold_laws.proofs.Calls.{IsUntold, called, each_both, each_end, each_told, former_grows, opened_untold}
-use Rattle.mqtt_world_untold_laws.proofs.Ends.{Stays, given_off, given_up_stays, off, published_stays, publisher_stays, receiver_stays, still}
-use Rattle.mqtt_world_untold_laws.proofs.Reading.{knows_nothing}
+use Rattle.mqtt_world_knowing_laws.specs.Knowing.{AreKnowing, End, HasKnowingEnds, IsItsFormer, IsItsLine, IsKnowing, IsOwn, OnEachEnd, TakesAsEnds, TakesFew, WasGiven, of_publisher, of_receiver}
+use Rattle.mqtt_world_knowing_laws.proofs.Calls.{IsUntold, called, each_both, each_end, each_told, former_grows, opened_untold}
+use Rattle.mqtt_world_knowing_laws.proofs.Ends.{Stays, given_off, given_up_stays, off, published_stays, publisher_stays, receiver_stays, still}
+use Rattle.mqtt_world_knowing_laws.proofs.Reading.{knows_nothing}
 
 -- ---- lists
 

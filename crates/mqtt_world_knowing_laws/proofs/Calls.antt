@@ -22,9 +22,9 @@ use Rattle.mqtt_world_model.specs.Ends.{Publisher, Receiver}
 use Rattle.mqtt_world_model.specs.Lines.{known_by}
 use Rattle.mqtt_world_model.specs.World.{Setting, Stranger, World, calls, publisher_told, receiver_told}
 use Rattle.mqtt_world_telling_laws.proofs.Given.{IsGiven, IsNumbered, call_given, call_numbered}
-use Rattle.mqtt_world_untold_laws.specs.Knowing.{AllIsUnderstood, AreKnowing, End, HasKnowingEnds, IsItsFormer, IsItsLine, IsKnowing, IsUnderstood, IsUnderstoodOn, OnEachEnd, TakesAsEnds, TakesFew, WasGiven, of_publisher, of_receiver}
-use Rattle.mqtt_world_untold_laws.proofs.Reading.{IsSaid, all_read, all_reading_max, said_on, told_none}
-use Rattle.mqtt_world_untold_laws.proofs.Spelling.{IsMeant, wires_spelled}
+use Rattle.mqtt_world_knowing_laws.specs.Knowing.{AllIsUnderstood, AreKnowing, End, HasKnowingEnds, IsItsFormer, IsItsLine, IsKnowing, IsUnderstood, IsUnderstoodOn, OnEachEnd, TakesAsEnds, TakesFew, WasGiven, of_publisher, of_receiver}
+use Rattle.mqtt_world_knowing_laws.proofs.Reading.{IsSaid, all_read, all_reading_max, said_on, told_none}
+use Rattle.mqtt_world_knowing_laws.proofs.Spelling.{IsMeant, wires_spelled}
 
 -- ---- of each end
 

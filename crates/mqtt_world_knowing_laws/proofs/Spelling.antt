@@ -34,7 +34,7 @@ use Rattle.mqtt_rules.specs.State.{Broker, Line, line_at, told_on}
 use Rattle.mqtt_rules_granting_laws.specs.Naming.{HasNoAlias, HasUsersLast}
 use Rattle.mqtt_rules_telling_laws.specs.Meaning.{GrantsWithin, Knows, after_reading_all, on_line}
 use Rattle.mqtt_rules_telling_laws.proofs.Deeds.{knows}
-use Rattle.mqtt_world_untold_laws.proofs.Reading.{IsSaid, all_reading_max, has_none}
+use Rattle.mqtt_world_knowing_laws.proofs.Reading.{IsSaid, all_reading_max, has_none}
 
 -- ---- truth values
 
