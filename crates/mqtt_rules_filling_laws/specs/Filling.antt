@@ -1,0 +1,59 @@
+-- What waiting copies say beside their topics, apart from their rows (MQTT 5.0, 3.3).
+use Rattle.std.specs.Prelude.{◌≡◌, ℕ, List, map}
+use Rattle.std.specs.List.{AllByRecursion}
+use Rattle.mqtt_props.specs.Properties.{Prop}
+use Rattle.mqtt_records_message.specs.declared.message.MessageCopy.{MessageCopy}
+use Rattle.mqtt_records_message.specs.Queue.{CopyRow}
+use Rattle.mqtt_records.specs.declared.session.Session.{Session}
+use Rattle.mqtt_records.specs.declared.records.Records.{Records}
+use Rattle.mqtt_rules.specs.State.{Broker}
+use Rattle.mqtt_rules_alike_laws.specs.Alike.{with_queue, with_sessions, with_records}
+
+-- what a waiting copy says beside its topic
+pub record Filling : Type 0 where
+  pub identifiers : List ℕ  -- the Subscription Identifiers (3.3.2.3.8)
+  pub properties : List Prop
+  pub payload : List ℕ
+
+-- such a thing for each place of each session, by the session's birth; at a place without a copy it may be any
+abbrev pub Fillings : Type 0
+Fillings = ℕ → ℕ → Filling
+
+abbrev pub filling_of : MessageCopy → Filling
+filling_of copy =
+    record { identifiers = copy.identifiers; properties = copy.content.properties; payload = copy.content.payload }
+
+-- ---- rows that say it
+
+abbrev pub filled_copy : Filling → MessageCopy → MessageCopy
+filled_copy filling copy = record copy {
+  identifiers = filling.identifiers;
+  content = record copy.content { properties = filling.properties; payload = filling.payload };
+}
+
+abbrev pub filled_row : (ℕ → Filling) → CopyRow → CopyRow
+filled_row fillings e = record e { copy = filled_copy (fillings e.place) e.copy }
+
+abbrev pub filled_session : Fillings → Session → Session
+filled_session fillings s = with_queue (map (filled_row (fillings s.birth)) s.queue) s
+
+abbrev pub filled_records : Fillings → Records → Records
+filled_records fillings r = with_sessions (map (filled_session fillings) r.sessions) r
+
+-- each waiting copy says what there is for its place
+abbrev pub filled : Fillings → Broker → Broker
+filled fillings b = with_records (filled_records fillings b.records) b
+
+-- ---- rows of which it is so
+
+-- the row says this already
+abbrev pub IsFilledBy : (ℕ → Filling) → CopyRow → Type 0
+IsFilledBy fillings e = filling_of e.copy ≡ fillings e.place
+
+-- each of a session's queue
+abbrev pub IsSessionFilledBy : Fillings → Session → Type 0
+IsSessionFilledBy fillings s = AllByRecursion (IsFilledBy (fillings s.birth)) s.queue
+
+-- each of all sessions: what is stored says this
+abbrev pub AreFilledBy : Fillings → Records → Type 0
+AreFilledBy fillings r = AllByRecursion (IsSessionFilledBy fillings) r.sessions
