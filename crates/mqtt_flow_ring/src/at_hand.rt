@@ -12,7 +12,7 @@ use std::marker::Model;
 pub const AT_HAND_LIMIT: usize = 64;
 
 /// What consecutive copies of a queue say, by their places, at most `AT_HAND_LIMIT`. It takes its
-/// memory when something is put in first.
+/// memory at the first `fill`, or when something is put in first.
 #[derive(Drop)]
 pub struct AtHand<T> {
     ring: Option<HeapCircularBuffer<(u64, T)>>,
