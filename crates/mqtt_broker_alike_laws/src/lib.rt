@@ -1,0 +1,6 @@
+//! The law that brokers which are alike but for what their waiting copies say can do the same calls (MQTT 5.0, 4.1).
+#![tactic(auto)]
+
+mod laws;
+
+pub use laws::alike_brokers_are_ready;
