@@ -1,1 +1,4 @@
+pub mod Filling
 pub mod PassedLemmas
+pub mod SentSizes
+pub mod Slim

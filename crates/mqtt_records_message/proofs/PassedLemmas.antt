@@ -1,5 +1,5 @@
 -- What is passed on rises, and a front of what fits fits (MQTT 5.0, 2.2.2, 3.3.2.3).
-use Rattle.std.proofs.Common.{◌≡◌, ℕ, ◌≤◌, ◌<◌, Bool, true, false, ◌&&◌, List, [], ◌∷◌, ◌++◌, length, map, nat_le, refl, sym, ap, subst, ◌∙◌, append_assoc, append-nil, arith, inl, inr}
+use Rattle.std.proofs.Common.{◌≡◌, ℕ, Bool, true, false, ◌&&◌, List, [], ◌∷◌, ◌++◌, length, map, nat_le, refl, sym, ap, subst, ◌∙◌, append_assoc, append-nil, arith, inl, inr}
 use Rattle.std.specs.List.{AllByRecursion, list_any}
 use Rattle.std.proofs.lemmas.Bool.{eqb-true, cases_Bool, leb-true, le-leb}
 use Rattle.std.proofs.lemmas.Grind.{flat_map-append}
@@ -37,7 +37,8 @@ le-same a = le-leb a a (omega arith)
 
 -- ---- rising
 
-rises-lower : (n k : ℕ) (ps : List Prop) → nat_le n k ≡ true → rises_from k ps ≡ true → rises_from n ps ≡ true
+-- what rises from an identifier rises from a lower one
+pub rises-lower : (n k : ℕ) (ps : List Prop) → nat_le n k ≡ true → rises_from k ps ≡ true → rises_from n ps ≡ true
 rises-lower n k [] le r = refl
 rises-lower n k (p ∷ ps) le r =
     let split = both (nat_le k (id_of p) && goes_on (id_of p)) (rises_from (id_of p) ps) r in

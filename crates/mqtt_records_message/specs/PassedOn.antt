@@ -1,5 +1,5 @@
 -- What a publication passes on to its copies, and what is sent of it (MQTT 5.0, 3.3.2.3).
-use Rattle.std.specs.Prelude.{◌≡◌, ℕ, ◌-◌, Bool, true, false, ◌&&◌, cond, List, [], ◌∷◌, ◌++◌, map, find, nat_le, ◌==◌, Option, option_map, IsTrue}
+use Rattle.std.specs.Prelude.{◌≡◌, ℕ, ◌-◌, Bool, true, ◌&&◌, cond, List, [], ◌∷◌, ◌++◌, map, find, nat_le, ◌==◌, Option, option_map}
 use Rattle.std.specs.List.{list_any}
 use Rattle.mqtt_props.specs.declared.table.PropName.{PropName}
 use Rattle.mqtt_props.specs.declared.table.PropName.TheVariants.{PayloadFormatIndicator, MessageExpiryInterval, ContentType, ResponseTopic, CorrelationData, SubscriptionIdentifier, UserProperty}

@@ -1,12 +1,13 @@
 -- A copy in a session's queue, and how many bytes its PUBLISH has (MQTT 5.0, 2.1, 3.3, 4.6).
-use Rattle.std.specs.Prelude.{◌≡◌, ℕ, ◌+◌, ◌<◌, ◌^◌, List, length}
+use Rattle.std.specs.Prelude.{◌≡◌, ℕ, ◌+◌, ◌<◌, ◌^◌, List, Option, length}
 use Rattle.mqtt_base.specs.declared.session.Phase.{Phase}
 use Rattle.mqtt_base.specs.declared.session.Qos.{Qos}
 use Rattle.mqtt_base.specs.declared.session.Qos.TheVariants.{AtMostOnce, AtLeastOnce, ExactlyOnce}
 use Rattle.mqtt_base.specs.Values.{varint}
-use Rattle.mqtt_props.specs.Properties.{Prop, FitsBlock, block}
+use Rattle.mqtt_props.specs.Properties.{Prop, FitsBlock, block, props}
+use Rattle.mqtt_props.specs.declared.table.PropName.TheVariants.{MessageExpiryInterval}
 use Rattle.mqtt_records_message.specs.declared.message.MessageCopy.{MessageCopy}
-use Rattle.mqtt_records_message.specs.PassedOn.{sent_after}
+use Rattle.mqtt_records_message.specs.PassedOn.{number_at, sent_after}
 
 -- its place in the queue, how far it has come, and what is sent
 pub record CopyRow : Type 0 where
@@ -38,7 +39,15 @@ pub record IsSpelled (copy : MessageCopy) : Type 0 where
 abbrev pub publish_size : MessageCopy → ℕ
 publish_size copy = 1 + length (varint (remaining copy)) + remaining copy
 
--- what a row remembers of its copy
-pub record Knows (remembered : ℕ) (copy : MessageCopy) : Type 0 where
+-- bytes of its properties without their length, and of its PUBLISH, which has a spelling
+pub record AreSizes (sizes : ℕ × ℕ) (copy : MessageCopy) : Type 0 where
   pub spelled : IsSpelled copy
-  pub size : remembered ≡ publish_size copy
+  pub pairs : sizes.0 ≡ length (props (first_sent copy))
+  pub size : sizes.1 ≡ publish_size copy
+
+-- what a row remembers of its copy: bytes of its PUBLISH and of its properties, and its Message Expiry Interval
+pub record Knows (all properties : ℕ) (interval : Option ℕ) (copy : MessageCopy) : Type 0 where
+  pub spelled : IsSpelled copy
+  pub size : all ≡ publish_size copy
+  pub pairs : properties ≡ length (props (first_sent copy))
+  pub expiry : interval ≡ number_at MessageExpiryInterval copy.content.properties

@@ -1,35 +1,55 @@
 //! What is kept of a copy in a session's queue (4.3, 4.6).
-ghost use Rattle.std.specs.Prelude.{◌≡◌, ◌<◌, ◌+◌, ◌^◌, length, IfOk, IfErr};
-ghost use Rattle.mqtt_props.specs.Properties.{FitsBlock, block};
-ghost use Rattle.mqtt_records_message.specs.Queue.{identifier_len, first_sent, IsSpelled, publish_size, Knows};
+ghost use Rattle.std.specs.Prelude.{◌≡◌, ◌↔◌, false, length, IfOk, IfErr, IfSome, IsTrue};
+ghost use Rattle.mqtt_props.specs.declared.table.PropName.TheVariants.{MessageExpiryInterval};
+ghost use Rattle.mqtt_props.specs.Properties.{FitsBlock, props};
+ghost use Rattle.mqtt_records_message.specs.Filling.{filled_with, HasBytesOf};
+ghost use Rattle.mqtt_records_message.specs.PassedOn.{number_at, IsPassedOn};
+ghost use Rattle.mqtt_records_message.specs.Queue.{identifier_len, first_sent, IsSpelled, publish_size, AreSizes};
 ghost use Rattle.mqtt_records_message.specs.Refusals.{RefusesCopy};
+ghost use Rattle.mqtt_records_message.specs.Slim.{slim};
 
+use crate::content::CopyContent;
 use crate::fault::CopyFault;
 use crate::message::MessageCopy;
-use mqtt_base::{Phase, Qos, VARINT_LIMIT, varint_len};
+use crate::parts::CopyPart;
+use crate::properties::PassedOn;
+use crate::sizes::{expiry_in, pairs_len, sent_len};
+use bytes::Bytes;
+use mqtt_base::{CopyId, Phase, Qos, Text, VARINT_LIMIT, varint_len};
 use mqtt_props::PropFault;
 use mqtt_records_rows::{CloneRow, Editable, Row};
 use std::alloc::{AllocError, Global};
 use std::marker::Model;
 
 /// A copy in a session's queue (4.3, 4.6): its place, from 1, in the order in which copies are sent,
-/// how far it has come, and what is sent. Its PUBLISH has a spelling, of a size that is remembered.
+/// how far it has come, and what is sent. Its PUBLISH has a spelling, of a size that is remembered; so are
+/// the bytes of its properties, and its Message Expiry Interval. A row may be slim: then Subscription
+/// Identifiers, properties and payload are not in memory.
 #[derive(Drop)]
 pub struct CopyRow {
     place: u64,
     phase: Phase,
     size: u32,
+    pairs: u32,
+    expiry: Option<u32>,
+    /// Of a slim row the bytes of the payload.
+    left_out: Option<u32>,
     copy: MessageCopy,
 }
 
 impl Model for CopyRow {
-    ghost use Rattle.mqtt_records_message.specs.Queue.{CopyRow as Queued, Knows};
+    ghost use Rattle.mqtt_records_message.specs.Queue.{CopyRow as Queued};
+    ghost use Rattle.mqtt_records_message.specs.Slim.{copy_by, Remembers};
 
     ghost Value = { Queued };
 
-    ghost view = { λ a. record { place = a.place; phase = a.phase; copy = a.copy } };
+    ghost view = { λ a. record {
+      place = a.place;
+      phase = a.phase;
+      copy = copy_by a.left_out a.pairs a.expiry a.copy;
+    } };
 
-    ghost invariant = { λ a. Knows a.size a.copy };
+    ghost invariant = { λ a. Remembers a.size a.pairs a.expiry a.left_out a.copy };
 }
 
 /// Bytes of the packet identifier of a PUBLISH (2.2.1).
@@ -42,10 +62,9 @@ fn identifier_len(qos: Qos) -> usize
     }
 }
 
-/// Bytes of the block of properties of a copy that has not waited.
-fn block_len(alloc: Global, copy: &MessageCopy) -> Result<usize, CopyFault>
-    ensures exact { IfOk result (λ len. len ≡ length (block (first_sent copy.now))) }
-    ensures bound { IfOk result (λ len. len < 2 ^ 28 + 4) }
+/// Bytes of the properties of a copy that has not waited, their length left out.
+fn pairs_of(alloc: Global, copy: &MessageCopy) -> Result<usize, CopyFault>
+    ensures exact { IfOk result (λ len. len ≡ length (props (first_sent copy.now))) }
     ensures fits { IfOk result (λ len. FitsBlock (first_sent copy.now)) }
     ensures refused { IfErr result (RefusesCopy copy.now) }
 {
@@ -57,28 +76,41 @@ fn block_len(alloc: Global, copy: &MessageCopy) -> Result<usize, CopyFault>
             return Err(CopyFault::Unspelled);
         }
     };
-    let len = list.lend().block_len();
+    let len = pairs_len(&list.lend());
     drop(list);
     Ok(len)
 }
 
-/// Bytes of the PUBLISH of a copy.
-fn size_of(alloc: Global, copy: &MessageCopy) -> Result<u32, CopyFault>
-    ensures exact { IfOk result (λ size. Knows size copy.now) }
+/// Bytes of the PUBLISH of a copy whose properties have so many bytes, their length left out.
+fn size_of(pairs: usize, copy: &MessageCopy) -> Result<u32, CopyFault>
+    requires exact { pairs ≡ length (props (first_sent copy.now)) }
+    requires fits { FitsBlock (first_sent copy.now) }
+    ensures exact { IfOk result (λ size. size ≡ publish_size copy.now) }
+    ensures spelled { IfOk result (λ size. IsSpelled copy.now) }
     ensures refused { IfErr result (RefusesCopy copy.now) }
 {
     let limit = VARINT_LIMIT as usize;
-    let block = block_len(alloc, copy)?;
     let payload = copy.content.payload.len();
     if payload >= limit {
         return Err(CopyFault::Unspelled);
     }
     let topic = copy.content.topic.as_str().len();
+    let block = varint_len(pairs as u32) + pairs;
     let remaining = 2 + topic + identifier_len(copy.qos) + block + payload;
     if remaining >= limit {
         return Err(CopyFault::Unspelled);
     }
     Ok((1 + varint_len(remaining as u32) + remaining) as u32)
+}
+
+/// Bytes of the properties of a copy, their length left out, and of its PUBLISH.
+fn sizes_of(alloc: Global, copy: &MessageCopy) -> Result<(u32, u32), CopyFault>
+    ensures exact { IfOk result (λ sizes. AreSizes sizes copy.now) }
+    ensures refused { IfErr result (RefusesCopy copy.now) }
+{
+    let pairs = pairs_of(alloc, copy)?;
+    let size = size_of(pairs, copy)?;
+    Ok((pairs as u32, size))
 }
 
 impl CopyRow {
@@ -94,11 +126,15 @@ impl CopyRow {
             ≡ record { place = place; phase = phase; copy = copy }) }
         ensures refused { IfErr result (RefusesCopy copy) }
     {
-        match size_of(alloc, &copy) {
-            Ok(size) => Ok(CopyRow {
+        let expiry = expiry_in(&copy.content.properties.lend());
+        match sizes_of(alloc, &copy) {
+            Ok((pairs, size)) => Ok(CopyRow {
                 place,
                 phase,
                 size,
+                pairs,
+                expiry,
+                left_out: None,
                 copy,
             }),
             Err(fault) => {
@@ -122,11 +158,127 @@ impl CopyRow {
         self.phase
     }
 
-    /// What is sent. Takes no memory.
-    pub fn copy(&self) -> &MessageCopy
-        ensures { result.now ≡ self.now.copy }
+    /// What is sent, if the row has it. Takes no memory.
+    pub fn whole(&self) -> Option<&MessageCopy>
+        ensures { IfSome result (λ copy. copy.now ≡ self.now.copy) }
     {
-        &self.copy
+        match self.left_out {
+            None => Some(&self.copy),
+            Some(_) => None,
+        }
+    }
+
+    /// What tells its copy from all other copies. Takes no memory.
+    pub fn id(&self) -> &CopyId
+        ensures { result.now ≡ self.now.copy.id }
+    {
+        &self.copy.id
+    }
+
+    /// The quality of service at which it is sent. Takes no memory.
+    pub fn qos(&self) -> Qos
+        ensures { result ≡ self.now.copy.qos }
+    {
+        self.copy.qos
+    }
+
+    /// Whether RETAIN is sent as 1. Takes no memory.
+    pub fn retain(&self) -> bool
+        ensures { result ≡ self.now.copy.retain }
+    {
+        self.copy.retain
+    }
+
+    /// The topic of its publication. Takes no memory.
+    pub fn topic(&self) -> &Text
+        ensures { result.now ≡ self.now.copy.content.topic }
+    {
+        &self.copy.content.topic
+    }
+
+    /// When its publication was accepted: a moment in milliseconds. Takes no memory.
+    pub fn arrived(&self) -> u64
+        ensures { result ≡ self.now.copy.content.arrived }
+    {
+        self.copy.content.arrived
+    }
+
+    /// Its Message Expiry Interval as received, in seconds, if it has one (3.3.2.3.3). Takes no memory.
+    pub fn expiry(&self) -> Option<u32>
+        ensures { result ≡ number_at MessageExpiryInterval self.now.copy.content.properties }
+    {
+        self.expiry
+    }
+
+    /// Bytes of its properties as they are sent, their length left out (3.3.2.3). Takes no memory.
+    pub fn pairs(&self) -> u32
+        ensures { result ≡ length (props (first_sent self.now.copy)) }
+    {
+        self.pairs
+    }
+
+    /// Bytes of its payload. Takes no memory.
+    pub fn payload_len(&self) -> usize
+        ensures { result ≡ length self.now.copy.content.payload }
+    {
+        match self.left_out {
+            None => self.copy.content.payload.len(),
+            Some(payload) => payload as usize,
+        }
+    }
+
+    /// Its properties are such as publications pass on. Takes no memory.
+    pub fn passes_on(&self)
+        ensures { IsPassedOn self.now.copy.content.properties }
+    {
+        // Of a whole row this list shows it, of a slim one the row's value.
+        let _list = self.copy.content.properties.lend();
+    }
+
+    /// Whether this may be what the copy says: it has as many bytes, and the same Message Expiry Interval.
+    /// Takes no memory.
+    fn has_bytes(&self, content: &CopyContent) -> bool
+        ensures { IsTrue result ↔ HasBytesOf self.now.copy content.now }
+    {
+        let list = content.properties.lend();
+        let Some(pairs) = sent_len(&list, content.identifiers.as_slice()) else {
+            return false;
+        };
+        pairs == self.pairs as usize
+            && content.payload.len() == self.payload_len()
+            && expiry_in(&list) == self.expiry
+    }
+
+    /// Leaves out what the copy says beside its topic: Subscription Identifiers, properties but Message
+    /// Expiry Interval, and payload. Takes no memory.
+    pub fn make_slim(&mut self)
+        ensures { self.new ≡ slim self.old }
+    {
+        if self.left_out.is_some() {
+            return;
+        }
+        self.left_out = Some(self.copy.content.payload.len() as u32);
+        self.copy.identifiers.forget();
+        self.copy.content.properties = PassedOn::new();
+        self.copy.content.payload = Bytes::new();
+    }
+
+    /// Takes in what the copy says, if it has as many bytes as the row remembers, and the same Message
+    /// Expiry Interval: the row is whole then. The topic stays. Takes no memory.
+    pub fn fill(&mut self, content: CopyContent) -> bool
+        ensures exact { IsTrue result ↔ HasBytesOf self.old.copy content }
+        ensures ok { IsTrue result → self.new ≡ filled_with content self.old }
+        ensures err { result ≡ false → self.new ≡ self.old }
+    {
+        if !self.has_bytes(&content) {
+            drop(content);
+            return false;
+        }
+        self.left_out = None;
+        self.copy.identifiers = content.identifiers;
+        self.copy.content.properties = content.properties;
+        self.copy.content.payload = content.payload;
+        true
     }
 
     /// Bytes of its PUBLISH in the shortest spelling, fixed header included. Takes no memory.
@@ -151,17 +303,20 @@ impl CloneRow for CopyRow {
 }
 
 impl Editable for CopyRow {
-    type Part = Phase;
+    type Part = CopyPart;
 
-    ghost edited = { λ phase row. record row { phase = phase } };
+    ghost use Rattle.mqtt_records_message.specs.Parts.{row_changed, place_of-row_changed};
 
-    fn edit(&mut self, phase: Phase) {
-        self.phase = phase;
+    ghost edited = { row_changed };
+
+    fn edit(&mut self, part: CopyPart) {
+        match part {
+            CopyPart::SetPhase { phase } => self.phase = phase,
+            CopyPart::MakeSlim => self.make_slim(),
+        }
     }
 
-    ghost use Rattle.std.proofs.Common.{refl};
-
-    ghost key_kept = { λ phase row. refl };
+    ghost key_kept = { place_of-row_changed };
 }
 
 impl Clone for CopyRow {
@@ -172,6 +327,9 @@ impl Clone for CopyRow {
             place: self.place,
             phase: self.phase,
             size: self.size,
+            pairs: self.pairs,
+            expiry: self.expiry,
+            left_out: self.left_out,
             copy: self.copy.clone()?,
         })
     }

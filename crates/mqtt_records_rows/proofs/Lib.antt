@@ -2,3 +2,4 @@ pub mod OrderLemmas
 pub mod LookUps
 pub mod KeyLemmas
 pub mod DifferLemmas
+pub mod FillLemmas

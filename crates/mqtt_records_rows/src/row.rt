@@ -1,5 +1,5 @@
 //! What a row of a list is, and a row in a box of its own.
-ghost use Rattle.std.specs.Prelude.{◌≡◌, ℕ, List, Option, IfOk};
+ghost use Rattle.std.specs.Prelude.{◌≡◌, ◌↔◌, ℕ, List, Option, IfOk, IsTrue, false};
 
 use std::alloc::{AllocError, Global};
 use std::marker::Model;
@@ -52,6 +52,27 @@ pub trait Parted: Row {
     // The key stays.
     ghost left_key: { (place : Self.Place) (row : Self)
         → Self.key_of (left place row) ≡ Self.key_of row };
+}
+
+/// A row that can lack something, and takes it in if it fits.
+pub trait Fillable: Row {
+    type Filling: Drop;
+
+    // It fits the row.
+    ghost fits: { Self.Filling → Self → Type 0 };
+
+    // The row with it.
+    ghost filled: { Self.Filling → Self → Self };
+
+    /// Takes in what fits, and else changes nothing. Takes no memory.
+    fn fill_in(&mut self, filling: Self::Filling) -> bool
+        ensures exact { IsTrue result ↔ fits filling self.old }
+        ensures ok { IsTrue result → self.new ≡ filled filling self.old }
+        ensures err { result ≡ false → self.new ≡ self.old };
+
+    // The key stays.
+    ghost filled_key: { (filling : Self.Filling) (row : Self)
+        → Self.key_of (filled filling row) ≡ Self.key_of row };
 }
 
 /// A row that has a name besides its key.
@@ -160,6 +181,20 @@ impl<R: Parted> Parted for Boxed<R> {
     }
 
     ghost left_key = { λ place row. R.left_key place row };
+}
+
+impl<R: Fillable> Fillable for Boxed<R> {
+    type Filling = R::Filling;
+
+    ghost fits = { λ filling row. R.fits filling row };
+
+    ghost filled = { λ filling row. R.filled filling row };
+
+    fn fill_in(&mut self, filling: Self::Filling) -> bool {
+        self.row.fill_in(filling)
+    }
+
+    ghost filled_key = { λ filling row. R.filled_key filling row };
 }
 
 impl<R: Named> Named for Boxed<R> {

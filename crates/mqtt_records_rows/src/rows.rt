@@ -1,10 +1,10 @@
 //! Lists of rows in the order of their keys.
-ghost use Rattle.std.specs.Prelude.{◌≡◌, ◌<◌, ◌≤◌, List, [], Option, IfOk, option_copied, not};
+ghost use Rattle.std.specs.Prelude.{◌≡◌, ◌↔◌, ◌<◌, ◌≤◌, List, [], Option, IfOk, IsSomeAnd, IsTrue, false, option_copied, not};
 ghost use Rattle.std.specs.Prelude.{length, filter, slice_get, insert, option_and_then, bytes_eq, vec_len, vec_capacity};
 ghost use Rattle.mqtt_records_rows.specs.Order.{IsAscending, IsFound, front_len, last_row};
 ghost use Rattle.mqtt_records_rows.specs.Order.{row_at, has_row, put_row, remove_row, change_row};
 
-use crate::row::{CloneRow, Editable, Named, Parted, Row};
+use crate::row::{CloneRow, Editable, Fillable, Named, Parted, Row};
 use std::alloc::{AllocError, Global};
 use std::marker::Model;
 
@@ -193,6 +193,24 @@ impl<R: Parted, const LIMIT: usize> Rows<R, LIMIT> {
         match search(&self.rows, key) {
             Ok(at) => self.rows[at].take_part(place),
             Err(_) => None,
+        }
+    }
+}
+
+impl<R: Fillable, const LIMIT: usize> Rows<R, LIMIT> {
+    /// Has the row with the key take in what fits it. Nothing changes if it doesn't fit, or no row has the
+    /// key. Takes no memory.
+    pub fn fill(&mut self, key: u64, filling: R::Filling) -> bool
+        ensures exact { IsTrue result ↔ IsSomeAnd (row_at R.key_of key self.old) (R.fits filling) }
+        ensures ok { IsTrue result → self.new ≡ change_row R.key_of key (R.filled filling) self.old }
+        ensures err { result ≡ false → self.new ≡ self.old }
+    {
+        match search(&self.rows, key) {
+            Ok(place) => self.rows[place].fill_in(filling),
+            Err(_) => {
+                drop(filling);
+                false
+            }
         }
     }
 }

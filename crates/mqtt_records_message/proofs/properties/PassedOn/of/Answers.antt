@@ -1,4 +1,4 @@
-use Rattle.std.proofs.Common.{◌≡◌, true}
+use Rattle.std.proofs.Common.{◌≡◌}
 use Rattle.mqtt_records_message.specs.PassedOn.{passed_on}
 use Rattle.mqtt_records_message.proofs.PassedLemmas.{passed_on-rises}
 use Rattle.mqtt_records_message.proofs.properties.PassedOn.of.Goals as goal

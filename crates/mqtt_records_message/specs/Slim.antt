@@ -1,0 +1,79 @@
+-- A row that says nothing but its topic (MQTT 5.0, 3.3).
+use Rattle.std.specs.Prelude.{⊤, ◌≡◌, ℕ, zero, suc, ◌-◌, List, [], ◌∷◌, ◌++◌, length, Option, Some, None}
+use Rattle.mqtt_props.specs.Properties.{Prop, Byte, U32, Binary, props}
+use Rattle.mqtt_props.specs.declared.table.PropName.TheVariants.{PayloadFormatIndicator, MessageExpiryInterval, CorrelationData}
+use Rattle.mqtt_records_message.specs.declared.message.MessageCopy.{MessageCopy}
+use Rattle.mqtt_records_message.specs.PassedOn.{property, number_at}
+use Rattle.mqtt_records_message.specs.Queue.{CopyRow, Knows, first_sent}
+
+abbrev pub zeros : ℕ → List ℕ
+zeros zero = []
+zeros (suc n) = 0 ∷ zeros n
+
+-- ---- properties of so many bytes that say nothing; there are none of one byte
+
+-- those of two bytes, which stand first
+abbrev pub front_filler : ℕ → List Prop
+front_filler zero = []
+front_filler (suc zero) = []
+front_filler (suc (suc zero)) = property PayloadFormatIndicator (Byte 0) ∷ []
+front_filler (suc (suc (suc zero))) = []
+front_filler (suc (suc (suc (suc n)))) = property PayloadFormatIndicator (Byte 0) ∷ front_filler (suc (suc n))
+
+-- the one of three bytes, if their number is odd, which stands last
+abbrev pub back_filler : ℕ → List Prop
+back_filler zero = []
+back_filler (suc zero) = []
+back_filler (suc (suc zero)) = []
+back_filler (suc (suc (suc zero))) = property CorrelationData (Binary []) ∷ []
+back_filler (suc (suc (suc (suc n)))) = back_filler (suc (suc n))
+
+-- ---- properties that tell a Message Expiry Interval alone (3.3.2.3.3)
+
+abbrev pub interval_alone : Option ℕ → List Prop
+interval_alone None = []
+interval_alone (Some n) = property MessageExpiryInterval (U32 n) ∷ []
+
+-- its bytes
+abbrev pub interval_bytes : Option ℕ → ℕ
+interval_bytes None = 0
+interval_bytes (Some n) = 5
+
+-- so many bytes of properties, in the order in which they are passed on
+abbrev pub bare_properties : ℕ → Option ℕ → List Prop
+bare_properties bytes interval =
+    front_filler (bytes - interval_bytes interval) ++ interval_alone interval ++ back_filler (bytes - interval_bytes interval)
+
+-- ---- copies and rows that say nothing but their topic
+
+-- no Subscription Identifiers, so many bytes of properties with this Message Expiry Interval, so many zeros as payload
+abbrev pub bare : ℕ → Option ℕ → ℕ → MessageCopy → MessageCopy
+bare bytes interval payload copy = record copy {
+  identifiers = [];
+  content = record copy.content { properties = bare_properties bytes interval; payload = zeros payload };
+}
+
+-- its PUBLISH has as many bytes, and its Message Expiry Interval is the same
+abbrev pub slim_copy : MessageCopy → MessageCopy
+slim_copy copy =
+    bare (length (props (first_sent copy))) (number_at MessageExpiryInterval copy.content.properties) (length copy.content.payload) copy
+
+abbrev pub slim : CopyRow → CopyRow
+slim e = record e { copy = slim_copy e.copy }
+
+-- ---- what is in memory of a row's copy: all of it, or all but what is left out, with the bytes of the payload
+
+abbrev pub copy_by : Option ℕ → ℕ → Option ℕ → MessageCopy → MessageCopy
+copy_by None bytes interval copy = copy
+copy_by (Some payload) bytes interval copy = bare bytes interval payload copy
+
+-- of what is left out nothing is there
+abbrev pub IsLeftOut : Option ℕ → MessageCopy → Type 0
+IsLeftOut None copy = ⊤
+IsLeftOut (Some payload) copy =
+    (copy.identifiers ≡ []) × (copy.content.properties ≡ []) × (copy.content.payload ≡ [])
+
+-- a row remembers of its copy what it has to, and has what is not left out
+pub record Remembers (all properties : ℕ) (interval left : Option ℕ) (copy : MessageCopy) : Type 0 where
+  pub known : Knows all properties interval (copy_by left properties interval copy)
+  pub out : IsLeftOut left copy
