@@ -1,15 +1,18 @@
 -- What is kept of a session, and how a part of it changes (4.1).
-use Rattle.std.specs.Prelude.{◌≡◌, refl, ℕ, codes, not, bytes_eq, List, [], filter, Option, Some, None}
+use Rattle.std.specs.Prelude.{◌≡◌, refl, ℕ, codes, not, bytes_eq, List, [], filter, Option, Some, None, IsSomeAnd}
 use Rattle.mqtt_base.specs.declared.session.Phase.{Phase}
 use Rattle.mqtt_base.specs.declared.limits.TheConstants.{SUBSCRIPTION_LIMIT, OPEN_LIMIT, QUEUE_LIMIT}
 use Rattle.mqtt_records_message.specs.declared.message.Will.{Will}
+use Rattle.mqtt_records_message.specs.declared.content.CopyContent.{CopyContent}
+use Rattle.mqtt_records_message.specs.Filling.{filled_with, HasBytesOf}
 use Rattle.mqtt_records_message.specs.Queue.{CopyRow}
+use Rattle.mqtt_records_message.specs.Slim.{slim}
 use Rattle.mqtt_records.specs.declared.subscription.Subscription.{Subscription}
 use Rattle.mqtt_records.specs.declared.session.Session.{Session}
 use Rattle.mqtt_records.specs.declared.session.Columns.{Columns}
 use Rattle.mqtt_records.specs.declared.session.SessionPart.{SessionPart}
-use Rattle.mqtt_records.specs.declared.session.SessionPart.TheVariants.{SetColumns, PutWill, RemoveWill, PutSubscription, RemoveSubscription, PutInbound, RemoveInbound, PutCopy, SetCopy, RemoveCopy}
-use Rattle.mqtt_records_rows.specs.Order.{put_row, remove_row, change_row}
+use Rattle.mqtt_records.specs.declared.session.SessionPart.TheVariants.{SetColumns, PutWill, RemoveWill, PutSubscription, RemoveSubscription, PutInbound, RemoveInbound, PutCopy, SetCopy, SlimCopy, RemoveCopy}
+use Rattle.mqtt_records_rows.specs.Order.{row_at, put_row, remove_row, change_row}
 
 -- ---- the keys of the lists
 
@@ -80,6 +83,18 @@ in_phase phase row = record row { phase = phase }
 abbrev pub with_phase : ℕ → Phase → Session → Session
 with_phase place phase session = record session { queue = change_row copy_place place (in_phase phase) session.queue }
 
+-- the copy at a place says nothing but its topic
+abbrev pub with_slim : ℕ → Session → Session
+with_slim place session = record session { queue = change_row copy_place place slim session.queue }
+
+-- the copy at the place of what is told says that
+abbrev pub with_filled : CopyContent → Session → Session
+with_filled content session = record session { queue = change_row copy_place content.place (filled_with content) session.queue }
+
+-- a copy stands there, of as many bytes
+abbrev pub HasRowFor : CopyContent → Session → Type 0
+HasRowFor content session = IsSomeAnd (row_at copy_place content.place session.queue) (λ e. HasBytesOf e.copy content)
+
 abbrev pub without_copy : ℕ → Session → Session
 without_copy place session = record session { queue = remove_row copy_place place session.queue }
 
@@ -94,6 +109,7 @@ part_changed (PutInbound identifier) = with_open identifier
 part_changed (RemoveInbound identifier) = without_open identifier
 part_changed (PutCopy row) = with_copy row
 part_changed (SetCopy place phase) = with_phase place phase
+part_changed (SlimCopy place) = with_slim place
 part_changed (RemoveCopy place) = without_copy place
 
 -- the birth stays
@@ -107,6 +123,7 @@ birth_of-part_changed (PutInbound identifier) session = refl
 birth_of-part_changed (RemoveInbound identifier) session = refl
 birth_of-part_changed (PutCopy row) session = refl
 birth_of-part_changed (SetCopy place phase) session = refl
+birth_of-part_changed (SlimCopy place) session = refl
 birth_of-part_changed (RemoveCopy place) session = refl
 
 -- the front of the client identifiers that the broker assigns (ours)

@@ -178,7 +178,7 @@ fn passes_on(change: &Change)
     ensures { PassesOn change.now }
 {
     if let Change::PutCopy { row, .. } = change {
-        row.get().copy().content.properties.lend();
+        row.get().passes_on();
     }
 }
 

@@ -5,6 +5,8 @@ ghost use Rattle.mqtt_records.specs.Records.{nothing};
 use crate::change::{Change, clone_all};
 use crate::keep::{Keep, KeepError};
 use crate::records::Records;
+use crate::telling::contents_in;
+use mqtt_records_message::CopyContent;
 use std::alloc::{AllocError, Global};
 use std::marker::Model;
 
@@ -26,6 +28,8 @@ pub struct FaultyKeep {
     until: Option<u64>,
     failure: Failure,
     failures: u64,
+    /// How often it was asked for contents, modulo 2^64.
+    reads: u64,
 }
 
 impl Model for FaultyKeep {
@@ -38,6 +42,7 @@ impl Model for FaultyKeep {
       until = a.until;
       failure = a.failure;
       failures = a.failures;
+      reads = a.reads;
     } };
 }
 
@@ -55,12 +60,14 @@ impl FaultyKeep {
             until: Some(until),
             failure,
             failures: 0,
+            reads: 0,
         })
     }
 
     /// Whether this call fails; counts it, or the failure.
     fn fails(&mut self) -> bool
         ensures same { self.new.records ≡ self.old.records }
+        ensures reads { self.new.reads ≡ self.old.reads }
         ensures counted { IsTrue result → self.new.failures ≢ self.old.failures }
     {
         match self.until {
@@ -80,8 +87,9 @@ impl FaultyKeep {
 
 impl Keep for FaultyKeep {
     ghost use Rattle.std.specs.Prelude.{◌≡◌};
-    ghost use Rattle.std.proofs.Common.{◌∙◌};
+    ghost use Rattle.std.proofs.Common.{◌∙◌, ap};
     ghost use Rattle.mqtt_records.specs.declared.keep.KeepError.TheVariants.{Memory};
+    ghost use Rattle.mqtt_records.specs.Telling.{told_by, filling_in};
 
     ghost holds = { λ keep r. keep.records ≡ r };
 
@@ -94,6 +102,10 @@ impl Keep for FaultyKeep {
     ghost counted = { λ keep. keep.failures };
 
     ghost refuses = { λ _ fault. fault ≡ Memory };
+
+    ghost fillings = { λ keep. told_by keep.records };
+
+    ghost read_so_far = { λ keep. keep.reads };
 
     fn load(&mut self, _: Global) -> Result<Records, KeepError> {
         Ok(self.records.clone()?)
@@ -112,9 +124,27 @@ impl Keep for FaultyKeep {
         Err(KeepError::Disk)
     }
 
+    fn contents(
+        &mut self,
+        alloc: Global,
+        birth: u64,
+        place: u64,
+        limit: u32,
+    ) -> Result<Vec<CopyContent>, KeepError> {
+        self.reads = self.reads.wrapping_add(1);
+        Ok(contents_in(alloc, &self.records, birth, place, limit)?)
+    }
+
     fn failures(&self) -> u64 {
         self.failures
     }
 
+    fn reads(&self) -> u64 {
+        self.reads
+    }
+
     ghost leaves_held = { λ keep left r has found. found ∙ has };
+
+    ghost tells = { λ keep r sound loaded has birth place e found.
+        ap (λ r. told_by r birth place) has ∙ ap filling_in found };
 }

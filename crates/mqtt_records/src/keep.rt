@@ -1,14 +1,17 @@
 //! What any store of records promises, whatever it is made of (4.1).
-ghost use Rattle.std.specs.Prelude.{◌≡◌, ◌≢◌, ◌⊎◌, ℕ, IfOk, IfErr, OnOk, IsErrOf};
+ghost use Rattle.std.specs.Prelude.{◌≡◌, ◌≢◌, ◌⊎◌, ◌+◌, ◌%◌, ◌^◌, ℕ, IfOk, IfErr, OnOk, IsErrOf};
+ghost use Rattle.mqtt_records_message.specs.Filling.{Fillings};
 ghost use Rattle.mqtt_records.specs.declared.records.Records.{Records};
 ghost use Rattle.mqtt_records.specs.declared.keep.KeepError.{KeepError};
 ghost use Rattle.mqtt_records.specs.declared.keep.KeepError.TheVariants.{Memory};
 ghost use Rattle.mqtt_records.specs.Records.{changed_all, FitAll};
 ghost use Rattle.mqtt_records.specs.Saying.{AllSayable};
 ghost use Rattle.mqtt_records.specs.Contents.{FitContents};
+ghost use Rattle.mqtt_records.specs.Telling.{AreTold, contents_from};
 
 use crate::change::Change;
 use crate::records::Records;
+use mqtt_records_message::CopyContent;
 use std::alloc::{AllocError, Global};
 use thiserror::Error;
 
@@ -60,6 +63,12 @@ pub trait Keep: Drop {
     // While its device is sound, a load may be refused so.
     ghost refuses: { Self → KeepError → Type 0 };
 
+    // What it tells for each place of each session's queue, by the session's birth. Where no copy stands it may be any.
+    ghost fillings: { Self → Fillings };
+
+    // How often it was asked for contents, modulo 2^64.
+    ghost read_so_far: { Self → ℕ };
+
     /// Reads all records. Changes can be applied once it has answered Ok.
     fn load(&mut self, alloc: Global) -> Result<Records, KeepError>
         // What it answers is what it has.
@@ -76,7 +85,8 @@ pub trait Keep: Drop {
         // Of a device that lied nothing is said: its rows may break any rule.
         ensures refused { IfErr result (λ fault. is_sound self.new → refuses self.old fault) }
         ensures cause { IsErrOf result KeepError.Disk ⊎ IsErrOf result KeepError.Size
-            → counted self.new ≢ counted self.old };
+            → counted self.new ≢ counted self.old }
+        ensures reads { read_so_far self.new ≡ read_so_far self.old };
 
     /// Makes all changes, in order, or none. They have to fit what it has, be such as rows can say, and say what is said
     /// under a publication's number.
@@ -102,13 +112,49 @@ pub trait Keep: Drop {
         ensures refused { (IsErrOf result KeepError.Corrupt → ⊥)
             × (IsErrOf result KeepError.Schema → ⊥) }
         ensures cause { IsErrOf result KeepError.Disk ⊎ IsErrOf result KeepError.Size
-            → counted self.new ≢ counted self.old };
+            → counted self.new ≢ counted self.old }
+        ensures reads { read_so_far self.new ≡ read_so_far self.old };
+
+    /// What the first copies of a session say from a place on, at most so many, in the order of the queue (3.3); nothing
+    /// of a session that isn't there.
+    fn contents(
+        &mut self,
+        alloc: Global,
+        birth: u64,
+        place: u64,
+        limit: u32,
+    ) -> Result<Vec<CopyContent>, KeepError>
+        requires { is_loaded self.old }
+        ensures exact { (r : Records) → holds self.old r
+            → IfOk result (λ all. is_sound self.new → all.items ≡ contents_from birth place limit r) }
+
+        // What it has stays, and a crash finds nothing else than before.
+        ensures same { (r : Records) → holds self.old r → OnOk result (holds self.new r) }
+        ensures memory { (r : Records) → holds self.old r → IsErrOf result KeepError.Memory
+            → is_loaded self.new × holds self.new r }
+        ensures crash { (r : Records) → leaves self.new r → leaves self.old r }
+        ensures sound { is_sound self.new → is_sound self.old }
+        ensures loaded { OnOk result (is_loaded self.new) }
+
+        ensures refused { IfErr result (λ fault. (fault ≡ KeepError.Memory)
+            ⊎ (fault ≡ KeepError.Disk)) }
+        ensures read { read_so_far self.new ≡ (read_so_far self.old + 1) % 2 ^ 64 }
+        ensures cause { IsErrOf result KeepError.Disk → counted self.new ≢ counted self.old }
+        ensures uncounted { OnOk result (counted self.new ≡ counted self.old) };
 
     /// How many failures of its device it has counted, modulo 2^64. Takes no memory.
     fn failures(&self) -> u64
         ensures { result ≡ counted self.now };
 
+    /// How often it was asked for contents, modulo 2^64. Takes no memory.
+    fn reads(&self) -> u64
+        ensures { result ≡ read_so_far self.now };
+
     // A crash leaves what a store has.
     ghost leaves_held: { (keep : Self) (left r : Records)
         → holds keep r → leaves keep left → left ≡ r };
+
+    // What a store has says what it tells: a copy is told by its place.
+    ghost tells: { (keep : Self) (r : Records)
+        → is_sound keep → is_loaded keep → holds keep r → AreTold (fillings keep) r };
 }

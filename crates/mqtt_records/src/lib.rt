@@ -8,19 +8,21 @@ mod laws;
 mod memory;
 mod records;
 mod session;
+mod slim;
 mod subscription;
+mod telling;
 
 pub use change::{Change, Counter, all_pass_on, clone_all};
 pub use keep::{Keep, KeepError};
 pub use laws::{ended_session_leaves_nothing, numbers_never_fall};
 pub use memory::MemKeep;
 pub use mqtt_records_message::{
-    Content, CopyFault, CopyRow, MessageCopy, PassedOn, RetainedMessage, SubscriptionIdentifiers,
-    Will,
+    Content, CopyContent, CopyFault, CopyPart, CopyRow, MessageCopy, PassedOn, RetainedMessage,
+    SubscriptionIdentifiers, Will,
 };
 pub use mqtt_records_rows::{
-    Boxed, CloneRow, Editable, Named, Parted, Row, Rows, newest_comes_last, rows_are_determined,
-    rows_are_found,
+    Boxed, CloneRow, Editable, Fillable, Named, Parted, Row, Rows, newest_comes_last,
+    rows_are_determined, rows_are_found,
 };
 pub use records::Records;
 pub use session::{Columns, Session, SessionPart, SessionRow};

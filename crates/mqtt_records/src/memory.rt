@@ -5,6 +5,8 @@ ghost use Rattle.mqtt_records.specs.Records.{nothing, changed_all};
 use crate::change::{Change, clone_all};
 use crate::keep::{Keep, KeepError};
 use crate::records::Records;
+use crate::telling::contents_in;
+use mqtt_records_message::CopyContent;
 use std::alloc::{AllocError, Global};
 use std::marker::Model;
 
@@ -13,35 +15,42 @@ use std::marker::Model;
 pub struct MemKeep {
     records: Records,
     alloc: Global,
+    /// How often it was asked for contents, modulo 2^64.
+    reads: u64,
 }
 
 impl Model for MemKeep {
-    ghost use Rattle.mqtt_records.specs.declared.records.Records.{Records};
+    ghost use Rattle.mqtt_records.specs.InMemory.{InMemory};
 
-    ghost Value = { Records };
+    ghost Value = { InMemory };
 
-    ghost view = { λ a. a.records };
+    ghost view = { λ a. record { records = a.records; reads = a.reads } };
 }
 
 impl MemKeep {
     /// A store that has nothing yet.
     pub fn new(alloc: Global) -> Result<MemKeep, AllocError>
-        ensures { IfOk result (λ keep. keep ≡ nothing) }
+        ensures { IfOk result (λ keep. keep ≡ record { records = nothing; reads = 0 }) }
     {
         let records = Records::new(alloc)?;
-        Ok(MemKeep { records, alloc })
+        Ok(MemKeep::with(alloc, records))
     }
 
     /// A store that has these records. Takes no memory.
     pub fn with(alloc: Global, records: Records) -> MemKeep
-        ensures { result ≡ records }
+        ensures { result ≡ record { records = records; reads = 0 } }
     {
-        MemKeep { records, alloc }
+        MemKeep {
+            records,
+            alloc,
+            reads: 0,
+        }
     }
 
     /// Makes all changes, in order, or none for want of memory.
     pub fn change_all(&mut self, changes: &[Change]) -> Result<(), AllocError>
-        ensures ok { OnOk result (self.new ≡ changed_all changes.now self.old) }
+        ensures ok { OnOk result (self.new
+            ≡ record self.old { records = changed_all changes.now self.old.records }) }
         ensures err { OnErr result (self.new ≡ self.old) }
     {
         let changes = clone_all(self.alloc, changes)?;
@@ -52,20 +61,25 @@ impl MemKeep {
 
 impl Keep for MemKeep {
     ghost use Rattle.std.specs.Prelude.{◌≡◌};
-    ghost use Rattle.std.proofs.Common.{◌∙◌};
+    ghost use Rattle.std.proofs.Common.{◌∙◌, ap};
     ghost use Rattle.mqtt_records.specs.declared.keep.KeepError.TheVariants.{Memory};
+    ghost use Rattle.mqtt_records.specs.Telling.{told_by, filling_in};
 
-    ghost holds = { λ keep r. keep ≡ r };
+    ghost holds = { λ keep r. keep.records ≡ r };
 
     ghost is_loaded = { λ _. Unit {0} };
 
     ghost is_sound = { λ _. Unit {0} };
 
-    ghost leaves = { λ keep left. left ≡ keep };
+    ghost leaves = { λ keep left. left ≡ keep.records };
 
     ghost counted = { λ _. 0 };
 
     ghost refuses = { λ _ fault. fault ≡ Memory };
+
+    ghost fillings = { λ keep. told_by keep.records };
+
+    ghost read_so_far = { λ keep. keep.reads };
 
     fn load(&mut self, _: Global) -> Result<Records, KeepError> {
         Ok(self.records.clone()?)
@@ -75,9 +89,27 @@ impl Keep for MemKeep {
         Ok(self.change_all(changes)?)
     }
 
+    fn contents(
+        &mut self,
+        alloc: Global,
+        birth: u64,
+        place: u64,
+        limit: u32,
+    ) -> Result<Vec<CopyContent>, KeepError> {
+        self.reads = self.reads.wrapping_add(1);
+        Ok(contents_in(alloc, &self.records, birth, place, limit)?)
+    }
+
     fn failures(&self) -> u64 {
         0
     }
 
+    fn reads(&self) -> u64 {
+        self.reads
+    }
+
     ghost leaves_held = { λ keep left r has found. found ∙ has };
+
+    ghost tells = { λ keep r sound loaded has birth place e found.
+        ap (λ r. told_by r birth place) has ∙ ap filling_in found };
 }

@@ -4,7 +4,7 @@ ghost use Rattle.mqtt_records.specs.Session.{fresh, with_columns, with_will};
 
 use crate::subscription::{Subscription, put_by_filter};
 use mqtt_base::{OPEN_LIMIT, Phase, QUEUE_LIMIT, SUBSCRIPTION_LIMIT, Text};
-use mqtt_records_message::{CopyRow, Will};
+use mqtt_records_message::{CopyPart, CopyRow, Will};
 use mqtt_records_rows::{Boxed, CloneRow, Editable, Named, Parted, Row, Rows};
 use std::alloc::{AllocError, Global};
 use std::marker::Model;
@@ -310,6 +310,8 @@ pub enum SessionPart {
     PutCopy { row: Boxed<CopyRow> },
     /// The copy at a place comes into a phase.
     SetCopy { place: u64, phase: Phase },
+    /// The copy at a place says nothing but its topic.
+    SlimCopy { place: u64 },
     /// The copy at a place is removed.
     RemoveCopy { place: u64 },
 }
@@ -354,7 +356,10 @@ impl Editable for Session {
             SessionPart::PutInbound { identifier } => self.inbound.put(identifier),
             SessionPart::RemoveInbound { identifier } => self.inbound.remove(u64::from(identifier)),
             SessionPart::PutCopy { row } => self.queue.put(row),
-            SessionPart::SetCopy { place, phase } => self.queue.edit(place, phase),
+            SessionPart::SetCopy { place, phase } => {
+                self.queue.edit(place, CopyPart::SetPhase { phase });
+            }
+            SessionPart::SlimCopy { place } => self.queue.edit(place, CopyPart::MakeSlim),
             SessionPart::RemoveCopy { place } => self.queue.remove(place),
         }
     }

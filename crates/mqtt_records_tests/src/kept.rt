@@ -114,7 +114,7 @@ fn message_copy(
     }
 }
 
-fn copy(alloc: Global, birth: u64, place: u64) -> Result<Change, AllocError> {
+pub(crate) fn copy(alloc: Global, birth: u64, place: u64) -> Result<Change, AllocError> {
     let identifiers = SubscriptionIdentifiers::from_slice(alloc, &[7])?;
     let copy = message_copy(alloc, birth, identifiers)?;
     let Ok(row) = CopyRow::new(alloc, place, Phase::Waiting, copy) else {
@@ -177,7 +177,10 @@ fn counter(counter: Counter, value: u64) -> Change {
 }
 
 /// Adds a change that could be made.
-fn add(changes: &mut Vec<Change>, change: Result<Change, AllocError>) -> Result<(), AllocError> {
+pub(crate) fn add(
+    changes: &mut Vec<Change>,
+    change: Result<Change, AllocError>,
+) -> Result<(), AllocError> {
     let change = change?;
     changes.push(change)?;
     Ok(())
@@ -215,7 +218,10 @@ fn sent(identifier: u16) -> Change {
 }
 
 /// Changes, or why not all of them could be made.
-fn all(changes: Vec<Change>, made: Result<(), AllocError>) -> Result<Vec<Change>, AllocError> {
+pub(crate) fn all(
+    changes: Vec<Change>,
+    made: Result<(), AllocError>,
+) -> Result<Vec<Change>, AllocError> {
     match made {
         Ok(()) => Ok(changes),
         Err(fault) => {
@@ -227,7 +233,7 @@ fn all(changes: Vec<Change>, made: Result<(), AllocError>) -> Result<Vec<Change>
 
 /// `r1` comes and subscribes `a/b` at QoS 2; `p1` comes and publishes under identifier 10; the copy
 /// is sent.
-fn course(alloc: Global) -> Result<Vec<Change>, AllocError> {
+pub(crate) fn course(alloc: Global) -> Result<Vec<Change>, AllocError> {
     let mut changes = Vec::new(alloc);
     let made = add_course(&mut changes, alloc);
     all(changes, made)

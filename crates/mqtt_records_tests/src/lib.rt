@@ -5,3 +5,7 @@
 mod kept;
 #[cfg(test)]
 mod sent;
+#[cfg(test)]
+mod slim;
+#[cfg(test)]
+mod told;

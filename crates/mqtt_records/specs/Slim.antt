@@ -1,0 +1,19 @@
+-- Copies in queues that say nothing but their topic, and what fills them again (3.3, 4.1).
+use Rattle.std.specs.Prelude.{ℕ, IsSomeAnd}
+use Rattle.mqtt_records_message.specs.declared.content.CopyContent.{CopyContent}
+use Rattle.mqtt_records_rows.specs.Order.{row_at}
+use Rattle.mqtt_records.specs.declared.records.Records.{Records}
+use Rattle.mqtt_records.specs.Session.{birth_of, with_slim, with_filled, HasRowFor}
+use Rattle.mqtt_records.specs.Records.{in_session}
+
+-- the copy at a place of a session's queue says nothing but its topic
+abbrev pub slim_at : ℕ → ℕ → Records → Records
+slim_at birth place r = in_session birth (with_slim place) r
+
+-- the copy at the place of what is told says that
+abbrev pub whole_at : ℕ → CopyContent → Records → Records
+whole_at birth content r = in_session birth (with_filled content) r
+
+-- a copy stands there, of as many bytes
+abbrev pub TakesIn : ℕ → CopyContent → Records → Type 0
+TakesIn birth content r = IsSomeAnd (row_at birth_of birth r.sessions) (HasRowFor content)
