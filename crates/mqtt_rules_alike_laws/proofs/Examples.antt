@@ -13,13 +13,13 @@ use Rattle.mqtt_codec.specs.declared.publish.Delivery.TheVariants as delivery
 use Rattle.mqtt_flow.specs.declared.entry.QueuedCopy.{QueuedCopy}
 use Rattle.mqtt_records_message.specs.declared.message.MessageCopy.{MessageCopy}
 use Rattle.mqtt_records_message.specs.PassedOn.{property}
+use Rattle.mqtt_records_message.specs.Slim.{zeros}
 use Rattle.mqtt_rules.specs.Forms.{form_size}
 use Rattle.mqtt_rules.specs.State.{Broker, queued_copy, told_on}
 use Rattle.mqtt_rules.specs.Step.{Input, Pump}
 use Rattle.mqtt_rules.proofs.examples.Play.{blank, at, runs, tells, topic, direct}
 use Rattle.mqtt_rules.proofs.examples.WorkedCopies.{subscribed_at, publishes}
 use Rattle.mqtt_rules_alike_laws.specs.Alike.{AlikeCopies, AlikeBrokers}
-use Rattle.mqtt_rules_alike_laws.specs.Slim.{zeros}
 
 -- r1 is subscribed at QoS 2, and p1 publishes this
 abbrev waits : List ℕ → Broker

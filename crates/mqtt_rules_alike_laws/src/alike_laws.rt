@@ -1,6 +1,7 @@
 //! Laws of brokers that are alike but for what their waiting copies say (3.3, 4.6).
 ghost use Rattle.std.specs.Prelude.{◌≡◌, ℕ, List};
 ghost use Rattle.mqtt_records_message.specs.Queue.{CopyRow};
+ghost use Rattle.mqtt_records_message.specs.Slim.{slim};
 ghost use Rattle.mqtt_records.specs.declared.records.Records.{Records};
 ghost use Rattle.mqtt_records.specs.declared.session.Session.{Session};
 ghost use Rattle.mqtt_rules.specs.declared.Limits.{Limits};
@@ -11,7 +12,7 @@ ghost use Rattle.mqtt_rules.specs.Laws.{Event, after_events};
 ghost use Rattle.mqtt_rules.specs.Outbound.{all_turn_deeds};
 ghost use Rattle.mqtt_rules.specs.Step.{Call, at_moment, deeds, stepped, told, rows_written, is_step_spent, opened};
 ghost use Rattle.mqtt_rules_alike_laws.specs.Alike.{Each, AlikeRows, AlikeSessions, AlikeRecords, AlikeBrokers, AlikeDeeds, IsPump, AlikeOutcomes};
-ghost use Rattle.mqtt_rules_alike_laws.specs.Slim.{slim, slim_broker};
+ghost use Rattle.mqtt_rules_alike_laws.specs.Slim.{slim_broker};
 
 /// Brokers that are alike but for what their waiting copies say do alike: by each call they come to brokers that are alike
 /// again, with alike deeds, the same reports and closed lines, and the same packets in the same forms, but that each one's

@@ -7,14 +7,16 @@ use Rattle.mqtt_props.specs.declared.table.PropName.TheVariants.{ContentType, Me
 use Rattle.mqtt_props.specs.Properties.{Text, U32}
 use Rattle.mqtt_codec.specs.declared.publish.Delivery.TheVariants as delivery
 use Rattle.mqtt_records_message.specs.declared.message.MessageCopy.{MessageCopy}
+use Rattle.mqtt_records_message.specs.Filling.{Fillings, filling_of, filled_copy}
 use Rattle.mqtt_records_message.specs.PassedOn.{property}
 use Rattle.mqtt_records_message.specs.Queue.{CopyRow}
+use Rattle.mqtt_records_message.specs.Slim.{slim_copy}
 use Rattle.mqtt_rules.specs.State.{Broker}
 use Rattle.mqtt_rules.specs.Step.{Input, Pump}
 use Rattle.mqtt_rules.proofs.examples.Play.{blank, at, runs, tells, topic, direct}
 use Rattle.mqtt_rules.proofs.examples.WorkedCopies.{subscribed_at, publishes}
-use Rattle.mqtt_rules_alike_laws.specs.Slim.{slim_copy, slim_broker}
-use Rattle.mqtt_rules_filling_laws.specs.Filling.{Fillings, filling_of, filled_copy, filled}
+use Rattle.mqtt_rules_alike_laws.specs.Slim.{slim_broker}
+use Rattle.mqtt_rules_filling_laws.specs.Filling.{filled}
 use Rattle.mqtt_rules_filling_laws.specs.Pumped.{sent_places, HasWholeTurns, filled_for_pump}
 
 -- ---- a copy

@@ -5,6 +5,7 @@ use Rattle.std.specs.List.{AllByRecursion}
 use Rattle.std.proofs.lemmas.Bool.{cases_Bool, eqb-true}
 use Rattle.std.proofs.lemmas.Cmp.{nat_eq_equiv}
 use Rattle.mqtt_flow_inbound.specs.Identifiers.{is_among}
+use Rattle.mqtt_records_message.specs.Filling.{Filling, Fillings, filled_row}
 use Rattle.mqtt_records_message.specs.Queue.{CopyRow}
 use Rattle.mqtt_records.specs.Session.{birth_of, copy_place}
 use Rattle.mqtt_records.specs.declared.session.Session.{Session}
@@ -15,7 +16,7 @@ use Rattle.mqtt_rules.specs.State.{Broker, MemberChoice, line_at}
 use Rattle.mqtt_rules.specs.Step.{Pump, at_moment, told}
 use Rattle.mqtt_rules_alike_laws.specs.Alike.{Each, AlikeRows, AlikeSessions, AlikeBrokers, with_sessions}
 use Rattle.mqtt_rules_alike_laws.proofs.States.{row_alike, by_queue, by_broker, like, records_put}
-use Rattle.mqtt_rules_filling_laws.specs.Filling.{Filling, Fillings, IsFilledBy, IsSessionFilledBy, AreFilledBy, filled_row}
+use Rattle.mqtt_rules_filling_laws.specs.Filling.{IsFilledBy, IsSessionFilledBy, AreFilledBy}
 use Rattle.mqtt_rules_filling_laws.specs.Pumped.{birth_on, session_of_birth, served_on, sent_places, IsRowFilledBy, IsFilledAt, HasFilledTurns, filled_if, session_filled_at, records_filled_at, filled_at, filled_for_pump}
 use Rattle.mqtt_rules_filling_laws.proofs.Equivalence.{broker_back, broker_through}
 use Rattle.mqtt_rules_filling_laws.proofs.Filled.{row_whole}

@@ -1,13 +1,14 @@
 -- Rows, queues, records and brokers that are filled with what alike ones say are these.
 use Rattle.std.proofs.Common.{◌≡◌, ℕ, List, [], ◌∷◌, map, refl, sym, ap, ap₂, ◌∙◌}
 use Rattle.std.specs.List.{AllByRecursion}
+use Rattle.mqtt_records_message.specs.Filling.{Filling, Fillings, filling_of, filled_row}
 use Rattle.mqtt_records_message.specs.Queue.{CopyRow}
 use Rattle.mqtt_records.specs.declared.session.Session.{Session}
 use Rattle.mqtt_records.specs.declared.records.Records.{Records}
 use Rattle.mqtt_rules.specs.State.{Broker}
 use Rattle.mqtt_rules_alike_laws.specs.Alike.{Each, AlikeRows, AlikeSessions, AlikeRecords, AlikeBrokers, with_queue, with_sessions, with_records}
 use Rattle.mqtt_rules_alike_laws.proofs.States.{row_alike, by_queue, by_sessions, by_broker, records_put}
-use Rattle.mqtt_rules_filling_laws.specs.Filling.{Filling, Fillings, filling_of, filled_row, filled_session, filled_records, filled, IsFilledBy, IsSessionFilledBy, AreFilledBy}
+use Rattle.mqtt_rules_filling_laws.specs.Filling.{filled_session, filled_records, filled, IsFilledBy, IsSessionFilledBy, AreFilledBy}
 
 module _ (fillings : ℕ → Filling) where
   -- a row that is filled with what an alike one says is that one

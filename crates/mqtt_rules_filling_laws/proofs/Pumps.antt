@@ -5,6 +5,7 @@ use Rattle.std.specs.List.{AllByRecursion, cons_option}
 use Rattle.mqtt_base.specs.declared.session.Phase.TheVariants.{Sent}
 use Rattle.mqtt_flow.specs.declared.entry.Turn.{Turn}
 use Rattle.mqtt_flow.specs.declared.entry.Turn.TheVariants as turns
+use Rattle.mqtt_records_message.specs.Filling.{Filling, Fillings}
 use Rattle.mqtt_records_message.specs.Queue.{CopyRow}
 use Rattle.mqtt_records.specs.Session.{birth_of, copy_place}
 use Rattle.mqtt_records.specs.declared.session.Session.{Session}
@@ -24,7 +25,7 @@ use Rattle.mqtt_rules_alike_laws.proofs.Pairs.{Both, each_append, both_at}
 use Rattle.mqtt_rules_alike_laws.proofs.Queues.{turn_alike}
 use Rattle.mqtt_rules_alike_laws.proofs.States.{by_queue, by_broker, like, broker_put, session_found, place_same}
 use Rattle.mqtt_rules_alike_laws.proofs.Steps.{outcome_alike, turns_same, own_turns}
-use Rattle.mqtt_rules_filling_laws.specs.Filling.{Filling, Fillings, IsFilledBy, IsSessionFilledBy, AreFilledBy}
+use Rattle.mqtt_rules_filling_laws.specs.Filling.{IsFilledBy, IsSessionFilledBy, AreFilledBy}
 use Rattle.mqtt_rules_filling_laws.specs.Pumped.{place_sent, birth_on, session_of_birth, turns_on_line, sent_places, row_of, HasWholeTurns, IsRowFilledBy, IsFilledAt, HasFilledTurns}
 use Rattle.mqtt_rules_filling_laws.proofs.Filled.{row_whole, row_stays}
 use Rattle.mqtt_rules_filling_laws.proofs.Steps.{moment_alike}

@@ -1,74 +1,24 @@
 -- Rows that are made slim again are what slim rows are.
-use Rattle.std.proofs.Common.{◌≡◌, ℕ, zero, suc, ◌-◌, Bool, true, false, cond, List, [], ◌∷◌, ◌++◌, map, length, Option, Some, None, nat_eq, refl, sym, ap, ap₂, ◌∙◌, arith, inl, inr}
+use Rattle.std.proofs.Common.{◌≡◌, ℕ, Bool, true, false, cond, List, [], ◌∷◌, map, Option, Some, None, nat_eq, refl, ap, ap₂}
 use Rattle.std.specs.List.{AllByRecursion}
-use Rattle.std.proofs.lemmas.Bool.{cases_Bool}
-use Rattle.mqtt_base.specs.declared.session.Phase.TheVariants.{Waiting}
-use Rattle.mqtt_props.specs.Laws.{is_named}
-use Rattle.mqtt_props.specs.Edits.{only}
-use Rattle.mqtt_props.specs.Properties.{Prop}
-use Rattle.mqtt_props.specs.declared.table.PropName.TheVariants.{MessageExpiryInterval}
-use Rattle.mqtt_topic_aliases.specs.declared.sizes.OtherBytes.{OtherBytes}
 use Rattle.mqtt_flow_inbound.specs.Identifiers.{is_among}
-use Rattle.mqtt_records_message.specs.declared.message.MessageCopy.{MessageCopy}
+use Rattle.mqtt_records_message.specs.Filling.{Filling, Fillings, filled_row}
 use Rattle.mqtt_records_message.specs.Queue.{CopyRow}
+use Rattle.mqtt_records_message.specs.Slim.{slim}
+use Rattle.mqtt_records_message.proofs.Slim.{row_once}
 use Rattle.mqtt_records.specs.Session.{birth_of}
 use Rattle.mqtt_records.specs.declared.session.Session.{Session}
 use Rattle.mqtt_records_rows.specs.Order.{change_row}
-use Rattle.mqtt_rules.specs.Forms.{other_bytes}
 use Rattle.mqtt_rules.specs.State.{Broker}
 use Rattle.mqtt_rules_alike_laws.specs.Alike.{with_queue, with_sessions, with_records}
-use Rattle.mqtt_rules_alike_laws.specs.Slim.{zeros, filler, bare, missing, slim_copy, slim, slim_session, slim_broker}
+use Rattle.mqtt_rules_alike_laws.specs.Slim.{slim_session, slim_broker}
 use Rattle.mqtt_rules_alike_laws.proofs.SlimRows.{slim_row}
-use Rattle.mqtt_rules_filling_laws.specs.Filling.{Filling, Fillings, IsFilledBy, IsSessionFilledBy, AreFilledBy, filled_row}
+use Rattle.mqtt_rules_filling_laws.specs.Filling.{IsFilledBy, IsSessionFilledBy, AreFilledBy}
 use Rattle.mqtt_rules_filling_laws.specs.Pumped.{filled_if, session_filled_at, filled_at}
 use Rattle.mqtt_rules_filling_laws.proofs.Equivalence.{row_back}
 use Rattle.mqtt_rules_filling_laws.proofs.Filled.{row_whole}
 
--- ---- a slim copy stays what it is
-
-zeros_len : (n : ℕ) → length (zeros n) ≡ n
-zeros_len zero = refl
-zeros_len (suc n) = let rest = zeros_len n in omega (arith, rest)
-
-only_once : (ps : List Prop) → only MessageExpiryInterval (only MessageExpiryInterval ps) ≡ only MessageExpiryInterval ps
-only_once [] = refl
-only_once (p ∷ ps) = elim (cases_Bool (is_named MessageExpiryInterval p)) [
-  | inl is ↦ rw (is, is) (ap (λ (xs : List Prop). p ∷ xs) (only_once ps))
-  | inr other ↦ rw other (only_once ps)
-]
-
-filler_gone : (n : ℕ) (ps : List Prop) → only MessageExpiryInterval (filler n ++ ps) ≡ only MessageExpiryInterval ps
-filler_gone zero ps = refl
-filler_gone (suc zero) ps = refl
-filler_gone (suc (suc zero)) ps = refl
-filler_gone (suc (suc (suc n))) ps = refl
-
--- what a copy is without its words
-abbrev bare_of : MessageCopy → List Prop → List Prop → ℕ → MessageCopy
-bare_of copy fill ps n = record copy {
-  identifiers = [];
-  content = record copy.content { properties = fill ++ ps; payload = zeros n };
-}
-
-bare_again : (fill : List Prop) (n : ℕ) (copy : MessageCopy) → bare fill (bare (filler n) copy) ≡ bare fill copy
-bare_again fill n copy =
-    let ps = copy.content.properties in
-    ap₂ (bare_of copy fill) (filler_gone n (only MessageExpiryInterval ps) ∙ only_once ps) (zeros_len (length copy.content.payload))
-
-others_same : (copy : MessageCopy) → other_bytes copy ≡ other_bytes (slim_copy copy)
-others_same copy = (slim_row (record { place = 0; phase = Waiting; copy = copy })).copy.others
-
-missing_same : (copy : MessageCopy) → missing (slim_copy copy) ≡ missing copy
-missing_same copy =
-    ap₂ (λ (o p : OtherBytes). o.properties - p.properties) (sym (others_same copy)) (ap other_bytes (bare_again [] (missing copy) copy))
-
-slim_once : (copy : MessageCopy) → slim_copy (slim_copy copy) ≡ slim_copy copy
-slim_once copy =
-    ap (λ (n : ℕ). bare (filler n) (slim_copy copy)) (missing_same copy)
-    ∙ bare_again (filler (missing copy)) (missing copy) copy
-
-row_once : (e : CopyRow) → slim (slim e) ≡ slim e
-row_once e = ap (λ (copy : MessageCopy). let x : CopyRow = record { place = e.place; phase = e.phase; copy = copy } in x) (slim_once e.copy)
+-- ---- slim rows stay what they are
 
 queue_once : (q : List CopyRow) → map slim (map slim q) ≡ map slim q
 queue_once [] = refl

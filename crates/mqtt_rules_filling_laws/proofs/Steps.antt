@@ -11,7 +11,8 @@ use Rattle.mqtt_rules_alike_laws.specs.Alike.{AlikeRecords, AlikeBrokers, IsPump
 use Rattle.mqtt_rules_alike_laws.proofs.States.{by_sessions, by_broker, broker_put, records_put}
 use Rattle.mqtt_rules_alike_laws.proofs.Calls.{opening_alike}
 use Rattle.mqtt_rules_alike_laws.proofs.Steps.{all_rows_same, step_alike, written_same, told_alike, opened_alike}
-use Rattle.mqtt_rules_filling_laws.specs.Filling.{Fillings, AreFilledBy, filled}
+use Rattle.mqtt_records_message.specs.Filling.{Fillings}
+use Rattle.mqtt_rules_filling_laws.specs.Filling.{AreFilledBy, filled}
 use Rattle.mqtt_rules_filling_laws.proofs.Filled.{broker_whole}
 use Rattle.mqtt_rules_filling_laws.proofs.Tellings.{outcome_same}
 

@@ -1,38 +1,14 @@
--- What waiting copies say beside their topics, apart from their rows (MQTT 5.0, 3.3).
-use Rattle.std.specs.Prelude.{◌≡◌, ℕ, List, map}
+-- Brokers whose waiting copies say what there is for their places (MQTT 5.0, 3.3).
+use Rattle.std.specs.Prelude.{◌≡◌, ℕ, map}
 use Rattle.std.specs.List.{AllByRecursion}
-use Rattle.mqtt_props.specs.Properties.{Prop}
-use Rattle.mqtt_records_message.specs.declared.message.MessageCopy.{MessageCopy}
+use Rattle.mqtt_records_message.specs.Filling.{Filling, Fillings, filling_of, filled_row}
 use Rattle.mqtt_records_message.specs.Queue.{CopyRow}
 use Rattle.mqtt_records.specs.declared.session.Session.{Session}
 use Rattle.mqtt_records.specs.declared.records.Records.{Records}
 use Rattle.mqtt_rules.specs.State.{Broker}
 use Rattle.mqtt_rules_alike_laws.specs.Alike.{with_queue, with_sessions, with_records}
 
--- what a waiting copy says beside its topic
-pub record Filling : Type 0 where
-  pub identifiers : List ℕ  -- the Subscription Identifiers (3.3.2.3.8)
-  pub properties : List Prop
-  pub payload : List ℕ
-
--- such a thing for each place of each session, by the session's birth; at a place without a copy it may be any
-abbrev pub Fillings : Type 0
-Fillings = ℕ → ℕ → Filling
-
-abbrev pub filling_of : MessageCopy → Filling
-filling_of copy =
-    record { identifiers = copy.identifiers; properties = copy.content.properties; payload = copy.content.payload }
-
 -- ---- rows that say it
-
-abbrev pub filled_copy : Filling → MessageCopy → MessageCopy
-filled_copy filling copy = record copy {
-  identifiers = filling.identifiers;
-  content = record copy.content { properties = filling.properties; payload = filling.payload };
-}
-
-abbrev pub filled_row : (ℕ → Filling) → CopyRow → CopyRow
-filled_row fillings e = record e { copy = filled_copy (fillings e.place) e.copy }
 
 abbrev pub filled_session : Fillings → Session → Session
 filled_session fillings s = with_queue (map (filled_row (fillings s.birth)) s.queue) s

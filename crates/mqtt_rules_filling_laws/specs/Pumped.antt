@@ -4,6 +4,7 @@ use Rattle.std.specs.List.{AllByRecursion}
 use Rattle.mqtt_flow.specs.declared.entry.Turn.{Turn}
 use Rattle.mqtt_flow.specs.declared.entry.Turn.TheVariants.{Send, Resend, Release, Outgrow, Repeat, Unknown, Leave}
 use Rattle.mqtt_flow_inbound.specs.Identifiers.{is_among}
+use Rattle.mqtt_records_message.specs.Filling.{Filling, Fillings, filled_row}
 use Rattle.mqtt_records_message.specs.Queue.{CopyRow}
 use Rattle.mqtt_records.specs.Session.{copy_place}
 use Rattle.mqtt_records.specs.declared.session.Session.{Session}
@@ -14,7 +15,7 @@ use Rattle.mqtt_rules.specs.Fitting.{pump_turns}
 use Rattle.mqtt_rules.specs.State.{Line, Broker, session_at, line_at}
 use Rattle.mqtt_rules.specs.Step.{at_moment}
 use Rattle.mqtt_rules_alike_laws.specs.Alike.{with_queue, with_records}
-use Rattle.mqtt_rules_filling_laws.specs.Filling.{Filling, Fillings, IsFilledBy, filled_row}
+use Rattle.mqtt_rules_filling_laws.specs.Filling.{IsFilledBy}
 
 -- ---- which copies a pump sends
 

@@ -1,6 +1,7 @@
 //! Laws of brokers whose waiting copies say their topic alone, beside what there is to fill them with (3.3, 4.3, 4.6).
 ghost use Rattle.std.specs.Prelude.{◌≡◌, ◌≤◌, ℕ, List, length, Option};
 ghost use Rattle.mqtt_base.specs.declared.limits.TheConstants.{PUMP_LIMIT};
+ghost use Rattle.mqtt_records_message.specs.Filling.{Fillings};
 ghost use Rattle.mqtt_records.specs.Records.{FitAll, changed_all};
 ghost use Rattle.mqtt_records.specs.declared.change.Change.{Change};
 ghost use Rattle.mqtt_records.specs.declared.records.Records.{Records};
@@ -9,7 +10,7 @@ ghost use Rattle.mqtt_rules.specs.State.{Broker, MemberChoice};
 ghost use Rattle.mqtt_rules.specs.Step.{Call, Pump, at_moment, deeds, stepped, told, rows_written, is_step_spent, opened, opening_deeds, unopened, is_opening_spent};
 ghost use Rattle.mqtt_rules_alike_laws.specs.Alike.{AlikeRecords, AlikeBrokers, IsPump};
 ghost use Rattle.mqtt_rules_alike_laws.specs.Slim.{slim_broker};
-ghost use Rattle.mqtt_rules_filling_laws.specs.Filling.{Fillings, AreFilledBy, filled_records, filled};
+ghost use Rattle.mqtt_rules_filling_laws.specs.Filling.{AreFilledBy, filled_records, filled};
 ghost use Rattle.mqtt_rules_filling_laws.specs.Pumped.{sent_places, HasWholeTurns, HasFilledTurns, filled_at, filled_for_pump};
 
 /// Whoever has a broker that is alike to another, and what the other's waiting copies say, has the other: it is the first
