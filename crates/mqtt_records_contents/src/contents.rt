@@ -50,7 +50,10 @@ fn push_queue<'a>(
 {
     let mut rest = queue;
     while let Some((row, after)) = rest.split_first() {
-        let copy = row.get().copy();
+        // What a store is opened with is whole.
+        let Some(copy) = row.get().whole() else {
+            return Err(AllocError);
+        };
         messages.push((copy.id.publication, &copy.content))?;
         rest = after;
     }
@@ -101,7 +104,7 @@ fn messages_of(alloc: Global, records: &Records) -> Result<Vec<Said<'_>>, AllocE
 }
 
 /// Whether all copies and retained messages of one number say the same topic, properties and
-/// payload.
+/// payload. A copy that is slim in memory is refused as for want of memory.
 pub fn shares_contents(alloc: Global, records: &Records) -> Result<bool, AllocError>
     ensures { IfOk result (λ shared. IsTrue shared ↔ SharesContents records.now) }
 {

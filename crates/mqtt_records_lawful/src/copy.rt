@@ -90,11 +90,11 @@ fn is_sent(alloc: Global, copy: &MessageCopy) -> Result<bool, AllocError>
 fn is_copy_for(row: &CopyRow, last: Last, birth: u64) -> bool
     ensures { IsTrue result ↔ IsCopyFor last birth row.now }
 {
-    let copy = row.copy();
-    copy.id.birth == birth
+    let id = row.id();
+    id.birth == birth
         && is_up_to(LAST_NUMBER, row.place())
-        && is_up_to(last.publications, copy.id.publication)
-        && copy.content.arrived <= last.moment
+        && is_up_to(last.publications, id.publication)
+        && row.arrived() <= last.moment
 }
 
 impl Lawful for CopyRow {
@@ -106,7 +106,10 @@ impl Lawful for CopyRow {
 
     fn is_lawful(&self, alloc: Global, within: (Last, u64)) -> Result<bool, AllocError> {
         let (last, birth) = within;
-        let copy = self.copy();
+        // What a store is opened with is whole.
+        let Some(copy) = self.whole() else {
+            return Err(AllocError);
+        };
         Ok(
             is_copy_for(self, last, birth)
                 && is_phase(copy.qos, self.phase())

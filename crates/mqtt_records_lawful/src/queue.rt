@@ -81,7 +81,7 @@ fn keys(alloc: Global, queue: &[Boxed<CopyRow>]) -> Result<Vec<CopyKey<'_>>, All
 {
     let mut keys = Vec::with_capacity(alloc, queue.len())?;
     for row in queue {
-        keys.push(key_of(&row.get().copy().id))?;
+        keys.push(key_of(row.get().id()))?;
     }
     Ok(keys)
 }

@@ -63,7 +63,7 @@ fn are_retained(
 
 /// Whether a store may be opened with these records: each row keeps the rules that its type doesn't,
 /// none is of a number or a moment that hasn't been, what is to be unique is, and copies and retained
-/// messages of one publication say the same.
+/// messages of one publication say the same. A copy that is slim in memory is refused as for want of memory.
 pub fn is_lawful(alloc: Global, records: &Records) -> Result<bool, AllocError>
     ensures { IfOk result (λ lawful. IsTrue lawful ↔ IsLawful records.now) }
 {

@@ -19,7 +19,13 @@ abbrev pub identifiers_in : Change → List ℕ
 identifiers_in (PutCopy birth row) = props (map identified row.copy.identifiers)
 identifiers_in _ = []
 
+-- the payload of a copy's message
+abbrev pub payload_in : Change → List ℕ
+payload_in (PutCopy birth row) = row.copy.content.payload
+payload_in _ = []
+
 pub record ArePartsOf (change : Change) (parts : Parts) : Type 0 where
   pub columns : parts.columns ≡ columns_in change
   pub block : parts.block.items ≡ block_in change
   pub identifiers : parts.identifiers.items ≡ identifiers_in change
+  pub payload : parts.payload ≡ payload_in change

@@ -1,12 +1,14 @@
 //! The change of the tables that a change of records becomes.
 ghost use Rattle.std.specs.Prelude.{◌≡◌};
+ghost use Rattle.mqtt_records.specs.declared.change.Change.TheVariants.{PutCopy};
 ghost use Rattle.mqtt_store_columns.specs.Columns.{columns_in};
 ghost use Rattle.mqtt_store_message_laws.specs.TableChanges.{IsTableChangeFor};
-ghost use Rattle.mqtt_store_message_commit.specs.Parts.{ArePartsOf, block_in, identifiers_in};
+ghost use Rattle.mqtt_store_message_commit.specs.Parts.{ArePartsOf};
 
 use crate::columns::{copy_message, kept_columns, queued_columns, retained_message};
 use crate::parts::Parts;
 use mqtt_records::Change;
+use mqtt_records_message::CopyRow;
 use mqtt_store_columns::{
     counter_name, packet_identifier, phase_number, release_order, session_columns,
     subscription_columns, will_columns,
@@ -24,19 +26,26 @@ pub fn table_change_of<'a>(change: &'a Change, parts: &'a Parts) -> TableChange<
             session: session_columns(columns),
         };
     }
-    table_change_with(change, parts.block.as_slice(), parts.identifiers.as_slice())
+    table_change_with(change, parts)
 }
 
-/// That of a change that puts no session, with the block of its row's properties and the Subscription
-/// Identifiers of its copy.
-fn table_change_with<'a>(
-    change: &'a Change,
-    bytes: &'a [u8],
-    identifiers: &'a [u8],
-) -> TableChange<'a>
+/// That of a change that puts a copy.
+fn copy_put<'a>(birth: u64, row: &'a CopyRow, parts: &'a Parts) -> TableChange<'a>
+    requires { ArePartsOf (PutCopy birth row.now) parts.now }
+    ensures { IsTableChangeFor (PutCopy birth row.now) result }
+{
+    TableChange::PutCopy {
+        birth,
+        place: row.place(),
+        message: copy_message(row, parts.block.as_slice(), parts.payload.as_slice()),
+        copy: queued_columns(row, parts.identifiers.as_slice()),
+    }
+}
+
+/// That of a change that puts no session.
+fn table_change_with<'a>(change: &'a Change, parts: &'a Parts) -> TableChange<'a>
     requires other { columns_in change.now ≡ None }
-    requires block { bytes.now ≡ block_in change.now }
-    requires identifiers { identifiers.now ≡ identifiers_in change.now }
+    requires parts { ArePartsOf change.now parts.now }
     ensures { IsTableChangeFor change.now result }
 {
     // An arm that lends of the change returns by itself: arms that join have to hold the same.
@@ -49,7 +58,7 @@ fn table_change_with<'a>(
         Change::RemoveSession { birth } => TableChange::RemoveSession { birth: *birth },
         Change::PutWill { birth, will } => return TableChange::PutWill {
             birth: *birth,
-            will: will_columns(will, bytes),
+            will: will_columns(will, parts.block.as_slice()),
         },
         Change::RemoveWill { birth } => TableChange::RemoveWill { birth: *birth },
         Change::PutSubscription {
@@ -72,12 +81,7 @@ fn table_change_with<'a>(
             birth: *birth,
             identifier: u64::from(*identifier),
         },
-        Change::PutCopy { birth, row } => return TableChange::PutCopy {
-            birth: *birth,
-            place: row.get().place(),
-            message: copy_message(row.get(), bytes),
-            copy: queued_columns(row.get(), identifiers),
-        },
+        Change::PutCopy { birth, row } => return copy_put(*birth, row.get(), parts),
         Change::SetCopy {
             birth,
             place,
@@ -95,7 +99,7 @@ fn table_change_with<'a>(
         },
         Change::PutRetained { kept } => return TableChange::PutRetained {
             place: kept.get().place,
-            message: retained_message(kept.get(), bytes),
+            message: retained_message(kept.get(), parts.block.as_slice()),
             kept: kept_columns(kept.get()),
         },
         Change::RemoveRetained { place } => TableChange::RemoveRetained { place: *place },

@@ -11,16 +11,20 @@ use mqtt_store_columns::{
 };
 use mqtt_store_message::{KeptColumns, MessageColumns, QueuedColumns};
 
-/// The columns of a copy's message, whose properties have that block.
-pub(crate) fn copy_message<'a>(row: &'a CopyRow, bytes: &'a [u8]) -> MessageColumns<'a>
-    requires { bytes.now ≡ block row.now.copy.content.properties }
+/// The columns of a copy's message, whose properties have that block, and which has that payload.
+pub(crate) fn copy_message<'a>(
+    row: &'a CopyRow,
+    bytes: &'a [u8],
+    payload: &'a [u8],
+) -> MessageColumns<'a>
+    requires block { bytes.now ≡ block row.now.copy.content.properties }
+    requires payload { payload.now ≡ row.now.copy.content.payload }
     ensures { result ≡ message_columns (copy_message row.now) }
 {
-    let content = &row.copy().content;
     MessageColumns {
-        topic: content.topic.as_str(),
+        topic: row.topic().as_str(),
         properties: bytes,
-        payload: content.payload.as_slice(),
+        payload,
     }
 }
 
@@ -41,20 +45,20 @@ pub(crate) fn queued_columns<'a>(row: &'a CopyRow, identifiers: &'a [u8]) -> Que
     requires { identifiers.now ≡ props (map identified row.now.copy.identifiers) }
     ensures { result ≡ queued_columns row.now }
 {
-    let copy = row.copy();
+    let id = row.id();
     let phase = row.phase();
     QueuedColumns {
-        publication: copy.id.publication,
-        cause: cause_number(&copy.id.cause),
-        cause_text: cause_text(&copy.id.cause),
-        cause_n: cause_n(&copy.id.cause),
+        publication: id.publication,
+        cause: cause_number(&id.cause),
+        cause_text: cause_text(&id.cause),
+        cause_n: cause_n(&id.cause),
         identifier: packet_identifier(phase),
         phase: phase_number(phase),
         order: release_order(phase),
-        qos: copy.qos as u8,
-        retain: copy.retain,
+        qos: row.qos() as u8,
+        retain: row.retain(),
         identifiers,
-        arrived: copy.content.arrived,
+        arrived: row.arrived(),
     }
 }
 

@@ -110,7 +110,7 @@ fn publication_put(change: &Change) -> Option<u64>
     ensures { result ≡ publication_in change.now }
 {
     match change {
-        Change::PutCopy { birth: _, row } => Some(row.get().copy().id.publication),
+        Change::PutCopy { birth: _, row } => Some(row.get().id().publication),
         _ => None,
     }
 }

@@ -3,16 +3,17 @@ ghost use Rattle.std.specs.Prelude.{◌≡◌, ◌++◌, ◌<◌, ◌^◌, [], m
 ghost use Rattle.std.specs.List.{AllByRecursion};
 ghost use Rattle.mqtt_props.specs.Properties.{IsProp, block, props};
 ghost use Rattle.mqtt_records_message.specs.PassedOn.{identified};
-ghost use Rattle.mqtt_store_message_commit.specs.Parts.{block_in, identifiers_in, ArePartsOf};
+ghost use Rattle.mqtt_store_message_commit.specs.Parts.{block_in, identifiers_in, payload_in, ArePartsOf};
 
+use bytes::Bytes;
 use mqtt_props::{PropName, PropRef, ValueRef, prop_push};
 use mqtt_records::{Change, Columns};
 use mqtt_records_message::CopyRow;
 use mqtt_store_columns::columns_of;
 use std::alloc::{AllocError, Global};
 
-/// The columns of a session that is put, the block of properties of a row that has one, and the
-/// Subscription Identifiers of a copy.
+/// The columns of a session that is put, the block of properties of a row that has one, and of a copy its
+/// Subscription Identifiers and its payload.
 #[derive(Drop)]
 pub struct Parts {
     /// What a session's own row says; none if another row is put.
@@ -21,6 +22,8 @@ pub struct Parts {
     pub(crate) block: Vec<u8>,
     /// The Subscription Identifiers as they are sent, without a length in front; no bytes if there are none.
     pub(crate) identifiers: Vec<u8>,
+    /// The payload of a copy, shared with it; no bytes if none is put.
+    pub(crate) payload: Bytes,
 }
 
 /// Writes Subscription Identifiers as they are sent, one after the other.
@@ -49,7 +52,10 @@ fn push_sent(out: &mut Vec<u8>, row: &CopyRow) -> Result<(), AllocError>
 {
     // It says that the copy has a spelling.
     let _size = row.size();
-    push_each(out, row.copy().identifiers.as_slice())
+    match row.whole() {
+        Some(copy) => push_each(out, copy.identifiers.as_slice()),
+        None => Err(AllocError),
+    }
 }
 
 /// Writes the block of properties of the row that a change puts, if it has one.
@@ -59,9 +65,10 @@ fn push_block(out: &mut Vec<u8>, change: &Change) -> Result<(), AllocError>
 {
     match change {
         Change::PutWill { birth: _, will } => will.properties.lend().push_block(out),
-        Change::PutCopy { birth: _, row } => {
-            row.get().copy().content.properties.lend().push_block(out)
-        }
+        Change::PutCopy { birth: _, row } => match row.get().whole() {
+            Some(copy) => copy.content.properties.lend().push_block(out),
+            None => Err(AllocError),
+        },
         Change::PutRetained { kept } => kept.get().content.properties.lend().push_block(out),
         _ => Ok(()),
     }
@@ -83,6 +90,7 @@ fn push_both(parts: &mut Parts, change: &Change) -> Result<(), AllocError>
     requires block { parts.old.block.items ≡ [] }
     requires identifiers { parts.old.identifiers.items ≡ [] }
     ensures columns { parts.new.columns ≡ parts.old.columns }
+    ensures payload { parts.new.payload ≡ parts.old.payload }
     ensures block { OnOk result (parts.new.block.items ≡ block_in change.now) }
     ensures identifiers { OnOk result (parts.new.identifiers.items ≡ identifiers_in change.now) }
 {
@@ -90,15 +98,31 @@ fn push_both(parts: &mut Parts, change: &Change) -> Result<(), AllocError>
     push_identifiers(&mut parts.identifiers, change)
 }
 
-/// What a change's rows need beside the change itself.
+/// The payload of the copy that a change puts; no bytes if it puts none.
+fn payload_of(change: &Change) -> Result<Bytes, AllocError>
+    ensures { IfOk result (λ payload. payload ≡ payload_in change.now) }
+{
+    match change {
+        Change::PutCopy { birth: _, row } => match row.get().whole() {
+            Some(copy) => copy.content.payload.clone(),
+            None => Err(AllocError),
+        },
+        _ => Ok(Bytes::new()),
+    }
+}
+
+/// What a change's rows need beside the change itself. A copy that is slim in memory is refused as for want
+/// of memory.
 pub fn parts_of(alloc: Global, change: &Change) -> Result<Parts, AllocError>
     ensures { IfOk result (ArePartsOf change.now) }
 {
     let columns = columns_of(change)?;
+    let payload = payload_of(change)?;
     let mut parts = Parts {
         columns,
         block: Vec::new(alloc),
         identifiers: Vec::new(alloc),
+        payload,
     };
     match push_both(&mut parts, change) {
         Ok(()) => Ok(parts),

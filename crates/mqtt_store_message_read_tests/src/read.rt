@@ -54,7 +54,9 @@ fn copies_are_read_with_their_messages(rt: HostRuntime) -> Result<(), Fail> {
         };
         let row = row.get();
         assert_eq!(rt; row.phase(), Phase::Sent { identifier: 1 });
-        let copy = row.copy();
+        let Some(copy) = row.whole() else {
+            panic!(rt; "a copy that isn't whole");
+        };
         assert!(rt; copy.id.cause == Cause::Direct && copy.qos == Qos::ExactlyOnce);
         assert_eq!(rt; copy.identifiers.as_slice(), [1, 200].as_slice());
         assert_eq!(rt; copy.content.topic.as_str(), "a/b");

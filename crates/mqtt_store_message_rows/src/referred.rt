@@ -18,7 +18,7 @@ fn push_queue(numbers: &mut Vec<u64>, queue: &[Boxed<CopyRow>]) -> Result<(), Al
 {
     let mut rest = queue;
     while let Some((copy, after)) = rest.split_first() {
-        numbers.push(copy.get().copy().id.publication)?;
+        numbers.push(copy.get().id().publication)?;
         rest = after;
     }
     Ok(())

@@ -43,7 +43,10 @@ fn copies_say_what_their_messages_say(rt: HostRuntime) -> Result<(), Fail> {
     let Some(other) = subscriber.get().queue.get(1) else {
         panic!(rt; "no copy");
     };
-    let content = &other.get().copy().content;
+    let Some(copy) = other.get().whole() else {
+        panic!(rt; "a copy that isn't whole");
+    };
+    let content = &copy.content;
     assert_eq!(rt;
         (content.topic.as_str(), content.payload.is_unique()),
         ("a/c", true)
@@ -53,7 +56,9 @@ fn copies_say_what_their_messages_say(rt: HostRuntime) -> Result<(), Fail> {
     };
     let row = row.get();
     assert_eq!(rt; row.phase(), Phase::Sent { identifier: 1 });
-    let copy = row.copy();
+    let Some(copy) = row.whole() else {
+        panic!(rt; "a copy that isn't whole");
+    };
     assert_eq!(rt;
         (copy.id.birth, copy.id.publication, copy.qos),
         (1, 2, Qos::ExactlyOnce)
@@ -84,7 +89,9 @@ fn what_is_said_once_is_said_to_all(rt: HostRuntime) -> Result<(), Fail> {
     let Some(row) = subscriber.get().queue.get(1) else {
         panic!(rt; "no copy");
     };
-    let copy = row.get().copy();
+    let Some(copy) = row.get().whole() else {
+        panic!(rt; "a copy that isn't whole");
+    };
     assert!(rt; copy.id.cause == Cause::Retained { subscribe: 2 } && copy.retain);
     assert_eq!(rt; copy.identifiers.as_slice().len(), 0);
     assert_eq!(rt;

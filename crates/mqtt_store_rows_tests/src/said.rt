@@ -65,7 +65,9 @@ fn rows_say_a_subscription_and_a_copy(rt: HostRuntime) -> Result<(), Fail> {
         (row.place(), row.phase()),
         (1, Phase::Sent { identifier: 1 })
     );
-    let copy = row.copy();
+    let Some(copy) = row.whole() else {
+        panic!(rt; "a copy that isn't whole");
+    };
     assert_eq!(rt;
         (copy.id.birth, copy.id.publication, copy.qos),
         (1, 1, Qos::ExactlyOnce)
