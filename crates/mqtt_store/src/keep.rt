@@ -10,9 +10,10 @@ ghost use Rattle.mqtt_store.specs.Opening.{OpensAnew, IsUnharmed, RefusesToOpen,
 ghost use Rattle.mqtt_store.specs.Props.{ordered_prop};
 
 use crate::apply::apply_all;
+use crate::contents::read_contents;
 use crate::load::load_records;
 use crate::opening::reopen;
-use mqtt_records::{Change, Keep, KeepError, Records, all_pass_on};
+use mqtt_records::{Change, CopyContent, Keep, KeepError, Records, all_pass_on};
 use sqlite::{Alter, Connection, Error};
 use std::alloc::Global;
 
@@ -22,6 +23,8 @@ pub struct SqlKeep<S: Alter + Drop> {
     conn: Connection<S>,
     alloc: Global,
     failures: u64,
+    /// How often it was asked for contents, modulo 2^64.
+    reads: u64,
     ghost autocommit: { conn.in_transaction ≡ false },
     ghost ordered: { IsOrdered (state S.Store conn) } by { ordered_prop (state S.Store conn) },
 }
@@ -31,6 +34,7 @@ impl<S: Alter + Drop> SqlKeep<S> {
     /// back. If that fails, the database's store is handed back.
     pub fn new(alloc: Global, conn: Connection<S>) -> Result<SqlKeep<S>, (Error, S)>
         ensures counted { IfOk result (λ keep. keep.failures ≡ 0) }
+        ensures unread { IfOk result (λ keep. keep.reads ≡ 0) }
 
         // It shows what was committed: it has what the connection has once its transaction is
         // rolled back, and a crash leaves nothing else than before.
@@ -53,6 +57,7 @@ impl<S: Alter + Drop> SqlKeep<S> {
             conn,
             alloc,
             failures: 0,
+            reads: 0,
         })
     }
 
@@ -67,7 +72,8 @@ impl<S: Alter + Drop> SqlKeep<S> {
     /// that would take more is a failure of the device.
     pub fn set_step_limit(&mut self, limit: Option<u64>)
         ensures conn { self.new.conn ≡ record self.old.conn { step_limit = limit } }
-        ensures same { (self.new.failures ≡ self.old.failures) × (self.new.alloc ≡ self.old.alloc) }
+        ensures same { (self.new.failures ≡ self.old.failures) × (self.new.reads ≡ self.old.reads)
+            × (self.new.alloc ≡ self.old.alloc) }
     {
         let conn = &mut self.conn;
         conn.set_step_limit(limit);
@@ -77,6 +83,7 @@ impl<S: Alter + Drop> SqlKeep<S> {
     fn note<T>(&mut self, answer: &Result<T, KeepError>)
         ensures conn { self.new.conn ≡ self.old.conn }
         ensures alloc { self.new.alloc ≡ self.old.alloc }
+        ensures reads { self.new.reads ≡ self.old.reads }
         ensures counted { IsErrOf answer.now KeepError.Disk ⊎ IsErrOf answer.now KeepError.Size
             → self.new.failures ≡ (self.old.failures + 1) % 2 ^ 64 }
         ensures ok { OnOk answer.now (self.new.failures ≡ self.old.failures) }
@@ -95,6 +102,7 @@ impl<S: Alter + Drop> Keep for SqlKeep<S> {
     ghost use Rattle.mqtt_store_message_read.specs.Refusals.{RefusesEither};
     ghost use Rattle.mqtt_store.specs.Holding.{Holds, Leaves, IsLoaded};
     ghost use Rattle.mqtt_store.specs.Ones.{leaves_held as held};
+    ghost use Rattle.mqtt_store.specs.Telling.{told_of, tells as copies_say};
 
     ghost holds = { λ keep r. Holds (state S.Store keep.conn) r };
 
@@ -107,6 +115,10 @@ impl<S: Alter + Drop> Keep for SqlKeep<S> {
     ghost counted = { λ keep. keep.failures };
 
     ghost refuses = { λ keep fault. RefusesEither S.Store keep.conn fault };
+
+    ghost fillings = { λ keep. told_of (state S.Store keep.conn) };
+
+    ghost read_so_far = { λ keep. keep.reads };
 
     fn load(&mut self, alloc: Global) -> Result<Records, KeepError> {
         let answer = load_records(alloc, &mut self.conn);
@@ -122,9 +134,28 @@ impl<S: Alter + Drop> Keep for SqlKeep<S> {
         answer
     }
 
+    fn contents(
+        &mut self,
+        alloc: Global,
+        birth: u64,
+        place: u64,
+        limit: u32,
+    ) -> Result<Vec<CopyContent>, KeepError> {
+        self.reads = self.reads.wrapping_add(1);
+        let answer = read_contents(alloc, &mut self.conn, birth, place, limit);
+        self.note(&answer);
+        answer
+    }
+
     fn failures(&self) -> u64 {
         self.failures
     }
 
+    fn reads(&self) -> u64 {
+        self.reads
+    }
+
     ghost leaves_held = { λ keep left r has found. held _ left r has found };
+
+    ghost tells = { λ keep r sound loaded has. copies_say _ r has loaded sound };
 }

@@ -2,6 +2,7 @@
 #![tactic(auto)]
 
 mod apply;
+mod contents;
 mod keep;
 mod laws;
 mod load;

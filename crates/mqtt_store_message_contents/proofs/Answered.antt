@@ -22,7 +22,7 @@ use Rattle.mqtt_store_message_rows.specs.Joins.{publication_of}
 use Rattle.mqtt_store_message_rows.specs.Gives.{AreQueues, without_queue}
 use Rattle.mqtt_store_message_read.specs.declared.reading.AddedTable.TheVariants.{Message, Queued}
 use Rattle.mqtt_store_message_read.specs.Listing.{added_columns, added_key}
-use Rattle.mqtt_store_message_contents.specs.Contents.{copy_content, queue_or_none, is_from}
+use Rattle.mqtt_records.specs.Telling.{copy_content, queue_or_none, is_from}
 use Rattle.mqtt_store_message_contents.specs.Said.{SaysCopyContent}
 use Rattle.mqtt_store_message_contents.proofs.Joined.{joined_query, all_shown, joined_answer}
 use Rattle.mqtt_store_message_contents.proofs.Shown.{Says, asked_for, queue_shown}

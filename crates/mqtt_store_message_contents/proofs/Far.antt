@@ -1,5 +1,5 @@
 -- No birth and no place above those that may be kept is found.
-use Rattle.std.proofs.Common.{◌≡◌, ◌⊎◌, ℕ, ◌+◌, ◌<◌, ◌^◌, min, false, nat_eq, nat_le, List, [], ◌∷◌, map, filter, refl, sym, ap, ◌∙◌, inl, inr, arith}
+use Rattle.std.proofs.Common.{◌≡◌, ◌⊎◌, ℕ, ◌-◌, ◌<◌, ◌^◌, min, false, nat_eq, nat_le, List, [], ◌∷◌, map, filter, refl, sym, ap, ◌∙◌, inl, inr, arith}
 use Rattle.std.specs.Prelude.{None}
 use Rattle.std.proofs.lemmas.Bool.{cases_Bool, lt-leb, leb-true, leb-false}
 use Rattle.sqlite_value.specs.Order.{Row}
@@ -14,20 +14,24 @@ use Rattle.mqtt_store_rows.specs.Lists.{AreRows}
 use Rattle.mqtt_store_rows.specs.Gives.{Parts, AreSessions}
 use Rattle.mqtt_store_message_rows.specs.Joins.{SaysCopy}
 use Rattle.mqtt_store_message_rows.specs.Gives.{AreQueues, without_queue}
-use Rattle.mqtt_store_message_contents.specs.Contents.{queue_or_none, is_from}
+use Rattle.mqtt_records.specs.Telling.{queue_or_none, is_from}
 
--- a number that may be kept, or one above all of these
+-- a number that SQL has, or the greatest of these, which is above all that may be kept
 abbrev pub near : ℕ → ℕ
-near n = min n (1 + LAST_NUMBER)
+near n = min n (2 ^ 63 - 1)
 
 -- it is a whole number of SQL
 pub near_small : (n : ℕ) → near n < 2 ^ 63
 near_small n = omega arith
 
+-- of numbers that SQL has it is the number itself
+pub near_same : (n : ℕ) → n < 2 ^ 63 → near n ≡ n
+near_same n less = omega (arith, less)
+
 near_or_far : (n : ℕ) → (near n ≡ n) ⊎ ((LAST_NUMBER < n) × (LAST_NUMBER < near n))
-near_or_far n = elim (cases_Bool (nat_le n (1 + LAST_NUMBER))) [
-  | inl within ↦ let le = leb-true n (1 + LAST_NUMBER) within in inl (omega (arith, le))
-  | inr beyond ↦ let more = leb-false n (1 + LAST_NUMBER) beyond in inr (omega (arith, more), omega (arith, more))
+near_or_far n = elim (cases_Bool (nat_le n (2 ^ 63 - 1))) [
+  | inl within ↦ let le = leb-true n (2 ^ 63 - 1) within in inl (omega (arith, le))
+  | inr beyond ↦ let more = leb-false n (2 ^ 63 - 1) beyond in inr (omega (arith, more), omega (arith, more))
 ]
 
 -- ---- births

@@ -47,10 +47,10 @@ abbrev pub is_at_least : Value → Value → Bool
 is_at_least a b = is_true (binary (Compare Ge Binary) a b)
 
 -- a row of each as a load reads it
-abbrev queued_shown : Row → Row
+abbrev pub queued_shown : Row → Row
 queued_shown = shown_at (added_columns Queued)
 
-abbrev message_shown : Row → Row
+abbrev pub message_shown : Row → Row
 message_shown = shown_at (added_columns Message)
 
 -- of such rows: whether a copy and a message go together for the question
@@ -123,18 +123,22 @@ module _ (tree : ℕ) (asked : Row) where
   tagged_shown [] = refl
   tagged_shown (r ∷ rows) = ap (λ rest. r ∷ rest) (tagged_shown rows)
 
-  -- if what is shown of the listings rises by place, the answer is its first rows
-  pub joined_answer : (n : ℕ) → column asked 2 ≡ Int (pos n) → (db : Trees) (messages queued rows : List Row) → IsListingOf (added_columns Message) (added_key Message) (db tree) messages → IsListingOf (added_columns Queued) (added_key Queued) (db (tree + 1)) queued
-      → IsAscending (λ r s. by_columns (0 ∷ []) r s ≡ Less) (all_shown asked messages queued) → IsAnswer (joined_query tree) (overlay db []) (asked) rows → rows ≡ take n (all_shown asked messages queued)
-  joined_answer n limit db messages queued rows of_messages of_queued up a =
+  -- if some order of what is shown rises by place, the answer is the first rows in it
+  pub ordered_answer : (n : ℕ) → column asked 2 ≡ Int (pos n) → (db : Trees) (both rows : List Row) → IsPermutation (all_shown asked (map message_shown (db tree)) (map queued_shown (db (tree + 1)))) both
+      → IsAscending (λ r s. by_columns (0 ∷ []) r s ≡ Less) both → IsAnswer (joined_query tree) (overlay db []) (asked) rows → rows ≡ take n both
+  ordered_answer n limit db both rows moved up a =
       let q = joined_query tree in
-      let both = all_shown asked messages queued in
       let staged : a.staged ≡ flat_map (λ copy. flat_map (filled copy) (db tree)) (db (tree + 1)) =
       a.grouped ∙ (λ i. flat_map (λ copy. flat_map (filled copy) (overlay_none db tree i)) (overlay_none db (tree + 1) i)) in
       let kept : a.kept ≡ map tagged (all_shown asked (map message_shown (db tree)) (map queued_shown (db (tree + 1)))) =
       a.distinct ∙ (ap (map (output q)) staged ∙ outputs (db tree) (db (tree + 1))) in
-      let moved = IsPermutation-map tagged _ _ (reordered _ messages _ queued of_messages.each of_queued.each) in
-      let same : IsPermutation (map tagged both) a.ordered = IsPermutation-trans _ _ _ (IsPermutation-sym _ _ moved) (subst (λ k. IsPermutation k a.ordered) kept a.same) in
+      let same : IsPermutation (map tagged both) a.ordered = IsPermutation-trans _ _ _ (IsPermutation-sym _ _ (IsPermutation-map tagged _ _ moved)) (subst (λ k. IsPermutation k a.ordered) kept a.same) in
       let ordered : a.ordered ≡ map tagged both =
       sorted_unique (output_cmp q) (output_cmp_total q) (map tagged both) a.ordered (ascending-map (λ o p. output_cmp q o p ≡ Less) tagged both up) same a.sorted in
       a.shown ∙ (rw (ordered, tagged_shown both, limit) refl)
+
+  -- so it is if what is shown of the listings rises by place
+  pub joined_answer : (n : ℕ) → column asked 2 ≡ Int (pos n) → (db : Trees) (messages queued rows : List Row) → IsListingOf (added_columns Message) (added_key Message) (db tree) messages → IsListingOf (added_columns Queued) (added_key Queued) (db (tree + 1)) queued
+      → IsAscending (λ r s. by_columns (0 ∷ []) r s ≡ Less) (all_shown asked messages queued) → IsAnswer (joined_query tree) (overlay db []) (asked) rows → rows ≡ take n (all_shown asked messages queued)
+  joined_answer n limit db messages queued rows of_messages of_queued up a =
+      ordered_answer n limit db (all_shown asked messages queued) rows (reordered _ messages _ queued of_messages.each of_queued.each) up a

@@ -17,8 +17,8 @@ use Rattle.mqtt_store_schema_two.specs.declared.tables.Making.{Making}
 use Rattle.mqtt_store_message_rows.specs.Ones.{one_identifiers}
 use Rattle.mqtt_store_message_rows.specs.Gives.{parts_of}
 use Rattle.mqtt_store_message_read.specs.Kept.{HasRecordsTwo}
-use Rattle.mqtt_store_message_contents.specs.declared.content.CopyContent.{CopyContent}
-use Rattle.mqtt_store_message_contents.specs.Contents.{contents_from}
+use Rattle.mqtt_records_message.specs.declared.content.CopyContent.{CopyContent}
+use Rattle.mqtt_records.specs.Telling.{contents_from}
 use Rattle.mqtt_store_message_contents.specs.Said.{SaysCopyContent}
 use Rattle.mqtt_store_message_contents.proofs.Shown.{asked_for}
 use Rattle.mqtt_store_message_contents.proofs.Far.{near}
@@ -54,10 +54,11 @@ answers making birth place limit old new rows r schema has shown =
 
 -- ---- a row says one thing
 
-abbrev content_with : ℕ → List ℕ → List ℕ → List Prop → List ℕ → CopyContent
+abbrev pub content_with : ℕ → List ℕ → List ℕ → List Prop → List ℕ → CopyContent
 content_with place identifiers topic properties payload = record { place = place; identifiers = identifiers; topic = topic; properties = properties; payload = payload }
 
-same_content : (a b : ℕ) (c d e f : List ℕ) (g h : List Prop) (i j : List ℕ) → a ≡ b → c ≡ d → e ≡ f → g ≡ h → i ≡ j → content_with a c e g i ≡ content_with b d f h j
+-- what is said of a copy is one if its parts are
+pub same_content : (a b : ℕ) (c d e f : List ℕ) (g h : List Prop) (i j : List ℕ) → a ≡ b → c ≡ d → e ≡ f → g ≡ h → i ≡ j → content_with a c e g i ≡ content_with b d f h j
 same_content a b c d e f g h i j p q r s t = rw (p, q, r, s, t) refl
 
 -- so two things that a row says of a copy are one

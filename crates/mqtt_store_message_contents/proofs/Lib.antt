@@ -5,3 +5,9 @@ pub mod Far
 pub mod Asking
 pub mod Answered
 pub mod Kept
+pub mod Back
+pub mod Standing
+pub mod Tells
+pub mod Matching
+pub mod Saying
+pub mod Written

@@ -16,7 +16,7 @@ use Rattle.mqtt_store_rows.specs.Lists.{AreRows, AllOf}
 use Rattle.mqtt_store_message_rows.specs.Rows.{SaysMessage}
 use Rattle.mqtt_store_message_rows.specs.Joins.{publication_of, SaysCopy}
 use Rattle.mqtt_store_message_rows.specs.Gives.{AreQueues}
-use Rattle.mqtt_store_message_contents.specs.Contents.{copy_content, queue_or_none, is_from}
+use Rattle.mqtt_records.specs.Telling.{copy_content, queue_or_none, is_from}
 use Rattle.mqtt_store_message_contents.specs.Said.{SaysCopyContent}
 use Rattle.mqtt_store_message_contents.proofs.Joined.{are_equal, is_at_least, both_shown, shown_with, shown_of, all_shown}
 use Rattle.mqtt_store_message_contents.proofs.Numbers.{equal_itself, equal_other, at_least}

@@ -1,31 +1,14 @@
-//! What a copy in a queue says, and the row that joins it with its message (3.3).
+//! What the row says that joins a copy in a queue with its message (3.3).
 ghost use Rattle.std.specs.Prelude.{◌≡◌, ◌⊎◌, IfOk, IfErr, IsErrOf};
-ghost use Rattle.mqtt_store_message_contents.specs.declared.content.CopyContent.{CopyContent as Said};
+ghost use Rattle.mqtt_records_message.specs.declared.content.CopyContent.{CopyContent as Said};
 ghost use Rattle.mqtt_store_message_contents.specs.Said.{SaysCopyContent};
 
-use bytes::Bytes;
-use mqtt_base::Text;
 use mqtt_records::KeepError;
-use mqtt_records_message::{PassedOn, SubscriptionIdentifiers};
+use mqtt_records_message::CopyContent;
 use mqtt_store_message_rows::identifiers_of;
 use mqtt_store_rows::{blob, counted, passed, text, value_at};
 use sqlite::Row;
 use std::alloc::Global;
-
-/// What a copy in a session's queue says, and its place there.
-#[derive(Drop)]
-pub struct CopyContent {
-    /// Its place in the queue.
-    pub place: u64,
-    /// The Subscription Identifiers that are sent with it (3.3.2.3.8).
-    pub identifiers: SubscriptionIdentifiers,
-    /// The topic of its publication.
-    pub topic: Text,
-    /// The properties of its publication, as they are passed on.
-    pub properties: PassedOn,
-    /// The payload of its publication.
-    pub payload: Bytes,
-}
 
 /// What a row says of a copy and its message. `Corrupt` if it says nothing.
 pub(crate) fn content_of(alloc: Global, row: &Row) -> Result<CopyContent, KeepError>

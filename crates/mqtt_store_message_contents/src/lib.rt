@@ -2,7 +2,8 @@
 #![tactic(auto)]
 
 mod content;
+mod laws;
 mod reading;
 
-pub use content::CopyContent;
+pub use laws::tables_tell_what_copies_say;
 pub use reading::contents_in;

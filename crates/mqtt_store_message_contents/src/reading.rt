@@ -1,31 +1,31 @@
 //! What the first copies of a session say from a place on, through a connection (4.1, 4.4).
-ghost use Rattle.std.specs.Prelude.{◌≡◌, ◌⊎◌, ◌+◌, List, IfOk, IfErr, OnOk, IsErrOf, IsTrue, min, pos};
+ghost use Rattle.std.specs.Prelude.{◌≡◌, ◌<◌, ◌⊎◌, ◌-◌, ◌^◌, List, IfOk, IfErr, OnOk, IsErrOf, IsTrue, min, pos};
 ghost use Rattle.sqlite.specs.Held.{state};
 ghost use Rattle.sqlite.specs.State.{HasCleanDisk};
-ghost use Rattle.mqtt_base.specs.declared.limits.TheConstants.{LAST_NUMBER};
+ghost use Rattle.mqtt_records_message.specs.declared.content.CopyContent.{CopyContent as Said};
 ghost use Rattle.mqtt_records.specs.declared.records.Records.{Records};
+ghost use Rattle.mqtt_records.specs.Telling.{contents_from};
 ghost use Rattle.mqtt_store_rows.specs.Lists.{AreRows};
 ghost use Rattle.mqtt_store_schema.specs.Settled.{OnlyReads};
 ghost use Rattle.mqtt_store_schema_two.specs.Tables.{second_schema};
 ghost use Rattle.mqtt_store_schema_two.specs.declared.tables.Making.{Making};
+ghost use Rattle.mqtt_store_message_laws.specs.Written.{KeepsRowsTwo, AreInOrderTwo};
 ghost use Rattle.mqtt_store_message_read.specs.Kept.{HasRecordsTwo};
-ghost use Rattle.mqtt_store_message_contents.specs.declared.content.CopyContent.{CopyContent as Said};
-ghost use Rattle.mqtt_store_message_contents.specs.Contents.{contents_from};
-ghost use Rattle.mqtt_store_message_contents.specs.Said.{SaysCopyContent};
+ghost use Rattle.mqtt_store_message_contents.specs.Said.{SaysCopyContent, content_rows};
 
-use crate::content::{CopyContent, content_of};
-use mqtt_base::LAST_NUMBER;
+use crate::content::content_of;
 use mqtt_records::KeepError;
+use mqtt_records_message::CopyContent;
 use mqtt_store_read::fault_of;
 use sqlite::{Alter, Connection, Error, Row, params};
 use std::alloc::Global;
 
-/// A birth or a place as SQL has it: one above those that may be kept, for each that isn't kept.
+/// A birth or a place as SQL has it: the greatest of its numbers for each above, since none of these may be kept.
 fn in_sql(n: u64) -> i64
-    ensures { result ≡ pos (min n (1 + LAST_NUMBER)) }
+    ensures { result ≡ pos (min n (2 ^ 63 - 1)) }
 {
-    if n > LAST_NUMBER {
-        return LAST_NUMBER as i64 + 1;
+    if n > i64::MAX as u64 {
+        return i64::MAX;
     }
     n as i64
 }
@@ -40,6 +40,13 @@ fn rows_from<S: Alter>(
     ensures rows { (making : Making) (r : Records) → HasCleanDisk (state S.Store conn.new)
         → (state S.Store conn.old).now.schema ≡ second_schema making → HasRecordsTwo making (state S.Store conn.old).now.trees r
         → IfOk result (λ rows. AreRows SaysCopyContent rows.items (contents_from birth place limit r)) }
+
+    // Where the tables are written from records, these are the rows of the first copies.
+    ensures written { (making : Making) (r : Records) → HasCleanDisk (state S.Store conn.new)
+        → (state S.Store conn.old).now.schema ≡ second_schema making
+        → AreInOrderTwo making (state S.Store conn.old).now.trees → KeepsRowsTwo making (state S.Store conn.old).now.trees r
+        → birth < 2 ^ 63 → place < 2 ^ 63
+        → IfOk result (λ rows. rows.items ≡ content_rows birth place limit r) }
     ensures is_open { HasCleanDisk (state S.Store conn.new) → OnOk result (IsTrue (state S.Store conn.new).is_open) }
     ensures reads { OnlyReads (state S.Store conn.old) (state S.Store conn.new) }
 {
@@ -84,6 +91,13 @@ pub fn contents_in<S: Alter>(
 ) -> Result<Vec<CopyContent>, KeepError>
     ensures exact { (making : Making) (r : Records) → HasCleanDisk (state S.Store conn.new)
         → (state S.Store conn.old).now.schema ≡ second_schema making → HasRecordsTwo making (state S.Store conn.old).now.trees r
+        → IfOk result (λ all. all.items ≡ contents_from birth place limit r) }
+
+    // The same where the tables are written from records, of numbers that SQL has.
+    ensures written { (making : Making) (r : Records) → HasCleanDisk (state S.Store conn.new)
+        → (state S.Store conn.old).now.schema ≡ second_schema making
+        → AreInOrderTwo making (state S.Store conn.old).now.trees → KeepsRowsTwo making (state S.Store conn.old).now.trees r
+        → birth < 2 ^ 63 → place < 2 ^ 63
         → IfOk result (λ all. all.items ≡ contents_from birth place limit r) }
 
     // If records are kept, only want of memory and the device are in the way.

@@ -22,3 +22,5 @@ mod second_databases;
 mod seen;
 #[cfg(test)]
 mod store;
+#[cfg(test)]
+mod told;

@@ -7,12 +7,12 @@ use mqtt_records::{Content, CopyRow, Records, RetainedMessage, Session, Subscrip
 pub(crate) type Seen = [u64; 12];
 
 /// A sum with a number behind it, modulo 2^64.
-fn with(sum: u64, number: u64) -> u64 {
+pub(crate) fn with(sum: u64, number: u64) -> u64 {
     sum.wrapping_mul(1_099_511_628_211).wrapping_add(number)
 }
 
 /// The same with bytes behind it, and their end.
-fn with_bytes(sum: u64, bytes: &[u8]) -> u64 {
+pub(crate) fn with_bytes(sum: u64, bytes: &[u8]) -> u64 {
     let mut sum = sum;
     for byte in bytes {
         sum = with(sum, u64::from(*byte));
@@ -65,11 +65,15 @@ fn with_subscription(sum: u64, subscription: &Subscription) -> u64 {
 }
 
 fn with_copy(sum: u64, row: &CopyRow) -> u64 {
-    let copy = row.copy();
+    let id = row.id();
     let mut sum = with(with_phase(sum, row.phase()), row.place());
-    sum = with_cause(with(sum, copy.id.publication), &copy.id.cause);
-    sum = with(with(sum, copy.qos as u64), u64::from(copy.retain));
-    with_content(sum, &copy.content)
+    sum = with_cause(with(sum, id.publication), &id.cause);
+    sum = with(sum, row.qos() as u64);
+    // Of a slim row the rest isn't in memory.
+    match row.whole() {
+        Some(copy) => with_content(with(sum, u64::from(copy.retain)), &copy.content),
+        None => with(sum, 2),
+    }
 }
 
 fn with_session(sum: u64, session: &Session) -> u64 {

@@ -1,8 +1,12 @@
+use Rattle.std.proofs.Common.{subst}
 use Rattle.std.proofs.lemmas.Result.{IfOk-weaker}
+use Rattle.sqlite.specs.Held.{state}
+use Rattle.mqtt_store_rows.specs.Lists.{AreRows}
 use Rattle.mqtt_store_rows.proofs.OneLemmas.{same_rows}
-use Rattle.mqtt_store_message_contents.specs.Contents.{contents_from}
+use Rattle.mqtt_records.specs.Telling.{contents_from}
 use Rattle.mqtt_store_message_contents.specs.Said.{SaysCopyContent}
 use Rattle.mqtt_store_message_contents.proofs.Kept.{one_content, not_corrupt}
+use Rattle.mqtt_store_message_contents.proofs.Written.{rows_say}
 use Rattle.mqtt_store_message_contents.proofs.reading.contents_in.Goals as goal
 
 pub returns-in-Ok-clause-exact : goal.returns-in-Ok-clause-exact
@@ -15,3 +19,10 @@ pub returns-in-Ok-clause-kept : goal.returns-in-Ok-clause-kept
 returns-in-Ok-clause-kept g c making r clean schema has =
     let are = c.in-Ok.ensures.rows making r clean schema has in
     not_corrupt c.contents_of.result c.contents_of.ensures.fault (λ corrupt. c.contents_of.ensures.err corrupt (contents_from c.args.birth c.args.place c.args.limit r) (rw c.deref.ensures.value are))
+
+pub returns-in-Ok-clause-written : goal.returns-in-Ok-clause-written
+returns-in-Ok-clause-written g c making r clean schema order keeps in_births in_places =
+    let is = c.in-Ok.ensures.written making r clean schema order keeps in_births in_places in
+    IfOk-weaker c.contents_of.result _ _
+    (λ all says. rows_say making (state g.S.Store c.args.conn.now).now.trees r keeps order c.args.birth c.args.place c.args.limit all.items (subst (λ l. AreRows SaysCopyContent l all.items) is says))
+    (rw c.deref.ensures.value at c.contents_of.ensures.ok)
