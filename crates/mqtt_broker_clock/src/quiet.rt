@@ -10,7 +10,7 @@ ghost use Rattle.mqtt_broker_clock.specs.Quiet.{AreQuietBefore, BringsNothing, I
 
 use crate::finding::in_order;
 use mqtt_base::{LAST_NUMBER, Phase};
-use mqtt_broker_decisions::{expiry_due, settling_due};
+use mqtt_broker_decisions::{expiry_due, interval_due, settling_due};
 use mqtt_broker_step::Step;
 use mqtt_records::{Change, Session};
 use mqtt_records_message::{Content, CopyRow, RetainedMessage};
@@ -59,7 +59,7 @@ fn row_before(row: &CopyRow) -> u64
     ensures { (now : ℕ) → now < result → IsFresh now row.now }
 {
     if is_waiting(row.phase()) {
-        content_before(&row.copy().content)
+        or_never(interval_due(row.arrived(), row.expiry()))
     } else {
         NEVER
     }

@@ -5,6 +5,7 @@ ghost use Rattle.mqtt_rules.specs.Packets.{quality};
 ghost use Rattle.mqtt_rules.specs.Subscribe.{Wish, has_filter, identifiers_of, is_brought, is_to, place_among, retained_copy, subscription, wants_retained};
 ghost use Rattle.mqtt_rules.specs.Outbound.{is_new};
 ghost use Rattle.mqtt_records.specs.declared.records.Records.{Records};
+ghost use Rattle.mqtt_records_message.specs.declared.message.MessageCopy.{MessageCopy as TheCopy};
 
 use crate::moments::is_expired;
 use mqtt_base::{Cause, CopyId, Qos, RetainHandling, SubscriptionOptions, Text};
@@ -141,14 +142,23 @@ pub fn subscription_of(
     }
 }
 
+/// Whether the copy with that identity was made in the step that began with these two numbers as the
+/// newest. Takes no memory.
+pub fn is_new_id(publications: u64, subscribes: u64, id: &CopyId) -> bool
+    ensures { (start : Records) (copy : TheCopy) → start.publications ≡ publications
+        → start.subscribes ≡ subscribes → copy.id ≡ id.now → result ≡ is_new start copy }
+{
+    let is_new_cause = match &id.cause {
+        Cause::Direct | Cause::Share { .. } => false,
+        Cause::Retained { subscribe } => subscribes < *subscribe,
+    };
+    publications < id.publication || is_new_cause
+}
+
 /// Whether a copy was made in the step that began with these two numbers as the newest. Takes no memory.
 pub fn is_new(publications: u64, subscribes: u64, copy: &MessageCopy) -> bool
     ensures { (start : Records) → start.publications ≡ publications → start.subscribes ≡ subscribes
         → result ≡ is_new start copy.now }
 {
-    let is_new_cause = match &copy.id.cause {
-        Cause::Direct | Cause::Share { .. } => false,
-        Cause::Retained { subscribe } => subscribes < *subscribe,
-    };
-    publications < copy.id.publication || is_new_cause
+    is_new_id(publications, subscribes, &copy.id)
 }

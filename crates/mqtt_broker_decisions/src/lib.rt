@@ -17,12 +17,14 @@ pub use connecting::{
     aliases_of, assigned_name, expiry_of, largest_of, refusal, takes_refusal, will_of, window_of,
 };
 pub use filters::{
-    has_filter, is_brought, is_new, place_among, retained_copy, subscription_of, wants_retained,
+    has_filter, is_brought, is_new, is_new_id, place_among, retained_copy, subscription_of,
+    wants_retained,
 };
 pub use limits::is_late_expiry;
 pub use message::Message;
 pub use moments::{
-    capped, expiry_due, is_due, is_expired, is_silent, is_stale, later, seconds_waited, silence_due,
+    capped, expiry_due, interval_due, is_due, is_expired, is_past, is_silent, is_stale, later,
+    seconds_waited, silence_due,
 };
 pub use numbers::number_at;
 pub use sessions::{

@@ -1,6 +1,7 @@
 //! Moments in milliseconds: their sums, what is due, what has expired (3.1.2.10, 3.3.2.3.3).
-ghost use Rattle.std.specs.Prelude.{◌≡◌, ◌≤◌, ℕ, Option, is_some};
+ghost use Rattle.std.specs.Prelude.{◌≡◌, ◌≤◌, ◌-◌, ◌/◌, ℕ, Option, is_some};
 ghost use Rattle.mqtt_base.specs.declared.limits.TheConstants.{LAST_NUMBER};
+ghost use Rattle.mqtt_flow.specs.Outbound.{is_past};
 ghost use Rattle.mqtt_records_message.specs.PassedOn.{number_at};
 ghost use Rattle.mqtt_rules.specs.Packets.{is_expired, seconds_waited};
 ghost use Rattle.mqtt_rules.specs.State.{Line, capped, later};
@@ -36,11 +37,29 @@ pub fn is_due(now: u64, moment: Option<u64>) -> bool
     }
 }
 
+/// Whole seconds since a moment.
+fn seconds_since(now: u64, moment: u64) -> u64
+    ensures { result ≡ (now - moment) / 1000 }
+{
+    now.saturating_sub(moment) / 1_000
+}
+
 /// Whole seconds since the publication was accepted. Takes no memory.
 pub fn seconds_waited(now: u64, content: &Content) -> u64
     ensures { result ≡ seconds_waited now content.now }
 {
-    now.saturating_sub(content.arrived) / 1_000
+    seconds_since(now, content.arrived)
+}
+
+/// Whether a Message Expiry Interval, if there is one, has passed since that moment (3.3.2.3.3). Takes
+/// no memory.
+pub fn is_past(now: u64, arrived: u64, interval: Option<u32>) -> bool
+    ensures { result ≡ is_past interval ((now - arrived) / 1000) }
+{
+    match interval {
+        Some(interval) => u64::from(interval) <= seconds_since(now, arrived),
+        None => false,
+    }
 }
 
 /// Whether its Message Expiry Interval has passed (3.3.2.3.3). Takes no memory.
@@ -48,9 +67,20 @@ pub fn is_expired(now: u64, content: &Content) -> bool
     ensures { result ≡ is_expired now content.now }
 {
     let list = content.properties.lend();
-    match number_at(&list, PropName::MessageExpiryInterval) {
-        Some(interval) => u64::from(interval) <= seconds_waited(now, content),
-        None => false,
+    let interval = number_at(&list, PropName::MessageExpiryInterval);
+    is_past(now, content.arrived, interval)
+}
+
+/// When a Message Expiry Interval has passed since that moment, never without one (3.3.2.3.3). Takes no
+/// memory.
+pub fn interval_due(arrived: u64, interval: Option<u32>) -> Option<u64>
+    ensures { (now : ℕ) → now ≤ LAST_NUMBER
+        → is_due now result ≡ is_past interval ((now - arrived) / 1000) }
+{
+    match interval {
+        Some(0) => Some(0),
+        Some(interval) => Some(arrived.saturating_add(1_000 * u64::from(interval))),
+        None => None,
     }
 }
 
@@ -59,11 +89,8 @@ pub fn expiry_due(content: &Content) -> Option<u64>
     ensures { (now : ℕ) → now ≤ LAST_NUMBER → is_due now result ≡ is_expired now content.now }
 {
     let list = content.properties.lend();
-    match number_at(&list, PropName::MessageExpiryInterval) {
-        Some(0) => Some(0),
-        Some(interval) => Some(content.arrived.saturating_add(1_000 * u64::from(interval))),
-        None => None,
-    }
+    let interval = number_at(&list, PropName::MessageExpiryInterval);
+    interval_due(content.arrived, interval)
 }
 
 /// Whether a retained message has expired (3.3.2.3.3). Takes no memory.

@@ -6,7 +6,7 @@ ghost use Rattle.mqtt_rules.specs.Closing.{is_due, end_due, earlier, will_due, h
 ghost use Rattle.mqtt_rules.specs.Tick.{has_lapsed};
 ghost use Rattle.mqtt_broker_decisions.specs.Verdicts.{is_lapsed};
 
-use crate::moments::{is_due, is_expired, later};
+use crate::moments::{is_due, is_past, later};
 use mqtt_base::Phase;
 use mqtt_records::Session;
 use mqtt_records_message::{CopyRow, Will};
@@ -89,7 +89,7 @@ pub fn is_settled(now: u64, session: &Session) -> bool
 fn is_lapsed(now: u64, row: &CopyRow) -> bool
     ensures { result ≡ is_lapsed now row.now }
 {
-    matches!(row.phase(), Phase::Waiting) && is_expired(now, &row.copy().content)
+    matches!(row.phase(), Phase::Waiting) && is_past(now, row.arrived(), row.expiry())
 }
 
 /// Whether some queued copies wait and have expired.

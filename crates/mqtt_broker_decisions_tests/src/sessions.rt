@@ -3,9 +3,9 @@
 use bytes::Bytes;
 use mqtt_base::{Qos, RetainHandling, SubscriptionOptions, Text};
 use mqtt_broker_decisions::{
-    end_due, expiry_due, has_due_end, has_due_will, has_filter, has_lapsed, is_brought, is_expired,
-    is_new, is_settled, is_stale, place_among, retained_copy, seconds_waited, settling_due,
-    subscription_of, will_due,
+    end_due, expiry_due, has_due_end, has_due_will, has_filter, has_lapsed, interval_due,
+    is_brought, is_expired, is_new, is_new_id, is_past, is_settled, is_stale, place_among,
+    retained_copy, seconds_waited, settling_due, subscription_of, will_due,
 };
 use mqtt_props::{PropList, PropName, PropRef, ValueRef};
 use mqtt_records::{Boxed, Columns, Session, SessionRow, Subscription};
@@ -141,6 +141,16 @@ fn a_retained_message_is_brought_until_it_expires(rt: HostRuntime) -> Result<(),
 }
 
 #[test]
+fn an_interval_is_counted_from_its_beginning(rt: HostRuntime) -> Result<(), Fail> {
+    assert!(rt; !is_past(5_999, 1_000, Some(5)), "a millisecond before");
+    assert!(rt; is_past(6_000, 1_000, Some(5)), "after five seconds");
+    assert!(rt; !is_past(u64::MAX, 0, None), "it has no interval");
+    assert_eq!(rt; interval_due(1_000, Some(5)), Some(6_000));
+    assert_eq!(rt; interval_due(1_000, None), None);
+    Ok(())
+}
+
+#[test]
 fn a_retained_copy_has_the_lesser_quality(rt: HostRuntime) -> Result<(), Fail> {
     let alloc = rt.alloc();
     let kept = kept(alloc)?;
@@ -150,6 +160,7 @@ fn a_retained_copy_has_the_lesser_quality(rt: HostRuntime) -> Result<(), Fail> {
     assert_eq!(rt; copy.qos, Qos::AtLeastOnce);
     assert!(rt; is_new(3, 1, &copy), "its subscribe is new");
     assert!(rt; !is_new(3, 2, &copy), "it was made before");
+    assert!(rt; is_new_id(2, 2, &copy.id), "its publication is new");
     assert!(rt; copy.retain, "it was retained");
     assert_eq!(rt; copy.identifiers.as_slice(), [7].as_slice());
     drop(copy);

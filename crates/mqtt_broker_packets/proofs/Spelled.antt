@@ -1,19 +1,23 @@
 -- The size of a copy's PUBLISH, and its spelling by parts (MQTT 5.0, 2.1, 3.3).
-use Rattle.std.proofs.Common.{◌≡◌, ℕ, ◌+◌, Bool, true, false, List, [], ◌∷◌, ◌++◌, length, map, Option, Some, None, Result, Ok, Err, OnOk, refl, sym, ap, subst, ◌∙◌, append_assoc, arith}
-use Rattle.std.specs.Prelude.{◌↔◌, IsTrue, MatchOption, is_some}
+use Rattle.std.proofs.Common.{◌≡◌, ℕ, ◌+◌, ◌<◌, ◌^◌, Bool, true, false, cond, List, [], ◌∷◌, ◌++◌, length, map, Option, Some, None, Result, Ok, Err, OnOk, refl, sym, ap, subst, ◌∙◌, append_assoc, arith}
+use Rattle.std.specs.Prelude.{◌↔◌, IfSome, IsTrue, MatchOption, OnSome, is_some, nat_lt}
+use Rattle.std.proofs.lemmas.Bool.{lt-ltb, ltb-true}
 use Rattle.std.proofs.lemmas.List.{length-append}
 use Rattle.std.proofs.lemmas.List.Concat.{flat_map-cons}
 use Rattle.std.proofs.lemmas.Grind.{flat_map-append}
 use Rattle.mqtt_base.specs.declared.session.Qos.{Qos}
 use Rattle.mqtt_base.specs.declared.session.Qos.TheVariants.{AtMostOnce, AtLeastOnce, ExactlyOnce}
 use Rattle.mqtt_base.specs.Values.{varint, blob, two_bytes}
+use Rattle.mqtt_base.proofs.Varints.{size_fourth, varint_sizes}
 use Rattle.std.specs.List.{AllByRecursion}
 use Rattle.mqtt_props.specs.declared.table.PropName.TheVariants.{AssignedClientIdentifier, TopicAlias, UserProperty}
-use Rattle.mqtt_props.specs.Properties.{Prop, IsProp, Text, U16, prop, block, props}
+use Rattle.mqtt_props.specs.Properties.{FitsBlock, Prop, IsProp, Text, U16, prop, block, props}
 use Rattle.mqtt_props.specs.Edits.{only, without}
 use Rattle.mqtt_topic_aliases.specs.declared.form.Form.{Form}
 use Rattle.mqtt_topic_aliases.specs.declared.form.Form.TheVariants.{Plain}
+use Rattle.mqtt_topic_aliases.specs.declared.sizes.OtherBytes.{OtherBytes}
 use Rattle.mqtt_topic_aliases.specs.Told.{alias_in, topic_in}
+use Rattle.mqtt_topic_aliases.specs.Sizes as sizes
 use Rattle.mqtt_topic_aliases.specs.Sizes.{alias_size}
 use Rattle.mqtt_records_message.specs.PassedOn.{aged, identified, property, sent_after}
 use Rattle.mqtt_codec.specs.Publish.{identifier_field, delivery_head}
@@ -22,7 +26,7 @@ use Rattle.mqtt_codec.specs.declared.packet.Packet.TheVariants as packets
 use Rattle.mqtt_codec.specs.Packets.{shortest_of}
 use Rattle.mqtt_records_message.specs.declared.message.MessageCopy.{MessageCopy}
 use Rattle.mqtt_records_message.specs.Queue.{IsSpelled, first_sent, publish_size}
-use Rattle.mqtt_rules.specs.Forms.{form_remaining, in_form, published_of, with_alias}
+use Rattle.mqtt_rules.specs.Forms.{form_remaining, form_size, in_form, other_bytes, published_of, with_alias}
 use Rattle.mqtt_rules.specs.Packets.{delivery_by, properties_sent, seconds_waited, size_of, suback, unsuback}
 use Rattle.mqtt_rules.specs.Connect.{connack_properties}
 use Rattle.mqtt_rules.proofs.contents.CopySizes.{sent_size}
@@ -61,10 +65,36 @@ frame-length head body = let sum = length-append (varint (length body)) body in 
 pub size_stays : (copy : MessageCopy) → IsSizeOf copy (publish_size copy)
 size_stays copy now id dup = sym (sent_size now dup id copy)
 
--- in a form the size is made of the Remaining Length
-pub size_in_is : (len size : ℕ) (form : Form) (copy : MessageCopy) → len ≡ form_remaining form copy → size ≡ 1 + length (varint len) + len → IsSizeIn form copy size
-size_in_is len size form copy is sum now id dup =
-    sum ∙ ap (λ (n : ℕ). 1 + length (varint n) + n) is ∙ sym (copy_in_form form copy now id dup)
+-- what is told of a copy's size in a form is exact
+pub record TellsSize (form : Form) (copy : MessageCopy) (o : Option ℕ) : Type 0 where
+  pub exact : MatchOption o (¬ IsSpelledIn form copy) (IsSizeIn form copy)
+  pub spelled : OnSome o (IsSpelledIn form copy)
+  pub bound : IfSome o (λ size. size < 2 ^ 28 + 5)
+
+size_by : (form : Form) (copy : MessageCopy) → FitsBlock (first_sent copy) → (t : Bool) → nat_lt (form_remaining form copy) (2 ^ 28) ≡ t
+    → TellsSize form copy (cond t (Some (form_size form copy)) None)
+size_by form copy fits true is =
+    let short = ltb-true (form_remaining form copy) (2 ^ 28) is in
+    let few = varint_sizes (form_remaining form copy) (2 ^ 28) (omega (arith, short)) in
+    let four = size_fourth (2 ^ 28) (omega arith) in
+    record {
+      exact = λ now id dup. sym (copy_in_form form copy now id dup);
+      spelled = record { properties = fits; short = short };
+      bound = omega (arith, short, few, four);
+    }
+size_by form copy fits false is = record {
+  exact = λ spelled. let no : true ≡ false = sym (lt-ltb (form_remaining form copy) (2 ^ 28) spelled.short) ∙ is in absurd cc;
+  spelled = tt;
+  bound = tt;
+}
+
+-- so it is by the topic and the other bytes, if the properties are a block
+pub tells_size : (form : Form) (copy : MessageCopy) (topic : List ℕ) (other : OtherBytes) (o : Option ℕ) → topic ≡ copy.content.topic → other ≡ other_bytes copy
+    → FitsBlock (first_sent copy) → o ≡ sizes.size_in form topic other → TellsSize form copy o
+tells_size form copy topic other o topic_is other_is fits is =
+    subst (TellsSize form copy)
+    (sym (is ∙ (ap (λ (t : List ℕ). sizes.size_in form t other) topic_is ∙ ap (sizes.size_in form copy.content.topic) other_is)))
+    (size_by form copy fits (nat_lt (form_remaining form copy) (2 ^ 28)) refl)
 
 -- what was written is the copy's PUBLISH in that form
 pub publish_spelled : (now id : ℕ) (dup : Bool) (form : Form) (copy : MessageCopy) (head len : ℕ) (bytes : List ℕ) → head ≡ first (delivery_head (delivery_by copy.qos dup id) copy.retain) → len ≡ form_remaining form copy → bytes ≡ (head ∷ varint len) ++ sent_body now id form copy → bytes ≡ shortest_of (packets.Publish (in_form form (published_of now dup id copy)))

@@ -18,7 +18,7 @@ use crate::sent::{sent_len, sent_push};
 use bytes::Bytes;
 use mqtt_base::{Qos, VARINT_LIMIT, blob_push, u16_push, varint_len, varint_push};
 use mqtt_records_message::{Content, CopyRow, MessageCopy};
-use mqtt_topic_aliases::{Form, OtherBytes};
+use mqtt_topic_aliases::{Form, OtherBytes, size_in};
 use std::alloc::{AllocError, Global};
 
 /// Lengths of a copy's PUBLISH in a form, in bytes.
@@ -72,6 +72,15 @@ fn seconds_waited(now: u64, content: &Content) -> u64
     now.saturating_sub(content.arrived) / 1_000
 }
 
+/// The bytes besides topic and Topic Alias, by the bytes of the properties and of the payload.
+fn other_of(properties: usize, qos: Qos, payload: usize) -> OtherBytes
+    requires { payload < 2 ^ 63 }
+    ensures { result ≡ record { properties = properties; rest = identifier_len qos + payload } }
+{
+    let rest = identifier_len(qos) + payload;
+    OtherBytes { properties, rest }
+}
+
 /// The bytes that a copy's PUBLISH has besides its topic and a Topic Alias, if the properties are a
 /// block: the same at each moment, with DUP or without, under each identifier (3.3). Takes no memory.
 pub fn other_bytes(copy: &MessageCopy) -> Option<OtherBytes>
@@ -81,8 +90,17 @@ pub fn other_bytes(copy: &MessageCopy) -> Option<OtherBytes>
 {
     let list = copy.content.properties.lend();
     let properties = sent_len(&list, copy.identifiers.as_slice())?;
-    let rest = identifier_len(copy.qos) + copy.content.payload.len();
-    Some(OtherBytes { properties, rest })
+    Some(other_of(properties, copy.qos, copy.content.payload.len()))
+}
+
+/// The same of a row's copy, whose PUBLISH has a spelling: by what the row knows of it, without a look at
+/// what it says. Takes no memory.
+pub fn row_other_bytes(row: &CopyRow) -> OtherBytes
+    ensures { result ≡ other_bytes row.now.copy }
+{
+    // This shows that the payload is short.
+    let _spelled = row.size();
+    other_of(row.pairs() as usize, row.qos(), row.payload_len())
 }
 
 /// The bytes of the topic that stands in a form, without its length (3.3.2.1).
@@ -217,14 +235,15 @@ pub fn has_spelling(copy: &MessageCopy) -> bool
 /// How many bytes a copy's PUBLISH takes in a form, fixed header included: the same at each moment,
 /// with DUP or without, under each identifier; none if it has no spelling (2.1.4, 3.3). Takes no
 /// memory.
-#[tactic(auto, using(crate::proofs::Spelled::size_in_is))]
 pub fn publish_in_len(form: Form, copy: &MessageCopy) -> Option<usize>
     ensures exact { MatchOption result (¬ IsSpelledIn form copy.now) (IsSizeIn form copy.now) }
     ensures spelled { OnSome result (IsSpelledIn form copy.now) }
     ensures bound { IfSome result (λ size. size < 2 ^ 28 + 5) }
 {
-    let remaining = lengths_in(form, copy)?.remaining;
-    Some(1 + varint_len(remaining as u32) + remaining)
+    let Some(other) = other_bytes(copy) else {
+        return None;
+    };
+    size_in(form, &copy.content.topic, other)
 }
 
 /// How many bytes a copy's PUBLISH takes, fixed header included: the same at each moment, with DUP
@@ -274,6 +293,19 @@ pub fn publish(
     ensures { IfOk result (λ bytes. bytes ≡ shortest_of (publish_of now dup identifier copy.now)) }
 {
     publish_in(alloc, now, dup, identifier, Form::Plain, copy)
+}
+
+/// How many bytes the PUBLISH of a row's copy takes in a form, fixed header included, by what the row knows
+/// of it; none if it has no spelling in that form (2.1.4, 3.3). Takes no memory.
+pub fn row_in_len(form: Form, row: &CopyRow) -> Option<usize>
+    ensures exact { MatchOption result (¬ IsSpelledIn form row.now.copy) (IsSizeIn form row.now.copy) }
+    ensures spelled { OnSome result (IsSpelledIn form row.now.copy) }
+    ensures bound { IfSome result (λ size. size < 2 ^ 28 + 5) }
+{
+    // This shows that the properties are a block.
+    let _spelled = row.size();
+    let other = row_other_bytes(row);
+    size_in(form, row.topic(), other)
 }
 
 /// How many bytes the PUBLISH of a copy in a queue takes, fixed header included (3.3). Takes no memory.

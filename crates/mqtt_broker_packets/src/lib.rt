@@ -13,6 +13,7 @@ mod sent;
 pub use answer::{disconnect, puback, pubcomp, pubrec, pubrel, suback, suback_len, unsuback};
 pub use connack::{connack_assigned, connack_granted, connack_refused};
 pub use copies::{
-    has_spelling, other_bytes, publish, publish_in, publish_in_len, publish_len, row_len,
+    has_spelling, other_bytes, publish, publish_in, publish_in_len, publish_len, row_in_len,
+    row_len, row_other_bytes,
 };
 pub use laws::sizes_stay;

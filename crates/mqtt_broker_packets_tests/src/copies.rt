@@ -2,9 +2,12 @@
 
 use bytes::Bytes;
 use mqtt_base::{Cause, CopyId, Phase, Qos, Text};
-use mqtt_broker_packets::{has_spelling, publish, publish_len, row_len};
+use mqtt_broker_packets::{
+    has_spelling, publish, publish_len, row_in_len, row_len, row_other_bytes,
+};
 use mqtt_props::{PropList, PropName, PropRef, ValueRef};
 use mqtt_records_message::{Content, CopyRow, MessageCopy, PassedOn, SubscriptionIdentifiers};
+use mqtt_topic_aliases::{Form, OtherBytes};
 use std::alloc::{AllocError, Global};
 use std::process::Abort;
 use std::test::Fail;
@@ -190,7 +193,17 @@ fn a_queued_copy_is_sent_as_it_was_measured(rt: HostRuntime) -> Result<(), Fail>
     let copy = copy(alloc, Qos::ExactlyOnce, &[], PassedOn::new())?;
     let row = CopyRow::new(alloc, 1, Phase::Waiting, copy)?;
     assert_eq!(rt; row_len(&row), 12);
-    let bytes = publish(alloc, 0, false, 1, row.copy());
+    assert_eq!(rt; row_in_len(Form::Plain, &row), Some(12));
+    assert_eq!(rt; row_in_len(Form::Named(1), &row), Some(15));
+    let want = OtherBytes {
+        properties: 0,
+        rest: 4,
+    };
+    assert_eq!(rt; row_other_bytes(&row), want);
+    let bytes = match row.whole() {
+        Some(copy) => publish(alloc, 0, false, 1, copy),
+        None => Err(AllocError),
+    };
     drop(row);
     let bytes = bytes?;
     let want = [

@@ -90,12 +90,11 @@ form_by_other largest told copy other is =
     ap (sizes.form_for largest told copy.content.topic) is ∙ sym (copy_by_sizes largest told copy copy.content.arrived 1 false)
 
 -- so it is by what was read of a row and a line
-pub form_seen : (most largest : ℕ) (told : ToldTopics) (first second copy : MessageCopy) (other : OtherBytes) → most ≡ largest → first ≡ copy → second ≡ copy
-    → other ≡ other_bytes second → sizes.form_for most told first.content.topic other ≡ form_of largest told copy
-form_seen most largest told first second copy other most_is first_is second_is is =
-    ap (λ n. sizes.form_for n told first.content.topic other) most_is
-    ∙ (ap (λ (x : MessageCopy). sizes.form_for largest told x.content.topic other) first_is
-    ∙ form_by_other largest told copy other (is ∙ ap other_bytes second_is))
+pub form_seen : (most largest : ℕ) (told : ToldTopics) (topic : List ℕ) (copy : MessageCopy) (other : OtherBytes) → most ≡ largest → topic ≡ copy.content.topic
+    → other ≡ other_bytes copy → sizes.form_for most told topic other ≡ form_of largest told copy
+form_seen most largest told topic copy other most_is topic_is is =
+    ap (λ n. sizes.form_for n told topic other) most_is
+    ∙ (ap (λ (t : List ℕ). sizes.form_for largest told t other) topic_is ∙ form_by_other largest told copy other is)
 
 -- what is due tells its topic to those behind it, if its form does
 pub told_due : (due : Bool) (found form : Option Form) (read topic : List ℕ) (told new : ToldTopics) → due ≡ true → found ≡ form → read ≡ topic
@@ -133,22 +132,19 @@ out_in n form p b out is there = record {
 }
 
 -- the form of a row that was read has a spelling
-pub spelled_row : (n : ℕ) (form : Form) (first second copy : MessageCopy) (b : Broker) → ((now id : ℕ) (dup : Bool) → form ≡ form_on n (published_of now dup id first) b)
-    → first ≡ copy → second ≡ copy → IsSpelled copy → IsSpelledIn form second
-spelled_row n form first second copy b is first_is second_is spelled =
-    subst (λ (x : MessageCopy). IsSpelledIn form x) (sym second_is)
-    (subst (λ (f : Form). IsSpelledIn f copy) (sym (is 0 0 false ∙ ap (λ (x : MessageCopy). form_on n (published_of 0 false 0 x) b) first_is))
-    (spelled_on n 0 0 false copy b spelled))
+pub spelled_row : (n : ℕ) (form : Form) (read copy : MessageCopy) (b : Broker) → ((now id : ℕ) (dup : Bool) → form ≡ form_on n (published_of now dup id read) b)
+    → read ≡ copy → IsSpelled copy → IsSpelledIn form read
+spelled_row n form read copy b is read_is spelled =
+    subst (λ (f : Form). IsSpelledIn f read) (sym (is 0 0 false)) (spelled_on n 0 0 false read b (subst IsSpelled (sym read_is) spelled))
 
 -- and in it the row goes out as it does on the line
-pub out_row : (n moment now id : ℕ) (dup : Bool) (form : Form) (first second copy : MessageCopy) (b : Broker) (out : Outgoing)
-    → ((now id : ℕ) (dup : Bool) → form ≡ form_on n (published_of now dup id first) b) → first ≡ copy → second ≡ copy → moment ≡ now
-    → IsOutgoingIn form (published_of moment dup id second) out → IsOutgoing n (published_of now dup id copy) b out
-out_row n moment now id dup form first second copy b out is first_is second_is moment_is made =
-    out_in n form (published_of now dup id copy) b out
-    (is now id dup ∙ ap (λ (x : MessageCopy). form_on n (published_of now dup id x) b) first_is)
-    (subst (λ (x : MessageCopy). IsOutgoingIn form (published_of now dup id x) out) second_is
-    (subst (λ (t : ℕ). IsOutgoingIn form (published_of t dup id second) out) moment_is made))
+pub out_row : (n moment now id : ℕ) (dup : Bool) (form : Form) (read copy : MessageCopy) (b : Broker) (out : Outgoing)
+    → ((now id : ℕ) (dup : Bool) → form ≡ form_on n (published_of now dup id read) b) → read ≡ copy → moment ≡ now
+    → IsOutgoingIn form (published_of moment dup id read) out → IsOutgoing n (published_of now dup id copy) b out
+out_row n moment now id dup form read copy b out is read_is moment_is made =
+    subst (λ (x : MessageCopy). IsOutgoing n (published_of now dup id x) b out) read_is
+    (out_in n form (published_of now dup id read) b out (is now id dup)
+    (subst (λ (t : ℕ). IsOutgoingIn form (published_of t dup id read) out) moment_is made))
 
 -- ---- the form stays
 

@@ -17,7 +17,7 @@ ghost use Rattle.mqtt_broker_queue.specs.Entering.{HasEnteredAt, HasRoomAt, IsBe
 use crate::queue::OnLine;
 use crate::turns::take_turns;
 use mqtt_base::QUEUE_LIMIT;
-use mqtt_broker_decisions::is_new;
+use mqtt_broker_decisions::is_new_id;
 use mqtt_broker_step::{Step, StepFault};
 use mqtt_flow::{QueueLimits, Turn, look_enter};
 use mqtt_flow_inbound::FlowFault;
@@ -50,7 +50,7 @@ pub(crate) fn beginning(step: &Step) -> Began
 fn is_new_row(began: Began, row: &CopyRow) -> bool
     ensures { (start : Records) → IsBegun began start → result ≡ is_new start row.now.copy }
 {
-    is_new(began.publications, began.subscribes, row.copy())
+    is_new_id(began.publications, began.subscribes, row.id())
 }
 
 /// The place of the first copy that was made in the step.

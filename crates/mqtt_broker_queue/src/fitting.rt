@@ -10,8 +10,8 @@ ghost use Rattle.mqtt_broker_step.specs.Undoing.{moment_of};
 ghost use Rattle.mqtt_broker_queue.specs.Fitting.{fitting, listed};
 
 use mqtt_base::Phase;
-use mqtt_broker_decisions::is_expired;
-use mqtt_broker_packets::{other_bytes, publish_in_len, row_len};
+use mqtt_broker_decisions::is_past;
+use mqtt_broker_packets::{row_in_len, row_len, row_other_bytes};
 use mqtt_broker_step::{LineState, Places, Step, StepFault};
 use mqtt_records_message::CopyRow;
 use mqtt_records_rows::Boxed;
@@ -27,7 +27,7 @@ fn is_due(now: u64, went: &Places, row: &CopyRow) -> bool
     ensures { result ≡ is_due now went.now row.now }
 {
     match row.phase() {
-        Phase::Waiting => !is_expired(now, &row.copy().content),
+        Phase::Waiting => !is_past(now, row.arrived(), row.expiry()),
         Phase::Sent { .. } => !went.contains(row.place()),
         Phase::Released { .. } | Phase::Oversize { .. } => false,
     }
@@ -49,10 +49,8 @@ fn form_behind(
 {
     // This shows that the copy's PUBLISH has a spelling.
     let _spelled = row.size();
-    let topic = &row.copy().content.topic;
-    let Some(other) = other_bytes(row.copy()) else {
-        unreachable!();
-    };
+    let topic = row.topic();
+    let other = row_other_bytes(row);
     if !is_due(now, state.went(), row) {
         return Ok(told.form_for(state.largest(), topic, other));
     }
@@ -79,7 +77,7 @@ fn push_listed(
     if row_len(row) <= largest {
         return Ok(());
     }
-    let Some(size) = publish_in_len(form, row.copy()) else {
+    let Some(size) = row_in_len(form, row) else {
         unreachable!();
     };
     sizes.push((row.place(), size as u32))?;

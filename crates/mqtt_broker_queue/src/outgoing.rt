@@ -75,7 +75,8 @@ fn outgoing(
     })
 }
 
-/// The PUBLISH of a copy in a queue as it goes out on a line at the moment of the step.
+/// The PUBLISH of a copy in a queue as it goes out on a line at the moment of the step. A row that doesn't have what is
+/// sent is refused as for want of memory.
 pub(crate) fn outgoing_row(
     alloc: Global,
     step: &Step,
@@ -89,8 +90,11 @@ pub(crate) fn outgoing_row(
 {
     // This shows that the copy's PUBLISH has a spelling.
     let _spelled = row.size();
-    let form = form_on(step, line, row.copy());
-    outgoing(alloc, step.moment(), dup, identifier, form, row.copy())
+    let Some(copy) = row.whole() else {
+        return Err(AllocError);
+    };
+    let form = form_on(step, line, copy);
+    outgoing(alloc, step.moment(), dup, identifier, form, copy)
 }
 
 /// A copy of QoS 0, whose PUBLISH has a spelling, goes out on a line in the first of its forms that is within what the

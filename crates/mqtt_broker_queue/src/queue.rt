@@ -4,11 +4,9 @@ ghost use Rattle.mqtt_rules.specs.Fitting.{size_at, sized};
 ghost use Rattle.mqtt_broker_queue.specs.Queues.{LineView};
 
 use mqtt_base::{Phase, Qos};
-use mqtt_broker_decisions::number_at;
 use mqtt_broker_packets::row_len;
 use mqtt_broker_step::Places;
 use mqtt_flow::QueueView;
-use mqtt_props::PropName;
 use mqtt_records_message::CopyRow;
 use mqtt_records_rows::Boxed;
 use std::marker::Model;
@@ -67,7 +65,7 @@ impl<'a> QueueView for OnLine<'a> {
         ensures { (view : LineView)
             → result ≡ (sized (size_at view.sizes) view.went row.now).copy.qos }
     {
-        row.get().copy().qos
+        row.get().qos()
     }
 
     fn size(&self, row: &Boxed<CopyRow>) -> u32 {
@@ -78,15 +76,14 @@ impl<'a> QueueView for OnLine<'a> {
         ensures { (view : LineView)
             → result ≡ (sized (size_at view.sizes) view.went row.now).copy.arrived }
     {
-        row.get().copy().content.arrived
+        row.get().arrived()
     }
 
     fn expiry(row: &Boxed<CopyRow>) -> Option<u32>
         ensures { (view : LineView)
             → result ≡ (sized (size_at view.sizes) view.went row.now).copy.expiry }
     {
-        let list = row.get().copy().content.properties.lend();
-        number_at(&list, PropName::MessageExpiryInterval)
+        row.get().expiry()
     }
 
     fn here(&self, row: &Boxed<CopyRow>) -> bool {

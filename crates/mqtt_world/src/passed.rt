@@ -15,7 +15,7 @@ use mqtt_world_scene::Scene;
 fn copy_passes_on(row: &Boxed<CopyRow>)
     ensures { IsPassedOn row.now.copy.content.properties }
 {
-    row.get().copy().content.properties.lend();
+    row.get().passes_on();
 }
 
 /// The copies of a queue. Takes no memory.

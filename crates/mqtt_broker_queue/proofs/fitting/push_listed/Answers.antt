@@ -1,6 +1,4 @@
-use Rattle.std.proofs.Common.{[], ◌∷◌, ◌++◌, ap, subst, sym, ◌∙◌}
-use Rattle.mqtt_records_message.specs.declared.message.MessageCopy.{MessageCopy}
-use Rattle.mqtt_broker_packets.specs.Frames.{IsSizeIn}
+use Rattle.std.proofs.Common.{[], ◌∷◌, ◌++◌, ap, sym, ◌∙◌}
 use Rattle.mqtt_broker_queue.specs.Fitting.{listed}
 use Rattle.mqtt_broker_queue.proofs.Listed.{listed_at, listed_not}
 use Rattle.mqtt_broker_queue.proofs.fitting.push_listed.Goals as goal
@@ -12,8 +10,8 @@ returns-then-row_len-largest-clause-ok c =
 pub returns-clause-ok : goal.returns-clause-ok
 returns-clause-ok c =
     let e = c.args.row.now in
-    let size = c.in-Some-publish_in_len.size in
-    let bytes = subst (λ (copy : MessageCopy). IsSizeIn c.in-Some.form copy size) c.copy.ensures c.in-Some-publish_in_len.ensures.exact in
+    let size = c.in-Some-row_in_len.size in
+    let bytes = c.in-Some-row_in_len.ensures.exact in
     c.in_ok-push.ensures.items
     ∙ ap (λ rows. c.args.sizes.now.items ++ rows)
     (ap (λ place. (place, size) ∷ []) c.place.ensures
