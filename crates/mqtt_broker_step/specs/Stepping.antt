@@ -3,7 +3,10 @@ use Rattle.std.specs.Prelude.{◌≡◌, ℕ, true, false, List, [], ◌∷◌, 
 use Rattle.mqtt_codec.specs.declared.packet.Packet.{Packet}
 use Rattle.mqtt_codec.specs.Packets.{shortest_of}
 use Rattle.mqtt_records.specs.declared.change.Change.{Change}
-use Rattle.mqtt_records.specs.Records.{changed_all}
+use Rattle.mqtt_records.specs.declared.records.Records.{Records}
+use Rattle.mqtt_records.specs.Contents.{FitContents}
+use Rattle.mqtt_records.specs.Records.{FitAll, changed_all}
+use Rattle.mqtt_records.specs.Saying.{AllSayable}
 use Rattle.mqtt_rules.specs.declared.Limits.{Limits}
 use Rattle.mqtt_rules.specs.declared.Report.{Report}
 use Rattle.mqtt_rules.specs.State.{Broker, Env, MemberChoice}
@@ -113,3 +116,10 @@ at_rest limits b = record { limits = limits; start = b; broker = b; rows = []; o
 pub record IsStep (start broker : Broker) (rows : List Change) : Type 0 where
   pub made : changed_all rows start.records ≡ broker.records
   pub unspent : is_spent rows ≡ false
+
+-- what a step's rows have to be so that a store which holds these records makes of them what they say: they fit, can be
+-- said in a table, and say what is said under a publication's number
+pub record CanStore (rows : List Change) (r : Records) : Type 0 where
+  pub fit : FitAll rows r
+  pub sayable : AllSayable rows
+  pub contents : FitContents rows r

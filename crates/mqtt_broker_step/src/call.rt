@@ -1,12 +1,10 @@
 //! A step begins at a moment, and ends: the store is told, and it is done or taken back (MQTT 5.0, 4.1).
 ghost use Rattle.std.specs.Prelude.{◌≡◌, ◌≢◌, ◌⊎◌, false, IfOk, IfErr, OnOk, OnErr, IsErrOf};
 ghost use Rattle.mqtt_records.specs.declared.records.Records.{Records};
-ghost use Rattle.mqtt_records.specs.Records.{changed_all, FitAll};
-ghost use Rattle.mqtt_records.specs.Contents.{FitContents};
-ghost use Rattle.mqtt_records.specs.Saying.{AllSayable};
+ghost use Rattle.mqtt_records.specs.Records.{changed_all};
 ghost use Rattle.mqtt_rules.specs.Step.{at_moment, is_spent};
 ghost use Rattle.mqtt_broker_step.specs.Undoing.{moment_of};
-ghost use Rattle.mqtt_broker_step.specs.Stepping.{at_rest, with_broker, with_stamp};
+ghost use Rattle.mqtt_broker_step.specs.Stepping.{CanStore, at_rest, with_broker, with_stamp};
 
 use crate::fault::StepFault;
 use crate::step::Step;
@@ -112,32 +110,31 @@ impl Step {
     }
 }
 
-/// Tells the store of a step that was done in place. The step's rows have to fit, to be such as can be said in a
-/// table, and to say what is said under a publication's number. If the store refuses, the step is taken back, and the store's own refusal is answered.
-/// `Memory` (1) and `Size` (3): nothing changed, here or there. `Disk` (2): the device failed.
+/// Tells the store of a step that was done in place. The store may hold more than the tables say: what it holds then is
+/// promised if the step's rows can be stored over what it held. If it refuses, the step is taken back, and its own refusal
+/// is answered. `Memory` (1) and `Size` (3): nothing changed, here or there. `Disk` (2): the device failed.
 pub fn commit_kept<K: Keep>(keep: &mut K, step: &mut Step) -> Result<Outcome, KeepError>
     requires loaded { K.is_loaded keep.old }
-    requires holds { K.holds keep.old step.old.start.records }
-    requires fit { is_spent step.old.rows ≡ false
-        → FitAll step.old.rows step.old.start.records }
-    requires sayable { AllSayable step.old.rows }
-    requires contents { FitContents step.old.rows step.old.start.records }
 
-    // None of the rows gives a number above the last.
+    // The rows make of the start what is stored now, and none gives a number above the last.
+    ensures made { changed_all step.old.rows step.old.start.records
+        ≡ step.old.broker.records }
     ensures unspent { is_spent step.old.rows ≡ false }
     ensures outputs { IfOk result (λ out. out.outputs.items ≡ step.old.outputs) }
     ensures closed { IfOk result (λ out. out.closed.items ≡ step.old.closed) }
     ensures reports { IfOk result (λ out. out.reports.items ≡ step.old.reports) }
     ensures done { OnOk result (step.new ≡ at_rest step.old.limits step.old.broker) }
 
-    // The store holds what is stored after the step.
-    ensures stored { OnOk result (K.is_loaded keep.new
-        × K.holds keep.new step.old.broker.records) }
+    // Whatever the store held, if the rows can be stored over it, it holds what they make of it.
+    ensures stored { (r : Records) → K.holds keep.old r → CanStore step.old.rows r
+        → OnOk result (K.is_loaded keep.new
+        × K.holds keep.new (changed_all step.old.rows r)) }
 
     // Without the store's Ok nothing changed here, and after want of memory or of room nothing there.
     ensures same { OnErr result (step.new ≡ at_rest step.old.limits step.old.start) }
-    ensures memory { IsErrOf result KeepError.Memory ⊎ IsErrOf result KeepError.Size
-        → K.is_loaded keep.new × K.holds keep.new step.old.start.records }
+    ensures memory { (r : Records) → K.holds keep.old r → CanStore step.old.rows r
+        → IsErrOf result KeepError.Memory ⊎ IsErrOf result KeepError.Size
+        → K.is_loaded keep.new × K.holds keep.new r }
     ensures refused { (IsErrOf result KeepError.Corrupt → ⊥)
         × (IsErrOf result KeepError.Schema → ⊥) }
 
@@ -145,9 +142,9 @@ pub fn commit_kept<K: Keep>(keep: &mut K, step: &mut Step) -> Result<Outcome, Ke
     ensures cause { IsErrOf result KeepError.Disk ⊎ IsErrOf result KeepError.Size
         → K.counted keep.new ≢ K.counted keep.old }
 
-    // A crash leaves what was stored before the step or after it.
-    ensures crash { (left : Records) → K.leaves keep.new left
-        → (left ≡ step.old.start.records) ⊎ (left ≡ step.old.broker.records) }
+    // A crash leaves what the store held before the step or after it.
+    ensures crash { (r left : Records) → K.holds keep.old r → CanStore step.old.rows r
+        → K.leaves keep.new left → (left ≡ r) ⊎ (left ≡ changed_all step.old.rows r) }
     ensures sound { K.is_sound keep.new → K.is_sound keep.old }
 {
     match keep.apply(step.rows()) {
@@ -159,41 +156,39 @@ pub fn commit_kept<K: Keep>(keep: &mut K, step: &mut Step) -> Result<Outcome, Ke
     }
 }
 
-/// Tells the store of a step that was done in place. The step's rows have to fit, to be such as can be said in a
-/// table, and to say what is said under a publication's number. If the store refuses, the step is taken back.
-/// `Memory` (1): nothing changed, here or there. `Stopped` (2): the store failed.
+/// Tells the store of a step that was done in place. The store may hold more than the tables say: what it holds then is
+/// promised if the step's rows can be stored over what it held. If it refuses, the step is taken back. `Memory` (1):
+/// nothing changed, here or there. `Stopped` (2): the store failed.
 pub fn commit<K: Keep>(keep: &mut K, step: &mut Step) -> Result<Outcome, EngineError>
     requires loaded { K.is_loaded keep.old }
-    requires holds { K.holds keep.old step.old.start.records }
-    requires fit { is_spent step.old.rows ≡ false
-        → FitAll step.old.rows step.old.start.records }
-    requires sayable { AllSayable step.old.rows }
-    requires contents { FitContents step.old.rows step.old.start.records }
 
-    // None of the rows gives a number above the last.
+    // The rows make of the start what is stored now, and none gives a number above the last.
+    ensures made { changed_all step.old.rows step.old.start.records
+        ≡ step.old.broker.records }
     ensures unspent { is_spent step.old.rows ≡ false }
     ensures outputs { IfOk result (λ out. out.outputs.items ≡ step.old.outputs) }
     ensures closed { IfOk result (λ out. out.closed.items ≡ step.old.closed) }
     ensures reports { IfOk result (λ out. out.reports.items ≡ step.old.reports) }
     ensures done { OnOk result (step.new ≡ at_rest step.old.limits step.old.broker) }
 
-    // The store holds what is stored after the step.
-    ensures stored { OnOk result (K.is_loaded keep.new
-        × K.holds keep.new step.old.broker.records) }
+    // Whatever the store held, if the rows can be stored over it, it holds what they make of it.
+    ensures stored { (r : Records) → K.holds keep.old r → CanStore step.old.rows r
+        → OnOk result (K.is_loaded keep.new
+        × K.holds keep.new (changed_all step.old.rows r)) }
 
     // Without the store's Ok nothing changed here, and after want of memory nothing there.
     ensures same { OnErr result (step.new ≡ at_rest step.old.limits step.old.start) }
-    ensures memory { IsErrOf result EngineError.Memory
-        → K.is_loaded keep.new × K.holds keep.new step.old.start.records }
+    ensures memory { (r : Records) → K.holds keep.old r → CanStore step.old.rows r
+        → IsErrOf result EngineError.Memory → K.is_loaded keep.new × K.holds keep.new r }
     ensures spent { IsErrOf result EngineError.Spent → ⊥ }
 
     // It stops only if the store counted a failure.
     ensures cause { IsErrOf result EngineError.Stopped
         → K.counted keep.new ≢ K.counted keep.old }
 
-    // A crash leaves what was stored before the step or after it.
-    ensures crash { (left : Records) → K.leaves keep.new left
-        → (left ≡ step.old.start.records) ⊎ (left ≡ step.old.broker.records) }
+    // A crash leaves what the store held before the step or after it.
+    ensures crash { (r left : Records) → K.holds keep.old r → CanStore step.old.rows r
+        → K.leaves keep.new left → (left ≡ r) ⊎ (left ≡ changed_all step.old.rows r) }
 
     // A device that is sound after the call was sound before it.
     ensures sound { K.is_sound keep.new → K.is_sound keep.old }

@@ -56,7 +56,7 @@ fn ended(session: &Session, row: &CopyRow, ending: Ending) -> Result<Report, All
         ≡ reports.Ended row.now.copy.id session.now.client ending) }
 {
     let client = session.client.clone()?;
-    match row.copy().id.clone() {
+    match row.id().clone() {
         Ok(copy) => Ok(Report::Ended {
             copy,
             client,
