@@ -16,11 +16,11 @@ use Rattle.mqtt_broker_step.specs.declared.call.EngineError.{EngineError}
 use Rattle.mqtt_broker_step.specs.declared.call.EngineError.TheVariants.{Memory, Stopped, Spent}
 use Rattle.mqtt_broker.specs.Framers.{HeldLine, changed_at, framing_at, line_of}
 use Rattle.mqtt_broker_engine.specs.declared.outcome.Outcome.{Outcome}
-use Rattle.mqtt_broker_engine.specs.Calling.{KeepsLines, Tells}
+use Rattle.mqtt_broker_engine.specs.Calling.{IsAnswered, KeepsLines, Tells}
 use Rattle.mqtt_broker_engine.specs.Running.{Running}
-use Rattle.mqtt_broker.specs.Asking.{CalledIf}
-use Rattle.mqtt_broker.specs.Piece.{IsLeftByAny, IsPieceAnswered, IsSpentBy, PieceCalled}
-use Rattle.mqtt_broker.specs.Serving.{IsOfLines, serving, without_closed}
+use Rattle.mqtt_broker.specs.Asking.{CalledIf, Rested}
+use Rattle.mqtt_broker.specs.Piece.{IsLeftByAny, IsPieceAnswered, IsPieceAnsweredForLines, IsSpentBy, PieceCalled}
+use Rattle.mqtt_broker.specs.Serving.{IsOfLines, Serving, serving, without_closed}
 use Rattle.mqtt_broker.proofs.Framings.{fed_long, framing_changed, none_ended, numbers_stay, taken_within, unchanged, whole_left}
 use Rattle.mqtt_broker.proofs.Lent.{returned, returned_same}
 use Rattle.mqtt_broker.proofs.Left.{is_linked}
@@ -38,20 +38,18 @@ pub record IsDone (limits : Limits) (old : Broker) (now : ℕ) (call : Option Ca
   pub closed : out.closed.items ≡ (told_if limits choice now call old).closed
   pub reports : out.reports.items ≡ (told_if limits choice now call old).reports
 
--- a call that was answered, or none, is such a step
-pub done_of : {K : Type 0} (g : Ghosts K) (now : ℕ) (call : Option Call) (old : Running K) (out : Outcome) (new : Running K)
-    → CalledIf g now call old (Ok out) new → IsDone old.limits old.broker now call out new.broker
-done_of g now None old out new h = record {
-  choice = λ number sender. [];
-  unspent = refl;
-  new_is = ap (λ (r : Running _). r.broker) h.told.1;
-  outputs = h.told.0.outputs;
-  closed = h.told.0.closed;
-  reports = h.told.0.reports;
-}
-done_of g now (Some call) old out new h =
-    let s = h.step.step in
-    let tells = h.step.tells in record {
+-- for a broker with the same lines there is such a step
+pub record IsDoneForLines (limits : Limits) (old : Broker) (now : ℕ) (call : Option Call) (out : Outcome) (new : Broker) : Type 0 where
+  pub before : Broker
+  pub after : Broker
+  pub begins : KeepsLines old before
+  pub done : IsDone limits before now call out after
+  pub ends : KeepsLines after new
+
+done_by : (limits : Limits) (old : Broker) (now : ℕ) (call : Call) (out : Outcome) (new : Broker) → IsAnswered limits old now call out new → IsDone limits old now (Some call) out new
+done_by limits old now call out new h =
+    let s = h.step in
+    let tells = h.tells in record {
       choice = s.choice;
       unspent = s.unspent;
       new_is = s.new_is;
@@ -59,6 +57,31 @@ done_of g now (Some call) old out new h =
       closed = tells.closed ∙ ap (λ (t : Told). t.closed) s.out_is;
       reports = tells.reports ∙ ap (λ (t : Told). t.reports) s.out_is;
     }
+
+rested_done : {K : Type 0} (now : ℕ) (old : Running K) (out : Outcome) (new : Running K) → Rested now old (Ok out) new → IsDone old.limits old.broker now None out new.broker
+rested_done now old out new h = record {
+  choice = λ number sender. [];
+  unspent = refl;
+  new_is = ap (λ (r : Running _). r.broker) h.told.1;
+  outputs = h.told.0.outputs;
+  closed = h.told.0.closed;
+  reports = h.told.0.reports;
+}
+
+-- a call that was answered, or none, is such a step, if the device is sound
+pub done_of : {K : Type 0} (g : Ghosts K) (now : ℕ) (call : Option Call) (old : Running K) (out : Outcome) (new : Running K)
+    → CalledIf g now call old (Ok out) new → g.is_sound new.keep → IsDone old.limits old.broker now call out new.broker
+done_of g now None old out new h sound = rested_done now old out new h
+done_of g now (Some call) old out new h sound = done_by old.limits old.broker now call out new.broker (h.truly sound).step
+
+-- and for a broker with the same lines it is one anyhow
+pub done_for_lines : {K : Type 0} (g : Ghosts K) (now : ℕ) (call : Option Call) (old : Running K) (out : Outcome) (new : Running K)
+    → CalledIf g now call old (Ok out) new → IsDoneForLines old.limits old.broker now call out new.broker
+done_for_lines g now None old out new h =
+    record { before = old.broker; after = new.broker; begins = (refl, refl); done = rested_done now old out new h; ends = (refl, refl) }
+done_for_lines g now (Some call) old out new h =
+    let a = h.answered in
+    record { before = a.before; after = a.after; begins = a.begins; done = done_by old.limits a.before now call out a.after a.answered; ends = a.ends }
 
 -- below a number, by their numbers
 below_numbers : (n : ℕ) (xs ys : List HeldLine) → map line_of xs ≡ map line_of ys → IsBelow line_of n ys → IsBelow line_of n xs
@@ -114,45 +137,58 @@ cond_and : (x y : Bool) → cond x y false ≡ (x && y)
 cond_and true y = refl
 cond_and false y = refl
 
+-- what each line holds once what the line's bytes ask with the piece behind them is answered
+abbrev answered_at : ℕ → List ℕ → List HeldLine → List HeldLine
+answered_at line piece held = changed_at line (λ f. without_first (fed piece (framing_at line held))) held
+
+-- the answer is that of the rules
+piece_answered : {K : Type 0} (now line : ℕ) (piece : List ℕ) (old new : Running K) (held : List HeldLine) → IsOfLines held old.broker → has_row line_of line held ≡ true
+    → (told : Outcome) (count : ℕ) (again : Bool) → IsDone old.limits old.broker now (call_on (line_at line old.broker) piece (framing_at line held)) told new.broker
+    → IsOfLines (without_closed told.closed.items (answered_at line piece held)) new.broker
+    → count ≡ bytes_taken (framing_at line held).held piece
+    → again ≡ is_whole (first_of (framing_at line (without_closed told.closed.items (answered_at line piece held))).held)
+    → IsPieceAnswered now line piece (serving old held) (record told { taken = count; again = again }) (serving new (without_closed told.closed.items (answered_at line piece held)))
+piece_answered now line piece old new held lines linked told count again done after taken whole =
+    let its = framing_at line held in
+    let call = call_on (line_at line old.broker) piece its in
+    let all = answered_at line piece held in
+    let rest = without_first (fed piece its) in
+    let framing_then : framing_at line all ≡ rest = framing_changed line (λ f. rest) held linked in
+    let held_by : held_on (line_at line old.broker) piece its ≡ rest = held_is line piece old.broker held lines linked in
+    record {
+      after = pieced old.limits done.choice now line piece its old.broker;
+      step = record { choice = done.choice; unspent = done.unspent; is = refl };
+      broker = done.new_is;
+      tells = record {
+        outputs = done.outputs;
+        closed = done.closed;
+        reports = done.reports;
+        taken = taken ∙ sym (taken_is line piece old.broker held lines linked);
+        again =
+            whole
+            ∙ whole_left told.closed.items line all (is_some (line_at line new.broker)) (is_linked line (without_closed told.closed.items all) new.broker after)
+            ∙ cond_and (is_some (line_at line new.broker)) (is_whole (first_of (framing_at line all).held))
+            ∙ ap (λ (b : Broker). is_some (line_at line b) && is_whole (first_of (framing_at line all).held)) done.new_is
+            ∙ ap (λ (f : Framing). is_some (line_at line (stepped_if old.limits done.choice now call old.broker)) && is_whole (first_of f.held)) (framing_then ∙ sym held_by);
+      };
+      held = ap (λ (f : Framing). without_closed told.closed.items (changed_at line (λ framing. f) held)) (sym held_by);
+    }
+
+-- what is answered for an engine's broker is answered for its lines
+for_its_lines : {K : Type 0} (now line : ℕ) (piece : List ℕ) (old : Serving K) (out : Outcome) (new : Serving K) → IsPieceAnswered now line piece old out new
+    → IsPieceAnsweredForLines now line piece old out new
+for_its_lines now line piece old out new h = record { before = old.running.broker; after = new.running.broker; begins = (refl, refl); answered = h; ends = (refl, refl) }
+
 module _ {K : Type 0} (g : Ghosts K) (now line : ℕ) (piece : List ℕ) (old new : Running K) (held : List HeldLine)
     (lines : IsOfLines held old.broker) (linked : has_row line_of line held ≡ true) where
   abbrev its_framing : Framing
   its_framing = framing_at line held
 
   abbrev its_held : List HeldLine
-  its_held = changed_at line (λ f. without_first (fed piece (framing_at line held))) held
+  its_held = answered_at line piece held
 
   abbrev its_call : Option Call
   its_call = call_on (line_at line old.broker) piece its_framing
-
-  -- the answer is that of the rules
-  piece_answered : (told : Outcome) (count : ℕ) (again : Bool) → IsDone old.limits old.broker now its_call told new.broker
-      → IsOfLines (without_closed told.closed.items its_held) new.broker
-      → count ≡ bytes_taken its_framing.held piece
-      → again ≡ is_whole (first_of (framing_at line (without_closed told.closed.items its_held)).held)
-      → IsPieceAnswered now line piece (serving old held) (record told { taken = count; again = again }) (serving new (without_closed told.closed.items its_held))
-  piece_answered told count again done after taken whole =
-      let rest = without_first (fed piece its_framing) in
-      let framing_then : framing_at line its_held ≡ rest = framing_changed line (λ f. rest) held linked in
-      let held_by : held_on (line_at line old.broker) piece its_framing ≡ rest = held_is line piece old.broker held lines linked in
-      record {
-        after = pieced old.limits done.choice now line piece its_framing old.broker;
-        step = record { choice = done.choice; unspent = done.unspent; is = refl };
-        broker = done.new_is;
-        tells = record {
-          outputs = done.outputs;
-          closed = done.closed;
-          reports = done.reports;
-          taken = taken ∙ sym (taken_is line piece old.broker held lines linked);
-          again =
-              whole
-              ∙ whole_left told.closed.items line its_held (is_some (line_at line new.broker)) (is_linked line (without_closed told.closed.items its_held) new.broker after)
-              ∙ cond_and (is_some (line_at line new.broker)) (is_whole (first_of (framing_at line its_held).held))
-              ∙ ap (λ (b : Broker). is_some (line_at line b) && is_whole (first_of (framing_at line its_held).held)) done.new_is
-              ∙ ap (λ (f : Framing). is_some (line_at line (stepped_if old.limits done.choice now its_call old.broker)) && is_whole (first_of f.held)) (framing_then ∙ sym held_by);
-        };
-        held = ap (λ (f : Framing). without_closed told.closed.items (changed_at line (λ framing. f) held)) (sym held_by);
-      }
 
   lines_if : (call : Option Call) (told : Outcome) (hs : List HeldLine) → ((c : Call) → call ≡ Some c → IsOld c) → CalledIf g now call old (Ok told) new → IsOfLines hs old.broker
       → IsOfLines (without_closed told.closed.items hs) new.broker
@@ -161,29 +197,53 @@ module _ {K : Type 0} (g : Ghosts K) (now line : ℕ) (piece : List ℕ) (old ne
   lines_if (Some c) told hs is h up =
       of_lines_called g now c old new hs (without_closed told.closed.items hs) (Ok told) (is c refl) h refl tt up
 
-  module _ (running : old.stopped ≡ false) (holds : g.holds old.keep old.broker.records)
-      (found : (left : Records) → g.leaves old.keep left → left ≡ old.broker.records) where
-    stored_if : (call : Option Call) (told : Outcome) → CalledIf g now call old (Ok told) new → (new.stopped ≡ false) × g.holds new.keep new.broker.records
-    stored_if None told h = (
-      ap (λ (r : Running K). r.stopped) h.told.1 ∙ running,
-      subst (λ (r : Running K). g.holds r.keep r.broker.records) (sym h.told.1) holds,
-    )
-    stored_if (Some c) told h = h.stored
+  -- for a broker with the same lines it is answered so
+  for_lines : (call : Option Call) (told : Outcome) (count : ℕ) (again : Bool) → its_call ≡ call → ((c : Call) → call ≡ Some c → IsOld c) → CalledIf g now call old (Ok told) new
+      → count ≡ bytes_taken its_framing.held piece
+      → again ≡ is_whole (first_of (framing_at line (without_closed told.closed.items its_held)).held)
+      → IsPieceAnsweredForLines now line piece (serving old held) (record told { taken = count; again = again }) (serving new (without_closed told.closed.items its_held))
+  for_lines call told count again same is h taken whole =
+      let a = done_for_lines g now call old told new h in
+      let rest = without_closed told.closed.items its_held in
+      let up = lines_if call told its_held is h (changed_lines line piece old.broker held lines linked (λ f. without_first (fed piece (framing_at line held)))) in
+      let asked : call_on (line_at line a.before) piece its_framing ≡ call =
+      ap (λ (ls : List Line). call_on (line_at line (record old.broker { lines = ls })) piece its_framing) a.begins.0 ∙ same in
+      record {
+        before = a.before;
+        after = a.after;
+        begins = a.begins;
+        answered = piece_answered now line piece (record old { broker = a.before }) (record new { broker = a.after }) held (of_lines_kept held old.broker a.before a.begins lines) linked
+            told count again (subst (λ (o : Option Call). IsDone old.limits a.before now o told a.after) (sym asked) a.done)
+            (of_lines_kept rest new.broker a.after (sym a.ends.0, sym a.ends.1) up) taken whole;
+        ends = a.ends;
+      }
+
+  module _ (running : old.stopped ≡ false) (holds : g.is_sound old.keep → g.holds old.keep old.broker.records)
+      (found : g.is_sound old.keep → (left : Records) → g.leaves old.keep left → left ≡ old.broker.records) where
+    sound_if : (call : Option Call) (r : Result Outcome EngineError) → CalledIf g now call old r new → g.is_sound new.keep → g.is_sound old.keep
+    sound_if None (Ok told) h s = subst (λ (r : Running K). g.is_sound r.keep) h.told.1 s
+    sound_if None (Err e) h s = subst (λ (r : Running K). g.is_sound r.keep) h.memory.1 s
+    sound_if (Some c) r h s = h.sound s
+
+    stored_if : (call : Option Call) (told : Outcome) → CalledIf g now call old (Ok told) new → g.is_sound new.keep → g.holds new.keep new.broker.records
+    stored_if None told h sound = subst (λ (r : Running K). g.holds r.keep r.broker.records) (sym h.told.1) (holds (sound_if None (Ok told) h sound))
+    stored_if (Some c) told h sound = (h.truly sound).stored
+
+    runs_if : (call : Option Call) (r : Result Outcome EngineError) → CalledIf g now call old r new → (IsErrOf r Stopped → ⊥) → new.stopped ≡ false
+    runs_if None (Ok told) h other = ap (λ (r : Running K). r.stopped) h.told.1 ∙ running
+    runs_if None (Err e) h other = ap (λ (r : Running K). r.stopped) h.memory.1 ∙ running
+    runs_if (Some c) r h other = h.runs other
 
     limits_if : (call : Option Call) (r : Result Outcome EngineError) → CalledIf g now call old r new → new.limits ≡ old.limits
     limits_if None (Ok told) h = ap (λ (r : Running K). r.limits) h.told.1
     limits_if None (Err e) h = ap (λ (r : Running K). r.limits) h.memory.1
     limits_if (Some c) r h = h.limits
 
-    crash_if : (call : Option Call) (r : Result Outcome EngineError) → CalledIf g now call old r new → (left : Records) → g.leaves new.keep left → IsLeftByAny old.limits old.broker now call left
-    crash_if None (Ok told) h left may = found left (subst (λ (r : Running K). g.leaves r.keep left) h.told.1 may)
-    crash_if None (Err e) h left may = found left (subst (λ (r : Running K). g.leaves r.keep left) h.memory.1 may)
-    crash_if (Some c) r h left may = h.crash running left may
-
-    sound_if : (call : Option Call) (r : Result Outcome EngineError) → CalledIf g now call old r new → g.is_sound new.keep → g.is_sound old.keep
-    sound_if None (Ok told) h s = subst (λ (r : Running K). g.is_sound r.keep) h.told.1 s
-    sound_if None (Err e) h s = subst (λ (r : Running K). g.is_sound r.keep) h.memory.1 s
-    sound_if (Some c) r h s = h.sound s
+    crash_if : (call : Option Call) (r : Result Outcome EngineError) → CalledIf g now call old r new → g.is_sound new.keep → (left : Records) → g.leaves new.keep left
+        → IsLeftByAny old.limits old.broker now call left
+    crash_if None (Ok told) h sound left may = found (sound_if None (Ok told) h sound) left (subst (λ (r : Running K). g.leaves r.keep left) h.told.1 may)
+    crash_if None (Err e) h sound left may = found (sound_if None (Err e) h sound) left (subst (λ (r : Running K). g.leaves r.keep left) h.memory.1 may)
+    crash_if (Some c) r h sound left may = (h.truly sound).crash running left may
 
     not_running : {X : Type 0} → old.stopped ≡ true → X
     not_running s = let clash : true ≡ false = sym s ∙ running in absurd cc
@@ -195,39 +255,41 @@ module _ {K : Type 0} (g : Ghosts K) (now line : ℕ) (piece : List ℕ) (old ne
         → PieceCalled g now line piece (serving old held) (Ok (record told { taken = count; again = again })) (serving new (without_closed told.closed.items its_held))
     piece_ok call told count again same is h taken whole =
         let after = lines_if call told its_held is h (changed_lines line piece old.broker held lines linked (λ f. without_first (fed piece its_framing))) in
-        let done = subst (λ (o : Option Call). IsDone old.limits old.broker now o told new.broker) (sym same) (done_of g now call old told new h) in
         let out : Outcome = record told { taken = count; again = again } in
         record {
-          step = piece_answered told count again done after taken whole;
-          stored = stored_if call told h;
-          limits = limits_if call (Ok told) h;
-          same = λ other. tt;
+          truly = λ sound. record {
+            step = piece_answered now line piece old new held lines linked told count again
+                (subst (λ (o : Option Call). IsDone old.limits old.broker now o told new.broker) (sym same) (done_of g now call old told new h sound)) after taken whole;
+            stored = stored_if call told h sound;
+            same = λ other. tt;
+            kept = λ other. tt;
+            spent = λ e. absurd (not_refused out Spent e);
+            crash = λ run left may. subst (λ (o : Option Call). IsLeftByAny old.limits old.broker now o left) (sym same) (crash_if call (Ok told) h sound left may);
+          };
+          answered = for_lines call told count again same is h taken whole;
           lines = tt;
           kept = tt;
-          memory = λ e. absurd (not_refused out Memory e);
-          spent = λ e. absurd (not_refused out Spent e);
+          runs = λ other. runs_if call (Ok told) h (λ e. not_refused told Stopped e);
+          limits = limits_if call (Ok told) h;
           stopped = λ e. absurd (not_refused out Stopped e);
           cause = λ e. absurd (not_refused out Stopped e);
           still = λ s. not_running s;
-          crash = λ run left may. subst (λ (o : Option Call). IsLeftByAny old.limits old.broker now o left) (sym same) (crash_if call (Ok told) h left may);
           sound = sound_if call (Ok told) h;
         }
 
-    same_if : (call : Option Call) (error : EngineError) → CalledIf g now call old (Err error) new
+    same_if : (call : Option Call) (error : EngineError) → CalledIf g now call old (Err error) new → g.is_sound new.keep
         → (IsErrOf {T = Outcome} (Err error) Stopped → ⊥) → new.broker ≡ old.broker
-    same_if None error h other = ap (λ (r : Running K). r.broker) h.memory.1
-    same_if (Some c) error h other = h.same other
+    same_if None error h sound other = ap (λ (r : Running K). r.broker) h.memory.1
+    same_if (Some c) error h sound other = (h.truly sound).same other
 
-    kept_if : (call : Option Call) (error : EngineError) → CalledIf g now call old (Err error) new → KeepsLines old.broker new.broker
-    kept_if None error h = (ap (λ (r : Running K). r.broker.lines) h.memory.1, ap (λ (r : Running K). r.broker.given) h.memory.1)
-    kept_if (Some c) error h = h.lines
+    kept_if : (call : Option Call) (error : EngineError) → CalledIf g now call old (Err error) new → g.is_sound new.keep
+        → (IsErrOf {T = Outcome} (Err error) Stopped → ⊥) → g.holds new.keep old.broker.records
+    kept_if None error h sound other = subst (λ (r : Running K). g.holds r.keep old.broker.records) (sym h.memory.1) (holds (sound_if None (Err error) h sound))
+    kept_if (Some c) error h sound other = (h.truly sound).kept other
 
-    memory_if : (call : Option Call) (error : EngineError) → CalledIf g now call old (Err error) new → IsErrOf {T = Outcome} (Err error) Memory → (new.stopped ≡ false) × g.holds new.keep old.broker.records
-    memory_if None error h e = (
-      ap (λ (r : Running K). r.stopped) h.memory.1 ∙ running,
-      subst (λ (r : Running K). g.holds r.keep old.broker.records) (sym h.memory.1) holds,
-    )
-    memory_if (Some c) error h e = h.memory e
+    same_lines_if : (call : Option Call) (error : EngineError) → CalledIf g now call old (Err error) new → KeepsLines old.broker new.broker
+    same_lines_if None error h = (ap (λ (r : Running K). r.broker.lines) h.memory.1, ap (λ (r : Running K). r.broker.given) h.memory.1)
+    same_lines_if (Some c) error h = h.lines
 
     no_other : (error : EngineError) → error ≡ Memory → IsErrOf {T = Outcome} (Err error) Spent → ⊥
     no_other error is e = absurd cc
@@ -235,9 +297,10 @@ module _ {K : Type 0} (g : Ghosts K) (now line : ℕ) (piece : List ℕ) (old ne
     no_stop : (error : EngineError) → error ≡ Memory → IsErrOf {T = Outcome} (Err error) Stopped → ⊥
     no_stop error is e = absurd cc
 
-    spent_if : (call : Option Call) (error : EngineError) → CalledIf g now call old (Err error) new → IsErrOf {T = Outcome} (Err error) Spent → (new ≡ old) × IsSpentBy old.limits old.broker now call
-    spent_if None error h e = absurd (no_other error h.memory.0 e)
-    spent_if (Some c) error h e = h.spent e
+    spent_if : (call : Option Call) (error : EngineError) → CalledIf g now call old (Err error) new → g.is_sound new.keep → IsErrOf {T = Outcome} (Err error) Spent
+        → IsSpentBy old.limits old.broker now call
+    spent_if None error h sound e = absurd (no_other error h.memory.0 e)
+    spent_if (Some c) error h sound e = (h.truly sound).spent e
 
     stopped_if : (call : Option Call) (error : EngineError) → CalledIf g now call old (Err error) new → IsErrOf {T = Outcome} (Err error) Stopped → (new.stopped ≡ true) × (g.counted new.keep ≢ g.counted old.keep)
     stopped_if None error h e = absurd (no_stop error h.memory.0 e)
@@ -247,29 +310,29 @@ module _ {K : Type 0} (g : Ghosts K) (now line : ℕ) (piece : List ℕ) (old ne
     pub piece_err : (call : Option Call) (error : EngineError) (rest : List HeldLine) → its_call ≡ call → CalledIf g now call old (Err error) new → rest ≡ held
         → PieceCalled g now line piece (serving old held) (Err error) (serving new rest)
     piece_err call error rest same h kept = record {
-      step = tt;
-      stored = tt;
-      limits = limits_if call (Err error) h;
-      same = same_if call error h;
-      lines = kept_if call error h;
+      truly = λ sound. record {
+        step = tt;
+        stored = tt;
+        same = same_if call error h sound;
+        kept = kept_if call error h sound;
+        spent = λ e. subst (λ (o : Option Call). IsSpentBy old.limits old.broker now o) (sym same) (spent_if call error h sound e);
+        crash = λ run left may. subst (λ (o : Option Call). IsLeftByAny old.limits old.broker now o left) (sym same) (crash_if call (Err error) h sound left may);
+      };
+      answered = tt;
+      lines = same_lines_if call error h;
       kept = kept;
-      memory = λ e. memory_if call error h e;
-      spent = λ e.
-          let is = spent_if call error h e in (
-            ap (λ (r : Running K). serving r rest) is.0 ∙ ap (λ (hs : List HeldLine). serving old hs) kept,
-            subst (λ (o : Option Call). IsSpentBy old.limits old.broker now o) (sym same) is.1,
-          );
+      runs = runs_if call (Err error) h;
+      limits = limits_if call (Err error) h;
       stopped = λ e. (stopped_if call error h e).0;
       cause = λ e run. (stopped_if call error h e).1;
       still = λ s. not_running s;
-      crash = λ run left may. subst (λ (o : Option Call). IsLeftByAny old.limits old.broker now o left) (sym same) (crash_if call (Err error) h left may);
       sound = sound_if call (Err error) h;
     }
 
     -- a call that is refused leaves the lines that hold bytes
     pub lines_err : (call : Option Call) (error : EngineError) (rest : List HeldLine) → CalledIf g now call old (Err error) new → rest ≡ held → IsOfLines rest new.broker
     lines_err call error rest h kept =
-        subst (λ (hs : List HeldLine). IsOfLines hs new.broker) (sym kept) (of_lines_kept held old.broker new.broker (kept_if call error h) lines)
+        subst (λ (hs : List HeldLine). IsOfLines hs new.broker) (sym kept) (of_lines_kept held old.broker new.broker (same_lines_if call error h) lines)
 
     -- and one that is answered those that it didn't close
     pub lines_ok : (call : Option Call) (told : Outcome) → ((c : Call) → call ≡ Some c → IsOld c) → CalledIf g now call old (Ok told) new → IsOfLines (without_closed told.closed.items its_held) new.broker
@@ -277,23 +340,27 @@ module _ {K : Type 0} (g : Ghosts K) (now line : ℕ) (piece : List ℕ) (old ne
 
 -- ---- want of memory before anything was asked, and a line that isn't linked
 
-module _ {K : Type 0} (g : Ghosts K) (now : ℕ) (old : Running K) (running : old.stopped ≡ false) (holds : g.holds old.keep old.broker.records)
-    (found : (left : Records) → g.leaves old.keep left → left ≡ old.broker.records) where
+module _ {K : Type 0} (g : Ghosts K) (now : ℕ) (old : Running K) (running : old.stopped ≡ false) (holds : g.is_sound old.keep → g.holds old.keep old.broker.records)
+    (found : g.is_sound old.keep → (left : Records) → g.leaves old.keep left → left ≡ old.broker.records) where
   -- whatever is asked
   pub memory_refuses : (call : Option Call) → CalledIf g now call old (Err Memory) old
   memory_refuses None = record { told = tt; memory = (refl, refl) }
   memory_refuses (Some call) = record {
-    step = tt;
-    stored = tt;
-    limits = refl;
-    same = λ other. refl;
+    truly = λ sound. record {
+      step = tt;
+      stored = tt;
+      same = λ other. refl;
+      kept = λ other. holds sound;
+      spent = λ e. absurd cc;
+      crash = λ run left may. inl (found sound left may);
+    };
+    answered = tt;
     lines = (refl, refl);
-    memory = λ e. (running, holds);
-    spent = λ e. absurd cc;
+    runs = λ other. running;
+    limits = refl;
     stopped = λ e. absurd cc;
     cause = λ e. absurd cc;
     still = λ s. let clash : true ≡ false = sym s ∙ running in absurd cc;
-    crash = λ run left may. inl (found left may);
     sound = λ s. s;
   }
 
@@ -308,8 +375,8 @@ pub taken_fits : (piece : List ℕ) (f : Framing) (count : ℕ) → count ≡ by
 taken_fits piece f count taken = subst (λ (n : ℕ). n ≤ length piece) (sym taken) (taken_within f.held piece)
 
 module _ {K : Type 0} (g : Ghosts K) (now line : ℕ) (piece : List ℕ) (old new : Running K) (held lent put : List HeldLine) (f last : Framing)
-    (lines : IsOfLines held old.broker) (linked : has_row line_of line held ≡ true) (running : old.stopped ≡ false) (holds : g.holds old.keep old.broker.records)
-    (found : (left : Records) → g.leaves old.keep left → left ≡ old.broker.records)
+    (lines : IsOfLines held old.broker) (linked : has_row line_of line held ≡ true) (running : old.stopped ≡ false) (holds : g.is_sound old.keep → g.holds old.keep old.broker.records)
+    (found : g.is_sound old.keep → (left : Records) → g.leaves old.keep left → left ≡ old.broker.records)
     (was : framing_at line held ≡ f) (lent_as : lent ≡ changed_at line (λ x. empty) held) (put_as : put ≡ changed_at line (λ x. last) lent) where
   abbrev asked : Option Call
   asked = first_call line (fed piece f).held
@@ -354,8 +421,8 @@ module _ {K : Type 0} (g : Ghosts K) (now line : ℕ) (piece : List ℕ) (old ne
 -- ---- a piece on a line that isn't
 
 module _ {K : Type 0} (g : Ghosts K) (now line : ℕ) (piece : List ℕ) (old : Running K) (held : List HeldLine)
-    (running : old.stopped ≡ false) (holds : g.holds old.keep old.broker.records)
-    (found : (left : Records) → g.leaves old.keep left → left ≡ old.broker.records) (none : line_at line old.broker ≡ None) where
+    (running : old.stopped ≡ false) (holds : g.is_sound old.keep → g.holds old.keep old.broker.records)
+    (found : g.is_sound old.keep → (left : Records) → g.leaves old.keep left → left ≡ old.broker.records) (none : line_at line old.broker ≡ None) where
   abbrev no_members : MemberChoice
   no_members = λ number sender. []
 
@@ -402,17 +469,21 @@ module _ {K : Type 0} (g : Ghosts K) (now line : ℕ) (piece : List ℕ) (old : 
   -- a piece on a line that isn't linked does nothing but that time goes on
   pub passed_piece : (out : Outcome) (new : Running K) → Tells nothing_told out → new ≡ its_rest → PieceCalled g now line piece (serving old held) (Ok out) (serving new held)
   passed_piece out new told is = subst (λ (r : Running K). PieceCalled g now line piece (serving old held) (Ok out) (serving r held)) (sym is) (record {
-    step = passed_answer out told;
-    stored = (running, holds);
-    limits = refl;
-    same = λ other. tt;
+    truly = λ sound. record {
+      step = passed_answer out told;
+      stored = holds sound;
+      same = λ other. tt;
+      kept = λ other. tt;
+      spent = λ e. absurd (not_refused out Spent e);
+      crash = λ run left may. no_left unasked unasked_is left (found sound left may);
+    };
+    answered = for_its_lines now line piece (serving old held) out (serving its_rest held) (passed_answer out told);
     lines = tt;
     kept = tt;
-    memory = λ e. absurd (not_refused out Memory e);
-    spent = λ e. absurd (not_refused out Spent e);
+    runs = λ other. running;
+    limits = refl;
     stopped = λ e. absurd (not_refused out Stopped e);
     cause = λ e. absurd (not_refused out Stopped e);
     still = λ s. let clash : true ≡ false = sym s ∙ running in absurd cc;
-    crash = λ run left may. no_left unasked unasked_is left (found left may);
     sound = λ s. s;
   })

@@ -8,11 +8,12 @@ use Rattle.mqtt_rules.specs.Lines.{line_number}
 use Rattle.mqtt_rules.specs.State.{Broker, Line, line_at}
 use Rattle.mqtt_rules.specs.Step.{Call, at_moment, nothing_told}
 use Rattle.mqtt_broker_step.specs.declared.call.EngineError.{EngineError}
-use Rattle.mqtt_broker_step.specs.declared.call.EngineError.TheVariants.{Memory, Stopped, Spent}
+use Rattle.mqtt_broker_step.specs.declared.call.EngineError.TheVariants.{Stopped, Spent}
 use Rattle.mqtt_broker.specs.Framers.{HeldLine, line_of}
 use Rattle.mqtt_broker_engine.specs.declared.outcome.Outcome.{Outcome}
 use Rattle.mqtt_broker_engine.specs.Calling.{Called, IsOn, KeepsLines, Tells}
 use Rattle.mqtt_broker_engine.specs.Running.{Running}
+use Rattle.mqtt_broker_engine.proofs.Called.{answered_for_lines}
 use Rattle.mqtt_broker_engine.proofs.Linked.{passed_over}
 use Rattle.mqtt_broker.specs.Serving.{IsOfLines, Served, serving, without_closed}
 use Rattle.mqtt_broker.proofs.Framings.{none_ended}
@@ -39,26 +40,32 @@ linked_line line held b h e none = let clash : true ≡ false = sym e ∙ is_lin
 pub not_refused : (out : Outcome) (error : EngineError) → IsErrOf {T = Outcome} (Ok out) error → ⊥
 not_refused out error e = absurd cc
 
-module _ {K : Type 0} (g : Ghosts K) (now : ℕ) (old : Running K) (running : old.stopped ≡ false) (holds : g.holds old.keep old.broker.records)
-    (found : (left : Records) → g.leaves old.keep left → left ≡ old.broker.records) where
+module _ {K : Type 0} (g : Ghosts K) (now : ℕ) (old : Running K) (running : old.stopped ≡ false) (holds : g.is_sound old.keep → g.holds old.keep old.broker.records)
+    (found : g.is_sound old.keep → (left : Records) → g.leaves old.keep left → left ≡ old.broker.records) where
   abbrev rested : Running K
   rested = record old { broker = at_moment now old.broker }
 
   passed_by : (line : ℕ) (call : Call) (out : Outcome) → line_at line old.broker ≡ None → IsOn line call → Tells nothing_told out → Called g now call old (Ok out) rested
-  passed_by line call out none on told = record {
-    step = passed_over old.limits now line old.broker (at_moment now old.broker) out none refl told call on;
-    stored = (running, holds);
-    limits = refl;
-    same = λ other. tt;
-    lines = tt;
-    memory = λ e. absurd (not_refused out Memory e);
-    spent = λ e. absurd (not_refused out Spent e);
-    stopped = λ e. absurd (not_refused out Stopped e);
-    cause = λ e. absurd (not_refused out Stopped e);
-    still = λ s. let clash : true ≡ false = sym s ∙ running in absurd cc;
-    crash = λ run left may. inl (found left may);
-    sound = λ s. s;
-  }
+  passed_by line call out none on told =
+      let its = passed_over old.limits now line old.broker (at_moment now old.broker) out none refl told call on in
+      record {
+        truly = λ sound. record {
+          step = its;
+          stored = holds sound;
+          same = λ other. tt;
+          kept = λ other. tt;
+          spent = λ e. absurd (not_refused out Spent e);
+          crash = λ run left may. inl (found sound left may);
+        };
+        answered = answered_for_lines old.limits old.broker now call out (at_moment now old.broker) its;
+        lines = tt;
+        runs = λ other. running;
+        limits = refl;
+        stopped = λ e. absurd (not_refused out Stopped e);
+        cause = λ e. absurd (not_refused out Stopped e);
+        still = λ s. let clash : true ≡ false = sym s ∙ running in absurd cc;
+        sound = λ s. s;
+      }
 
   -- a call on a line that isn't linked does nothing but that time goes on
   pub passed_served : (line : ℕ) (call : Call) (held : List HeldLine) (new : Running K) (out : Outcome) → line_at line old.broker ≡ None → IsOn line call → Tells nothing_told out → new ≡ rested
@@ -86,7 +93,10 @@ of_lines_kept held old new same h = record {
 pub of_lines_called : {K : Type 0} (g : Ghosts K) (now : ℕ) (call : Call) (old new : Running K) (held rest : List HeldLine) (r : Result Outcome EngineError) → IsOld call → Called g now call old r new
     → IfOk r (λ out. rest ≡ without_closed out.closed.items held) → OnErr r (rest ≡ held) → IsOfLines held old.broker → IsOfLines rest new.broker
 of_lines_called g now call old new held rest (Ok out) is h ok err lines =
-    subst (λ (hs : List HeldLine). IsOfLines hs new.broker) (sym (ok ∙ ap (λ closed. without_closed closed held) h.step.tells.closed))
-    (of_lines_step old.limits old.broker now call h.step.told new.broker held is h.step.step lines)
+    let a = h.answered in
+    let closed = a.answered.told.closed in
+    subst (λ (hs : List HeldLine). IsOfLines hs new.broker) (sym (ok ∙ ap (λ ns. without_closed ns held) a.answered.tells.closed))
+    (of_lines_kept (without_closed closed held) a.after new.broker a.ends
+    (of_lines_step old.limits a.before now call a.answered.told a.after held is a.answered.step (of_lines_kept held old.broker a.before a.begins lines)))
 of_lines_called g now call old new held rest (Err e) is h ok err lines =
     subst (λ (hs : List HeldLine). IsOfLines hs new.broker) (sym err) (of_lines_kept held old.broker new.broker h.lines lines)

@@ -8,7 +8,7 @@ use Rattle.mqtt_rules.specs.State.{Broker, line_at, stored}
 use Rattle.mqtt_rules.specs.Step.{Call, SpentStep}
 use Rattle.mqtt_broker.specs.Framers.{changed_at, framing_at}
 use Rattle.mqtt_broker_step.specs.declared.call.EngineError.{EngineError}
-use Rattle.mqtt_broker_step.specs.declared.call.EngineError.TheVariants.{Memory, Stopped, Spent}
+use Rattle.mqtt_broker_step.specs.declared.call.EngineError.TheVariants.{Stopped, Spent}
 use Rattle.mqtt_broker_engine.specs.declared.outcome.Outcome.{Outcome}
 use Rattle.mqtt_broker_engine.specs.Calling.{IsLeftBy, KeepsLines, Tells}
 use Rattle.mqtt_broker.specs.Serving.{Serving, without_closed}
@@ -28,6 +28,18 @@ pub record IsPieceAnswered {K : Type 0} (now line : ℕ) (piece : List ℕ) (old
   -- the line holds what the step leaves, each line that closed nothing, and each other what it held
   pub held : new.held ≡ without_closed out.closed.items (changed_at line (λ framing. after.framing) old.held)
 
+-- an engine and its lines' bytes, with another broker
+abbrev pub for_broker : {K : Type 0} → Broker → Serving K → Serving K
+for_broker b s = record s { running = record s.running { broker = b } }
+
+-- it was answered as for a broker with the same lines, whatever that one has in store
+pub record IsPieceAnsweredForLines {K : Type 0} (now line : ℕ) (piece : List ℕ) (old : Serving K) (out : Outcome) (new : Serving K) : Type 0 where
+  pub before : Broker
+  pub after : Broker
+  pub begins : KeepsLines old.running.broker before
+  pub answered : IsPieceAnswered now line piece (for_broker before old) out (for_broker after new)
+  pub ends : KeepsLines after new.running.broker
+
 -- ---- if nothing is asked, no number is spent and nothing is stored
 
 abbrev pub IsSpentBy : Limits → Broker → ℕ → Option Call → Type 0
@@ -40,25 +52,34 @@ IsLeftByAny limits old now (Some call) r = IsLeftBy limits old now call r
 
 -- ---- what a piece makes of an engine, and what it answers
 
-pub record PieceCalled {K : Type 0} (g : Ghosts K) (now line : ℕ) (piece : List ℕ) (old : Serving K) (result : Result Outcome EngineError) (new : Serving K)
+-- what speaks of all that the broker has: so it is while the store's device returns what was written
+pub record IsTrulyPieceCalled {K : Type 0} (g : Ghosts K) (now line : ℕ) (piece : List ℕ) (old : Serving K) (result : Result Outcome EngineError) (new : Serving K)
     : Type 0 where
   -- Ok: it was a step of the broker, and the store holds what is stored after it
   pub step : IfOk result (λ out. IsPieceAnswered now line piece old out new)
-  pub stored : OnOk result ((new.running.stopped ≡ false) × g.holds new.running.keep new.running.broker.records)
-  pub limits : new.running.limits ≡ old.running.limits
-  -- if memory is wanting or numbers are spent nothing changed here, nor in what the store holds; of the broker of an engine
-  -- that has stopped it is said only that the same lines are linked, since it may link more; and no refusal takes a byte
+  pub stored : OnOk result (g.holds new.running.keep new.running.broker.records)
+  -- if memory is wanting or numbers are spent nothing changed here, nor in what the store holds
   pub same : (IsErrOf result Stopped → ⊥) → OnErr result (new.running.broker ≡ old.running.broker)
+  pub kept : (IsErrOf result Stopped → ⊥) → OnErr result (g.holds new.running.keep old.running.broker.records)
+  pub spent : IsErrOf result Spent → IsSpentBy old.running.limits old.running.broker now (call_by line piece old)
+  -- a crash leaves what was stored before the call or after it
+  pub crash : old.running.stopped ≡ false → (left : Records) → g.leaves new.running.keep left
+      → IsLeftByAny old.running.limits old.running.broker now (call_by line piece old) left
+
+-- a piece comes on a line of an engine over a store
+pub record PieceCalled {K : Type 0} (g : Ghosts K) (now line : ℕ) (piece : List ℕ) (old : Serving K) (result : Result Outcome EngineError) (new : Serving K)
+    : Type 0 where
+  pub truly : g.is_sound new.running.keep → IsTrulyPieceCalled g now line piece old result new
+  -- and whatever the device returns, an answer is one for the same lines; a refusal leaves the lines, and takes no byte. Of the
+  -- broker of an engine that has stopped no more is said, since it may link more
+  pub answered : IfOk result (λ out. IsPieceAnsweredForLines now line piece old out new)
   pub lines : OnErr result (KeepsLines old.running.broker new.running.broker)
   pub kept : OnErr result (new.held ≡ old.held)
-  pub memory : IsErrOf result Memory → (new.running.stopped ≡ false) × g.holds new.running.keep old.running.broker.records
-  pub spent : IsErrOf result Spent → (new ≡ old) × IsSpentBy old.running.limits old.running.broker now (call_by line piece old)
+  pub runs : (IsErrOf result Stopped → ⊥) → new.running.stopped ≡ false
+  pub limits : new.running.limits ≡ old.running.limits
   -- it stops if the store counted a failure, and stays stopped
   pub stopped : IsErrOf result Stopped → new.running.stopped ≡ true
   pub cause : IsErrOf result Stopped → old.running.stopped ≡ false → g.counted new.running.keep ≢ g.counted old.running.keep
   pub still : old.running.stopped ≡ true → IsErrOf result Stopped × (new ≡ old)
-  -- a crash leaves what was stored before the call or after it
-  pub crash : old.running.stopped ≡ false → (left : Records) → g.leaves new.running.keep left
-      → IsLeftByAny old.running.limits old.running.broker now (call_by line piece old) left
   -- a device that is sound after the call was sound before it
   pub sound : g.is_sound new.running.keep → g.is_sound old.running.keep

@@ -59,7 +59,7 @@ fn ask<K: Keep>(
     moment: u64,
 ) -> Result<Outcome, EngineError>
     requires running { engine.old.stopped ≡ false }
-    requires stored { K.holds engine.old.keep engine.old.broker.records }
+    requires stored { K.is_sound engine.old.keep → K.holds engine.old.keep engine.old.broker.records }
     ensures called { CalledIf K.Keep moment (first_call line held.old.framing.held) engine.old result
         engine.new }
     ensures ok { OnOk result (held.new ≡ in_framing without_first held.old) }
@@ -88,7 +88,7 @@ pub(crate) fn take_piece<K: Keep>(
     moment: u64,
 ) -> Result<Outcome, EngineError>
     requires running { engine.old.stopped ≡ false }
-    requires stored { K.holds engine.old.keep engine.old.broker.records }
+    requires stored { K.is_sound engine.old.keep → K.holds engine.old.keep engine.old.broker.records }
     requires lines { IsOfLines framers.old engine.old.broker }
     requires linked { has_row line_of line framers.old ≡ true }
     ensures called { PieceCalled K.Keep moment line piece.now (serving engine.old framers.old) result

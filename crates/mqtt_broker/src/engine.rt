@@ -16,7 +16,8 @@ use mqtt_codec::Packet;
 use mqtt_records::Keep;
 use std::marker::Model;
 
-/// A broker over a store. A line, one connection, is named by its number.
+/// A broker over a store. A line, one connection, is named by its number. What its calls say of queues, and of what the
+/// store holds, they say if the store's device has returned what was written.
 pub struct Engine<K: Keep> {
     pub(crate) inner: Inner<K>,
     pub(crate) framers: Framers,

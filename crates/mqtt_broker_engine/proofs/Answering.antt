@@ -29,6 +29,15 @@ pub err_of : {A E : Type 0} (r : Result A E) {P Q : Type 0} → (P → Q) → On
 err_of (Ok a) f p = tt
 err_of (Err e) f p = f p
 
+-- a store that refuses a step has what it had, unless its device failed
+pub kept_unless_disk : {P : Type 0} (error : KeepError) → (error ≡ Memory → P) → (error ≡ Size → P) → (error ≡ Corrupt → ⊥) → (error ≡ Schema → ⊥)
+    → (error ≡ Disk → ⊥) → P
+kept_unless_disk Memory memory size corrupt schema fine = memory refl
+kept_unless_disk Disk memory size corrupt schema fine = absurd (fine refl)
+kept_unless_disk Size memory size corrupt schema fine = size refl
+kept_unless_disk Corrupt memory size corrupt schema fine = absurd (corrupt refl)
+kept_unless_disk Schema memory size corrupt schema fine = absurd (schema refl)
+
 -- ---- the step that is at rest again
 
 -- a step at rest under these limits

@@ -21,7 +21,7 @@ use Rattle.mqtt_broker_step.specs.Undoing.{moment_of}
 use Rattle.mqtt_broker_index.specs.Following.{CanAllBeFollowed, CanBeIndexed, HasAsked}
 use Rattle.mqtt_broker_index.proofs.Followed.{step_followed}
 use Rattle.mqtt_broker_engine.specs.declared.outcome.Outcome.{Outcome}
-use Rattle.mqtt_broker_engine.specs.Calling.{IsAnswered, IsLeftBy}
+use Rattle.mqtt_broker_engine.specs.Calling.{IsAnswered, IsAnsweredForLines, IsLeftBy}
 use Rattle.mqtt_broker_engine.specs.Finishing.{CanFinish, IsTold}
 use Rattle.mqtt_broker_calls.specs.Doing.{DidCall}
 use Rattle.mqtt_broker_calls.specs.Ready.{HasLawfulSources, IsReady}
@@ -38,6 +38,13 @@ ready_indexed limits b ready = record {
   filters = ready.filters;
   asked = each_more HasLawfulSources HasAsked (λ s its. its.subscriptions) b.records.sessions ready.sources.stored.sessions;
 }
+
+-- ---- an answer
+
+-- what is answered for a broker is answered for its lines
+pub answered_for_lines : (limits : Limits) (old : Broker) (now : ℕ) (call : Call) (out : Outcome) (new : Broker) → IsAnswered limits old now call out new
+    → IsAnsweredForLines limits old now call out new
+answered_for_lines limits old now call out new h = record { before = old; after = new; begins = (refl, refl); answered = h; ends = (refl, refl) }
 
 -- ---- a step that did the deeds of a call, with its moment
 

@@ -1,27 +1,27 @@
 -- How a call is finished: its step is stored and answered, or taken back, and no step is under way then.
 use Rattle.std.proofs.Common.{◌≡◌, ◌⊎◌, ℕ, Bool, false, refl, ap, sym, subst, ◌∙◌, inl, inr}
-use Rattle.std.specs.Prelude.{Result, Ok, Err}
+use Rattle.std.specs.Prelude.{Result, Ok, Err, IsErrOf}
 use Rattle.mqtt_records.specs.declared.keep.Keep.{Ghosts}
 use Rattle.mqtt_records.specs.declared.records.Records.{Records}
 use Rattle.mqtt_rules.specs.Contents.{TakesLawful}
 use Rattle.mqtt_rules.specs.declared.Limits.{Limits}
 use Rattle.mqtt_rules.specs.Routing.{subscribers}
 use Rattle.mqtt_rules.specs.State.{Broker}
-use Rattle.mqtt_rules.specs.Step.{Call, SpentStep}
+use Rattle.mqtt_rules.specs.Step.{Call, SpentStep, is_spent}
 use Rattle.mqtt_broker_step.specs.declared.fault.StepFault.{StepFault}
 use Rattle.mqtt_broker_step.specs.declared.fault.StepFault.TheVariants.{Memory, Spent}
 use Rattle.mqtt_broker_step.specs.declared.call.EngineError.{EngineError}
 use Rattle.mqtt_broker_step.specs.declared.call.EngineError.TheVariants as errors
-use Rattle.mqtt_broker_step.specs.Stepping.{Stepping, at_rest, with_stamp}
+use Rattle.mqtt_broker_step.specs.Stepping.{CanStore, Stepping, at_rest, with_stamp}
 use Rattle.mqtt_broker_clock.specs.Quiet.{AreQuietBefore}
 use Rattle.mqtt_broker_index.specs.Indexing.{Serves}
 use Rattle.mqtt_broker_calls.specs.Doing.{DidCall}
 use Rattle.mqtt_broker_calls.specs.Sound.{IsSound}
 use Rattle.mqtt_broker_engine.specs.declared.outcome.Outcome.{Outcome}
 use Rattle.mqtt_broker_engine.specs.declared.parts.EngineParts.{EngineParts}
-use Rattle.mqtt_broker_engine.specs.Calling.{Called}
-use Rattle.mqtt_broker_engine.specs.Finishing.{IsAtRest, IsFinished, IsMidCall, running_before, running_of}
-use Rattle.mqtt_broker_engine.proofs.Called.{call_answered, call_sound, call_stored}
+use Rattle.mqtt_broker_engine.specs.Calling.{Called, IsAnswered, IsTrulyCalled}
+use Rattle.mqtt_broker_engine.specs.Finishing.{CanFinish, IsAtRest, IsFinished, IsMidCall, running_before, running_of}
+use Rattle.mqtt_broker_engine.proofs.Called.{answered_for_lines, call_answered, call_sound, call_stored}
 
 -- ---- a step that is stamped
 
@@ -58,10 +58,17 @@ finished_untold g old new s again mid held start keep stopped quiet step serves 
       (subst (λ (b : Broker). AreQuietBefore new.quiet b.records) (sym start) (subst (λ (n : ℕ). AreQuietBefore n old.step.start.records) (sym quiet) mid.its.quiet));
 }
 
+-- ---- a step that the store is told of
+
+-- if none of its numbers is spent its rows can be stored over what stood when it began
+pub can_store : (s : Stepping) → CanFinish s → is_spent s.rows ≡ false → CanStore s.rows s.start.records
+can_store s can unspent = record { fit = can.fit unspent; sayable = can.sayable; contents = can.contents }
+
 -- what a crash leaves of a step none of whose numbers is spent
-pub left_unspent : {A B C : Type 0} → C → A ⊎ B → A ⊎ (C × B)
-left_unspent c (inl a) = inl a
-left_unspent c (inr b) = inr (c, b)
+pub left_unspent : (s : Stepping) (left : Records) → is_spent s.rows ≡ false → (left ≡ s.start.records) ⊎ (left ≡ s.broker.records)
+    → (left ≡ s.start.records) ⊎ ((is_spent s.rows ≡ false) × (left ≡ s.broker.records))
+left_unspent s left unspent (inl before) = inl before
+left_unspent s left unspent (inr after) = inr (unspent, after)
 
 -- ---- a step that did the deeds of a call is finished
 
@@ -72,35 +79,58 @@ module _ {K : Type 0} (g : Ghosts K) (now : ℕ) (call : Call) (again : Bool) (o
   abbrev s : Stepping
   s = old.step
 
+  -- the store has what it had, unless it failed
+  kept_after : (error : EngineError) → IsFinished g old.keep (with_stamp s) again (Err error) new → (IsErrOf {T = Outcome} (Err error) errors.Stopped → ⊥) → g.holds new.keep s.start.records
+  kept_after errors.Memory h not = (h.memory refl).1
+  kept_after errors.Stopped h not = absurd (not refl)
+  kept_after errors.Spent h not = absurd (h.spent refl)
+
+  -- what is answered is the call's answer
+  answered_after : (out : Outcome) → IsFinished g old.keep (with_stamp s) again (Ok out) new → IsAnswered s.limits s.start now call out new.step.broker
+  answered_after out h = call_answered now call again s did mid.its.sound out new.step.broker h.unspent (ap (λ (t : Stepping). t.broker) h.done) h.told
+
+  finished_truly : (result : Result Outcome EngineError) → IsFinished g old.keep (with_stamp s) again result new
+      → IsTrulyCalled g now call (running_before old) result (running_of new)
+  finished_truly (Ok out) h = record {
+    step = answered_after out h;
+    stored = subst (λ (b : Broker). g.holds new.keep b.records) (sym (ap (λ (t : Stepping). t.broker) h.done)) h.stored.1;
+    same = λ not. tt;
+    kept = λ not. tt;
+    spent = λ e. absurd cc;
+    crash = λ runs left may. call_stored now call again s did left (h.crash left may);
+  }
+  finished_truly (Err error) h = record {
+    step = tt;
+    stored = tt;
+    same = λ not. ap (λ (t : Stepping). t.broker) h.same;
+    kept = λ not. kept_after error h not;
+    spent = λ e. absurd (h.spent e);
+    crash = λ runs left may. call_stored now call again s did left (h.crash left may);
+  }
+
   -- it is that call of the engine
   pub finished_call : (result : Result Outcome EngineError) → IsFinished g old.keep (with_stamp s) again result new
       → Called g now call (running_before old) result (running_of new)
   finished_call (Ok out) h = record {
-    step = call_answered now call again s did mid.its.sound out new.step.broker h.unspent (ap (λ (t : Stepping). t.broker) h.done) h.told;
-    stored = (h.runs (λ e. absurd cc), subst (λ (b : Broker). g.holds new.keep b.records) (sym (ap (λ (t : Stepping). t.broker) h.done)) h.stored.1);
-    limits = ap (λ (t : Stepping). t.limits) h.done;
-    same = λ not. tt;
+    truly = λ sound. finished_truly (Ok out) h;
+    answered = answered_for_lines s.limits s.start now call out new.step.broker (answered_after out h);
     lines = tt;
-    memory = λ e. absurd cc;
-    spent = λ e. absurd cc;
+    runs = h.runs;
+    limits = ap (λ (t : Stepping). t.limits) h.done;
     stopped = h.stopped;
     cause = λ e runs. absurd cc;
     still = λ was. let runs = mid.runs in absurd cc;
-    crash = λ runs left may. call_stored now call again s did left (h.crash left may);
     sound = h.device;
   }
   finished_call (Err error) h = record {
-    step = tt;
-    stored = tt;
-    limits = ap (λ (t : Stepping). t.limits) h.same;
-    same = λ not. ap (λ (t : Stepping). t.broker) h.same;
+    truly = λ sound. finished_truly (Err error) h;
+    answered = tt;
     lines = (ap (λ (t : Stepping). t.broker.lines) h.same, ap (λ (t : Stepping). t.broker.given) h.same);
-    memory = λ e. (h.runs (λ stopped. absurd cc), (h.memory e).1);
-    spent = λ e. absurd (h.spent e);
+    runs = h.runs;
+    limits = ap (λ (t : Stepping). t.limits) h.same;
     stopped = h.stopped;
     cause = λ e runs. h.cause e;
     still = λ was. let runs = mid.runs in absurd cc;
-    crash = λ runs left may. call_stored now call again s did left (h.crash left may);
     sound = h.device;
   }
 
@@ -157,16 +187,20 @@ pub refused_call : {K : Type 0} (g : Ghosts K) (now : ℕ) (call : Call) (p : En
     → (fault ≡ Memory → e ≡ errors.Memory) → (fault ≡ Spent → e ≡ errors.Spent) → (fault ≡ Spent → SpentStep p.step.limits p.step.start now call)
     → Called g now call (running_before p) (Err e) (running_of (taken_back p))
 refused_call g now call p fault e mid held memory spent is_spent = record {
-  step = tt;
-  stored = tt;
-  limits = refl;
-  same = λ not. refl;
+  truly = λ sound. record {
+    step = tt;
+    stored = tt;
+    same = λ not. refl;
+    kept = λ not. (mid.its.stored mid.runs).1;
+    spent = λ is. is_spent (spent_fault fault e memory cc);
+    crash = λ runs left may. inl (held p.keep left p.step.start.records (mid.its.stored mid.runs).1 may);
+  };
+  answered = tt;
   lines = (refl, refl);
-  memory = λ is. (mid.runs, (mid.its.stored mid.runs).1);
-  spent = λ is. (refl, is_spent (spent_fault fault e memory cc));
+  runs = λ not. mid.runs;
+  limits = refl;
   stopped = λ is. absurd (never_stops fault e memory spent cc);
   cause = λ is runs. absurd (never_stops fault e memory spent cc);
   still = λ was. let runs = mid.runs in absurd cc;
-  crash = λ runs left may. inl (held p.keep left p.step.start.records (mid.its.stored mid.runs).1 may);
   sound = λ sound. sound;
 }

@@ -1,4 +1,5 @@
 pub mod Called
+pub mod Storing
 pub mod Finished
 pub mod Resting
 pub mod Linked

@@ -76,34 +76,42 @@ called_of g now call p old index t result new same start limits called =
 pub called_stopped : {K : Type 0} (g : Ghosts K) (now : ℕ) (call : Call) (old : Running K) (result : Result Outcome EngineError) (e : EngineError) → result ≡ Err e → e ≡ Stopped → old.stopped ≡ true
     → Called g now call old result old
 called_stopped g now call old result e gives is stopped = subst (λ (r : Result Outcome EngineError). Called g now call old r old) (sym gives) (record {
-  step = tt;
-  stored = tt;
-  limits = refl;
-  same = λ not. refl;
+  truly = λ sound. record {
+    step = tt;
+    stored = tt;
+    same = λ not. refl;
+    kept = λ not. absurd (not (ap Err is));
+    spent = λ spent. absurd cc;
+    crash = λ runs. absurd cc;
+  };
+  answered = tt;
   lines = (refl, refl);
-  memory = λ memory. absurd cc;
-  spent = λ spent. absurd cc;
+  runs = λ not. absurd (not (ap Err is));
+  limits = refl;
   stopped = λ same. stopped;
   cause = λ same runs. absurd cc;
   still = λ was. (ap Err is, refl);
-  crash = λ runs. absurd cc;
   sound = λ sound. sound;
 })
 
 called_stale_here : {K : Type 0} (g : Ghosts K) (now : ℕ) (call : Call) (p : EngineParts K) (e : EngineError) → IsAtRest g p → p.stopped ≡ false → e ≡ Memory
     → ((left : Records) → g.leaves p.keep left → left ≡ p.step.broker.records) → Called g now call (running_of p) (Err e) (running_of p)
 called_stale_here g now call p e rest runs is held = record {
-  step = tt;
-  stored = tt;
-  limits = refl;
-  same = λ not. refl;
+  truly = λ sound. record {
+    step = tt;
+    stored = tt;
+    same = λ not. refl;
+    kept = λ not. (rest.its.stored runs).1;
+    spent = λ spent. absurd cc;
+    crash = λ was left may. inl (held left may);
+  };
+  answered = tt;
   lines = (refl, refl);
-  memory = λ memory. (runs, (rest.its.stored runs).1);
-  spent = λ spent. absurd cc;
+  runs = λ not. runs;
+  limits = refl;
   stopped = λ stopped. absurd cc;
   cause = λ stopped was. absurd cc;
   still = λ was. absurd cc;
-  crash = λ was left may. inl (held left may);
   sound = λ sound. sound;
 }
 

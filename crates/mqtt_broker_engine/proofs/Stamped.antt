@@ -25,7 +25,7 @@ use Rattle.mqtt_rules.proofs.contents.SpelledContents.{rows_are as row_sizes}
 use Rattle.mqtt_rules.proofs.numbers.Counters.{moment_stays, now_stays}
 use Rattle.mqtt_broker_step.specs.declared.fault.StepFault.{StepFault}
 use Rattle.mqtt_broker_step.specs.declared.fault.StepFault.TheVariants.{Memory, Spent}
-use Rattle.mqtt_broker_step.specs.Stepping.{Stepping, at_rest, did, env_in, with_stamp}
+use Rattle.mqtt_broker_step.specs.Stepping.{CanStore, Stepping, at_rest, did, env_in, with_stamp}
 use Rattle.mqtt_broker_calls.proofs.CallActs.{spent_stamped}
 use Rattle.mqtt_broker_index.specs.Indexing.{Serves}
 use Rattle.mqtt_broker_engine.specs.Closing.{DidOpen, DidSome, IsLeftOpen, IsStoredAfter, LeftSome, resting}
@@ -94,20 +94,24 @@ module _ (limits : Limits) (now : ℕ) (r : Records) (s : Stepping) (h : DidOpen
   unspent_is e = ap is_spent (sym rows_are) ∙ e
 
   -- its rows fit what was stored
-  pub open_fits : AreWithin limits → IsLawful r → is_spent s.rows ≡ false → FitAll s.rows s.start.records
+  open_fits : AreWithin limits → IsLawful r → is_spent s.rows ≡ false → FitAll s.rows s.start.records
   open_fits within lawful e =
       subst (λ (b : Broker). FitAll s.rows b.records) (sym start_is)
       (subst (λ (rows : List Change). FitAll rows r) (sym rows_are) (opening_fits limits h.choice now r within (lawful_coherent r lawful) (unspent_is e)))
 
   -- and can be said in a table
-  pub open_sayable : IsLawful r → AllSayable s.rows
+  open_sayable : IsLawful r → AllSayable s.rows
   open_sayable lawful = subst AllSayable (sym rows_are) (opening_said of_rows row_sizes limits h.choice now r (lawful_contents r lawful))
 
   -- and say what is said under a publication's number
-  pub open_contents : IsLawful r → FitContents s.rows s.start.records
+  open_contents : IsLawful r → FitContents s.rows s.start.records
   open_contents lawful =
       subst (λ (b : Broker). FitContents s.rows b.records) (sym start_is)
       (subst (λ (rows : List Change). FitContents rows r) (sym rows_are) (sharing.opening_fits limits h.choice now r lawful.shared (lawful_accepted r lawful)))
+
+  -- so they can be stored over what stood when it began
+  pub open_can_store : AreWithin limits → IsLawful r → is_spent s.rows ≡ false → CanStore s.rows s.start.records
+  open_can_store within lawful e = record { fit = open_fits within lawful e; sayable = open_sayable lawful; contents = open_contents lawful }
 
   -- once it is stored it is an opening of the broker
   pub open_is : (new : Stepping) → is_spent s.rows ≡ false → new ≡ at_rest s.limits s.broker → BrokerOpening limits r now new.broker

@@ -20,7 +20,8 @@ use std::alloc::Global;
 use std::hash::RandomState;
 use std::marker::Model;
 
-/// A broker over a store.
+/// A broker over a store. What its calls say of queues, and of what the store holds, they say if the store's device has
+/// returned what was written.
 #[derive(Drop)]
 pub struct Engine<K: Keep> {
     pub(crate) parts: EngineParts<K>,
@@ -95,10 +96,11 @@ impl<K: Keep> Engine<K> {
         keep
     }
 
-    /// Whether its store has failed; while it hasn't, it holds what is stored. Takes no memory.
+    /// Whether its store has failed; while it hasn't, and its device is sound, it holds what is stored. Takes no memory.
     pub fn is_stopped(&self) -> bool
         ensures exact { result ≡ self.now.stopped }
-        ensures stored { self.now.stopped ≡ false → K.holds self.now.keep self.now.broker.records }
+        ensures stored { self.now.stopped ≡ false → K.is_sound self.now.keep
+            → K.holds self.now.keep self.now.broker.records }
     {
         self.parts.stopped
     }

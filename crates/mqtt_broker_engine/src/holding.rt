@@ -34,7 +34,7 @@ fn held_by(rows: &[Boxed<CopyRow>], identifier: u16) -> Option<&CopyId>
     for row in rows {
         let row = row.get();
         if holds(row.phase(), identifier) {
-            return Some(&row.copy().id);
+            return Some(row.id());
         }
     }
     None

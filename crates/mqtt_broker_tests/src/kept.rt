@@ -43,13 +43,17 @@ fn tell_phase(told: &mut Telling, phase: Phase) {
 }
 
 fn tell_row(told: &mut Telling, row: &CopyRow) {
-    let copy = row.copy();
     told.pair(" copy ", row.place());
     tell_phase(told, row.phase());
-    told.pair(" of ", copy.id.publication);
-    told.pair(" ", copy.qos as u64);
-    told.pair(" ", u64::from(copy.retain));
-    tell_content(told, &copy.content);
+    told.pair(" of ", row.id().publication);
+    told.pair(" ", row.qos() as u64);
+    if let Some(copy) = row.whole() {
+        told.pair(" ", u64::from(copy.retain));
+        tell_content(told, &copy.content);
+    } else {
+        told.word(" slim ");
+        told.word(row.topic().as_str());
+    }
 }
 
 fn tell_session(told: &mut Telling, session: &Session) {

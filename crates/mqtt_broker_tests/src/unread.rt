@@ -1,6 +1,6 @@
 //! A store that can't be read once.
 
-use mqtt_records::{Change, Keep, KeepError, MemKeep, Records};
+use mqtt_records::{Change, CopyContent, Keep, KeepError, MemKeep, Records};
 use std::alloc::{AllocError, Global};
 
 /// A store in memory of which one `load` answers Disk.
@@ -25,19 +25,24 @@ impl UnreadKeep {
 
 impl Keep for UnreadKeep {
     ghost use Rattle.std.specs.Prelude.{◌≡◌};
-    ghost use Rattle.std.proofs.Common.{◌∙◌};
+    ghost use Rattle.std.proofs.Common.{◌∙◌, ap};
+    ghost use Rattle.mqtt_records.specs.Telling.{told_by, filling_in};
 
-    ghost holds = { λ store r. store.keep ≡ r };
+    ghost holds = { λ store r. store.keep.records ≡ r };
 
     ghost is_loaded = { λ _. Unit {0} };
 
     ghost is_sound = { λ _. Unit {0} };
 
-    ghost leaves = { λ store left. left ≡ store.keep };
+    ghost leaves = { λ store left. left ≡ store.keep.records };
 
     ghost counted = { λ store. store.failures };
 
     ghost refuses = { λ _ _. Unit {0} };
+
+    ghost fillings = { λ store. told_by store.keep.records };
+
+    ghost read_so_far = { λ store. store.keep.reads };
 
     fn load(&mut self, alloc: Global) -> Result<Records, KeepError> {
         match self.until {
@@ -56,9 +61,26 @@ impl Keep for UnreadKeep {
         self.keep.apply(changes)
     }
 
+    fn contents(
+        &mut self,
+        alloc: Global,
+        birth: u64,
+        place: u64,
+        limit: u32,
+    ) -> Result<Vec<CopyContent>, KeepError> {
+        self.keep.contents(alloc, birth, place, limit)
+    }
+
     fn failures(&self) -> u64 {
         self.failures
     }
 
+    fn reads(&self) -> u64 {
+        self.keep.reads()
+    }
+
     ghost leaves_held = { λ store left r has found. found ∙ has };
+
+    ghost tells = { λ store r sound loaded has birth place e found.
+        ap (λ r. told_by r birth place) has ∙ ap filling_in found };
 }

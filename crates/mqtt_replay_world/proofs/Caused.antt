@@ -1,6 +1,6 @@
 -- Why a replay ends for its store, by what its world tells.
 use Rattle.std.proofs.Common.{◌≡◌, ◌≢◌, ◌⊎◌, ℕ, false, inl, inr, arith, refl, sym, subst, ◌∙◌, true≢false}
-use Rattle.std.specs.Prelude.{Result, IfErr, Ok, Err, IsErrOf}
+use Rattle.std.specs.Prelude.{Result, IfErr, IsErrOf}
 use Rattle.mqtt_records_contents.proofs.Nothing.{nothing_shared}
 use Rattle.mqtt_records_lawful.specs.Lawful.{IsLawful}
 use Rattle.mqtt_records.specs.Records.{nothing}
@@ -87,7 +87,8 @@ module _ {K : Type 0} (g : Ghosts K) (counts : (a b : K) → g.counted a ≡ g.c
 
   in_a_run : IsStoreDue g → HasNumberCause
   in_a_run (store_failed s left playable failed) = absurd (failed (counts left s.engine.running.keep))
-  in_a_run (numbers_spent s now call playable spent) = call_spends s.engine.running.limits s.engine.running.broker now call spent
+  in_a_run (numbers_spent s left now call playable spent) =
+      call_spends s.engine.running.limits s.engine.running.broker now call (spent (sound left))
   in_a_run (not_opened limits now keep u) =
       let unfit = unfit_of limits now keep u in
       none_opens limits unfit.records now unfit.why

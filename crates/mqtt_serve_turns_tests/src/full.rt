@@ -3,7 +3,7 @@ use crate::clients::{Clients, Stage};
 use crate::turns::LIMITS;
 use mqtt_broker::Engine;
 use mqtt_broker_step::EngineError;
-use mqtt_records::{Change, Keep, KeepError, MemKeep, Records};
+use mqtt_records::{Change, CopyContent, Keep, KeepError, MemKeep, Records};
 use mqtt_serve_turns::{Links, serve_turn};
 use std::alloc::{AllocError, Global};
 use std::hash::RandomState;
@@ -29,19 +29,24 @@ impl FullKeep {
 
 impl Keep for FullKeep {
     ghost use Rattle.std.specs.Prelude.{◌≡◌};
-    ghost use Rattle.std.proofs.Common.{◌∙◌};
+    ghost use Rattle.std.proofs.Common.{◌∙◌, ap};
+    ghost use Rattle.mqtt_records.specs.Telling.{told_by, filling_in};
 
-    ghost holds = { λ store r. store.keep ≡ r };
+    ghost holds = { λ store r. store.keep.records ≡ r };
 
     ghost is_loaded = { λ _. Unit {0} };
 
     ghost is_sound = { λ _. Unit {0} };
 
-    ghost leaves = { λ store left. left ≡ store.keep };
+    ghost leaves = { λ store left. left ≡ store.keep.records };
 
     ghost counted = { λ store. store.failures };
 
     ghost refuses = { λ _ _. Unit {0} };
+
+    ghost fillings = { λ store. told_by store.keep.records };
+
+    ghost read_so_far = { λ store. store.keep.reads };
 
     fn load(&mut self, alloc: Global) -> Result<Records, KeepError> {
         self.keep.load(alloc)
@@ -56,11 +61,28 @@ impl Keep for FullKeep {
         self.keep.apply(changes)
     }
 
+    fn contents(
+        &mut self,
+        alloc: Global,
+        birth: u64,
+        place: u64,
+        limit: u32,
+    ) -> Result<Vec<CopyContent>, KeepError> {
+        self.keep.contents(alloc, birth, place, limit)
+    }
+
     fn failures(&self) -> u64 {
         self.failures
     }
 
+    fn reads(&self) -> u64 {
+        self.keep.reads()
+    }
+
     ghost leaves_held = { λ store left r has found. found ∙ has };
+
+    ghost tells = { λ store r sound loaded has birth place e found.
+        ap (λ r. told_by r birth place) has ∙ ap filling_in found };
 }
 
 /// A CONNECT with Clean Start 1 by the client "a" (3.1).

@@ -1,7 +1,7 @@
 //! Whose turn it is in a group, if memory is wanting for a step (MQTT 5.0, 4.8.2).
 use crate::turns::LIMITS;
 use mqtt_broker::Engine;
-use mqtt_records::{Change, Keep, KeepError, MemKeep, Records};
+use mqtt_records::{Change, CopyContent, Keep, KeepError, MemKeep, Records};
 use std::alloc::{AllocError, Global};
 use std::hash::RandomState;
 use std::test::Fail;
@@ -24,19 +24,24 @@ impl ShortKeep {
 
 impl Keep for ShortKeep {
     ghost use Rattle.std.specs.Prelude.{◌≡◌};
-    ghost use Rattle.std.proofs.Common.{◌∙◌};
+    ghost use Rattle.std.proofs.Common.{◌∙◌, ap};
+    ghost use Rattle.mqtt_records.specs.Telling.{told_by, filling_in};
 
-    ghost holds = { λ store r. store.keep ≡ r };
+    ghost holds = { λ store r. store.keep.records ≡ r };
 
     ghost is_loaded = { λ _. Unit {0} };
 
     ghost is_sound = { λ _. Unit {0} };
 
-    ghost leaves = { λ store left. left ≡ store.keep };
+    ghost leaves = { λ store left. left ≡ store.keep.records };
 
     ghost counted = { λ _. 0 };
 
     ghost refuses = { λ _ _. Unit {0} };
+
+    ghost fillings = { λ store. told_by store.keep.records };
+
+    ghost read_so_far = { λ store. store.keep.reads };
 
     fn load(&mut self, alloc: Global) -> Result<Records, KeepError> {
         self.keep.load(alloc)
@@ -51,11 +56,28 @@ impl Keep for ShortKeep {
         self.keep.apply(changes)
     }
 
+    fn contents(
+        &mut self,
+        alloc: Global,
+        birth: u64,
+        place: u64,
+        limit: u32,
+    ) -> Result<Vec<CopyContent>, KeepError> {
+        self.keep.contents(alloc, birth, place, limit)
+    }
+
     fn failures(&self) -> u64 {
         0
     }
 
+    fn reads(&self) -> u64 {
+        self.keep.reads()
+    }
+
     ghost leaves_held = { λ store left r has found. found ∙ has };
+
+    ghost tells = { λ store r sound loaded has birth place e found.
+        ap (λ r. told_by r birth place) has ∙ ap filling_in found };
 }
 
 /// CONNECT by "r", by "s" and by "p" (3.1).

@@ -23,8 +23,8 @@ use Rattle.mqtt_world_strangers.proofs.Steps.{first_good, good_first}
 use Rattle.mqtt_world_knowing_laws.specs.Knowing.{HasKnowingEnds}
 use Rattle.mqtt_world_knowing_laws.proofs.Worlds.{held_knowing, holds, named_takes, new_line_takes, stranger_linked}
 use Rattle.mqtt_world_scene.specs.Events.{IsReached, SpellsAll, world_of}
-use Rattle.mqtt_world_scene.specs.Hearing.{Asks, Hears, TakesAsEndsIf}
-use Rattle.mqtt_world_scene.specs.Scenes.{Calls, IsPlayable, Played}
+use Rattle.mqtt_world_scene.specs.Hearing.{Asks, Hears, IsTrulyAsked, TakesAsEndsIf}
+use Rattle.mqtt_world_scene.specs.Scenes.{Calls, IsPlayable, IsTrulyCall, Played}
 use Rattle.mqtt_world_scene.proofs.Eventful.{reached_after, world_called}
 use Rattle.mqtt_world_scene.proofs.Heard.{asks_nothing, takes_if, tells_none}
 use Rattle.mqtt_world.specs.Stages.{IsStanding, Staged, broker_of, world_at}
@@ -97,15 +97,15 @@ module _ {K : Type 0} (g : Ghosts K) (name : List ℕ) where
     standing = standing;
     limits = refl;
     sound = λ sound. sound;
-    reached = λ reached. reached;
+    reached = λ sound reached. reached;
     there = there;
     same = refl;
     waits = waits;
     were_alike = alike;
     alike = alike;
-    knowing = λ spells reached knowing. knowing;
-    good = λ spells reached knowing piece good. good;
-    turn = λ spells reached knowing piece t after good turn. turn;
+    knowing = λ sound spells reached knowing. knowing;
+    good = λ sound spells reached knowing piece good. good;
+    turn = λ sound spells reached knowing piece t after good turn. turn;
   }
 
   module _ (now : ℕ) (P N : Played K) (ss : List Stranger) (line : Option ℕ) where
@@ -116,7 +116,7 @@ module _ {K : Type 0} (g : Ghosts K) (name : List ℕ) where
       standing = record { playable = c.playable; limits = sym c.limits; within = within };
       limits = refl;
       sound = c.sound;
-      reached = reached_after g now NewLine P N silent tt c;
+      reached = λ sound reached. reached_after g now NewLine P N silent tt (c.truly sound) reached;
       there = ap is_some found;
       same = ap bytes_held found ∙ sym (ap bytes_held none);
       waits = ap (λ (o : Option Stranger). first_of (bytes_held o)) found ∙ nothing_first;
@@ -124,12 +124,16 @@ module _ {K : Type 0} (g : Ghosts K) (name : List ℕ) where
       alike =
           subst (λ (held : List ℕ). AllByRecursion (HoldsThese name held) all) (sym (ap bytes_held found))
           (holds_one_more name [] n ss (none_holds name [] ss none) refl);
-      knowing = λ spells reached knowing. subst HasKnowingEnds (sym (at spells reached knowing)) (stranger_linked set name [] w knowing);
-      good = λ spells reached knowing piece good.
-          subst (λ (v : World). is_bad (comes_in name piece) v ≡ false) (sym (at spells reached knowing)) (first_good set name piece w none good);
-      turn = λ spells reached knowing piece t after good turn.
-          piece_first P.engine.running.limits c.choice name piece t w after none good
-          (subst (λ (v : World). IsTurn P.engine.running.limits (comes_in name piece) t v after) (at spells reached knowing) turn);
+      knowing = λ sound spells reached knowing.
+          let x = c.truly sound in
+          subst HasKnowingEnds (sym (at x spells reached knowing)) (stranger_linked (set x) name [] w knowing);
+      good = λ sound spells reached knowing piece good.
+          let x = c.truly sound in
+          subst (λ (v : World). is_bad (comes_in name piece) v ≡ false) (sym (at x spells reached knowing)) (first_good (set x) name piece w none good);
+      turn = λ sound spells reached knowing piece t after good turn.
+          let x = c.truly sound in
+          piece_first P.engine.running.limits x.choice name piece t w after none good
+          (subst (λ (v : World). IsTurn P.engine.running.limits (comes_in name piece) t v after) (at x spells reached knowing) turn);
     }
       where
         n : Stranger
@@ -141,17 +145,17 @@ module _ {K : Type 0} (g : Ghosts K) (name : List ℕ) where
         w : World
         w = world_of now ss P
 
-        set : Setting
-        set = by_choice P.engine.running.limits c.choice
+        set : IsTrulyCall now NewLine P silent N → Setting
+        set x = by_choice P.engine.running.limits x.choice
 
         found : named name all ≡ Some n
         found = find_one_more name n ss refl none
 
-        at : SpellsAll P.engine.running.limits → IsReached P.engine.running.limits P.engine.running.broker → HasKnowingEnds w
-            → world_of now all N ≡ welcomed set name w
-        at spells reached knowing =
-            ap (λ (v : World). record v { strangers = all }) (world_called g now NewLine P N silent ss reached tt c spells knowing (new_line_takes w))
-            ∙ ap (λ (l : Option ℕ). record (calls set NewLine w) { strangers = ss ++ newcomer name l ∷ [] }) line_is
+        at : (x : IsTrulyCall now NewLine P silent N) → SpellsAll P.engine.running.limits → IsReached P.engine.running.limits P.engine.running.broker → HasKnowingEnds w
+            → world_of now all N ≡ welcomed (set x) name w
+        at x spells reached knowing =
+            ap (λ (v : World). record v { strangers = all }) (world_called g now NewLine P N silent ss reached tt x spells knowing (new_line_takes w))
+            ∙ ap (λ (l : Option ℕ). record (calls (set x) NewLine w) { strangers = ss ++ newcomer name l ∷ [] }) line_is
 
   -- a stranger that comes first is put behind the others, with the line that the broker gave it, and is welcome
   pub welcome_first : (now : ℕ) (limits : Limits) (s : Staged K) (P N : Played K) (ss all : List Stranger) (copy : List ℕ) (line : Option ℕ) → staged P ss now limits ≡ s
@@ -206,12 +210,12 @@ module _ {K : Type 0} (g : Ghosts K) (name bytes : List ℕ) (now taken : ℕ) (
     standing = record { playable = a.playable; limits = sym a.limits; within = within };
     limits = refl;
     sound = a.sound;
-    reached = a.reached;
+    reached = λ sound reached. (a.truly sound).reached reached;
     within = c.within;
     next = c.next;
     further = further_on (held_of name ss) bytes taken waits c.next.ends;
     alike = alike;
-    turn = λ spells reached knowing good. by spells reached knowing good (named name ss) refl there;
+    turn = λ sound spells reached knowing good. by (a.truly sound) spells reached knowing good (named name ss) refl there;
   }
     where
       w : World
@@ -220,13 +224,13 @@ module _ {K : Type 0} (g : Ghosts K) (name bytes : List ℕ) (now taken : ℕ) (
       piece : List ℕ
       piece = take taken bytes
 
-      by : SpellsAll P.engine.running.limits → IsReached P.engine.running.limits P.engine.running.broker → HasKnowingEnds w → is_bad (comes_in name piece) w ≡ false
+      by : IsTrulyAsked now (call_on line (held_of name ss ++ piece)) P t N → SpellsAll P.engine.running.limits → IsReached P.engine.running.limits P.engine.running.broker → HasKnowingEnds w → is_bad (comes_in name piece) w ≡ false
           → (o : Option Stranger) → named name ss ≡ o → is_some o ≡ true → IsTurn P.engine.running.limits (comes_in name piece) t w (world_of now new N)
-      by spells reached knowing good None e h = let clash : false ≡ true = h in absurd cc
-      by spells reached knowing good (Some s) e h =
-          let at : Asks g now (call_on s.number (s.held ++ piece)) P t N =
-          subst (λ (o : Option Stranger). Asks g now (call_on (line_of o) (bytes_held o ++ piece)) P t N) e
-          (subst (λ (l : Option ℕ). Asks g now (call_on l (held_of name ss ++ piece)) P t N) line_is a) in
+      by x spells reached knowing good None e h = let clash : false ≡ true = h in absurd cc
+      by x spells reached knowing good (Some s) e h =
+          let at : IsTrulyAsked now (call_on s.number (s.held ++ piece)) P t N =
+          subst (λ (o : Option Stranger). IsTrulyAsked now (call_on (line_of o) (bytes_held o ++ piece)) P t N) e
+          (subst (λ (l : Option ℕ). IsTrulyAsked now (call_on l (held_of name ss ++ piece)) P t N) line_is x) in
           let set : Setting = by_choice P.engine.running.limits at.choice in
           let came : HasKnowingEnds (world_of now new P) =
           subst HasKnowingEnds (sym (c.becomes w))
@@ -285,16 +289,18 @@ module _ {K : Type 0} (g : Ghosts K) (name bytes : List ℕ) (old mid new : Stag
     standing = p.standing;
     limits = p.limits ∙ w.limits;
     sound = λ sound. w.sound (p.sound sound);
-    reached = λ reached. subst (λ (l : Limits). IsReached l (broker_of mid) → IsReached l (broker_of new)) w.limits p.reached (w.reached reached);
+    reached = λ sound reached.
+        subst (λ (l : Limits). IsReached l (broker_of mid) → IsReached l (broker_of new)) w.limits (p.reached sound) (w.reached (p.sound sound) reached);
     within = p.within;
     next = subst (λ (held : List ℕ). IsNextPiece held (take taken bytes) (drop taken bytes)) w.same p.next;
     further = p.further;
     alike = w.were_alike;
-    turn = λ spells reached knowing good.
-        w.turn spells reached knowing (take taken bytes) t (world_at new) good
+    turn = λ sound spells reached knowing good.
+        let was = p.sound sound in
+        w.turn was spells reached knowing (take taken bytes) t (world_at new) good
         (subst (λ (l : Limits). SpellsAll l → IsReached l (broker_of mid) → HasKnowingEnds (world_at mid) → is_bad (comes_in name (take taken bytes)) (world_at mid) ≡ false
-        → IsTurn l (comes_in name (take taken bytes)) t (world_at mid) (world_at new)) w.limits p.turn
-        spells (w.reached reached) (w.knowing spells reached knowing) (w.good spells reached knowing (take taken bytes) good));
+        → IsTurn l (comes_in name (take taken bytes)) t (world_at mid) (world_at new)) w.limits (p.turn sound)
+        spells (w.reached was reached) (w.knowing was spells reached knowing) (w.good was spells reached knowing (take taken bytes) good));
   }
 
   -- a welcome and the piece behind it are one piece of the stranger, and tell the same

@@ -23,10 +23,10 @@ module _ {K : Type 0} (g : Ghosts K) (client : List ℕ) where
         sound = does.sound;
         reached = λ sound reached.
             subst (λ (l : Limits). IsReached l P.engine.running.broker) (sym here)
-            (does.reached (subst (λ (l : Limits). IsReached l S.engine.running.broker) here reached));
+            (does.reached sound (subst (λ (l : Limits). IsReached l S.engine.running.broker) here reached));
         done = λ sound spells reached knowing.
             subst (λ (l : Limits). IsDrainDone l client x (world_of now ss S) (world_of now ss P)) (sym here)
-            (does.done (subst SpellsAll here spells) (subst (λ (l : Limits). IsReached l S.engine.running.broker) here reached) ss knowing);
+            (does.done sound (subst SpellsAll here spells) (subst (λ (l : Limits). IsReached l S.engine.running.broker) here reached) ss knowing);
       }
 
   -- what a drain makes of the scene it makes of the stage, whose strangers and moment it leaves alone

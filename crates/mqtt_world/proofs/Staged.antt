@@ -56,10 +56,10 @@ module _ {K : Type 0} (g : Ghosts K) where
         sound = does.sound;
         reached = λ sound reached.
             subst (λ (l : Limits). IsReached l P.engine.running.broker) (sym here)
-            (does.reached (subst (λ (l : Limits). IsReached l S.engine.running.broker) here reached));
+            (does.reached sound (subst (λ (l : Limits). IsReached l S.engine.running.broker) here reached));
         done = λ sound spells reached knowing.
             subst (λ (l : Limits). IsDone l e t (world_of now ss S) (world_of now ss P)) (sym here)
-            (does.done (subst SpellsAll here spells) (subst (λ (l : Limits). IsReached l S.engine.running.broker) here reached) ss knowing);
+            (does.done sound (subst SpellsAll here spells) (subst (λ (l : Limits). IsReached l S.engine.running.broker) here reached) ss knowing);
       }
 
   -- what an event makes of the scene it makes of the stage, whose strangers and moment it leaves alone
@@ -175,7 +175,7 @@ module _ {K : Type 0} (g : Ghosts K) where
   off_stands a old M stands off = record {
     playable = record {
       runs = ap (λ (e : Serving K). e.running.stopped) off.engine ∙ stands.playable.runs;
-      stored = subst (λ (e : Serving K). g.holds e.running.keep e.running.broker.records) (sym off.engine) stands.playable.stored;
+      stored = subst (λ (e : Serving K). g.is_sound e.running.keep → g.holds e.running.keep e.running.broker.records) (sym off.engine) stands.playable.stored;
       clear = subst (λ (e : Serving K). HoldNone e.held) (sym off.engine) stands.playable.clear;
     };
     limits = stands.limits ∙ sym (ap (λ (e : Serving K). e.running.limits) off.engine);

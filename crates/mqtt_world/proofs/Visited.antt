@@ -18,20 +18,20 @@ use Rattle.mqtt_world_scene.specs.Scenes.{Played, WasSound}
 use Rattle.mqtt_world_knowing_laws.specs.Knowing.{HasKnowingEnds}
 use Rattle.mqtt_world_scene.proofs.StayKnowing.{turn_knowing}
 use Rattle.mqtt_world_scene.proofs.Heard.{none_tells, tells_after}
-use Rattle.mqtt_world.specs.Stages.{IsStanding, Plays, Restages, Staged, broker_of, world_at}
+use Rattle.mqtt_world.specs.Stages.{IsSoundAt, IsStanding, Plays, Restages, Staged, broker_of, world_at}
 use Rattle.mqtt_world.specs.Visits.{MayStopAt, StopsAt, TakesPiece, TellsPiece}
 use Rattle.mqtt_world.proofs.Calling.{all_taken, comes_in, decided, piece_good, staged}
 use Rattle.mqtt_world.proofs.Staged.{ok_as, reached_at as reached_again, reopened_at, standing_again}
 
--- so many pieces have come, and the rest comes where they led
+-- so many pieces have come, and the rest comes where they led; over a store whose device is sound there
 pub record ComesOn {K : Type 0} (g : Ghosts K) (name bytes : List ℕ) (old : Staged K) (told : Telling) (mid : Staged K) (rest : List ℕ) : Type 0 where
   pub standing : IsStanding g mid
   pub limits : mid.limits ≡ old.limits
   pub sound : WasSound g old.played mid.played
-  pub reached : IsReached old.limits (broker_of old) → IsReached old.limits (broker_of mid)
-  pub knowing : SpellsAll old.limits → IsReached old.limits (broker_of old) → HasKnowingEnds (world_at old) → HasKnowingEnds (world_at mid)
-  pub good : SpellsAll old.limits → IsReached old.limits (broker_of old) → HasKnowingEnds (world_at old) → is_bad (comes_in name rest) (world_at mid) ≡ false
-  pub done : SpellsAll old.limits → IsReached old.limits (broker_of old) → HasKnowingEnds (world_at old) → (u : Telling) (after : World)
+  pub reached : IsSoundAt g mid → IsReached old.limits (broker_of old) → IsReached old.limits (broker_of mid)
+  pub knowing : IsSoundAt g mid → SpellsAll old.limits → IsReached old.limits (broker_of old) → HasKnowingEnds (world_at old) → HasKnowingEnds (world_at mid)
+  pub good : IsSoundAt g mid → SpellsAll old.limits → IsReached old.limits (broker_of old) → HasKnowingEnds (world_at old) → is_bad (comes_in name rest) (world_at mid) ≡ false
+  pub done : IsSoundAt g mid → SpellsAll old.limits → IsReached old.limits (broker_of old) → HasKnowingEnds (world_at old) → (u : Telling) (after : World)
       → Happens old.limits (comes_in name rest) u (world_at mid) after
       → Happens old.limits (comes_in name bytes) (both_tell told u) (world_at old) after
 
@@ -39,16 +39,16 @@ module _ {K : Type 0} (g : Ghosts K) (name : List ℕ) where
   -- ---- a piece, at equal limits
 
   turn_at : (rest : List ℕ) (taken : ℕ) (t : Telling) (mid new : Staged K) (limits : Limits) → mid.limits ≡ limits
-      → TakesPiece g name rest mid taken t new → SpellsAll limits → IsReached limits (broker_of mid) → HasKnowingEnds (world_at mid)
+      → TakesPiece g name rest mid taken t new → IsSoundAt g new → SpellsAll limits → IsReached limits (broker_of mid) → HasKnowingEnds (world_at mid)
       → is_bad (comes_in name (take taken rest)) (world_at mid) ≡ false
       → IsTurn limits (comes_in name (take taken rest)) t (world_at mid) (world_at new)
-  turn_at rest taken t mid new limits is p =
+  turn_at rest taken t mid new limits is p sound =
       subst (λ (l : Limits). SpellsAll l → IsReached l (broker_of mid) → HasKnowingEnds (world_at mid) → is_bad (comes_in name (take taken rest)) (world_at mid) ≡ false
-      → IsTurn l (comes_in name (take taken rest)) t (world_at mid) (world_at new)) is p.turn
+      → IsTurn l (comes_in name (take taken rest)) t (world_at mid) (world_at new)) is (p.turn sound)
 
   reached_at : (rest : List ℕ) (taken : ℕ) (t : Telling) (mid new : Staged K) (limits : Limits) → mid.limits ≡ limits
-      → TakesPiece g name rest mid taken t new → IsReached limits (broker_of mid) → IsReached limits (broker_of new)
-  reached_at rest taken t mid new limits is p = subst (λ (l : Limits). IsReached l (broker_of mid) → IsReached l (broker_of new)) is p.reached
+      → TakesPiece g name rest mid taken t new → IsSoundAt g new → IsReached limits (broker_of mid) → IsReached limits (broker_of new)
+  reached_at rest taken t mid new limits is p sound = subst (λ (l : Limits). IsReached l (broker_of mid) → IsReached l (broker_of new)) is (p.reached sound)
 
   -- ---- before the first
 
@@ -59,10 +59,10 @@ module _ {K : Type 0} (g : Ghosts K) (name : List ℕ) where
     standing = standing;
     limits = refl;
     sound = λ sound. sound;
-    reached = λ reached. reached;
-    knowing = λ spells reached knowing. knowing;
-    good = λ spells reached knowing. good;
-    done = λ spells reached knowing u after does.
+    reached = λ sound reached. reached;
+    knowing = λ sound spells reached knowing. knowing;
+    good = λ sound spells reached knowing. good;
+    done = λ sound spells reached knowing u after does.
         subst (λ (t : Telling). Happens old.limits (comes_in name bytes) t (world_at old) after)
         (none_tells u ∙ ap (λ (t : Telling). both_tell t u) (sym none)) does;
   }
@@ -79,32 +79,34 @@ module _ {K : Type 0} (g : Ghosts K) (name : List ℕ) where
     joined : is_bad (comes_in name rest) (world_at mid) ≡ false → is_bad (comes_in name (piece ++ more)) (world_at mid) ≡ false
     joined good = ap (λ (xs : List ℕ). is_bad (comes_in name xs) (world_at mid)) (take-append-drop taken rest) ∙ good
 
-    its_turn : SpellsAll old.limits → IsReached old.limits (broker_of old) → HasKnowingEnds (world_at old) → IsTurn old.limits (comes_in name piece) p.t (world_at mid) (world_at new)
-    its_turn spells reached knowing =
-        turn_at rest taken p.t mid new old.limits c.limits p.takes spells (c.reached reached) (c.knowing spells reached knowing)
-        (piece_good name rest taken (world_at mid) p.takes.next (c.good spells reached knowing))
+    its_turn : IsSoundAt g new → SpellsAll old.limits → IsReached old.limits (broker_of old) → HasKnowingEnds (world_at old) → IsTurn old.limits (comes_in name piece) p.t (world_at mid) (world_at new)
+    its_turn sound spells reached knowing =
+        let was = p.takes.sound sound in
+        turn_at rest taken p.t mid new old.limits c.limits p.takes sound spells (c.reached was reached) (c.knowing was spells reached knowing)
+        (piece_good name rest taken (world_at mid) p.takes.next (c.good was spells reached knowing))
 
-    rest_good : IsWhole (bytes_come name piece (world_at mid)) → SpellsAll old.limits → IsReached old.limits (broker_of old) → HasKnowingEnds (world_at old)
+    rest_good : IsWhole (bytes_come name piece (world_at mid)) → IsSoundAt g new → SpellsAll old.limits → IsReached old.limits (broker_of old) → HasKnowingEnds (world_at old)
         → is_bad (comes_in name more) (world_at new) ≡ false
-    rest_good whole spells reached knowing =
-        let turn = its_turn spells reached knowing in
+    rest_good whole sound spells reached knowing =
+        let turn = its_turn sound spells reached knowing in
         let set : Setting = by_choice old.limits turn.choice in
         let w = world_at mid in
         let stepped : step set (comes_in name piece) w ≡ world_at new =
         ap (λ (t : Bool). cond t w (happens set (comes_in name piece) w)) turn.good ∙ sym turn.is in
         subst (λ (v : World). is_bad (comes_in name more) v ≡ false) stepped
-        (good_rest set name piece more w p.takes.alike whole (joined (c.good spells reached knowing)))
+        (good_rest set name piece more w p.takes.alike whole (joined (c.good (p.takes.sound sound) spells reached knowing)))
 
-    rest_done : IsWhole (bytes_come name piece (world_at mid)) → SpellsAll old.limits → IsReached old.limits (broker_of old) → HasKnowingEnds (world_at old) → (u : Telling) (after : World)
+    rest_done : IsWhole (bytes_come name piece (world_at mid)) → IsSoundAt g new → SpellsAll old.limits → IsReached old.limits (broker_of old) → HasKnowingEnds (world_at old) → (u : Telling) (after : World)
         → Happens old.limits (comes_in name more) u (world_at new) after → Happens old.limits (comes_in name bytes) (both_tell later u) (world_at old) after
-    rest_done whole spells reached knowing u after does =
+    rest_done whole sound spells reached knowing u after does =
         let w = world_at mid in
+        let was = p.takes.sound sound in
         let both : Happens old.limits (comes_in name (piece ++ more)) (both_tell p.t u) w after =
-        piece_and_more old.limits name piece more p.t u w (world_at new) after p.takes.alike (joined (c.good spells reached knowing)) whole
-        (its_turn spells reached knowing) does in
+        piece_and_more old.limits name piece more p.t u w (world_at new) after p.takes.alike (joined (c.good was spells reached knowing)) whole
+        (its_turn sound spells reached knowing) does in
         subst (λ (t : Telling). Happens old.limits (comes_in name bytes) t (world_at old) after)
         (sym (ap (λ (t : Telling). both_tell t u) p.told ∙ tells_after told p.t u))
-        (c.done spells reached knowing (both_tell p.t u) after
+        (c.done was spells reached knowing (both_tell p.t u) after
         (subst (λ (xs : List ℕ). Happens old.limits (comes_in name xs) (both_tell p.t u) w after) (take-append-drop taken rest) both))
 
     its_end : (more ≡ [] → ⊥) → (more ≡ []) ⊎ IsWhole (bytes_come name piece (world_at mid)) → IsWhole (bytes_come name piece (world_at mid))
@@ -119,9 +121,10 @@ module _ {K : Type 0} (g : Ghosts K) (name : List ℕ) where
           standing = p.takes.standing;
           limits = p.takes.limits ∙ c.limits;
           sound = λ sound. c.sound (p.takes.sound sound);
-          reached = λ reached. reached_at rest taken p.t mid new old.limits c.limits p.takes (c.reached reached);
-          knowing = λ spells reached knowing.
-              turn_knowing old.limits (comes_in name piece) p.t (world_at mid) (world_at new) (its_turn spells reached knowing) (c.knowing spells reached knowing);
+          reached = λ sound reached. reached_at rest taken p.t mid new old.limits c.limits p.takes sound (c.reached (p.takes.sound sound) reached);
+          knowing = λ sound spells reached knowing.
+              turn_knowing old.limits (comes_in name piece) p.t (world_at mid) (world_at new) (its_turn sound spells reached knowing)
+              (c.knowing (p.takes.sound sound) spells reached knowing);
           good = rest_good whole;
           done = rest_done whole;
         }
@@ -134,12 +137,12 @@ module _ {K : Type 0} (g : Ghosts K) (name : List ℕ) where
       standing = p.takes.standing;
       limits = p.takes.limits ∙ c.limits;
       sound = λ sound. c.sound (p.takes.sound sound);
-      reached = λ sound reached. reached_at rest taken p.t mid new old.limits c.limits p.takes (c.reached reached);
+      reached = λ sound reached. reached_at rest taken p.t mid new old.limits c.limits p.takes sound (c.reached (p.takes.sound sound) reached);
       done = λ sound spells reached knowing.
           subst (λ (t : Telling). Happens old.limits (comes_in name bytes) t (world_at old) (world_at new)) (sym p.told)
-          (c.done spells reached knowing p.t (world_at new)
+          (c.done (p.takes.sound sound) spells reached knowing p.t (world_at new)
           (subst (λ (xs : List ℕ). Happens old.limits (comes_in name xs) p.t (world_at mid) (world_at new)) (all_taken rest taken none)
-          (last_piece old.limits name piece p.t (world_at mid) (world_at new) p.takes.next.one (its_turn spells reached knowing))));
+          (last_piece old.limits name piece p.t (world_at mid) (world_at new) p.takes.next.one (its_turn sound spells reached knowing))));
     }
 
   -- ---- bytes that may not come
@@ -165,11 +168,11 @@ module _ {K : Type 0} (g : Ghosts K) (name : List ℕ) where
     limits = p.limits;
     sound = p.sound;
     reached = p.reached;
-    done = λ spells reached knowing after opens.
+    done = λ sound spells reached knowing after opens.
         let w = world_at old in
         stops_after_piece old.limits name bytes (take taken bytes) (drop taken bytes) t w (world_at new) after good
         (take-append-drop taken bytes) (found p.next.ends) p.next.one
-        (p.turn spells reached knowing (piece_good name bytes taken w p.next good)) opens;
+        (p.turn sound spells reached knowing (piece_good name bytes taken w p.next good)) opens;
   }
     where
       found : (drop taken bytes ≡ []) ⊎ IsWhole (bytes_come name (take taken bytes) (world_at old))
@@ -186,8 +189,8 @@ module _ {K : Type 0} (g : Ghosts K) (name : List ℕ) where
     standing = standing;
     limits = refl;
     sound = λ sound. sound;
-    reached = λ reached. reached;
-    done = λ spells reached knowing after opens. stops_before_there s.limits name bytes (world_at s) after there good opens;
+    reached = λ sound reached. reached;
+    done = λ sound spells reached knowing after opens. stops_before_there s.limits name bytes (world_at s) after there good opens;
   }
 
   -- it leaves a stranger that comes first behind the others, without a line
@@ -205,8 +208,8 @@ module _ {K : Type 0} (g : Ghosts K) (name : List ℕ) where
         standing = record { playable = at.playable; limits = at.limits; within = at.within };
         limits = refl;
         sound = λ sound. sound;
-        reached = λ reached. reached;
-        done = λ spells reached knowing after opens. stops_before_first limits name bytes (world_of now ss P) after none fine opens;
+        reached = λ sound reached. reached;
+        done = λ sound spells reached knowing after opens. stops_before_first limits name bytes (world_of now ss P) after none fine opens;
       }))
 
 -- ---- behind a stop the broker is opened again
@@ -220,9 +223,9 @@ module _ {K : Type 0} (g : Ghosts K) (e : Event) where
         sound = λ sound. s.sound (r.reopens.sound sound);
         reached = λ sound reached.
             subst (λ (l : Limits). IsReached l (broker_of new)) s.limits
-            (reached_again g mid new t r sound (subst (λ (l : Limits). IsReached l (broker_of mid)) (sym s.limits) (s.reached reached)));
+            (reached_again g mid new t r sound (subst (λ (l : Limits). IsReached l (broker_of mid)) (sym s.limits) (s.reached (r.reopens.sound sound) reached)));
         done = λ sound spells reached knowing.
-            s.done spells reached knowing (world_at new)
+            s.done (r.reopens.sound sound) spells reached knowing (world_at new)
             (subst (λ (l : Limits). IsReopened l (world_at mid) (world_at new)) s.limits (reopened_at g mid new t r sound));
       })
 

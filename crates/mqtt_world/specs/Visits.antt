@@ -12,7 +12,9 @@ use Rattle.mqtt_world_strangers.specs.Strangers.{held_of, named}
 use Rattle.mqtt_world_knowing_laws.specs.Knowing.{HasKnowingEnds}
 use Rattle.mqtt_world_scene.specs.Events.{IsReached, SpellsAll}
 use Rattle.mqtt_world_scene.specs.Scenes.{WasSound}
-use Rattle.mqtt_world.specs.Stages.{IsStanding, Staged, broker_of, world_at}
+use Rattle.mqtt_world.specs.Stages.{IsSoundAt, IsStanding, Staged, broker_of, world_at}
+
+-- what is said of brokers and of worlds is said over a store whose device is sound after it
 
 -- ---- a stranger is there, as if it had been linked before, and had sent nothing, if it comes first
 
@@ -20,17 +22,18 @@ pub record Welcomes {K : Type 0} (g : Ghosts K) (name : List ℕ) (old new : Sta
   pub standing : IsStanding g new
   pub limits : new.limits ≡ old.limits
   pub sound : WasSound g old.played new.played
-  pub reached : IsReached old.limits (broker_of old) → IsReached old.limits (broker_of new)
+  pub reached : IsSoundAt g new → IsReached old.limits (broker_of old) → IsReached old.limits (broker_of new)
   pub there : is_some (named name new.strangers) ≡ true
   pub same : held_of name new.strangers ≡ held_of name old.strangers
   pub waits : first_of (held_of name new.strangers) ≡ Ok None
   pub were_alike : AreAlike name (world_at old)
   pub alike : AreAlike name (world_at new)
-  pub knowing : SpellsAll old.limits → IsReached old.limits (broker_of old) → HasKnowingEnds (world_at old)
+  pub knowing : IsSoundAt g new → SpellsAll old.limits → IsReached old.limits (broker_of old) → HasKnowingEnds (world_at old)
       → HasKnowingEnds (world_at new)
-  pub good : SpellsAll old.limits → IsReached old.limits (broker_of old) → HasKnowingEnds (world_at old) → (piece : List ℕ)
+  pub good : IsSoundAt g new → SpellsAll old.limits → IsReached old.limits (broker_of old) → HasKnowingEnds (world_at old)
+      → (piece : List ℕ)
       → is_bad (ask (stranger name piece)) (world_at old) ≡ false → is_bad (ask (stranger name piece)) (world_at new) ≡ false
-  pub turn : SpellsAll old.limits → IsReached old.limits (broker_of old) → HasKnowingEnds (world_at old)
+  pub turn : IsSoundAt g new → SpellsAll old.limits → IsReached old.limits (broker_of old) → HasKnowingEnds (world_at old)
       → (piece : List ℕ) (t : Telling) (after : World)
       → is_bad (ask (stranger name piece)) (world_at old) ≡ false
       → IsTurn old.limits (ask (stranger name piece)) t (world_at new) after
@@ -42,12 +45,12 @@ pub record TakesPiece {K : Type 0} (g : Ghosts K) (name bytes : List ℕ) (old :
   pub standing : IsStanding g new
   pub limits : new.limits ≡ old.limits
   pub sound : WasSound g old.played new.played
-  pub reached : IsReached old.limits (broker_of old) → IsReached old.limits (broker_of new)
+  pub reached : IsSoundAt g new → IsReached old.limits (broker_of old) → IsReached old.limits (broker_of new)
   pub within : taken ≤ length bytes
   pub next : IsNextPiece (held_of name old.strangers) (take taken bytes) (drop taken bytes)
   pub further : (drop taken bytes ≡ []) ⊎ (0 < taken)
   pub alike : AreAlike name (world_at old)
-  pub turn : SpellsAll old.limits → IsReached old.limits (broker_of old) → HasKnowingEnds (world_at old)
+  pub turn : IsSoundAt g new → SpellsAll old.limits → IsReached old.limits (broker_of old) → HasKnowingEnds (world_at old)
       → is_bad (ask (stranger name (take taken bytes))) (world_at old) ≡ false
       → IsTurn old.limits (ask (stranger name (take taken bytes))) t (world_at old) (world_at new)
 
@@ -63,8 +66,9 @@ pub record StopsAt {K : Type 0} (g : Ghosts K) (e : Event) (old new : Staged K) 
   pub standing : IsStanding g new
   pub limits : new.limits ≡ old.limits
   pub sound : WasSound g old.played new.played
-  pub reached : IsReached old.limits (broker_of old) → IsReached old.limits (broker_of new)
-  pub done : SpellsAll old.limits → IsReached old.limits (broker_of old) → HasKnowingEnds (world_at old) → (after : World)
+  pub reached : IsSoundAt g new → IsReached old.limits (broker_of old) → IsReached old.limits (broker_of new)
+  pub done : IsSoundAt g new → SpellsAll old.limits → IsReached old.limits (broker_of old) → HasKnowingEnds (world_at old)
+      → (after : World)
       → IsReopened old.limits (world_at new) after → Happens old.limits e silent (world_at old) after
 
 -- or it can't happen, and nothing changed

@@ -4,7 +4,7 @@ use Rattle.std.specs.Prelude.{Result, Ok, Err}
 use Rattle.mqtt_base.specs.declared.limits.TheConstants.{LAST_NUMBER}
 use Rattle.mqtt_records.specs.declared.keep.Keep.{Ghosts}
 use Rattle.mqtt_world_model.specs.Tellings.{Telling, telling}
-use Rattle.mqtt_broker_engine.specs.Calling.{Tells}
+use Rattle.mqtt_broker_engine.specs.Calling.{IsTrulyCalled, Tells}
 use Rattle.mqtt_broker_engine.specs.declared.outcome.Outcome.{Outcome}
 use Rattle.mqtt_rules.specs.Deeds.{Deed, Send, after, output, report, wires}
 use Rattle.mqtt_rules.specs.State.{Broker, MemberChoice}
@@ -17,7 +17,7 @@ use Rattle.mqtt_world_scene.specs.declared.over.Over.{Over}
 use Rattle.mqtt_world_clients.specs.Ends.{Ends}
 use Rattle.mqtt_world_knowing_laws.specs.Knowing.{AllIsUnderstood}
 use Rattle.mqtt_world_clients.specs.Telling.{AreSpelled, ends_told}
-use Rattle.mqtt_world_scene.specs.Scenes.{Calls, HoldNone, HoldsNone, IsPlayable, Played}
+use Rattle.mqtt_world_scene.specs.Scenes.{Calls, HoldNone, HoldsNone, IsPlayable, IsTrulyCall, Played}
 
 -- ---- moments
 
@@ -73,14 +73,13 @@ none_held keeps (x ∷ held) h = kept_none (keeps x) x (filter keeps held) h.0 (
 -- ---- a call
 
 module _ {K : Type 0} (g : Ghosts K) (now : ℕ) (call : Call) (old new : Played K) (out : Outcome) where
-  -- what the engine answered to a call is that call of the scene, if its ends are told of it
-  pub called : (r : Result Telling Over) → IsPlayable g old → Served g (min now LAST_NUMBER) call old.engine (Ok out) new.engine
-      → ((answer : Answer) → Tells answer out → AreSpelled answer → AllIsUnderstood answer old.ends.publishers old.ends.receivers → OnOk r (new.ends ≡ ends_told new.engine.running.broker answer old.ends))
-      → ((answer : Answer) → Tells answer out → IfOk r (λ (t : Telling). t ≡ record { reports = answer.reports; out = length answer.wires }))
-      → IfOk r (λ (t : Telling). Calls g now call old t new)
-  called (Err fault) playable served ends tells = tt
-  called (Ok t) playable served ends tells =
-      let a = served.called.step in
+  -- a step of the engine is one of the scene, if its ends are told of it
+  truly_called : (t : Telling) → IsTrulyCalled g (min now LAST_NUMBER) call old.engine.running (Ok out) new.engine.running
+      → ((answer : Answer) → Tells answer out → AreSpelled answer → AllIsUnderstood answer old.ends.publishers old.ends.receivers → new.ends ≡ ends_told new.engine.running.broker answer old.ends)
+      → ((answer : Answer) → Tells answer out → t ≡ record { reports = answer.reports; out = length answer.wires })
+      → IsTrulyCall now call old t new
+  truly_called t truly ends tells =
+      let a = truly.step in
       let limits = old.engine.running.limits in
       let b = old.engine.running.broker in
       let choice = a.step.choice in
@@ -95,14 +94,24 @@ module _ {K : Type 0} (g : Ghosts K) (now : ℕ) (call : Call) (old new : Played
             is ∙ ap (λ x. ends_told x a.told old.ends) broker_is ∙ ap (λ x. ends_told (stepped limits choice now call b) x old.ends) answer_is;
         told_is = tells a.told a.tells ∙ ap (λ (x : Answer). record { reports = x.reports; out = length x.wires }) answer_is
             ∙ told_count limits choice now call b;
-        limits = served.called.limits;
-        sound = served.called.sound;
-        playable = record {
-          runs = served.called.stored.0;
-          stored = served.called.stored.1;
-          clear = subst HoldNone (sym served.held) (none_held (λ h. not (has_closed out.closed.items h.line)) old.engine.held playable.clear);
-        };
       }
+
+  -- what the engine answered to a call is that call of the scene, if its ends are told of it
+  pub called : (r : Result Telling Over) → IsPlayable g old → Served g (min now LAST_NUMBER) call old.engine (Ok out) new.engine
+      → ((answer : Answer) → Tells answer out → AreSpelled answer → AllIsUnderstood answer old.ends.publishers old.ends.receivers → OnOk r (new.ends ≡ ends_told new.engine.running.broker answer old.ends))
+      → ((answer : Answer) → Tells answer out → IfOk r (λ (t : Telling). t ≡ record { reports = answer.reports; out = length answer.wires }))
+      → IfOk r (λ (t : Telling). Calls g now call old t new)
+  called (Err fault) playable served ends tells = tt
+  called (Ok t) playable served ends tells = record {
+    truly = λ sound. truly_called t (served.called.truly sound) ends tells;
+    limits = served.called.limits;
+    sound = served.called.sound;
+    playable = record {
+      runs = served.called.runs (λ stops. absurd (cc));
+      stored = λ sound. (served.called.truly sound).stored;
+      clear = subst HoldNone (sym served.held) (none_held (λ h. not (has_closed out.closed.items h.line)) old.engine.held playable.clear);
+    };
+  }
 
 -- the same, as a call of the engine and the telling behind it say it
 pub answered : {K : Type 0} (g : Ghosts K) (now moment : ℕ) (call : Call) (old new : Played K) (mid : Serving K) (out : Outcome) (result : Result Outcome EngineError) (r : Result Telling Over)

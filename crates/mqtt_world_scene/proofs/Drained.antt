@@ -121,10 +121,10 @@ module _ {K : Type 0} (g : Ghosts K) (now : ℕ) where
     playable = playable;
     limits = refl;
     sound = λ sound. sound;
-    reached = λ reached. reached;
+    reached = λ sound reached. reached;
     t = silent;
     told = nothing_behind told;
-    done = λ spells reached ss knowing. none s.engine.running.limits (world_of now ss s);
+    done = λ sound spells reached ss knowing. none s.engine.running.limits (world_of now ss s);
   }
 
   -- the same, said in other words of these worlds
@@ -139,7 +139,7 @@ module _ {K : Type 0} (g : Ghosts K) (now : ℕ) where
     reached = x.reached;
     t = x.t;
     told = x.told;
-    done = λ spells reached ss knowing. says old.engine.running.limits x.t ss (x.done spells reached ss knowing);
+    done = λ sound spells reached ss knowing. says old.engine.running.limits x.t ss (x.done sound spells reached ss knowing);
   }
 
   goes_behind : (P Q R : Limits → Telling → World → World → Type 0) (old mid new : Played K) (before between after : Telling)
@@ -152,17 +152,18 @@ module _ {K : Type 0} (g : Ghosts K) (now : ℕ) where
         playable = y.playable;
         limits = y.limits ∙ x.limits;
         sound = λ sound. x.sound (y.sound sound);
-        reached = λ reached.
+        reached = λ sound reached.
             subst (λ (l : Limits). IsReached l new.engine.running.broker) x.limits
-            (y.reached (subst (λ (l : Limits). IsReached l mid.engine.running.broker) (sym x.limits) (x.reached reached)));
+            (y.reached sound (subst (λ (l : Limits). IsReached l mid.engine.running.broker) (sym x.limits) (x.reached (y.sound sound) reached)));
         t = both_tell x.t y.t;
         told = y.told ∙ (ap (λ (z : Telling). both_tell z y.t) x.told ∙ tells_after before x.t y.t);
-        done = λ spells reached ss knowing.
-            let first = x.done spells reached ss knowing in
+        done = λ sound spells reached ss knowing.
+            let was = y.sound sound in
+            let first = x.done was spells reached ss knowing in
             joins limits x.t y.t (world_of now ss old) (world_of now ss mid) (world_of now ss new) first
             (subst (λ (l : Limits). Q l y.t (world_of now ss mid) (world_of now ss new)) x.limits
-            (y.done (subst SpellsAll (sym x.limits) spells)
-            (subst (λ (l : Limits). IsReached l mid.engine.running.broker) (sym x.limits) (x.reached reached)) ss (keeps limits x.t (world_of now ss old) (world_of now ss mid) first knowing)));
+            (y.done sound (subst SpellsAll (sym x.limits) spells)
+            (subst (λ (l : Limits). IsReached l mid.engine.running.broker) (sym x.limits) (x.reached was reached)) ss (keeps limits x.t (world_of now ss old) (world_of now ss mid) first knowing)));
       }
 
   -- ---- one turn
@@ -177,7 +178,7 @@ module _ {K : Type 0} (g : Ghosts K) (now : ℕ) where
     reached = does.reached;
     t = t;
     told = told;
-    done = λ spells reached ss knowing. turns old.engine.running.limits t (world_of now ss old) (world_of now ss new) (does.done spells reached ss knowing);
+    done = λ sound spells reached ss knowing. turns old.engine.running.limits t (world_of now ss old) (world_of now ss new) (does.done sound spells reached ss knowing);
   }
 
   -- if what is told was added
@@ -289,8 +290,8 @@ module _ {K : Type 0} (g : Ghosts K) (now : ℕ) where
     playable = playable;
     limits = refl;
     sound = λ sound. sound;
-    reached = λ reached. reached;
-    done = λ spells reached ss knowing. (sym (looks ss) ∙ is, refl);
+    reached = λ sound reached. reached;
+    done = λ sound spells reached ss knowing. (sym (looks ss) ∙ is, refl);
   }
 
   -- if it can, it is all its rounds, and tells what they told
@@ -304,8 +305,8 @@ module _ {K : Type 0} (g : Ghosts K) (now : ℕ) where
         limits = x.limits;
         sound = x.sound;
         reached = x.reached;
-        done = λ spells reached ss knowing.
-            let made = x.done spells reached ss knowing in
+        done = λ sound spells reached ss knowing.
+            let made = x.done sound spells reached ss knowing in
             (record { good = sym (looks ss) ∙ good; rounds = n; made = made.0; over = made.1 }, refl);
       })
 

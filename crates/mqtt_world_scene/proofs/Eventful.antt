@@ -16,7 +16,7 @@ use Rattle.mqtt_script_laws.proofs.Single.{asks_call, asks_nothing, left_by, pla
 use Rattle.mqtt_world_knowing_laws.specs.Knowing.{HasKnowingEnds, TakesAsEnds}
 use Rattle.mqtt_world_knowing_laws.proofs.Calls.{meant_out}
 use Rattle.mqtt_world_knowing_laws.proofs.Worlds.{asked_takes, before_knowing}
-use Rattle.mqtt_world_scene.specs.Scenes.{Calls, IsPlayable, Played}
+use Rattle.mqtt_world_scene.specs.Scenes.{Calls, IsPlayable, IsTrulyCall, Played}
 use Rattle.mqtt_world_scene.specs.Events.{Does, IsReached, SpellsAll, TakesPacket, played, steps, world_of}
 
 -- a choice of members, for what leaves nothing to choose
@@ -32,7 +32,7 @@ module _ {K : Type 0} (g : Ghosts K) (now : ℕ) where
 
   -- an event that can't happen changes nothing
   pub bad_done : (e : Event) (s : Played K) → IsPlayable g s → ((ss : List Stranger) → IsBadEvent e (world_of now ss s)) → Does g now e s None s
-  bad_done e s playable is = record { playable = playable; limits = refl; sound = λ sound. sound; reached = λ reached. reached; done = λ spells reached ss knowing. (is ss, refl) }
+  bad_done e s playable is = record { playable = playable; limits = refl; sound = λ sound. sound; reached = λ sound reached. reached; done = λ sound spells reached ss knowing. (is ss, refl) }
 
   -- ---- what ends do
 
@@ -45,8 +45,8 @@ module _ {K : Type 0} (g : Ghosts K) (now : ℕ) where
     playable = playable_still E O N playable;
     limits = refl;
     sound = λ sound. sound;
-    reached = λ reached. reached;
-    done = λ spells reached ss knowing.
+    reached = λ sound reached. reached;
+    done = λ sound spells reached ss knowing.
         let limits = E.running.limits in
         let w = world_of now ss (played E O) in
         let after = world_of now ss (played E N) in
@@ -65,8 +65,8 @@ module _ {K : Type 0} (g : Ghosts K) (now : ℕ) where
     playable = playable_still E O N playable;
     limits = refl;
     sound = λ sound. sound;
-    reached = λ reached. reached;
-    done = λ spells reached ss knowing.
+    reached = λ sound reached. reached;
+    done = λ sound spells reached ss knowing.
         let limits = E.running.limits in
         let set = by_choice limits any_choice in
         let w = world_of now ss (played E O) in
@@ -76,13 +76,13 @@ module _ {K : Type 0} (g : Ghosts K) (now : ℕ) where
   }
 
   -- if a broker can come to be, so can the one that a call leaves
-  pub reached_after : (call : Call) (old new : Played K) (t : Telling) → TakesPacket call → Calls g now call old t new
+  pub reached_after : (call : Call) (old new : Played K) (t : Telling) → TakesPacket call → IsTrulyCall now call old t new
       → IsReached old.engine.running.limits old.engine.running.broker → IsReached old.engine.running.limits new.engine.running.broker
   reached_after call old new t takes c reached =
       subst (IsReached old.engine.running.limits) (sym c.broker) (steps c.choice now call old.engine.running.broker reached takes c.unspent)
 
   -- what a call makes of the broker and its ends it makes of their world, whatever strangers there are
-  pub world_called : (call : Call) (old new : Played K) (t : Telling) (ss : List Stranger) → IsReached old.engine.running.limits old.engine.running.broker → TakesPacket call → (c : Calls g now call old t new)
+  pub world_called : (call : Call) (old new : Played K) (t : Telling) (ss : List Stranger) → IsReached old.engine.running.limits old.engine.running.broker → TakesPacket call → (c : IsTrulyCall now call old t new)
       → SpellsAll old.engine.running.limits → HasKnowingEnds (world_of now ss old) → TakesAsEnds call (world_of now ss old)
       → world_of now ss new ≡ calls (by_choice old.engine.running.limits c.choice) call (world_of now ss old)
   world_called call old new t ss reached takes c spells knowing few =
@@ -105,20 +105,21 @@ module _ {K : Type 0} (g : Ghosts K) (now : ℕ) where
         playable = playable_still F P N c.playable;
         limits = c.limits;
         sound = c.sound;
-        reached = reached_after call (played E M) (played F P) t takes c;
-        done = λ spells reached ss knowing.
+        reached = λ sound reached. reached_after call (played E M) (played F P) t takes (c.truly sound) reached;
+        done = λ sound spells reached ss knowing.
             let limits = E.running.limits in
-            let set = by_choice limits c.choice in
+            let x = c.truly sound in
+            let set = by_choice limits x.choice in
             let w = world_of now ss (played E O) in
             let after = world_of now ss (played F N) in
             let same = mid set ss in
             plain_happens limits a t w after p
-            (asks_call limits c.choice a call t w after p (good ss) (some set ss)
-            (subst (λ (x : World). is_step_spent limits c.choice x.now call x.broker ≡ false) same c.unspent)
-            (last ss ∙ ap (left_by a) (world_called call (played E M) (played F P) t ss reached takes c spells
+            (asks_call limits x.choice a call t w after p (good ss) (some set ss)
+            (subst (λ (v : World). is_step_spent limits x.choice v.now call v.broker ≡ false) same x.unspent)
+            (last ss ∙ ap (left_by a) (world_called call (played E M) (played F P) t ss reached takes x spells
             (subst HasKnowingEnds (sym same) (before_knowing set a w knowing)) (subst (TakesAsEnds call) (sym same) (asked_takes set a call w knowing (some set ss)))
             ∙ ap (calls set call) same))
-            (subst (λ (x : World). t ≡ telling (deeds limits c.choice x.now call x.broker)) same c.told_is));
+            (subst (λ (v : World). t ≡ telling (deeds limits x.choice v.now call v.broker)) same x.told_is));
       }
 
   -- ---- the same of a scene that is taken apart

@@ -18,7 +18,7 @@ use Rattle.mqtt_world_model.specs.World.{held_after, held_by}
 use Rattle.mqtt_broker_engine.specs.Calling.{Tells}
 use Rattle.mqtt_rules.proofs.acts.OnLines.{found_number}
 use Rattle.mqtt_broker_engine.specs.declared.outcome.Outcome.{Outcome}
-use Rattle.mqtt_broker.specs.Piece.{IsPieceAnswered, PieceCalled}
+use Rattle.mqtt_broker.specs.Piece.{IsPieceAnswered, IsPieceAnsweredForLines, PieceCalled, for_broker}
 use Rattle.mqtt_rules.specs.Piece.{Front, PieceStep, Pieced, begins_connect, bytes_taken, code_of, call_by, call_on, fed, first_call, held_on, is_spent_if, stepped_if, told_if, without_by, without_first}
 use Rattle.mqtt_rules.specs.State.{Broker, Env, Line, MemberChoice, line_at}
 use Rattle.mqtt_rules.specs.Step.{BadInput, Call, Input, at_moment, deeds, env_of, is_step_spent, nothing_told, on_fault, stepped, told, Outcome as Answer}
@@ -32,7 +32,7 @@ use Rattle.mqtt_world_scene.specs.declared.over.Over.{Over}
 use Rattle.mqtt_world_clients.specs.Ends.{Ends}
 use Rattle.mqtt_world_knowing_laws.specs.Knowing.{AllIsUnderstood, IsUnderstood, OnEachEnd}
 use Rattle.mqtt_world_clients.specs.Telling.{AreSpelled, ends_told}
-use Rattle.mqtt_world_scene.specs.Scenes.{Calls, HoldNone, IsPlayable, Played}
+use Rattle.mqtt_world_scene.specs.Scenes.{Calls, HoldNone, IsPlayable, IsTrulyCall, Played}
 use Rattle.mqtt_world_scene.proofs.Answered.{kept_none, none_held, spent_capped, stepped_capped, told_capped, told_count}
 
 -- ---- what a line holds
@@ -212,20 +212,13 @@ module _ {K : Type 0} (g : Ghosts K) (now line : ℕ) (call : Call) (piece : Lis
 
   -- ---- so it is that call
 
-  -- bytes that are one call, given on a line that holds nothing, are that call of the scene
-  pub given : (moment : ℕ) (mid : Serving K) (result : Result Outcome EngineError) (r : Result Telling Over) → IsPlayable g old → held_after piece ≡ [] → length piece ≤ PACKET_LIMIT → first_call line piece ≡ Some call
-      → moment ≡ m → result ≡ Ok out → PieceCalled g moment line piece old.engine result mid → new.engine ≡ mid
-      → ((answer : Answer) → Tells answer out → AreSpelled answer → AllIsUnderstood answer old.ends.publishers old.ends.receivers → OnOk r (new.ends ≡ ends_told mid.running.broker answer old.ends))
-      → ((answer : Answer) → Tells answer out → IfOk r (λ (t : Telling). t ≡ record { reports = answer.reports; out = length answer.wires }))
-      → IfOk r (λ (t : Telling). Calls g now call old t new)
-  given moment mid result (Err fault) playable left within asks moment_is is called same ends tells = tt
-  given moment mid result (Ok t) playable left within asks moment_is is called same ends tells =
-      let at : PieceCalled g m line piece old.engine (Ok out) mid =
-      subst (λ (x : Result Outcome EngineError). PieceCalled g m line piece old.engine x mid) is
-      (subst (λ (n : ℕ). PieceCalled g n line piece old.engine result mid) moment_is called) in
-      let a : IsPieceAnswered m line piece old.engine out mid = at.step in
+  truly_given : (t : Telling) (mid : Serving K) → IsPieceAnswered m line piece old.engine out mid → HoldNone old.engine.held → length piece ≤ PACKET_LIMIT → first_call line piece ≡ Some call → new.engine ≡ mid
+      → ((answer : Answer) → Tells answer out → AreSpelled answer → AllIsUnderstood answer old.ends.publishers old.ends.receivers → new.ends ≡ ends_told mid.running.broker answer old.ends)
+      → ((answer : Answer) → Tells answer out → t ≡ record { reports = answer.reports; out = length answer.wires })
+      → IsTrulyCall now call old t new
+  truly_given t mid a none within asks same ends tells =
       let choice = a.step.choice in
-      let x : IsCallOf choice a.after.broker a.after.out = of_any a.after a.step playable.clear within asks in
+      let x : IsCallOf choice a.after.broker a.after.out = of_any a.after a.step none within asks in
       let now_told : told limits choice m call b ≡ told limits choice now call b = told_capped limits choice now call b in
       let outputs : a.after.out.outputs ≡ (told limits choice now call b).outputs = x.outputs ∙ ap (λ (y : Answer). y.outputs) now_told in
       let wires : a.after.out.wires ≡ (told limits choice now call b).wires = x.wires ∙ ap (λ (y : Answer). y.wires) now_told in
@@ -249,14 +242,44 @@ module _ {K : Type 0} (g : Ghosts K) (now line : ℕ) (call : Call) (piece : Lis
             ∙ ap (λ (ws : List (ℕ × Packet)). record { reports = a.after.out.reports; out = length ws }) wires
             ∙ ap (λ rs. record { reports = rs; out = length (told limits choice now call b).wires }) reports
             ∙ told_count limits choice now call b;
-        limits = ap (λ (e : Serving K). e.running.limits) same ∙ at.limits;
-        sound = λ sound. at.sound (subst (λ (e : Serving K). g.is_sound e.running.keep) same sound);
-        playable = record {
-          runs = ap (λ (e : Serving K). e.running.stopped) same ∙ at.stored.0;
-          stored = subst (λ (e : Serving K). g.holds e.running.keep e.running.broker.records) (sym same) at.stored.1;
-          clear = subst HoldNone (sym (ap (λ (e : Serving K). e.held) same ∙ a.held)) (clear_after a.after a.step playable.clear within left asks a.tells.closed);
-        };
       }
+
+-- the same engine and ends, with another broker
+abbrev beside : {K : Type 0} → Broker → Played K → Played K
+beside b s = record s { engine = for_broker b s.engine }
+
+-- whatever the device returned, the lines hold nothing then
+clear_given : {K : Type 0} (g : Ghosts K) (now line : ℕ) (call : Call) (piece : List ℕ) (old new : Played K) (out : Outcome) (mid : Serving K)
+    → IsPieceAnsweredForLines (min now LAST_NUMBER) line piece old.engine out mid → HoldNone old.engine.held → length piece ≤ PACKET_LIMIT → held_after piece ≡ [] → first_call line piece ≡ Some call
+    → HoldNone mid.held
+clear_given g now line call piece old new out mid x none within left asks =
+    let a = x.answered in
+    subst HoldNone (sym a.held) (clear_after g now line call piece (beside x.before old) new out a.after a.step none within left asks a.tells.closed)
+
+-- bytes that are one call, given on a line that holds nothing, are that call of the scene
+given : {K : Type 0} (g : Ghosts K) (now line : ℕ) (call : Call) (piece : List ℕ) (old new : Played K) (out : Outcome) (moment : ℕ) (mid : Serving K) (result : Result Outcome EngineError) (r : Result Telling Over)
+    → IsPlayable g old → held_after piece ≡ [] → length piece ≤ PACKET_LIMIT → first_call line piece ≡ Some call
+    → moment ≡ min now LAST_NUMBER → result ≡ Ok out → PieceCalled g moment line piece old.engine result mid → new.engine ≡ mid
+    → ((answer : Answer) → Tells answer out → AreSpelled answer → AllIsUnderstood answer old.ends.publishers old.ends.receivers → OnOk r (new.ends ≡ ends_told mid.running.broker answer old.ends))
+    → ((answer : Answer) → Tells answer out → IfOk r (λ (t : Telling). t ≡ record { reports = answer.reports; out = length answer.wires }))
+    → IfOk r (λ (t : Telling). Calls g now call old t new)
+given g now line call piece old new out moment mid result (Err fault) playable left within asks moment_is is called same ends tells = tt
+given {K} g now line call piece old new out moment mid result (Ok t) playable left within asks moment_is is called same ends tells =
+    let at : PieceCalled g (min now LAST_NUMBER) line piece old.engine (Ok out) mid =
+    subst (λ (x : Result Outcome EngineError). PieceCalled g (min now LAST_NUMBER) line piece old.engine x mid) is
+    (subst (λ (n : ℕ). PieceCalled g n line piece old.engine result mid) moment_is called) in
+    let as_mid : g.is_sound new.engine.running.keep → g.is_sound mid.running.keep = λ sound. subst (λ (e : Serving K). g.is_sound e.running.keep) same sound in
+    record {
+      truly = λ sound. truly_given g now line call piece old new out t mid (at.truly (as_mid sound)).step playable.clear within asks same ends tells;
+      limits = ap (λ (e : Serving K). e.running.limits) same ∙ at.limits;
+      sound = λ sound. at.sound (as_mid sound);
+      playable = record {
+        runs = ap (λ (e : Serving K). e.running.stopped) same ∙ at.runs (λ stops. absurd (cc));
+        stored = λ sound. subst (λ (e : Serving K). g.holds e.running.keep e.running.broker.records) (sym same) (at.truly (as_mid sound)).stored;
+        clear = subst HoldNone (sym (ap (λ (e : Serving K). e.held) same))
+            (clear_given g now line call piece old new out mid at.answered playable.clear within left asks);
+      };
+    }
 
 -- and of a scene as it is seen
 pub given_in : {K : Type 0} (g : Ghosts K) (now moment line : ℕ) (call : Call) (piece : List ℕ) (old new : Played K) (engine mid : Serving K) (ends : Ends) (out : Outcome) (result : Result Outcome EngineError) (r : Result Telling Over)

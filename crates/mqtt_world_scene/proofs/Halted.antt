@@ -4,7 +4,7 @@ use Rattle.std.specs.Prelude.{IfErr, Result, Ok, Err}
 use Rattle.mqtt_records.specs.declared.keep.Keep.{Ghosts}
 use Rattle.mqtt_records.specs.declared.keep.KeepError.{KeepError}
 use Rattle.mqtt_records.specs.declared.keep.KeepError.TheVariants as refusal
-use Rattle.mqtt_rules.specs.Step.{Call}
+use Rattle.mqtt_rules.specs.Step.{Call, Tick}
 use Rattle.mqtt_rules.specs.declared.Limits.{Limits}
 use Rattle.mqtt_world_peers.specs.declared.told.RunFault.{RunFault}
 use Rattle.mqtt_broker_step.specs.declared.call.EngineError.{EngineError}
@@ -44,7 +44,8 @@ module _ {K : Type 0} (g : Ghosts K) where
       → Served g now call s.engine (Err error) mid → IsErrorDue g error
   call_due_at s now call Memory mid playable served = tt
   call_due_at s now call Stopped mid playable served = store_failed s mid.running.keep playable (served.called.cause refl playable.runs)
-  call_due_at s now call Spent mid playable served = numbers_spent s now call playable (served.called.spent refl).1
+  call_due_at s now call Spent mid playable served =
+      numbers_spent s mid.running.keep now call playable (λ sound. (served.called.truly sound).spent refl)
 
   -- as a scene is seen
   pub call_due : (now : ℕ) (call : Call) (old : Played K) (engine mid : Serving K) (ends : Ends) (error : EngineError) (result : Result Outcome EngineError)
@@ -55,16 +56,18 @@ module _ {K : Type 0} (g : Ghosts K) where
 
   -- ---- a piece
 
-  spent_due : (s : Played K) (now : ℕ) (call : Option Call) → IsPlayable g s
-      → IsSpentBy s.engine.running.limits s.engine.running.broker now call → IsStoreDue g
-  spent_due s now None playable spent = absurd spent
-  spent_due s now (Some call) playable spent = numbers_spent s now call playable spent
+  -- if nothing was asked no number was spent, so the device was not sound, and any call will do
+  spent_due : (s : Played K) (left : K) (now : ℕ) (call : Option Call) → IsPlayable g s
+      → (g.is_sound left → IsSpentBy s.engine.running.limits s.engine.running.broker now call) → IsStoreDue g
+  spent_due s left now None playable spent = numbers_spent s left now Tick playable (λ sound. absurd (spent sound))
+  spent_due s left now (Some call) playable spent = numbers_spent s left now call playable spent
 
   piece_due_at : (s : Played K) (now line : ℕ) (piece : List ℕ) (error : EngineError) (mid : Serving K) → IsPlayable g s
       → PieceCalled g now line piece s.engine (Err error) mid → IsErrorDue g error
   piece_due_at s now line piece Memory mid playable called = tt
   piece_due_at s now line piece Stopped mid playable called = store_failed s mid.running.keep playable (called.cause refl playable.runs)
-  piece_due_at s now line piece Spent mid playable called = spent_due s now (call_by line piece s.engine) playable (called.spent refl).1
+  piece_due_at s now line piece Spent mid playable called =
+      spent_due s mid.running.keep now (call_by line piece s.engine) playable (λ sound. (called.truly sound).spent refl)
 
   -- if a piece of bytes is answered with an error, there is a cause for it
   pub piece_due : (now line : ℕ) (piece : List ℕ) (old : Played K) (engine mid : Serving K) (ends : Ends) (error : EngineError) (result : Result Outcome EngineError)

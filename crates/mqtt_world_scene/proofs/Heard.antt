@@ -16,8 +16,8 @@ use Rattle.mqtt_rules.specs.declared.Report.{Report}
 use Rattle.mqtt_script_laws.specs.Turns.{both_tell}
 use Rattle.mqtt_world_knowing_laws.specs.Knowing.{TakesAsEnds}
 use Rattle.mqtt_world_scene.specs.Events.{TakesPacket}
-use Rattle.mqtt_world_scene.specs.Hearing.{Asks, Hears, TakesAsEndsIf}
-use Rattle.mqtt_world_scene.specs.Scenes.{Calls, IsPlayable, Played}
+use Rattle.mqtt_world_scene.specs.Hearing.{Asks, Hears, IsTrulyAsked, TakesAsEndsIf}
+use Rattle.mqtt_world_scene.specs.Scenes.{Calls, IsPlayable, IsTrulyCall, Played}
 use Rattle.mqtt_world_scene.proofs.Eventful.{any_choice, reached_after, world_called}
 
 -- ---- what is told, one behind the other
@@ -67,26 +67,33 @@ module _ {K : Type 0} (g : Ghosts K) (now : ℕ) where
   -- if nothing is asked of the broker, nothing changes, and nothing is told
   pub asks_nothing : (s : Played K) → IsPlayable g s → Asks g now None s silent s
   asks_nothing s playable = record {
-    choice = any_choice;
+    truly = λ sound. record {
+      choice = any_choice;
+      reached = λ reached. reached;
+      unspent = λ ss. refl;
+      told = λ ss. refl;
+      done = λ spells reached ss knowing few. refl;
+    };
     playable = playable;
     limits = refl;
     sound = λ sound. sound;
-    reached = λ reached. reached;
-    unspent = λ ss. refl;
-    told = λ ss. refl;
-    done = λ spells reached ss knowing few. refl;
   }
 
-  asks_call : (call : Call) (old new : Played K) (t : Telling) → TakesPacket call → Calls g now call old t new → Asks g now (Some call) old t new
-  asks_call call old new t takes c = record {
+  truly_asked : (call : Call) (old new : Played K) (t : Telling) → TakesPacket call → IsTrulyCall now call old t new → IsTrulyAsked now (Some call) old t new
+  truly_asked call old new t takes c = record {
     choice = c.choice;
-    playable = c.playable;
-    limits = c.limits;
-    sound = c.sound;
     reached = reached_after g now call old new t takes c;
     unspent = λ ss. c.unspent;
     told = λ ss. c.told_is;
     done = λ spells reached ss knowing few. world_called g now call old new t ss reached takes c spells knowing few;
+  }
+
+  asks_call : (call : Call) (old new : Played K) (t : Telling) → TakesPacket call → Calls g now call old t new → Asks g now (Some call) old t new
+  asks_call call old new t takes c = record {
+    truly = λ sound. truly_asked call old new t takes (c.truly sound);
+    playable = c.playable;
+    limits = c.limits;
+    sound = c.sound;
   }
 
   -- nothing came, or there is no line

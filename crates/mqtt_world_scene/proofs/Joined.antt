@@ -44,17 +44,18 @@ module _ {K : Type 0} (g : Ghosts K) (now : ℕ) (client : List ℕ) (clean : Bo
         playable = playable_still g now F P N c.playable;
         limits = c.limits;
         sound = c.sound;
-        reached = reached_after g now NewLine s (played F P) silent tt c;
-        done = λ spells reached ss knowing.
+        reached = λ sound reached. reached_after g now NewLine s (played F P) silent tt (c.truly sound) reached;
+        done = λ sound spells reached ss knowing.
             let limits = s.engine.running.limits in
-            let set = by_choice limits c.choice in
+            let x = c.truly sound in
+            let set = by_choice limits x.choice in
             let w = world_of now ss s in
             let v = world_of now ss (played F N) in
             let at : v ≡ links set (Some line) client clean w =
-            become (world_of now ss (played F P)) ∙ ap (joins line client clean) (world_called g now NewLine s (played F P) silent ss reached tt c spells knowing (new_line_takes w)) in
-            subst (λ (x : Telling). Happens limits (connect_end client clean) x w v) (sym told)
-            (single.joins limits c.choice client clean w v
-            (ap (λ (x : Played K). is_bad (connect_end client clean) (world_of now ss x)) (sym before) ∙ good ss)
+            become (world_of now ss (played F P)) ∙ ap (joins line client clean) (world_called g now NewLine s (played F P) silent ss reached tt x spells knowing (new_line_takes w)) in
+            subst (λ (u : Telling). Happens limits (connect_end client clean) u w v) (sym told)
+            (single.joins limits x.choice client clean w v
+            (ap (λ (y : Played K). is_bad (connect_end client clean) (world_of now ss y)) (sym before) ∙ good ss)
             (at ∙ ap (λ (o : Option ℕ). links set o client clean w) next));
       }
 
@@ -65,8 +66,8 @@ module _ {K : Type 0} (g : Ghosts K) (now : ℕ) (client : List ℕ) (clean : Bo
     playable = playable;
     limits = refl;
     sound = λ sound. sound;
-    reached = λ reached. reached;
-    done = λ spells reached ss knowing.
+    reached = λ sound reached. reached;
+    done = λ sound spells reached ss knowing.
         let limits = s.engine.running.limits in
         let choice = (any_setting limits).choice in
         let set = by_choice limits choice in

@@ -84,19 +84,23 @@ linked {K} g now moment line old new playable moment_is step same held ends =
     let broker_is : new.engine.running.broker ≡ stepped limits choice now NewLine b = at.new_is ∙ stepped_capped limits choice now NewLine b in
     let answer_is : nothing_told ≡ told limits choice now NewLine b = at.out_is ∙ told_capped limits choice now NewLine b in
     let keep_is : new.engine.running.keep ≡ old.engine.running.keep = ap (λ r. r.keep) same in
+    let was : g.is_sound new.engine.running.keep → g.is_sound old.engine.running.keep = λ sound. subst (λ k. g.is_sound k) keep_is sound in
     record {
-      choice = choice;
-      unspent = sym (spent_capped limits choice now NewLine b) ∙ at.unspent;
-      broker = broker_is;
-      ends = λ spelled goes. ends ∙ sym (ends_untold (stepped limits choice now NewLine b) old.ends)
-          ∙ ap (λ (x : Answer). ends_told (stepped limits choice now NewLine b) x old.ends) answer_is;
-      told_is = ap (λ (x : Answer). record { reports = x.reports; out = length x.outputs }) answer_is;
+      truly = λ sound. record {
+        choice = choice;
+        unspent = sym (spent_capped limits choice now NewLine b) ∙ at.unspent;
+        broker = broker_is;
+        ends = λ spelled goes. ends ∙ sym (ends_untold (stepped limits choice now NewLine b) old.ends)
+            ∙ ap (λ (x : Answer). ends_told (stepped limits choice now NewLine b) x old.ends) answer_is;
+        told_is = ap (λ (x : Answer). record { reports = x.reports; out = length x.outputs }) answer_is;
+      };
       limits = ap (λ r. r.limits) same;
-      sound = λ sound. subst (λ k. g.is_sound k) keep_is sound;
+      sound = was;
       playable = record {
         runs = ap (λ r. r.stopped) same ∙ playable.runs;
-        stored = subst (λ k. g.holds k new.engine.running.broker.records) (sym keep_is)
-            (subst (λ r. g.holds old.engine.running.keep r) (sym (ap (λ (x : Broker). x.records) broker_is ∙ linked_records limits choice now b)) playable.stored);
+        stored = λ sound.
+            subst (λ k. g.holds k new.engine.running.broker.records) (sym keep_is)
+            (subst (λ r. g.holds old.engine.running.keep r) (sym (ap (λ (x : Broker). x.records) broker_is ∙ linked_records limits choice now b)) (playable.stored (was sound)));
         clear = subst HoldNone (sym held) (linked_none line old.engine.held playable.clear);
       };
     }

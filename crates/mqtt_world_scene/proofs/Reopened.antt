@@ -44,7 +44,7 @@ opens g limits now keep s o none =
       unspent = sym (spent_capped limits choice now o.records) ∙ o.opening.unspent;
       broker = o.opening.new_is ∙ opened_capped limits choice now o.records;
       limits_are = o.limits_are;
-      playable = record { runs = o.runs; stored = o.holds; clear = subst HoldNone (sym none) tt };
+      playable = record { runs = o.runs; stored = λ sound. o.holds; clear = subst HoldNone (sym none) tt };
     }
 
 at_moment_of : {K E : Type 0} (g : Ghosts K) (limits : Limits) (now moment : ℕ) (keep : K) (engine : Serving K)
@@ -89,13 +89,15 @@ reopens {K} g limits now moment old before engine was ends keep result view play
     let new : Played K = record { engine = engine; ends = ends } in
     let o = at_moment_of g limits now moment keep engine result moment_is is begun in
     let first = subst (IsPlayable g) view playable in
-    let stored = subst (λ (k : K). g.holds k before.running.broker.records) (sym same) first.stored in
+    let was_sound : g.is_sound engine.running.keep → g.is_sound before.running.keep = λ sound. subst (λ (k : K). g.is_sound k) same (o.load.sound (o.sound sound)) in
+    let stored : g.is_sound engine.running.keep → g.holds keep before.running.broker.records =
+    λ sound. subst (λ (k : K). g.holds k before.running.broker.records) (sym same) (first.stored (was_sound sound)) in
     let again = opens g limits now keep new o (none_held engine result is held) in
     subst (λ (s : Played K). Reopens g limits now s new) (sym view) (record {
       playable = again.playable;
       limits_are = again.limits_are;
-      sound = λ sound. subst (λ (k : K). g.is_sound k) same (o.load.sound (o.sound sound));
-      opens = λ sound. subst (λ (r : Records). Opens g limits now r new) (o.load.exact before.running.broker.records stored (o.sound sound)) again;
+      sound = was_sound;
+      opens = λ sound. subst (λ (r : Records). Opens g limits now r new) (o.load.exact before.running.broker.records (stored sound) (o.sound sound)) again;
       ends = ap (λ (ps : List Publisher). record { publishers = ps; receivers = ends.receivers }) publishers_are
           ∙ ap (λ (rs : List Receiver). record (ends_restarted was) { receivers = rs }) receivers_are;
     })

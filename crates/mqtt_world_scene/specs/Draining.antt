@@ -37,17 +37,19 @@ so_many_rounds client rounds limits t w after = MakesRounds limits client rounds
 abbrev pub all_rounds : List ℕ → ℕ → Limits → Telling → World → World → Type 0
 all_rounds client rounds limits t w after = MakesRounds limits client rounds t w after × (is_over client after ≡ true)
 
--- at a moment this happens, whatever strangers there are; and what it tells is told behind what was told before
+-- at a moment this happens, whatever strangers there are, over a store whose device is sound after it; and what it tells is told
+-- behind what was told before
 pub record GoesOn {K : Type 0} (g : Ghosts K) (now : ℕ) (leads : Limits → Telling → World → World → Type 0) (old : Played K) (before after : Telling)
     (new : Played K) : Type 0 where
   pub playable : IsPlayable g new
   pub limits : new.engine.running.limits ≡ old.engine.running.limits
   pub sound : WasSound g old new
-  pub reached : IsReached old.engine.running.limits old.engine.running.broker → IsReached old.engine.running.limits new.engine.running.broker
+  pub reached : g.is_sound new.engine.running.keep → IsReached old.engine.running.limits old.engine.running.broker
+      → IsReached old.engine.running.limits new.engine.running.broker
   pub t : Telling
   pub told : after ≡ both_tell before t
-  pub done : SpellsAll old.engine.running.limits → IsReached old.engine.running.limits old.engine.running.broker
-      → (strangers : List Stranger) → HasKnowingEnds (world_of now strangers old)
+  pub done : g.is_sound new.engine.running.keep → SpellsAll old.engine.running.limits
+      → IsReached old.engine.running.limits old.engine.running.broker → (strangers : List Stranger) → HasKnowingEnds (world_of now strangers old)
       → leads old.engine.running.limits t (world_of now strangers old) (world_of now strangers new)
 
 -- ---- a drain
@@ -57,12 +59,13 @@ abbrev pub IsDrainDone : Limits → List ℕ → Option (Telling × ℕ) → Wor
 IsDrainDone limits client None w after = (is_bad_drain client w ≡ true) × (after ≡ w)
 IsDrainDone limits client (Some x) w after = (h : DrainHappens limits client x.0 w after) × (h.rounds ≡ x.1)
 
--- what it leaves at a moment, whatever strangers there are
+-- what it leaves at a moment, whatever strangers there are; over a store whose device is sound after it
 pub record Drains {K : Type 0} (g : Ghosts K) (now : ℕ) (client : List ℕ) (old : Played K) (x : Option (Telling × ℕ)) (new : Played K) : Type 0 where
   pub playable : IsPlayable g new
   pub limits : new.engine.running.limits ≡ old.engine.running.limits
   pub sound : WasSound g old new
-  pub reached : IsReached old.engine.running.limits old.engine.running.broker → IsReached old.engine.running.limits new.engine.running.broker
-  pub done : SpellsAll old.engine.running.limits → IsReached old.engine.running.limits old.engine.running.broker
-      → (strangers : List Stranger) → HasKnowingEnds (world_of now strangers old)
+  pub reached : g.is_sound new.engine.running.keep → IsReached old.engine.running.limits old.engine.running.broker
+      → IsReached old.engine.running.limits new.engine.running.broker
+  pub done : g.is_sound new.engine.running.keep → SpellsAll old.engine.running.limits
+      → IsReached old.engine.running.limits old.engine.running.broker → (strangers : List Stranger) → HasKnowingEnds (world_of now strangers old)
       → IsDrainDone old.engine.running.limits client x (world_of now strangers old) (world_of now strangers new)

@@ -64,13 +64,15 @@ abbrev pub IsDone : Limits → Event → Option Telling → World → World → 
 IsDone limits e None w after = IsBadEvent e w × (after ≡ w)
 IsDone limits e (Some t) w after = Happens limits e t w after
 
--- ---- what an event leaves that leaves strangers alone, at a moment, whatever strangers there are
+-- ---- what an event leaves that leaves strangers alone, at a moment, whatever strangers there are; over a store whose device is
+-- sound after it
 
 pub record Does {K : Type 0} (g : Ghosts K) (now : ℕ) (e : Event) (old : Played K) (t : Option Telling) (new : Played K) : Type 0 where
   pub playable : IsPlayable g new
   pub limits : new.engine.running.limits ≡ old.engine.running.limits
   pub sound : WasSound g old new
-  pub reached : IsReached old.engine.running.limits old.engine.running.broker → IsReached old.engine.running.limits new.engine.running.broker
-  pub done : SpellsAll old.engine.running.limits → IsReached old.engine.running.limits old.engine.running.broker
-      → (strangers : List Stranger) → HasKnowingEnds (world_of now strangers old)
+  pub reached : g.is_sound new.engine.running.keep → IsReached old.engine.running.limits old.engine.running.broker
+      → IsReached old.engine.running.limits new.engine.running.broker
+  pub done : g.is_sound new.engine.running.keep → SpellsAll old.engine.running.limits
+      → IsReached old.engine.running.limits old.engine.running.broker → (strangers : List Stranger) → HasKnowingEnds (world_of now strangers old)
       → IsDone old.engine.running.limits e t (world_of now strangers old) (world_of now strangers new)

@@ -50,15 +50,15 @@ over_for refusal.Size = over.Store
 over_for refusal.Corrupt = over.Store
 over_for refusal.Schema = over.Store
 
--- ---- why Store is answered, by what a store promises alone, whichever it is: over one that counts no failure, only for numbers
--- that are spent, or for what it holds if a broker is opened
+-- ---- why Store is answered, by what a store promises alone, whichever it is: over one that counts no failure, and whose device
+-- is sound, only for numbers that are spent, or for what it holds if a broker is opened
 
 pub data IsStoreDue {K : Type 0} (g : Ghosts K) : Type 0 where
   -- in a call of a broker that ran, its store counted a failure
   store_failed : (s : Played K) (left : K) → IsPlayable g s → g.counted left ≢ g.counted s.engine.running.keep → IsStoreDue g
-  -- a call of a broker that ran needs a number above 2^62
-  numbers_spent : (s : Played K) (now : ℕ) (call : Call) → IsPlayable g s
-      → SpentStep s.engine.running.limits s.engine.running.broker now call → IsStoreDue g
+  -- a call of a broker that ran needs a number above 2^62, if the device of its store, as the call left that, is sound
+  numbers_spent : (s : Played K) (left : K) (now : ℕ) (call : Call) → IsPlayable g s
+      → (g.is_sound left → SpentStep s.engine.running.limits s.engine.running.broker now call) → IsStoreDue g
   -- the opening of a broker was refused, and not for want of memory
   not_opened : (limits : Limits) (now : ℕ) (keep : K) → IsUnopened g limits now keep → IsStoreDue g
 

@@ -20,11 +20,8 @@ TakesAsEndsIf (Some call) w = TakesAsEnds call w
 -- ---- the broker is asked for this, if for anything: for some choice of members that spends no number, whatever strangers
 -- there are
 
-pub record Asks {K : Type 0} (g : Ghosts K) (now : ℕ) (call : Option Call) (old : Played K) (t : Telling) (new : Played K) : Type 0 where
+pub record IsTrulyAsked {K : Type 0} (now : ℕ) (call : Option Call) (old : Played K) (t : Telling) (new : Played K) : Type 0 where
   pub choice : MemberChoice
-  pub playable : IsPlayable g new
-  pub limits : new.engine.running.limits ≡ old.engine.running.limits
-  pub sound : WasSound g old new
   pub reached : IsReached old.engine.running.limits old.engine.running.broker → IsReached old.engine.running.limits new.engine.running.broker
   pub unspent : (strangers : List Stranger)
       → read_if spending (by_choice old.engine.running.limits choice) call (world_of now strangers old) ≡ false
@@ -34,6 +31,13 @@ pub record Asks {K : Type 0} (g : Ghosts K) (now : ℕ) (call : Option Call) (ol
       → (strangers : List Stranger) → HasKnowingEnds (world_of now strangers old)
       → TakesAsEndsIf call (world_of now strangers old)
       → world_of now strangers new ≡ calls_if (by_choice old.engine.running.limits choice) call (world_of now strangers old)
+
+-- so it is over a store whose device is sound after it
+pub record Asks {K : Type 0} (g : Ghosts K) (now : ℕ) (call : Option Call) (old : Played K) (t : Telling) (new : Played K) : Type 0 where
+  pub truly : g.is_sound new.engine.running.keep → IsTrulyAsked now call old t new
+  pub playable : IsPlayable g new
+  pub limits : new.engine.running.limits ≡ old.engine.running.limits
+  pub sound : WasSound g old new
 
 -- and what it tells is told behind what was told before
 pub record Hears {K : Type 0} (g : Ghosts K) (now : ℕ) (call : Option Call) (old : Played K) (before after : Telling) (new : Played K) : Type 0 where

@@ -22,10 +22,11 @@ HoldsNone h = h.framing.held ≡ []
 abbrev pub HoldNone : List HeldLine → Type 0
 HoldNone held = AllByRecursion HoldsNone held
 
--- the broker runs, its store holds what is stored, and its lines hold nothing
+-- the broker runs, and its lines hold nothing; and while its store's device has returned what was written, the store holds what
+-- is stored
 pub record IsPlayable {K : Type 0} (g : Ghosts K) (s : Played K) : Type 0 where
   pub runs : s.engine.running.stopped ≡ false
-  pub stored : g.holds s.engine.running.keep s.engine.running.broker.records
+  pub stored : g.is_sound s.engine.running.keep → g.holds s.engine.running.keep s.engine.running.broker.records
   pub clear : HoldNone s.engine.held
 
 -- the device of the store has returned what was written, if it still has afterwards
@@ -34,7 +35,7 @@ WasSound g old new = g.is_sound new.engine.running.keep → g.is_sound old.engin
 
 -- A call was a step of the broker, for some choice of members, that spends no number; each end was told, if the packets
 -- have spellings, and what went out means to it what was meant, and is read as that; and this is what it told.
-pub record Calls {K : Type 0} (g : Ghosts K) (now : ℕ) (call : Call) (old : Played K) (t : Telling) (new : Played K) : Type 0 where
+pub record IsTrulyCall {K : Type 0} (now : ℕ) (call : Call) (old : Played K) (t : Telling) (new : Played K) : Type 0 where
   pub choice : MemberChoice
   pub unspent : is_step_spent old.engine.running.limits choice now call old.engine.running.broker ≡ false
   pub broker : new.engine.running.broker ≡ stepped old.engine.running.limits choice now call old.engine.running.broker
@@ -44,6 +45,11 @@ pub record Calls {K : Type 0} (g : Ghosts K) (now : ℕ) (call : Call) (old : Pl
       → new.ends ≡ ends_told (stepped old.engine.running.limits choice now call old.engine.running.broker)
       (told old.engine.running.limits choice now call old.engine.running.broker) old.ends
   pub told_is : t ≡ telling (deeds old.engine.running.limits choice now call old.engine.running.broker)
+
+-- So it is over a store whose device is sound after it; and whatever the device returns, the broker runs on, and its lines hold
+-- nothing.
+pub record Calls {K : Type 0} (g : Ghosts K) (now : ℕ) (call : Call) (old : Played K) (t : Telling) (new : Played K) : Type 0 where
+  pub truly : g.is_sound new.engine.running.keep → IsTrulyCall now call old t new
   pub limits : new.engine.running.limits ≡ old.engine.running.limits
   pub sound : WasSound g old new
   pub playable : IsPlayable g new

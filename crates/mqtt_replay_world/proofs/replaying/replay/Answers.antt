@@ -1,5 +1,6 @@
-use Rattle.std.proofs.Common.{refl}
+use Rattle.std.proofs.Common.{ap, refl}
 use Rattle.std.proofs.lemmas.Result.{IfErr-weaker, IfOk-weaker}
+use Rattle.mqtt_records.specs.InMemory.{InMemory}
 use Rattle.mqtt_world_headline_laws.proofs.Lives.{start_begins}
 use Rattle.mqtt_replay_world.proofs.Caused.{number_due}
 use Rattle.mqtt_replay_world.proofs.Texted.{any_fault, front_kept, written, written_front}
@@ -8,19 +9,19 @@ use Rattle.mqtt_replay_world.proofs.replaying.replay.Goals as goal
 pub returns-clause-ok : goal.returns-clause-ok
 returns-clause-ok g c =
     IfOk-weaker c.replay_over.result _ _
-    (λ played shows. written _ (λ keep. tt) c.args.limits c.requires.within _ c.in_ok-keep.ensures _ _ _ played shows)
+    (λ played shows. written _ (λ keep. tt) c.args.limits c.requires.within _ (ap (λ (k : InMemory). k.records) c.in_ok-keep.ensures) _ _ _ played shows)
     c.replay_over.ensures.ok
 
 pub returns-clause-err : goal.returns-clause-err
 returns-clause-err g c =
     IfErr-weaker c.replay_over.result _ _
-    (λ fault front n. written_front _ (λ keep. tt) c.args.limits c.requires.within _ c.in_ok-keep.ensures _ _ _ (front n))
+    (λ fault front n. written_front _ (λ keep. tt) c.args.limits c.requires.within _ (ap (λ (k : InMemory). k.records) c.in_ok-keep.ensures) _ _ _ (front n))
     c.replay_over.ensures.err
 
 pub returns-clause-cause : goal.returns-clause-cause
 returns-clause-cause g c =
     IfErr-weaker c.replay_over.result _ _
-    (λ fault due. number_due _ (λ a b. refl) (λ keep. tt) (λ keep e is. is) c.args.limits _ c.in_ok-keep.ensures fault due)
+    (λ fault due. number_due _ (λ a b. refl) (λ keep. tt) (λ keep e is. is) c.args.limits _ (ap (λ (k : InMemory). k.records) c.in_ok-keep.ensures) fault due)
     c.replay_over.ensures.cause
 
 pub returns-in_err-keep-clause-err : goal.returns-in_err-keep-clause-err

@@ -7,7 +7,8 @@ use Rattle.mqtt_broker_clock.specs.Quiet.{AreQuietBefore}
 use Rattle.mqtt_broker_index.specs.Indexing.{Serves}
 use Rattle.mqtt_broker_index.proofs.Puts.{can_go_along_all}
 use Rattle.mqtt_broker_engine.specs.declared.parts.EngineParts.{EngineParts}
-use Rattle.mqtt_broker_engine.proofs.Finished.{left_unspent, finished_untold}
+use Rattle.mqtt_broker_engine.proofs.Finished.{can_store, left_unspent, finished_untold}
+use Rattle.mqtt_broker_engine.proofs.Storing.{left_of_start, stored_after_start}
 use Rattle.mqtt_broker_engine.proofs.parts.EngineParts.tell.Goals as goal
 
 pub follow-requires : goal.follow-requires
@@ -23,24 +24,14 @@ returns-then-is_err g c =
     g.met.K.Keep.leaves_held refl (ap (λ (x : EngineParts _). x.keep) is) (ap (λ (x : EngineParts _). x.stopped) is) (ap (λ (x : EngineParts _). x.quiet) is) (ap (λ (x : EngineParts _). x.step) is)
     (λ fresh. let stale : c.take_back.new.self.is_stale ≡ true = ap (λ (x : EngineParts _). x.is_stale) is in absurd cc)
 
-pub commit-requires-clause-loaded : goal.commit-requires-clause-loaded
-commit-requires-clause-loaded g c = (c.requires.mid.its.stored c.requires.mid.runs).0
-
-pub commit-requires-clause-holds : goal.commit-requires-clause-holds
-commit-requires-clause-holds g c = (c.requires.mid.its.stored c.requires.mid.runs).1
-
-pub commit-requires-clause-fit : goal.commit-requires-clause-fit
-commit-requires-clause-fit g c = c.requires.can.fit
-
-pub commit-requires-clause-sayable : goal.commit-requires-clause-sayable
-commit-requires-clause-sayable g c = c.requires.can.sayable
-
-pub commit-requires-clause-contents : goal.commit-requires-clause-contents
-commit-requires-clause-contents g c = c.requires.can.contents
+pub commit-requires : goal.commit-requires
+commit-requires g c = record { loaded = (c.requires.mid.its.stored c.requires.mid.runs).0 }
 
 pub returns-in-Ok : goal.returns-in-Ok
 returns-in-Ok g c =
     let p = c.args.self.now in
+    let held = (c.requires.mid.its.stored c.requires.mid.runs).1 in
+    let can = can_store p.step c.requires.can c.commit.ensures.unspent in
     record {
       told = record {
         outputs = c.answered.ensures.outputs ∙ c.in-Ok.ensures.outputs;
@@ -51,14 +42,15 @@ returns-in-Ok g c =
       };
       unspent = c.commit.ensures.unspent;
       done = c.in-Ok.ensures.done;
-      stored = c.in-Ok.ensures.stored;
+      stored = stored_after_start g.K.Keep c.commit.new.keep p.step c.commit.ensures.made (c.in-Ok.ensures.stored p.step.start.records held can);
       same = tt;
       memory = λ e. absurd cc;
       spent = λ e. absurd cc;
       cause = λ e. absurd cc;
       stopped = λ e. absurd cc;
       runs = λ not. c.requires.mid.runs;
-      crash = λ left may. left_unspent c.commit.ensures.unspent (c.commit.ensures.crash left may);
+      crash = λ left may. left_unspent p.step left c.commit.ensures.unspent
+          (left_of_start p.step left c.commit.ensures.made (c.commit.ensures.crash p.step.start.records left held can may));
       device = c.commit.ensures.sound;
       serves = λ fresh.
           let follows = c.follow.ensures fresh c.requires.can.indexed c.requires.can.followed (c.requires.mid.its.serves fresh) in
@@ -69,19 +61,24 @@ returns-in-Ok g c =
     }
 
 pub returns-in-Err : goal.returns-in-Err
-returns-in-Err g c = record {
-  told = tt;
-  unspent = tt;
-  done = tt;
-  stored = tt;
-  same = c.in-Err.ensures.same;
-  memory = λ e. let is : c.in-Err.error ≡ Memory = cc in c.in-Err.ensures.memory (ap Err is);
-  spent = λ e. let is : c.in-Err.error ≡ Spent = cc in c.in-Err.ensures.spent (ap Err is);
-  cause = λ e. let is : c.in-Err.error ≡ Stopped = cc in c.in-Err.ensures.cause (ap Err is);
-  stopped = λ e. let is : c.in-Err.error ≡ Stopped = cc in c.has_failed-self.ensures.stopped is;
-  runs = λ not. c.has_failed-self.ensures.runs (λ is. not (ap Err is));
-  crash = λ left may. left_unspent c.commit.ensures.unspent (c.commit.ensures.crash left may);
-  device = c.commit.ensures.sound;
-  serves = λ fresh. absurd cc;
-  quiet = subst (λ (t : Stepping). AreQuietBefore c.args.self.now.quiet t.broker.records) (sym c.in-Err.ensures.same) c.requires.mid.its.quiet;
-}
+returns-in-Err g c =
+    let p = c.args.self.now in
+    let held = (c.requires.mid.its.stored c.requires.mid.runs).1 in
+    let can = can_store p.step c.requires.can c.commit.ensures.unspent in
+    record {
+      told = tt;
+      unspent = tt;
+      done = tt;
+      stored = tt;
+      same = c.in-Err.ensures.same;
+      memory = λ e. let is : c.in-Err.error ≡ Memory = cc in c.in-Err.ensures.memory p.step.start.records held can (ap Err is);
+      spent = λ e. let is : c.in-Err.error ≡ Spent = cc in c.in-Err.ensures.spent (ap Err is);
+      cause = λ e. let is : c.in-Err.error ≡ Stopped = cc in c.in-Err.ensures.cause (ap Err is);
+      stopped = λ e. let is : c.in-Err.error ≡ Stopped = cc in c.has_failed-self.ensures.stopped is;
+      runs = λ not. c.has_failed-self.ensures.runs (λ is. not (ap Err is));
+      crash = λ left may. left_unspent p.step left c.commit.ensures.unspent
+          (left_of_start p.step left c.commit.ensures.made (c.commit.ensures.crash p.step.start.records left held can may));
+      device = c.commit.ensures.sound;
+      serves = λ fresh. absurd cc;
+      quiet = subst (λ (t : Stepping). AreQuietBefore p.quiet t.broker.records) (sym c.in-Err.ensures.same) c.requires.mid.its.quiet;
+    }
