@@ -1,0 +1,74 @@
+//! What copies say, read off rows, cloned, and put beside their places (MQTT 5.0, 3.3).
+ghost use Rattle.std.specs.Prelude.{◌≡◌, IfOk, IsTrue};
+ghost use Rattle.mqtt_flow_ring.specs.AtHand.{Ascend};
+ghost use Rattle.mqtt_records.specs.Telling.{copy_content};
+ghost use Rattle.mqtt_broker_hand.specs.Hand.{by_place, first_at};
+
+use mqtt_records::{CopyContent, CopyRow};
+use std::alloc::{AllocError, Global};
+
+/// What the copy of a row says; the bytes are shared with it. Want of memory also if the row is slim.
+pub(crate) fn content_of(row: &CopyRow) -> Result<CopyContent, AllocError>
+    ensures { IfOk result (λ content. content ≡ copy_content row.now) }
+{
+    let Some(copy) = row.whole() else {
+        return Err(AllocError);
+    };
+    Ok(CopyContent {
+        place: row.place(),
+        identifiers: copy.identifiers.clone()?,
+        topic: copy.content.topic.clone()?,
+        properties: copy.content.properties.clone()?,
+        payload: copy.content.payload.clone()?,
+    })
+}
+
+/// The same once more; the bytes are shared.
+pub(crate) fn clone_of(content: &CopyContent) -> Result<CopyContent, AllocError>
+    ensures { IfOk result (λ copy. copy ≡ content.now) }
+{
+    Ok(CopyContent {
+        place: content.place,
+        identifiers: content.identifiers.clone()?,
+        topic: content.topic.clone()?,
+        properties: content.properties.clone()?,
+        payload: content.payload.clone()?,
+    })
+}
+
+/// Whether the places ascend.
+pub(crate) fn are_in_order(contents: &[CopyContent]) -> bool
+    ensures { IsTrue result → Ascend (by_place contents.now) }
+{
+    contents.is_sorted_by(|content, next| content.place < next.place)
+}
+
+/// Each beside its place.
+pub(crate) fn with_places(
+    alloc: Global,
+    contents: Vec<CopyContent>,
+) -> Result<Vec<(u64, CopyContent)>, AllocError>
+    ensures { IfOk result (λ entries. entries.items ≡ by_place contents.items) }
+{
+    let mut entries = Vec::with_capacity(alloc, contents.len())?;
+    for content in contents {
+        entries.push((content.place, content))?;
+    }
+    Ok(entries)
+}
+
+/// What the first one says, if it is of that place.
+pub(crate) fn first_at(
+    contents: &[CopyContent],
+    place: u64,
+) -> Result<Option<CopyContent>, AllocError>
+    ensures { IfOk result (λ first. first ≡ first_at place contents.now) }
+{
+    let Some(content) = contents.first() else {
+        return Ok(None);
+    };
+    if content.place != place {
+        return Ok(None);
+    }
+    Ok(Some(clone_of(content)?))
+}
