@@ -1,0 +1,81 @@
+use Rattle.std.proofs.Common.{◌≡◌, false, rules, ap, sym, subst, ◌∙◌}
+use Rattle.std.specs.Prelude.{Err}
+use Rattle.mqtt_rules.specs.Routing.{subscribers}
+use Rattle.mqtt_broker_step.specs.declared.call.EngineError.TheVariants.{Memory, Spent, Stopped}
+use Rattle.mqtt_broker_step.specs.Stepping.{Stepping}
+use Rattle.mqtt_broker_clock.specs.Quiet.{AreQuietBefore}
+use Rattle.mqtt_broker_index.specs.Indexing.{Serves}
+use Rattle.mqtt_broker_index.proofs.Puts.{can_go_along_all}
+use Rattle.mqtt_broker_slim.specs.Finishing.{GoesAlong, IsCommitted}
+use Rattle.mqtt_broker_slim.specs.declared.parts.SlimParts.{SlimParts}
+use Rattle.mqtt_broker_slim.proofs.Finished.{goes_slim, untold}
+use Rattle.mqtt_broker_slim.proofs.parts.SlimParts.tell.Goals as goal
+
+pub follow-requires : goal.follow-requires
+follow-requires g c = λ fresh.
+    let p = c.args.self.now in
+    can_go_along_all p.step.rows p.step.start.records p.index.sessions c.requires.can.indexed c.requires.can.followed (c.requires.goes.serves fresh)
+
+pub returns-then-is_err : goal.returns-then-is_err
+returns-then-is_err g c =
+    let p = c.args.self.now in
+    subst (λ (t : SlimParts _ _). IsCommitted g.K.Keep p c.args.again (Err Memory) t) (sym c.take_back.ensures)
+    (untold g.K.Keep g.met.K.Keep.leaves_held p c.follow.new.index c.args.again c.follow.ensures.unspent c.requires.loaded c.requires.runs c.requires.goes)
+
+pub returns-in-Ok : goal.returns-in-Ok
+returns-in-Ok g c =
+    let p = c.args.self.now in
+    record {
+      unspent = c.commit.ensures.unspent;
+      told = record {
+        outputs = c.answered.ensures.outputs ∙ c.in-Ok.ensures.outputs;
+        closed = c.answered.ensures.closed ∙ c.in-Ok.ensures.closed;
+        reports = c.answered.ensures.reports ∙ c.in-Ok.ensures.reports;
+        taken = c.answered.ensures.taken;
+        again_is = c.answered.ensures.again;
+      };
+      done = c.in-Ok.ensures.done;
+      stored = c.in-Ok.ensures.stored;
+      same = tt;
+      memory = λ r holds can is. absurd cc;
+      spent = λ is. absurd cc;
+      cause = λ is. absurd cc;
+      stopped = λ is. absurd cc;
+      runs = λ not. c.requires.runs;
+      crash = c.commit.ensures.crash;
+      device = c.commit.ensures.sound;
+      reads = c.commit.ensures.reads;
+      goes =
+          let served : p.is_stale ≡ false → Serves c.follow.new.index.sessions (subscribers p.step.broker.records) = λ fresh.
+          let follows = c.follow.ensures.serves fresh c.requires.can.indexed c.requires.can.followed (c.requires.goes.serves fresh) in search rules in
+          let quiet = c.quiet_after-after.ensures c.requires.goes.quiet in
+          let here = goes_slim p.step.broker (record p { index = c.settle.new.self; quiet = c.quiet_after-after.result })
+          (record { serves = λ fresh. rw c.settle.ensures (served fresh); quiet = quiet }) in
+          subst (λ (t : Stepping). GoesAlong t.broker (record p { keep = c.commit.new.keep; step = c.commit.new.step; index = c.settle.new.self; quiet = c.quiet_after-after.result })) (sym c.in-Ok.ensures.done)
+          (record { serves = here.serves; quiet = here.quiet });
+    }
+
+pub returns-in-Err : goal.returns-in-Err
+returns-in-Err g c =
+    let p = c.args.self.now in
+    record {
+      unspent = c.commit.ensures.unspent;
+      told = tt;
+      done = tt;
+      stored = λ r holds can. tt;
+      same = c.in-Err.ensures.same;
+      memory = λ r holds can is. let same : c.in-Err.error ≡ Memory = cc in c.in-Err.ensures.memory r holds can (ap Err same);
+      spent = λ is. let same : c.in-Err.error ≡ Spent = cc in c.in-Err.ensures.spent (ap Err same);
+      cause = λ is. let same : c.in-Err.error ≡ Stopped = cc in c.in-Err.ensures.cause (ap Err same);
+      stopped = λ is. let same : c.in-Err.error ≡ Stopped = cc in c.has_failed-self.ensures.stopped same;
+      runs = λ not. c.has_failed-self.ensures.runs (λ is. not (ap Err is));
+      crash = c.commit.ensures.crash;
+      device = c.commit.ensures.sound;
+      reads = c.commit.ensures.reads;
+      goes =
+          let here = goes_slim p.step.start p c.requires.goes in
+          record {
+            serves = λ fresh. absurd cc;
+            quiet = subst (λ (t : Stepping). AreQuietBefore p.quiet t.broker.records) (sym c.in-Err.ensures.same) here.quiet;
+          };
+    }

@@ -1,0 +1,180 @@
+//! The engine: a broker over a store that has what its waiting copies say, one call after the other (MQTT 5.0, 3.3, 4.1).
+ghost use Rattle.std.specs.Prelude.{◌≡◌, None, false, is_some, option_copied};
+ghost use Rattle.mqtt_rules.specs.Routing.{subscribers};
+ghost use Rattle.mqtt_rules.specs.State.{line_at};
+ghost use Rattle.mqtt_rules.specs.Step.{BrokerStep, Call, NewLine, at_moment, copy_of, nothing_told};
+ghost use Rattle.mqtt_rules_alike_laws.specs.Slim.{slim_broker};
+ghost use Rattle.mqtt_rules_filling_laws.specs.Filling.{filled};
+ghost use Rattle.mqtt_broker_step.specs.Doing.{next_line};
+ghost use Rattle.mqtt_broker_step.specs.Stepping.{at_rest};
+ghost use Rattle.mqtt_broker_index.specs.Indexing.{Serves};
+ghost use Rattle.mqtt_broker_calls.specs.Sound.{IsSound};
+ghost use Rattle.mqtt_broker_engine.specs.Calling.{IsOn, Tells};
+ghost use Rattle.mqtt_broker_slim.specs.Calling.{Called};
+
+use crate::fetching::Fetches;
+use crate::holding::copy_of;
+use crate::outcome::nothing;
+use crate::parts::SlimParts;
+use crate::tables::SlimTables;
+use mqtt_base::CopyId;
+use mqtt_broker_engine::Outcome;
+use mqtt_broker_index::Index;
+use mqtt_broker_step::{EngineError, Step};
+use std::alloc::Global;
+use std::hash::RandomState;
+use std::marker::Model;
+
+/// A broker over a store, which has what its waiting copies say. What its calls say of queues, and of what the store holds,
+/// they say if the store's device has returned what was written.
+#[derive(Drop)]
+pub struct SlimEngine<K: Fetches, T: SlimTables> {
+    pub(crate) parts: SlimParts<K, T>,
+}
+
+impl<K: Fetches, T: SlimTables> Model for SlimEngine<K, T> {
+    ghost use Rattle.mqtt_broker_engine.specs.Running.{Running};
+    ghost use Rattle.mqtt_broker_slim.specs.Finishing.{IsAtRest};
+    ghost use Rattle.mqtt_broker_slim.specs.Viewing.{viewed};
+
+    ghost Value = { Running K };
+
+    // Each waiting copy says what the store has for its place.
+    ghost view = { λ e. viewed K.Keep e.parts };
+
+    // Between calls no step is under way, all rows are slim, and all that the engine has is of its broker.
+    ghost invariant = { λ e. IsAtRest K.Keep e.parts };
+}
+
+impl<K: Fetches, T: SlimTables> SlimEngine<K, T> {
+    /// An engine whose store holds what is stored, with no step under way, and with the index of the subscriptions
+    /// that stand. Rows are made slim: what waiting copies say is the store's. Takes no memory.
+    pub(crate) fn over(
+        alloc: Global,
+        hasher: RandomState,
+        tables: T,
+        keep: K,
+        step: Step,
+        index: Index,
+    ) -> SlimEngine<K, T>
+        requires rest { step ≡ at_rest step.limits step.broker }
+        requires sound { IsSound step.limits step.broker }
+        requires loaded { K.is_loaded keep }
+        requires holds { K.holds keep step.broker.records }
+        requires serves { Serves index.sessions (subscribers step.broker.records) }
+        ensures { result ≡ record {
+          keep = keep;
+          limits = step.limits;
+          broker = filled (K.fillings keep) (slim_broker step.broker);
+          stopped = false;
+        } }
+    {
+        let mut index = index;
+        index.settle();
+        let mut step = step;
+        tables.make_slim(&mut step);
+        let parts = SlimParts {
+            alloc,
+            hasher,
+            tables,
+            keep,
+            step,
+            index,
+            is_stale: false,
+            stopped: false,
+            quiet: 0,
+        };
+        SlimEngine { parts }
+    }
+
+    /// A line is linked at a moment in milliseconds, and gets the next number, from 1. None if 64 lines
+    /// stand or 2^62 were linked. Works after the store has failed too. Takes no memory.
+    pub fn link(&mut self, moment: u64) -> Option<u64>
+        ensures line { result ≡ next_line self.old.broker }
+        ensures step { BrokerStep self.old.limits self.old.broker moment NewLine nothing_told
+            self.new.broker }
+        ensures same { self.new ≡ record self.old { broker = self.new.broker } }
+    {
+        self.parts.step.link(moment)
+    }
+
+    /// Gives the store back. Takes no memory.
+    pub fn close(self) -> K
+        ensures { result ≡ self.keep }
+    {
+        let SlimParts {
+            keep,
+            step,
+            index,
+            ..
+        } = self.parts;
+        drop(step);
+        drop(index);
+        keep
+    }
+
+    /// Whether its store has failed; while it hasn't, and its device is sound, it holds what is stored. Takes no memory.
+    pub fn is_stopped(&self) -> bool
+        ensures exact { result ≡ self.now.stopped }
+        ensures stored { self.now.stopped ≡ false → K.is_sound self.now.keep
+            → K.holds self.now.keep self.now.broker.records }
+    {
+        self.parts.stopped
+    }
+
+    /// How many failures its store has counted, modulo 2^64. Takes no memory.
+    pub fn failures(&self) -> u64
+        ensures { result ≡ K.counted self.now.keep }
+    {
+        self.parts.keep.failures()
+    }
+
+    /// Nothing comes about but that the moment is the greatest handed in. Takes no memory.
+    pub fn rest_at(&mut self, moment: u64) -> Outcome
+        ensures told { Tells nothing_told result }
+        ensures ok { self.new ≡ record self.old { broker = at_moment moment self.old.broker } }
+    {
+        self.parts.step.rest_at(moment);
+        nothing(self.parts.alloc)
+    }
+
+    /// What comes, or is asked, on a line that isn't linked does nothing but that the moment is the greatest handed in.
+    /// Takes no memory.
+    pub(crate) fn skip(&mut self, line: u64, moment: u64) -> Result<Outcome, EngineError>
+        requires running { self.old.stopped ≡ false }
+        requires unlinked { line_at line self.old.broker ≡ None }
+        ensures called { (call : Call) → IsOn line call
+            → Called K.Keep moment call self.old result self.new }
+        ensures keep { self.new.keep ≡ self.old.keep }
+    {
+        self.parts.step.rest_at(moment);
+        Ok(nothing(self.parts.alloc))
+    }
+
+    /// The tables, to be looked at: no step is under way on them, and filled with what the store has they are the broker's.
+    /// Takes no memory.
+    pub fn step(&self) -> &Step
+        ensures rest { result.now ≡ at_rest self.now.limits result.now.broker }
+        ensures whole { filled (K.fillings self.now.keep) result.now.broker ≡ self.now.broker }
+    {
+        &self.parts.step
+    }
+
+    /// Whether a line is linked. Takes no memory.
+    #[tactic(auto, using(crate::proofs::Holders::row_of))]
+    pub fn is_linked(&self, line: u64) -> bool
+        ensures { result ≡ is_some (line_at line self.now.broker) }
+    {
+        match self.parts.step.line(line) {
+            Some(_) => true,
+            None => false,
+        }
+    }
+
+    /// The copy that has a packet identifier in the queue of a line's session. Takes no memory.
+    pub fn copy_of(&self, line: u64, identifier: u16) -> Option<&CopyId>
+        ensures { option_copied result ≡ copy_of line identifier self.now.broker }
+    {
+        copy_of(&self.parts.step, line, identifier)
+    }
+}
