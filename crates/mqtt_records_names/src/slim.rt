@@ -1,0 +1,138 @@
+//! Copies in memory that say nothing but their topics after a step, and copies that are filled for a pump (MQTT 5.0,
+//! 3.3, 4.1).
+ghost use Rattle.std.specs.Prelude.{◌≡◌, ◌↔◌, IsTrue, false};
+ghost use Rattle.mqtt_props.specs.declared.table.PropName.TheVariants.{MessageExpiryInterval};
+ghost use Rattle.mqtt_records_message.specs.Filling.{HasBytesOf};
+ghost use Rattle.mqtt_records_message.specs.PassedOn.{number_at};
+ghost use Rattle.mqtt_records.specs.Slim.{slim_at, whole_at, TakesIn};
+ghost use Rattle.mqtt_records_names.specs.Slimming.{slim_places, slim_put, slim_entered, whole_places, TakesAll};
+
+use crate::named::NamedRecords;
+use mqtt_props::{PropName, PropsRef};
+use mqtt_records::{Change, CopyContent};
+use mqtt_records_message::{CopyRow, number_in, sent_len};
+
+/// The Message Expiry Interval of a list, in seconds, if it has one (3.3.2.3.3).
+fn expiry_in(list: &PropsRef<'_>) -> Option<u32>
+    ensures { result ≡ number_at MessageExpiryInterval list.now }
+{
+    match list.get(PropName::MessageExpiryInterval) {
+        Some(prop) => Some(number_in(prop.value)),
+        None => None,
+    }
+}
+
+/// Whether this may be what a copy says: it has as many bytes, and the same Message Expiry Interval.
+fn has_bytes(row: &CopyRow, content: &CopyContent) -> bool
+    ensures { IsTrue result ↔ HasBytesOf row.now.copy content.now }
+{
+    let list = content.properties.lend();
+    let Some(pairs) = sent_len(&list, content.identifiers.as_slice()) else {
+        return false;
+    };
+    pairs == row.pairs() as usize
+        && content.payload.len() == row.payload_len()
+        && expiry_in(&list) == row.expiry()
+}
+
+impl NamedRecords {
+    /// The copy at a place of a session's queue says nothing but its topic, if it stands.
+    fn make_slim_at(&mut self, birth: u64, place: u64)
+        ensures { self.new ≡ slim_at birth place self.old }
+    {
+        self.records.make_slim(birth, place);
+    }
+
+    /// The copies at these places of a session's queue say nothing but their topics. Nothing changes where none stands.
+    /// Takes no memory.
+    pub fn make_slim(&mut self, birth: u64, places: &[u64])
+        ensures { self.new ≡ slim_places birth places.now self.old }
+    {
+        for place in places {
+            self.make_slim_at(birth, *place);
+        }
+    }
+
+    /// The copy that a change put says nothing but its topic, if it stands still.
+    fn make_put_slim(&mut self, change: &Change)
+        ensures { self.new ≡ slim_put change.now self.old }
+    {
+        match change {
+            Change::PutCopy { birth, row } => self.make_slim_at(*birth, row.get().place()),
+            Change::SetCounter { .. }
+            | Change::PutSession { .. }
+            | Change::SetSession { .. }
+            | Change::RemoveSession { .. }
+            | Change::PutWill { .. }
+            | Change::RemoveWill { .. }
+            | Change::PutSubscription { .. }
+            | Change::RemoveSubscription { .. }
+            | Change::PutInbound { .. }
+            | Change::RemoveInbound { .. }
+            | Change::SetCopy { .. }
+            | Change::RemoveCopy { .. }
+            | Change::PutRetained { .. }
+            | Change::RemoveRetained { .. } => {}
+        }
+    }
+
+    /// The copies that these changes put, as far as they stand still, say nothing but their topics. Takes no memory, and a
+    /// search for each change.
+    pub fn make_entered_slim(&mut self, changes: &[Change])
+        ensures { self.new ≡ slim_entered changes.now self.old }
+    {
+        for change in changes {
+            self.make_put_slim(change);
+        }
+    }
+
+    /// Whether the copy at the place of what is told stands, of as many bytes.
+    fn takes_in(&self, birth: u64, content: &CopyContent) -> bool
+        ensures { IsTrue result ↔ TakesIn birth content.now self.now }
+    {
+        let Some(session) = self.records.sessions.get(birth) else {
+            return false;
+        };
+        let Some(row) = session.get().queue.get(content.place) else {
+            return false;
+        };
+        has_bytes(row.get(), content)
+    }
+
+    /// Whether a copy stands at the place of each, of as many bytes.
+    fn takes_all(&self, birth: u64, contents: &[CopyContent]) -> bool
+        ensures { IsTrue result ↔ TakesAll birth contents.now self.now }
+    {
+        for content in contents {
+            if !self.takes_in(birth, content) {
+                return false;
+            }
+        }
+        true
+    }
+
+    /// The copy at the place of what is told says that.
+    fn take_in(&mut self, birth: u64, content: CopyContent)
+        requires { TakesIn birth content self.old }
+        ensures { self.new ≡ whole_at birth content self.old }
+    {
+        let _taken = self.records.fill(birth, content);
+    }
+
+    /// Has the copies of a session's queue say what is told of them, all or none: false, and nothing changes, if one of
+    /// them doesn't stand, or has other bytes. Takes no memory.
+    pub fn fill(&mut self, birth: u64, contents: Vec<CopyContent>) -> bool
+        ensures exact { IsTrue result ↔ TakesAll birth contents.items self.old }
+        ensures ok { IsTrue result → self.new ≡ whole_places birth contents.items self.old }
+        ensures err { result ≡ false → self.new ≡ self.old }
+    {
+        if !self.takes_all(birth, &contents) {
+            drop(contents);
+            return false;
+        }
+        for content in contents {
+            self.take_in(birth, content);
+        }
+        true
+    }
+}
