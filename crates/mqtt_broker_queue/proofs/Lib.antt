@@ -8,4 +8,3 @@ pub mod Entered
 pub mod Sending
 pub mod Forms
 pub mod Listed
-pub mod SendingAhead

@@ -1,2 +1,1 @@
 pub mod Digests
-pub mod Slimming

@@ -3,6 +3,5 @@
 
 mod digest;
 mod named;
-mod slim;
 
 pub use named::NamedRecords;

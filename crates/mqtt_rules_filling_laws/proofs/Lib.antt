@@ -8,5 +8,4 @@ pub mod Pumps
 pub mod FewSent
 pub mod SlimAgain
 pub mod Fetching
-pub mod Entered
 pub mod Examples
