@@ -1,27 +1,10 @@
-//! What copies say, read off rows, cloned, and put beside their places (MQTT 5.0, 3.3).
+//! What copies say, cloned, and put beside their places (MQTT 5.0, 3.3).
 ghost use Rattle.std.specs.Prelude.{◌≡◌, IfOk, IsTrue};
 ghost use Rattle.mqtt_flow_ring.specs.AtHand.{Ascend};
-ghost use Rattle.mqtt_records.specs.Telling.{copy_content};
 ghost use Rattle.mqtt_broker_hand.specs.Hand.{by_place, first_at};
 
-use mqtt_records::{CopyContent, CopyRow};
+use mqtt_records::CopyContent;
 use std::alloc::{AllocError, Global};
-
-/// What the copy of a row says; the bytes are shared with it. Want of memory also if the row is slim.
-pub(crate) fn content_of(row: &CopyRow) -> Result<CopyContent, AllocError>
-    ensures { IfOk result (λ content. content ≡ copy_content row.now) }
-{
-    let Some(copy) = row.whole() else {
-        return Err(AllocError);
-    };
-    Ok(CopyContent {
-        place: row.place(),
-        identifiers: copy.identifiers.clone()?,
-        topic: copy.content.topic.clone()?,
-        properties: copy.content.properties.clone()?,
-        payload: copy.content.payload.clone()?,
-    })
-}
 
 /// The same once more; the bytes are shared.
 pub(crate) fn clone_of(content: &CopyContent) -> Result<CopyContent, AllocError>

@@ -8,9 +8,9 @@ ghost use Rattle.mqtt_records.specs.Telling.{contents_from};
 ghost use Rattle.mqtt_broker_hand.specs.Following.{copy_put};
 ghost use Rattle.mqtt_broker_hand.specs.Hand.{IsQueueInOrder, SayWhatIsStored, at_hand_of, by_place, stored_content};
 
-use crate::contents::{are_in_order, content_of, with_places};
+use crate::contents::{are_in_order, with_places};
 use mqtt_flow_ring::{AT_HAND_LIMIT, AtHand};
-use mqtt_records::{CopyContent, CopyRow};
+use mqtt_records::{CopyContent, CopyRow, content_of};
 use std::alloc::Global;
 use std::collections::BTreeMap;
 use std::marker::Model;

@@ -1,5 +1,5 @@
 -- What is kept of a session, and how a part of it changes (4.1).
-use Rattle.std.specs.Prelude.{◌≡◌, refl, ℕ, codes, not, bytes_eq, List, [], filter, Option, Some, None, IsSomeAnd}
+use Rattle.std.specs.Prelude.{◌≡◌, refl, ℕ, codes, not, bytes_eq, List, [], filter, map, Option, Some, None, IsSomeAnd}
 use Rattle.mqtt_base.specs.declared.session.Phase.{Phase}
 use Rattle.mqtt_base.specs.declared.limits.TheConstants.{SUBSCRIPTION_LIMIT, OPEN_LIMIT, QUEUE_LIMIT}
 use Rattle.mqtt_records_message.specs.declared.message.Will.{Will}
@@ -86,6 +86,10 @@ with_phase place phase session = record session { queue = change_row copy_place 
 -- the copy at a place says nothing but its topic
 abbrev pub with_slim : ℕ → Session → Session
 with_slim place session = record session { queue = change_row copy_place place slim session.queue }
+
+-- no copy says anything but its topic
+abbrev pub with_all_slim : Session → Session
+with_all_slim session = record session { queue = map slim session.queue }
 
 -- the copy at the place of what is told says that
 abbrev pub with_filled : CopyContent → Session → Session

@@ -27,3 +27,4 @@ pub use mqtt_records_rows::{
 pub use records::Records;
 pub use session::{Columns, Session, SessionPart, SessionRow};
 pub use subscription::Subscription;
+pub use telling::content_of;

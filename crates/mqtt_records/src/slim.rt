@@ -1,11 +1,11 @@
 //! Copies in queues that say nothing but their topic in memory, and what fills them again (3.3, 4.1).
 ghost use Rattle.std.specs.Prelude.{◌≡◌, ◌↔◌, IsTrue, false};
-ghost use Rattle.mqtt_records.specs.Slim.{slim_at, whole_at, TakesIn};
+ghost use Rattle.mqtt_records.specs.Slim.{all_slim, slim_at, whole_at, TakesIn};
 
 use crate::records::Records;
 use crate::session::{Session, SessionPart};
 use mqtt_records_message::CopyContent;
-use mqtt_records_rows::Fillable;
+use mqtt_records_rows::{Fillable, Slimmable};
 
 impl Fillable for Session {
     type Filling = CopyContent;
@@ -26,6 +26,20 @@ impl Fillable for Session {
     ghost filled_key = { λ content session. refl };
 }
 
+impl Slimmable for Session {
+    ghost use Rattle.mqtt_records.specs.Session.{with_all_slim};
+
+    ghost slimmed = { with_all_slim };
+
+    fn leave_out(&mut self) {
+        self.queue.leave_out();
+    }
+
+    ghost use Rattle.std.proofs.Common.{refl};
+
+    ghost slimmed_key = { λ session. refl };
+}
+
 impl Records {
     /// Leaves nothing in memory of the copy at a place of a session's queue but what rules read and its topic. Nothing
     /// changes if there is none. Takes no memory.
@@ -33,6 +47,13 @@ impl Records {
         ensures { self.new ≡ slim_at birth place self.old }
     {
         self.sessions.edit(birth, SessionPart::SlimCopy { place });
+    }
+
+    /// Leaves nothing in memory of any copy in a queue but what rules read and its topic. Takes no memory.
+    pub fn make_all_slim(&mut self)
+        ensures { self.new ≡ all_slim self.old }
+    {
+        self.sessions.leave_out();
     }
 
     /// Has the copy at this place of a session's queue say what is told of it. Nothing changes if there is none, or if it

@@ -29,8 +29,8 @@ fn first_rows(rows: &[Boxed<CopyRow>], limit: u32) -> &[Boxed<CopyRow>]
     &rows[..limit]
 }
 
-/// What the copy of a row says; the bytes are shared with it. Want of memory also if the row hasn't them.
-fn content_of(row: &CopyRow) -> Result<CopyContent, AllocError>
+/// What the copy of a row says; the bytes are shared with it. Want of memory also if the row is slim.
+pub fn content_of(row: &CopyRow) -> Result<CopyContent, AllocError>
     ensures { IfOk result (λ content. content ≡ copy_content row.now) }
 {
     let Some(copy) = row.whole() else {

@@ -2,7 +2,7 @@
 use crate::content::CopyContent;
 use crate::queue::CopyRow;
 use mqtt_base::Phase;
-use mqtt_records_rows::Fillable;
+use mqtt_records_rows::{Fillable, Slimmable};
 
 /// A change of a part of a queue's row.
 #[derive(Clone, Copy, Debug, PartialEq, Eq)]
@@ -29,4 +29,18 @@ impl Fillable for CopyRow {
     ghost use Rattle.std.proofs.Common.{refl};
 
     ghost filled_key = { λ content row. refl };
+}
+
+impl Slimmable for CopyRow {
+    ghost use Rattle.mqtt_records_message.specs.Slim.{slim};
+
+    ghost slimmed = { slim };
+
+    fn leave_out(&mut self) {
+        self.make_slim();
+    }
+
+    ghost use Rattle.std.proofs.Common.{refl};
+
+    ghost slimmed_key = { λ row. refl };
 }

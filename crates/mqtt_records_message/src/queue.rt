@@ -1,5 +1,5 @@
 //! What is kept of a copy in a session's queue (4.3, 4.6).
-ghost use Rattle.std.specs.Prelude.{◌≡◌, ◌↔◌, false, length, IfOk, IfErr, IfSome, IsTrue};
+ghost use Rattle.std.specs.Prelude.{◌≡◌, ◌↔◌, None, false, length, IfOk, IfErr, IfSome, IsTrue};
 ghost use Rattle.mqtt_props.specs.declared.table.PropName.TheVariants.{MessageExpiryInterval};
 ghost use Rattle.mqtt_props.specs.Properties.{FitsBlock, props};
 ghost use Rattle.mqtt_records_message.specs.Filling.{filled_with, HasBytesOf};
@@ -158,9 +158,10 @@ impl CopyRow {
         self.phase
     }
 
-    /// What is sent, if the row has it. Takes no memory.
+    /// What is sent, if the row has it; a slim row hasn't. Takes no memory.
     pub fn whole(&self) -> Option<&MessageCopy>
-        ensures { IfSome result (λ copy. copy.now ≡ self.now.copy) }
+        ensures exact { IfSome result (λ copy. copy.now ≡ self.now.copy) }
+        ensures slim { result ≡ None → self.now ≡ slim self.now }
     {
         match self.left_out {
             None => Some(&self.copy),
@@ -237,7 +238,7 @@ impl CopyRow {
 
     /// Whether this may be what the copy says: it has as many bytes, and the same Message Expiry Interval.
     /// Takes no memory.
-    fn has_bytes(&self, content: &CopyContent) -> bool
+    pub fn has_bytes(&self, content: &CopyContent) -> bool
         ensures { IsTrue result ↔ HasBytesOf self.now.copy content.now }
     {
         let list = content.properties.lend();

@@ -1,5 +1,5 @@
 -- Rows in the order of their keys: where a search ends, and what an edit there makes.
-use Rattle.std.proofs.Common.{◌≡◌, ℕ, ◌-◌, zero, suc, ◌<◌, ◌≤◌, Bool, true, false, not, ◌||◌, List, [], ◌∷◌, length, filter, get_or, nat_eq, nat_lt, ltb, insert, remove, refl, sym, ap, subst, ◌∙◌, arith, inl, inr, ◌⊎◌}
+use Rattle.std.proofs.Common.{◌≡◌, ℕ, ◌-◌, zero, suc, ◌<◌, ◌≤◌, Bool, true, false, not, ◌||◌, List, [], ◌∷◌, length, filter, map, get_or, nat_eq, nat_lt, ltb, insert, remove, refl, sym, ap, subst, ◌∙◌, arith, inl, inr, ◌⊎◌}
 use Rattle.std.specs.Prelude.{Option, Some, None, Ok, Err, is_some, slice_get, slice_set}
 use Rattle.std.specs.List.{AllWithin}
 use Rattle.std.specs.List.Sorted.{IsNonDecreasingBy}
@@ -265,6 +265,16 @@ module _ {X : Type 0} (key : X → ℕ) where
     | inl same ↦ rw same (subst (λ (n : ℕ). IsAbove key n ys) (sym (kept y)) up.0, up.1)
     | inr other ↦ rw other (change-above (key y) k f ys kept up.0, change-ascending k f ys kept up.1)
   ]
+
+  map-above : (n : ℕ) (f : X → X) (xs : List X) → ((x : X) → key (f x) ≡ key x) → IsAbove key n xs → IsAbove key n (map f xs)
+  map-above n f [] kept up = tt
+  map-above n f (y ∷ ys) kept up = let key_same = kept y in let more = up.0 in (omega (arith, key_same, more), map-above n f ys kept up.1)
+
+  -- rows ascend after each changes and keeps its key
+  pub map-ascending : (f : X → X) (xs : List X) → ((x : X) → key (f x) ≡ key x) → IsAscending key xs → IsAscending key (map f xs)
+  map-ascending f [] kept up = tt
+  map-ascending f (y ∷ ys) kept up =
+      (subst (λ (n : ℕ). IsAbove key n (map f ys)) (sym (kept y)) (map-above (key y) f ys kept up.0), map-ascending f ys kept up.1)
 
   -- ---- what the functions answer and make
 

@@ -75,6 +75,19 @@ pub trait Fillable: Row {
         → Self.key_of (filled filling row) ≡ Self.key_of row };
 }
 
+/// A row that can leave something out of memory.
+pub trait Slimmable: Row {
+    // The row without it.
+    ghost slimmed: { Self → Self };
+
+    /// Leaves it out. Takes no memory.
+    fn leave_out(&mut self)
+        ensures { self.new ≡ slimmed self.old };
+
+    // The key stays.
+    ghost slimmed_key: { (row : Self) → Self.key_of (slimmed row) ≡ Self.key_of row };
+}
+
 /// A row that has a name besides its key.
 pub trait Named: Row {
     ghost name_of: { Self → List ℕ };
@@ -195,6 +208,16 @@ impl<R: Fillable> Fillable for Boxed<R> {
     }
 
     ghost filled_key = { λ filling row. R.filled_key filling row };
+}
+
+impl<R: Slimmable> Slimmable for Boxed<R> {
+    ghost slimmed = { λ row. R.slimmed row };
+
+    fn leave_out(&mut self) {
+        self.row.leave_out();
+    }
+
+    ghost slimmed_key = { λ row. R.slimmed_key row };
 }
 
 impl<R: Named> Named for Boxed<R> {

@@ -1,10 +1,10 @@
 //! Lists of rows in the order of their keys.
 ghost use Rattle.std.specs.Prelude.{◌≡◌, ◌↔◌, ◌<◌, ◌≤◌, List, [], Option, IfOk, IsSomeAnd, IsTrue, false, option_copied, not};
-ghost use Rattle.std.specs.Prelude.{length, filter, slice_get, insert, option_and_then, bytes_eq, vec_len, vec_capacity};
+ghost use Rattle.std.specs.Prelude.{length, filter, map, slice_get, insert, option_and_then, bytes_eq, vec_len, vec_capacity};
 ghost use Rattle.mqtt_records_rows.specs.Order.{IsAscending, IsFound, front_len, last_row};
 ghost use Rattle.mqtt_records_rows.specs.Order.{row_at, has_row, put_row, remove_row, change_row};
 
-use crate::row::{CloneRow, Editable, Fillable, Named, Parted, Row};
+use crate::row::{CloneRow, Editable, Fillable, Named, Parted, Row, Slimmable};
 use std::alloc::{AllocError, Global};
 use std::marker::Model;
 
@@ -212,6 +212,33 @@ impl<R: Fillable, const LIMIT: usize> Rows<R, LIMIT> {
                 false
             }
         }
+    }
+}
+
+/// Each row leaves out what it can.
+fn slim_all<R: Slimmable>(rows: &mut [R])
+    ensures { rows.new ≡ map R.slimmed rows.old }
+{
+    for row in rows.iter_mut() {
+        row.leave_out();
+    }
+}
+
+/// Each row of a list leaves out what it can.
+fn slim_list<R: Slimmable>(rows: &mut Vec<R>)
+    ensures items { rows.new.items ≡ map R.slimmed rows.old.items }
+    ensures len { vec_len rows.new ≡ vec_len rows.old }
+    ensures capacity { vec_capacity rows.new ≡ vec_capacity rows.old }
+{
+    slim_all(rows);
+}
+
+impl<R: Slimmable, const LIMIT: usize> Rows<R, LIMIT> {
+    /// Each row leaves out of memory what it can. Takes no memory.
+    pub fn leave_out(&mut self)
+        ensures { self.new ≡ map R.slimmed self.old }
+    {
+        slim_list(&mut self.rows);
     }
 }
 

@@ -3,7 +3,7 @@
 use crate::kept::{add, all, copy, course};
 use bytes::Bytes;
 use mqtt_records::faulty::{Failure, FaultyKeep};
-use mqtt_records::{Change, CopyContent, CopyRow, Keep, KeepError, MemKeep, Records};
+use mqtt_records::{Change, CopyContent, CopyRow, Keep, KeepError, MemKeep, Records, content_of};
 use std::alloc::{AllocError, Global};
 use std::process::Abort;
 use std::test::Fail;
@@ -146,6 +146,50 @@ fn a_slim_copy_says_again_what_is_told(rt: HostRuntime) -> Result<(), Fail> {
     let content = told(alloc, &mut keep)?;
     assert!(rt; records.fill(1, content));
     assert_eq!(rt; looks(&records, 5), Some((14, true)));
+    drop(records);
+    drop(keep);
+    Ok(())
+}
+
+#[test]
+fn all_copies_become_slim_and_whole_again(rt: HostRuntime) -> Result<(), Fail> {
+    let alloc = rt.alloc();
+    let mut keep = MemKeep::new(alloc)?;
+    keep.apply(&with_copies(alloc)?)?;
+    let mut records = keep.load(alloc)?;
+    records.make_all_slim();
+    for place in [1, 2, 5, 9] {
+        assert_eq!(rt; looks(&records, place), Some((14, false)), "{place}");
+    }
+    for content in keep.contents(alloc, 1, 0, 64)? {
+        assert!(rt; records.fill(1, content), "it has the bytes of its row");
+    }
+    for place in [1, 2, 5, 9] {
+        assert_eq!(rt; looks(&records, place), Some((14, true)), "{place}");
+    }
+    drop(records);
+    drop(keep);
+    Ok(())
+}
+
+#[test]
+fn what_a_copy_says_is_read_off_its_row(rt: HostRuntime) -> Result<(), Fail> {
+    let alloc = rt.alloc();
+    let mut keep = MemKeep::new(alloc)?;
+    keep.apply(&with_copies(alloc)?)?;
+    let mut records = keep.load(alloc)?;
+    let Some(whole) = row(&records, 5) else {
+        panic!(rt; "no copy stands there");
+    };
+    let content = content_of(whole)?;
+    assert_eq!(rt; content.place, 5);
+    assert_eq!(rt; content.payload.as_slice(), b"hi".as_slice());
+    drop(content);
+    records.make_slim(1, 5);
+    let Some(slim) = row(&records, 5) else {
+        panic!(rt; "it stands there still");
+    };
+    assert!(rt; content_of(slim).is_err(), "a slim row hasn't it");
     drop(records);
     drop(keep);
     Ok(())
