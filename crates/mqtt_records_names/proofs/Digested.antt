@@ -1,5 +1,5 @@
 -- The digests of the sessions after a change of these.
-use Rattle.std.proofs.Common.{◌≡◌, ℕ, suc, ◌||◌, List, [], ◌∷◌, length, nat_eq, nat_lt, refl, ap, inl, inr}
+use Rattle.std.proofs.Common.{◌≡◌, ℕ, suc, ◌||◌, List, [], ◌∷◌, length, map, nat_eq, nat_lt, refl, ap, ◌∙◌, inl, inr}
 use Rattle.std.proofs.lemmas.Bool.{cases_Bool}
 use Rattle.mqtt_base.specs.declared.limits.TheConstants.{SESSION_LIMIT}
 use Rattle.mqtt_records_rows.specs.Order.{has_row, insert_row, put_row, remove_row, change_row}
@@ -61,3 +61,8 @@ same_digest birth f (s ∷ ss) same = elim (cases_Bool (nat_eq s.birth birth)) [
   | inl here ↦ rw here (ap (λ (row : DigestRow). row ∷ digest_rows ss) (same s))
   | inr later ↦ rw later (ap (λ (rows : List DigestRow). digest_row s ∷ rows) (same_digest birth f ss same))
 ]
+
+-- a change of every session that leaves their client identifiers
+pub same_digests : (f : Session → Session) (ss : List Session) → ((s : Session) → digest_row (f s) ≡ digest_row s) → digest_rows (map f ss) ≡ digest_rows ss
+same_digests f [] same = refl
+same_digests f (s ∷ ss) same = ap (λ (row : DigestRow). row ∷ digest_rows (map f ss)) (same s) ∙ ap (λ (rows : List DigestRow). digest_row s ∷ rows) (same_digests f ss same)

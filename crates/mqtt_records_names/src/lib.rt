@@ -3,5 +3,6 @@
 
 mod digest;
 mod named;
+mod slim;
 
 pub use named::NamedRecords;

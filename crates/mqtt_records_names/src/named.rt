@@ -19,7 +19,7 @@ use std::marker::Model;
 /// What is kept, with the digest of each session's client identifier in the order of the sessions.
 #[derive(Drop)]
 pub struct NamedRecords {
-    records: Records,
+    pub(crate) records: Records,
     digests: Rows<DigestRow, SESSION_LIMIT>,
 }
 
