@@ -26,15 +26,15 @@ use Rattle.mqtt_codec.specs.declared.packet.Packet.TheVariants as packets
 use Rattle.mqtt_codec.specs.Packets.{shortest_of}
 use Rattle.mqtt_records_message.specs.declared.message.MessageCopy.{MessageCopy}
 use Rattle.mqtt_records_message.specs.Queue.{IsSpelled, first_sent, publish_size}
+use Rattle.mqtt_records_message.proofs.SentSizes.{own-each}
 use Rattle.mqtt_rules.specs.Forms.{form_remaining, form_size, in_form, other_bytes, published_of, with_alias}
 use Rattle.mqtt_rules.specs.Packets.{delivery_by, properties_sent, seconds_waited, size_of, suback, unsuback}
 use Rattle.mqtt_rules.specs.Connect.{connack_properties}
-use Rattle.mqtt_rules.proofs.contents.CopySizes.{sent_size}
+use Rattle.mqtt_rules.proofs.contents.CopySizes.{props_sent, sent_size}
 use Rattle.mqtt_rules.proofs.forms.FormBlocks.{alias_between}
 use Rattle.mqtt_rules.proofs.forms.FormSizes.{copy_body, copy_in_form, plain_remaining, props_in_form}
 use Rattle.mqtt_broker_packets.specs.declared.copies.Lengths.{Lengths}
 use Rattle.mqtt_broker_packets.specs.Frames.{alias_alone, identifier_bytes, IsSizeIn, IsSizeOf, IsSpelledIn, Measures, sent_body, frame}
-use Rattle.mqtt_broker_packets.proofs.Sizes.{sent-length, own-each}
 
 -- ---- the body
 
@@ -157,7 +157,7 @@ sent_written alias waited ids ps old a b c new a_is b_is c_is is =
 pub block_written : (now pairs waited : ℕ) (ids : List ℕ) (ps : List Prop) (form : Form) (alias : Option ℕ) (copy : MessageCopy) (old mid new : List ℕ) → pairs ≡ length (props (first_sent copy)) + alias_size form → waited ≡ seconds_waited now copy.content → ids ≡ copy.identifiers → ps ≡ copy.content.properties → alias ≡ alias_in form → mid ≡ old ++ varint pairs → new ≡ mid ++ props (with_alias alias (sent_after waited ids ps)) → new ≡ old ++ block (with_alias (alias_in form) (properties_sent now copy))
 block_written now pairs waited ids ps form alias copy old mid new few wait same own form_is first is =
     let all = with_alias (alias_in form) (properties_sent now copy) in
-    let sent = sent-length (seconds_waited now copy.content) copy.identifiers copy.content.properties in
+    let sent = props_sent (seconds_waited now copy.content) copy.identifiers copy.content.properties in
     let more = props_in_form form (properties_sent now copy) in
     let long : pairs ≡ length (props all) = omega (arith, few, sent, more) in
     is ∙ rw (first, wait, same, own, form_is) (append_assoc old (varint pairs) (props all) ∙ ap (λ (n : ℕ). old ++ (varint n ++ props all)) long)

@@ -14,10 +14,10 @@ ghost use Rattle.mqtt_rules.specs.Packets.{delivery_by, properties_sent, publish
 ghost use Rattle.mqtt_broker_packets.specs.Frames.{identifier_bytes, IsSizeIn, IsSizeOf, IsSpelledIn, Measures, sent_body};
 
 use crate::frame::{frame_begin, frame_end};
-use crate::sent::{sent_len, sent_push};
+use crate::sent::sent_push;
 use bytes::Bytes;
 use mqtt_base::{Qos, VARINT_LIMIT, blob_push, u16_push, varint_len, varint_push};
-use mqtt_records_message::{Content, CopyRow, MessageCopy};
+use mqtt_records_message::{Content, CopyRow, MessageCopy, sent_len};
 use mqtt_topic_aliases::{Form, OtherBytes, size_in};
 use std::alloc::{AllocError, Global};
 

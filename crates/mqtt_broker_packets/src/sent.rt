@@ -1,15 +1,15 @@
 //! The properties that a copy is sent with, as bytes (3.3.2.3).
-ghost use Rattle.std.specs.Prelude.{◌≡◌, ◌++◌, ◌<◌, ◌^◌, length, map, MatchOption, OnOk, OnSome};
+ghost use Rattle.std.specs.Prelude.{◌≡◌, ◌++◌, ◌<◌, ◌^◌, map, OnOk};
 ghost use Rattle.std.specs.List.{AllByRecursion};
 ghost use Rattle.mqtt_props.specs.declared.table.PropName.TheVariants.{UserProperty};
 ghost use Rattle.mqtt_props.specs.Edits.{only, without};
-ghost use Rattle.mqtt_props.specs.Properties.{FitsBlock, IsProp, prop, props};
+ghost use Rattle.mqtt_props.specs.Properties.{IsProp, prop, props};
 ghost use Rattle.mqtt_records_message.specs.PassedOn.{aged, identified, sent_after};
 ghost use Rattle.mqtt_rules.specs.Forms.{with_alias};
 ghost use Rattle.mqtt_broker_packets.specs.Frames.{alias_alone};
 
 use crate::property::aged_push;
-use mqtt_base::{VARINT_LIMIT, u16_push, varint_len, varint_push};
+use mqtt_base::{u16_push, varint_push};
 use mqtt_props::{PropName, PropsRef, prop_push};
 use std::alloc::AllocError;
 
@@ -94,60 +94,4 @@ pub(crate) fn sent_push(
     identifiers_push(out, identifiers)?;
     alias_push(out, alias)?;
     user_push(out, list)
-}
-
-/// How many bytes the pairs of a list take.
-fn pairs_len(list: &PropsRef<'_>) -> usize
-    ensures value { result ≡ length (props list.now) }
-    ensures fits { FitsBlock list.now }
-{
-    let block = list.block_len();
-    if block <= 128 {
-        block - 1
-    } else if block <= 16_385 {
-        block - 2
-    } else if block <= 2_097_154 {
-        block - 3
-    } else {
-        block - 4
-    }
-}
-
-/// How many bytes Subscription Identifiers take, if they have a spelling as a block.
-fn identifiers_len(identifiers: &[u32]) -> Option<usize>
-    ensures value { MatchOption result (¬ FitsBlock (map identified identifiers.now))
-        (λ len. len ≡ length (props (map identified identifiers.now))) }
-    ensures fits { OnSome result (FitsBlock (map identified identifiers.now)) }
-{
-    let mut len = 0;
-    let mut rest = identifiers;
-    while let Some((identifier, after)) = rest.split_first() {
-        if *identifier >= VARINT_LIMIT {
-            return None;
-        }
-        len += 1 + varint_len(*identifier);
-        if len >= VARINT_LIMIT as usize {
-            return None;
-        }
-        rest = after;
-    }
-    Some(len)
-}
-
-/// How many bytes the properties of a copy take, if they have a spelling as a block.
-pub(crate) fn sent_len(list: &PropsRef<'_>, identifiers: &[u32]) -> Option<usize>
-    ensures value { MatchOption result (¬ FitsBlock (sent_after 0 identifiers.now list.now))
-        (λ len. len ≡ length (props (sent_after 0 identifiers.now list.now))) }
-    ensures fits { OnSome result (FitsBlock (sent_after 0 identifiers.now list.now)) }
-{
-    let pairs = pairs_len(list);
-    let Some(own) = identifiers_len(identifiers) else {
-        return None;
-    };
-    let len = pairs + own;
-    if len < VARINT_LIMIT as usize {
-        Some(len)
-    } else {
-        None
-    }
 }

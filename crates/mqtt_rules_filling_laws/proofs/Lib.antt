@@ -8,4 +8,5 @@ pub mod Pumps
 pub mod FewSent
 pub mod SlimAgain
 pub mod Fetching
+pub mod Entered
 pub mod Examples

@@ -1,15 +1,20 @@
 //! Laws of brokers whose waiting copies say their topic alone, beside what there is to fill them with (3.3, 4.3, 4.6).
 ghost use Rattle.std.specs.Prelude.{◌≡◌, ◌≤◌, ℕ, List, length, Option};
 ghost use Rattle.mqtt_base.specs.declared.limits.TheConstants.{PUMP_LIMIT};
+ghost use Rattle.mqtt_records_message.specs.declared.content.CopyContent.{CopyContent};
 ghost use Rattle.mqtt_records_message.specs.Filling.{Fillings};
 ghost use Rattle.mqtt_records.specs.Records.{FitAll, changed_all};
 ghost use Rattle.mqtt_records.specs.declared.change.Change.{Change};
 ghost use Rattle.mqtt_records.specs.declared.records.Records.{Records};
+ghost use Rattle.mqtt_records.specs.Slim.{all_slim};
+ghost use Rattle.mqtt_records_names.specs.Slimming.{slim_entered, slim_places, whole_places};
 ghost use Rattle.mqtt_rules.specs.declared.Limits.{Limits};
+ghost use Rattle.mqtt_rules.specs.Laws.{IsOrdered};
 ghost use Rattle.mqtt_rules.specs.State.{Broker, MemberChoice};
 ghost use Rattle.mqtt_rules.specs.Step.{Call, Pump, at_moment, deeds, stepped, told, rows_written, is_step_spent, opened, opening_deeds, unopened, is_opening_spent};
 ghost use Rattle.mqtt_rules_alike_laws.specs.Alike.{AlikeRecords, AlikeBrokers, IsPump};
 ghost use Rattle.mqtt_rules_alike_laws.specs.Slim.{slim_broker};
+ghost use Rattle.mqtt_rules_filling_laws.specs.Entered.{places_of, AreSlimBut};
 ghost use Rattle.mqtt_rules_filling_laws.specs.Filling.{AreFilledBy, filled_records, filled};
 ghost use Rattle.mqtt_rules_filling_laws.specs.Pumped.{sent_places, HasWholeTurns, HasFilledTurns, filled_at, filled_for_pump};
 
@@ -115,4 +120,23 @@ pub fn a_pump_reads_what_it_sends()
     ensures slim { (fillings : Fillings) (places : List ℕ) (birth : Option ℕ) (b : Broker)
         → AreFilledBy fillings b.records
         → slim_broker (filled_at fillings places birth (slim_broker b)) ≡ slim_broker b }
+{}
+
+/// After a step the copies that it put are made slim, and with them those that a pump filled before it. If all others said
+/// nothing but their topics when it began, all do then, whichever are made slim first. A pump that fills copies of a session
+/// leaves all others as they were (3.3, 4.1).
+pub fn entered_copies_become_slim()
+    ensures all { (changes : List Change) (birth : ℕ) (places : List ℕ) (r : Records) → AreSlimBut birth places r
+        → IsOrdered (changed_all changes r)
+        → slim_entered changes (slim_places birth places (changed_all changes r))
+        ≡ all_slim (changed_all changes r) }
+    ensures after { (changes : List Change) (birth : ℕ) (places : List ℕ) (r : Records) → AreSlimBut birth places r
+        → IsOrdered (changed_all changes r)
+        → slim_places birth places (slim_entered changes (changed_all changes r))
+        ≡ all_slim (changed_all changes r) }
+    ensures entered { (changes : List Change) (r : Records) → all_slim r ≡ r
+        → IsOrdered (changed_all changes r)
+        → slim_entered changes (changed_all changes r) ≡ all_slim (changed_all changes r) }
+    ensures filled { (birth : ℕ) (contents : List CopyContent) (r : Records) → all_slim r ≡ r
+        → AreSlimBut birth (places_of contents) (whole_places birth contents r) }
 {}
