@@ -1,5 +1,5 @@
 -- What is answered if a broker is opened, and if it isn't.
-use Rattle.std.proofs.Common.{◌≡◌, ◌≢◌, ◌⊎◌, ℕ, false, refl, ap, sym, subst, ◌∙◌, inl, inr}
+use Rattle.std.proofs.Common.{◌≡◌, ◌≢◌, ◌⊎◌, ℕ, refl, ap, sym, subst, ◌∙◌, inl, inr}
 use Rattle.std.specs.Prelude.{Result, Ok, Err, OnOk, OnErr}
 use Rattle.mqtt_records_lawful.specs.Lawful.{IsLawful}
 use Rattle.mqtt_records.specs.declared.keep.Keep.{Ghosts}
@@ -13,7 +13,6 @@ use Rattle.mqtt_rules.specs.Step.{BrokerOpening, SpentOpening}
 use Rattle.mqtt_broker_step.specs.Stepping.{Stepping, at_rest}
 use Rattle.mqtt_broker_calls.specs.Sound.{IsSound}
 use Rattle.mqtt_broker_calls.proofs.SoundLaw.{opening_sound}
-use Rattle.mqtt_broker_engine.specs.Running.{Running}
 use Rattle.mqtt_broker_engine.specs.Closing.{IsStoredAfter, resting}
 use Rattle.mqtt_broker_engine.specs.Opening.{IsBegun, IsDue, IsRefused, Opened}
 
@@ -58,23 +57,6 @@ opened_sound limits now r new within lawful h is =
 -- ---- answers
 
 module _ {K : Type 0} (g : Ghosts K) (limits : Limits) (now : ℕ) (first : K) where
-  opened_ok : (r : Records) (loaded : K) (engine : Running K) → IsBegun g first r loaded → IsLawful r → BrokerOpening limits r now engine.broker
-      → g.holds engine.keep engine.broker.records → (g.is_sound engine.keep → g.is_sound loaded) → engine.limits ≡ limits → engine.stopped ≡ false
-      → Opened g limits now first (Ok engine)
-  opened_ok r loaded engine begun lawful opening holds sound same runs = record {
-    opened = record { loaded = loaded; records = r; load = begun.load; lawful = lawful; opening = opening; holds = holds; sound = sound; limits_are = same; runs = runs };
-    refused = tt;
-  }
-
-  -- the engine that is made
-  pub opened_as : (r : Records) (loaded kept : K) (s : Stepping) (engine : Running K) → engine ≡ record { keep = kept; limits = s.limits; broker = s.broker; stopped = false }
-      → IsBegun g first r loaded → IsLawful r → BrokerOpening limits r now s.broker → g.holds kept s.broker.records → (g.is_sound kept → g.is_sound loaded) → s ≡ at_rest limits s.broker
-      → Opened g limits now first (Ok engine)
-  opened_as r loaded kept s engine is begun lawful opening holds sound rest =
-      let made : Running K = record { keep = kept; limits = s.limits; broker = s.broker; stopped = false } in
-      subst (λ (e : Running K). Opened g limits now first (Ok e)) (sym is)
-      (opened_ok r loaded made begun lawful opening holds sound (ap (λ (t : Stepping). t.limits) rest) refl)
-
   opened_err : (error : KeepError) (left : K) → IsRefused g limits now first error left → Opened g limits now first (Err (left, error))
   opened_err error left h = record { opened = tt; refused = h }
 

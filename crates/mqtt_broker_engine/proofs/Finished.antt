@@ -1,206 +1,304 @@
--- How a call is finished: its step is stored and answered, or taken back, and no step is under way then.
-use Rattle.std.proofs.Common.{◌≡◌, ◌⊎◌, ℕ, Bool, false, refl, ap, sym, subst, ◌∙◌, inl, inr}
-use Rattle.std.specs.Prelude.{Result, Ok, Err, IsErrOf}
+-- How a call is finished over a store that has what waiting copies say.
+use Rattle.std.proofs.Common.{◌≡◌, ℕ, Bool, true, false, refl, ap, sym, subst, ◌∙◌, inl}
+use Rattle.std.specs.Prelude.{Result, Ok, Err, ⊤}
 use Rattle.mqtt_records.specs.declared.keep.Keep.{Ghosts}
 use Rattle.mqtt_records.specs.declared.records.Records.{Records}
-use Rattle.mqtt_rules.specs.Contents.{TakesLawful}
+use Rattle.mqtt_records.specs.Telling.{AreTold}
+use Rattle.mqtt_routes.specs.Subscriptions.{HeldSessions}
 use Rattle.mqtt_rules.specs.declared.Limits.{Limits}
-use Rattle.mqtt_rules.specs.Routing.{subscribers}
+use Rattle.mqtt_rules.specs.Laws.{IsOrdered}
 use Rattle.mqtt_rules.specs.State.{Broker}
 use Rattle.mqtt_rules.specs.Step.{Call, SpentStep, is_spent}
+use Rattle.mqtt_rules_alike_laws.specs.Alike.{AlikeBrokers}
+use Rattle.mqtt_rules_alike_laws.specs.Slim.{slim_broker}
+use Rattle.mqtt_rules_alike_laws.proofs.Steps.{spent_same}
+use Rattle.mqtt_rules_filling_laws.specs.Filling.{filled}
+use Rattle.mqtt_rules_filling_laws.proofs.Equivalence.{broker_back, broker_itself, slim_through}
+use Rattle.mqtt_rules_filling_laws.proofs.Filled.{broker_whole}
+use Rattle.mqtt_rules_filling_laws.proofs.SlimAgain.{broker_once}
+use Rattle.mqtt_broker_hand.specs.Hand.{Hand, SayWhatIsStored}
 use Rattle.mqtt_broker_step.specs.declared.fault.StepFault.{StepFault}
-use Rattle.mqtt_broker_step.specs.declared.fault.StepFault.TheVariants.{Memory, Spent}
 use Rattle.mqtt_broker_step.specs.declared.call.EngineError.{EngineError}
-use Rattle.mqtt_broker_step.specs.declared.call.EngineError.TheVariants as errors
+use Rattle.mqtt_broker_step.specs.declared.call.EngineError.TheVariants.{Memory, Stopped, Spent}
 use Rattle.mqtt_broker_step.specs.Stepping.{CanStore, Stepping, at_rest, with_stamp}
-use Rattle.mqtt_broker_clock.specs.Quiet.{AreQuietBefore}
 use Rattle.mqtt_broker_index.specs.Indexing.{Serves}
 use Rattle.mqtt_broker_calls.specs.Doing.{DidCall}
-use Rattle.mqtt_broker_calls.specs.Sound.{IsSound}
+use Rattle.mqtt_broker_calls.specs.Ready.{IsReady}
+use Rattle.mqtt_broker_calls.proofs.Sources.{sound_ready}
+use Rattle.mqtt_broker_alike_laws.proofs.Ready.{ready_alike}
 use Rattle.mqtt_broker_engine.specs.declared.outcome.Outcome.{Outcome}
+use Rattle.mqtt_broker_engine.specs.Calling.{Called, IsLeftBy, IsTrulyCalled}
+use Rattle.mqtt_broker_engine.specs.Running.{Running}
+use Rattle.mqtt_broker_engine.specs.Finishing.{CanFollow, GoesAlong, HasWhole, HoldsWhole, IsAtRest, IsCommitted, IsOfSound, IsUnderWay, SaysAtHand}
+use Rattle.mqtt_broker_engine.specs.Viewing.{viewed, viewed_before}
 use Rattle.mqtt_broker_engine.specs.declared.parts.EngineParts.{EngineParts}
-use Rattle.mqtt_broker_engine.specs.Calling.{Called, IsAnswered, IsTrulyCalled}
-use Rattle.mqtt_broker_engine.specs.Finishing.{CanFinish, IsAtRest, IsFinished, IsMidCall, running_before, running_of}
-use Rattle.mqtt_broker_engine.proofs.Called.{answered_for_lines, call_answered, call_sound, call_stored}
+use Rattle.mqtt_broker_engine.proofs.GoingAlong.{quiet_alike, subscribers_alike}
+use Rattle.mqtt_broker_engine.proofs.Telling.{told_fills}
+use Rattle.mqtt_broker_engine.proofs.Whole.{can_follow, can_store, lines_answered, next, next_alike, next_sound, store_makes, whole_answered, whole_left}
 
--- ---- a step that is stamped
+-- an engine with this broker, over this store
+abbrev running : {K : Type 0} → EngineParts K → K → Bool → Broker → Running K
+running p keep stopped b = record { keep = keep; limits = p.step.limits; broker = b; stopped = stopped }
 
--- with its moment it is under way still
-pub stamped_mid : {K : Type 0} (g : Ghosts K) (p : EngineParts K) (t : Stepping) → t ≡ with_stamp p.step → IsMidCall g p → IsMidCall g (record p { step = t })
-stamped_mid g p t is mid = subst (λ (x : Stepping). IsMidCall g (record p { step = x })) (sym is)
-    (record { runs = mid.runs; its = record { sound = mid.its.sound; stored = mid.its.stored; serves = mid.its.serves; quiet = mid.its.quiet } })
+-- what goes along with a broker goes along with an alike one
+pub goes_alike : {K : Type 0} (b c : Broker) (p : EngineParts K) → AlikeBrokers b c → GoesAlong b p → GoesAlong c p
+goes_alike b c p alike goes = record {
+  serves = λ fresh. subst (λ ss. Serves p.index.sessions ss) (subscribers_alike b.records c.records alike.records) (goes.serves fresh);
+  quiet = quiet_alike p.quiet b.records c.records alike.records goes.quiet;
+}
 
--- ---- a step for which memory is wanted before the store is told of it
+-- so with its slim rows
+pub goes_slim : {K : Type 0} (b : Broker) (p : EngineParts K) → GoesAlong b p → GoesAlong (slim_broker b) p
+goes_slim b p goes = goes_alike b (slim_broker b) p (broker_back (slim_broker b) b (slim_through b b (broker_itself b))) goes
 
--- it is finished by being taken back
-pub finished_untold : {K : Type 0} (g : Ghosts K) (old new : EngineParts K) (s : Stepping) (again : Bool) → IsMidCall g old
-    → ((keep : K) (left r : Records) → g.holds keep r → g.leaves keep left → left ≡ r)
-    → s.start ≡ old.step.start → new.keep ≡ old.keep → new.stopped ≡ old.stopped → new.quiet ≡ old.quiet → new.step ≡ at_rest s.limits s.start
-    → (new.is_stale ≡ false → Serves new.index.sessions (subscribers s.start.records)) → IsFinished g old.keep s again (Err errors.Memory) new
-finished_untold g old new s again mid held start keep stopped quiet step serves = record {
+-- a step that the index can't follow for want of memory is taken back before the store is told of it
+pub untold : {K : Type 0} (g : Ghosts K) → ((keep : K) (left r : Records) → g.holds keep r → g.leaves keep left → left ≡ r) → (p : EngineParts K) (index : HeldSessions) (again : Bool)
+    → is_spent p.step.rows ≡ false → g.is_loaded p.keep → p.stopped ≡ false → GoesAlong p.step.start p
+    → IsCommitted g p again (Err Memory) (record p { step = at_rest p.step.limits (slim_broker p.step.start); index = index; is_stale = true })
+untold g held p index again unspent loaded runs goes = record {
+  unspent = unspent;
   told = tt;
-  unspent = tt;
   done = tt;
-  stored = tt;
-  same = step;
-  memory = λ e. let h = mid.its.stored mid.runs in (
-    subst (λ k. g.is_loaded k) (sym keep) h.0,
-    subst (λ (b : Broker). g.holds new.keep b.records) (sym start) (subst (λ k. g.holds k old.step.start.records) (sym keep) h.1),
-  );
-  spent = λ e. absurd cc;
-  cause = λ e. absurd cc;
-  stopped = λ e. absurd cc;
-  runs = λ not. stopped ∙ mid.runs;
-  crash = λ left may. inl (held old.keep left old.step.start.records (mid.its.stored mid.runs).1 (subst (λ k. g.leaves k left) keep may) ∙ ap (λ (b : Broker). b.records) (sym start));
-  device = λ sound. subst (λ k. g.is_sound k) keep sound;
-  serves = λ fresh. subst (λ (t : Stepping). Serves new.index.sessions (subscribers t.broker.records)) (sym step) (serves fresh);
-  quiet = subst (λ (t : Stepping). AreQuietBefore new.quiet t.broker.records) (sym step)
-      (subst (λ (b : Broker). AreQuietBefore new.quiet b.records) (sym start) (subst (λ (n : ℕ). AreQuietBefore n old.step.start.records) (sym quiet) mid.its.quiet));
+  stored = λ r holds can. tt;
+  at_hand = λ r says fit. tt;
+  same = refl;
+  kept = refl;
+  memory = λ r holds can is. (loaded, holds);
+  spent = λ is. absurd cc;
+  cause = λ is. absurd cc;
+  stopped = λ is. absurd cc;
+  runs = λ not. runs;
+  crash = λ r left holds can may. inl (held p.keep left r holds may);
+  device = λ sound. sound;
+  reads = refl;
+  goes = record { serves = λ fresh. absurd cc; quiet = (goes_slim p.step.start p goes).quiet };
 }
 
--- ---- a step that the store is told of
+-- rows that are alike to those of a sound broker are ready for a call
+pub of_sound_ready : (limits : Limits) (some : Broker) → IsOfSound limits some → IsReady limits some
+of_sound_ready limits some h = ready_alike limits some h.whole h.alike (sound_ready limits h.whole h.sound)
 
--- if none of its numbers is spent its rows can be stored over what stood when it began
-pub can_store : (s : Stepping) → CanFinish s → is_spent s.rows ≡ false → CanStore s.rows s.start.records
-can_store s can unspent = record { fit = can.fit unspent; sayable = can.sayable; contents = can.contents }
+-- the rows that a step under way began on are in order
+pub under_way_ordered : {K : Type 0} (g : Ghosts K) (now : ℕ) (call : Call) (again : Bool) (done : Result ⊤ StepFault) (p : EngineParts K) → IsUnderWay g now call again done p → IsOrdered p.step.start.records
+under_way_ordered g now call again done p u =
+    let ready : IsReady p.step.limits p.step.start = of_sound_ready p.step.limits p.step.start (record { whole = u.whole; alike = u.its.alike; sound = u.its.sound }) in
+    ready.coherent.ordered
 
--- what a crash leaves of a step none of whose numbers is spent
-pub left_unspent : (s : Stepping) (left : Records) → is_spent s.rows ≡ false → (left ≡ s.start.records) ⊎ (left ≡ s.broker.records)
-    → (left ≡ s.start.records) ⊎ ((is_spent s.rows ≡ false) × (left ≡ s.broker.records))
-left_unspent s left unspent (inl before) = inl before
-left_unspent s left unspent (inr after) = inr (unspent, after)
+-- an index can follow a step under way
+pub under_way_follows : {K : Type 0} (g : Ghosts K) (now : ℕ) (call : Call) (again : Bool) (p : EngineParts K) → IsUnderWay g now call again (Ok tt) p → CanFollow (with_stamp p.step)
+under_way_follows g now call again p u =
+    can_follow now call again p.step u.called u.whole u.its.alike u.its.sound u.taken
 
--- ---- a step that did the deeds of a call is finished
+module _ {K : Type 0} (g : Ghosts K)
+    (tells : (keep : K) (r : Records) → g.is_sound keep → g.is_loaded keep → g.holds keep r → AreTold (g.fillings keep) r)
+    (held : (keep : K) (left r : Records) → g.holds keep r → g.leaves keep left → left ≡ r) where
+  -- what the store has fills what is alike to what it holds: that is the whole broker
+  pub view_is : (keep : K) (limits : Limits) (some whole : Broker) → HoldsWhole g keep limits some whole → g.is_sound keep → filled (g.fillings keep) some ≡ whole
+  view_is keep limits some whole h sound =
+      broker_whole (g.fillings keep) some whole h.alike (told_fills (g.fillings keep) whole.records (tells keep whole.records sound h.loaded h.holds) h.sound.coherent.ordered)
 
-rest_of : (limits : Limits) (b : Broker) (s : Stepping) → s ≡ at_rest limits b → s ≡ at_rest s.limits s.broker
-rest_of limits b s is = is ∙ sym (ap (λ (t : Stepping). at_rest t.limits t.broker) is)
+  module _ (now : ℕ) (call : Call) (again : Bool) (old : EngineParts K) where
+    abbrev s : Stepping
+    s = old.step
 
-module _ {K : Type 0} (g : Ghosts K) (now : ℕ) (call : Call) (again : Bool) (old new : EngineParts K) (did : DidCall now call again old.step) (mid : IsMidCall g old) where
-  abbrev s : Stepping
-  s = old.step
+    -- what is said truly of whole brokers is said of the views of both
+    said_of_views : (kept : K) (stopped : Bool) (some : Broker) (result : Result Outcome EngineError) (w v : Broker)
+        → filled (g.fillings old.keep) s.start ≡ w → filled (g.fillings kept) some ≡ v
+        → IsTrulyCalled g now call (running old old.keep old.stopped w) result (running old kept stopped v)
+        → IsTrulyCalled g now call (running old old.keep old.stopped (filled (g.fillings old.keep) s.start)) result (running old kept stopped (filled (g.fillings kept) some))
+    said_of_views kept stopped some result w v first second h =
+        subst (λ (b : Broker). IsTrulyCalled g now call (running old old.keep old.stopped b) result (running old kept stopped (filled (g.fillings kept) some))) (sym first)
+        (subst (λ (b : Broker). IsTrulyCalled g now call (running old old.keep old.stopped w) result (running old kept stopped b)) (sym second) h)
 
-  -- the store has what it had, unless it failed
-  kept_after : (error : EngineError) → IsFinished g old.keep (with_stamp s) again (Err error) new → (IsErrOf {T = Outcome} (Err error) errors.Stopped → ⊥) → g.holds new.keep s.start.records
-  kept_after errors.Memory h not = (h.memory refl).1
-  kept_after errors.Stopped h not = absurd (not refl)
-  kept_after errors.Spent h not = absurd (h.spent refl)
+    -- ---- a step that is taken back before the store is told
 
-  -- what is answered is the call's answer
-  answered_after : (out : Outcome) → IsFinished g old.keep (with_stamp s) again (Ok out) new → IsAnswered s.limits s.start now call out new.step.broker
-  answered_after out h = call_answered now call again s did mid.its.sound out new.step.broker h.unspent (ap (λ (t : Stepping). t.broker) h.done) h.told
+    module _ (done : Result ⊤ StepFault) (u : IsUnderWay g now call again done old) where
+      back_holds : HoldsWhole g old.keep s.limits (slim_broker s.start) u.whole
+      back_holds = record { alike = slim_through s.start u.whole u.its.alike; sound = u.its.sound; loaded = u.its.loaded; holds = u.its.holds }
 
-  finished_truly : (result : Result Outcome EngineError) → IsFinished g old.keep (with_stamp s) again result new
-      → IsTrulyCalled g now call (running_before old) result (running_of new)
-  finished_truly (Ok out) h = record {
-    step = answered_after out h;
-    stored = subst (λ (b : Broker). g.holds new.keep b.records) (sym (ap (λ (t : Stepping). t.broker) h.done)) h.stored.1;
-    same = λ not. tt;
-    kept = λ not. tt;
-    spent = λ e. absurd cc;
-    crash = λ runs left may. call_stored now call again s did left (h.crash left may);
-  }
-  finished_truly (Err error) h = record {
-    step = tt;
-    stored = tt;
-    same = λ not. ap (λ (t : Stepping). t.broker) h.same;
-    kept = λ not. kept_after error h not;
-    spent = λ e. absurd (h.spent e);
-    crash = λ runs left may. call_stored now call again s did left (h.crash left may);
-  }
+      abbrev back : Stepping
+      back = at_rest s.limits (slim_broker s.start)
 
-  -- it is that call of the engine
-  pub finished_call : (result : Result Outcome EngineError) → IsFinished g old.keep (with_stamp s) again result new
-      → Called g now call (running_before old) result (running_of new)
-  finished_call (Ok out) h = record {
-    truly = λ sound. finished_truly (Ok out) h;
-    answered = answered_for_lines s.limits s.start now call out new.step.broker (answered_after out h);
-    lines = tt;
-    runs = h.runs;
-    limits = ap (λ (t : Stepping). t.limits) h.done;
-    stopped = h.stopped;
-    cause = λ e runs. absurd cc;
-    still = λ was. let runs = mid.runs in absurd cc;
-    sound = h.device;
-  }
-  finished_call (Err error) h = record {
-    truly = λ sound. finished_truly (Err error) h;
-    answered = tt;
-    lines = (ap (λ (t : Stepping). t.broker.lines) h.same, ap (λ (t : Stepping). t.broker.given) h.same);
-    runs = h.runs;
-    limits = ap (λ (t : Stepping). t.limits) h.same;
-    stopped = h.stopped;
-    cause = λ e runs. h.cause e;
-    still = λ was. let runs = mid.runs in absurd cc;
-    sound = h.device;
-  }
+      back_goes : GoesAlong (slim_broker s.start) (record old { step = back })
+      back_goes =
+          let its = goes_slim s.start old u.goes in
+          record { serves = its.serves; quiet = its.quiet }
 
-  sound_after : TakesLawful call → (result : Result Outcome EngineError) → IsFinished g old.keep (with_stamp s) again result new → IsSound new.step.limits new.step.broker
-  sound_after taken (Ok out) h = subst (λ (t : Stepping). IsSound t.limits t.broker) (sym h.done) (call_sound now call again s did mid.its.sound taken h.unspent)
-  sound_after taken (Err error) h = subst (λ (t : Stepping). IsSound t.limits t.broker) (sym h.same) mid.its.sound
+      -- the engine is at rest once its step was taken back
+      pub back_rest : IsAtRest g (record old { step = back })
+      back_rest = record { rest = refl; slim = broker_once s.start; sound = record { whole = u.whole; alike = back_holds.alike; sound = u.its.sound }; its = λ runs. record { whole = u.whole; its = back_holds; at_hand = u.at_hand }; goes = back_goes }
 
-  stored_after : (result : Result Outcome EngineError) → IsFinished g old.keep (with_stamp s) again result new
-      → new.stopped ≡ false → g.is_loaded new.keep × g.holds new.keep new.step.broker.records
-  stored_after (Ok out) h runs = subst (λ (t : Stepping). g.is_loaded new.keep × g.holds new.keep t.broker.records) (sym h.done) h.stored
-  stored_after (Err errors.Memory) h runs = subst (λ (t : Stepping). g.is_loaded new.keep × g.holds new.keep t.broker.records) (sym h.same) (h.memory refl)
-  stored_after (Err errors.Stopped) h runs = let stopped = h.stopped refl in absurd cc
-  stored_after (Err errors.Spent) h runs = absurd (h.spent refl)
+      back_true : (e : EngineError) → (e ≡ Spent → SpentStep s.limits u.whole now call)
+          → IsTrulyCalled g now call (running old old.keep old.stopped u.whole) (Err e) (running old old.keep old.stopped u.whole)
+      back_true e spent = record {
+        step = tt;
+        stored = tt;
+        same = λ not. refl;
+        kept = λ not. u.its.holds;
+        spent = λ is. spent cc;
+        crash = λ runs left may. inl (held old.keep left u.whole.records u.its.holds may);
+      }
 
-  rest_after : (result : Result Outcome EngineError) → IsFinished g old.keep (with_stamp s) again result new → new.step ≡ at_rest new.step.limits new.step.broker
-  rest_after (Ok out) h = rest_of s.limits (with_stamp s).broker new.step h.done
-  rest_after (Err error) h = rest_of s.limits s.start new.step h.same
+      -- a step that was taken back is a call that was refused
+      pub back_called : (e : EngineError) → (e ≡ Stopped → ⊥) → (e ≡ Spent → SpentStep s.limits s.start now call)
+          → Called g now call (viewed_before g old) (Err e) (viewed g (record old { step = back }))
+      back_called e never spent = record {
+        truly = λ sound. said_of_views old.keep old.stopped (slim_broker s.start) (Err e) u.whole u.whole
+            (view_is old.keep s.limits s.start u.whole u.its sound) (view_is old.keep s.limits (slim_broker s.start) u.whole back_holds sound)
+            (back_true e (λ is. let found = spent is in record { choice = found.choice; spent = sym (spent_same s.limits found.choice now call s.start u.whole u.its.alike) ∙ found.spent }));
+        answered = tt;
+        runs = λ not. u.runs;
+        limits = refl;
+        lines = (refl, refl);
+        stopped = λ is. absurd (never cc);
+        cause = λ is runs. absurd (never cc);
+        still = λ was. let runs = u.runs in absurd cc;
+        sound = λ sound. sound;
+      }
 
-  -- and no step is under way then
-  pub finished_rest : TakesLawful call → (result : Result Outcome EngineError) → IsFinished g old.keep (with_stamp s) again result new → IsAtRest g new
-  finished_rest taken result h = record {
-    rest = rest_after result h;
-    its = record {
-      sound = sound_after taken result h;
-      stored = stored_after result h;
-      serves = h.serves;
-      quiet = h.quiet;
-    };
-  }
+    -- ---- a step that did a call's deeds, of which the store was told
 
--- ---- a step that was refused is taken back
+    module _ (u : IsUnderWay g now call again (Ok tt) old) where
+      abbrev did : DidCall now call again s
+      did = u.called
 
-abbrev pub taken_back : {K : Type 0} → EngineParts K → EngineParts K
-taken_back p = record p { step = at_rest p.step.limits p.step.start }
+      abbrev after : Broker
+      after = next now call again s did u.whole u.its.alike
 
--- no step is under way then
-pub taken_back_rest : {K : Type 0} (g : Ghosts K) (p : EngineParts K) → IsMidCall g p → IsAtRest g (taken_back p)
-taken_back_rest g p mid = record {
-  rest = refl;
-  its = record { sound = mid.its.sound; stored = mid.its.stored; serves = mid.its.serves; quiet = mid.its.quiet };
-}
+      -- with its moment
+      abbrev stamped : EngineParts K
+      stamped = record old { step = with_stamp s }
 
-spent_fault : (fault : StepFault) (e : EngineError) → (fault ≡ Memory → e ≡ errors.Memory) → e ≡ errors.Spent → fault ≡ Spent
-spent_fault Memory e memory is = let not_so = memory refl in absurd cc
-spent_fault Spent e memory is = refl
+      can : (result : Result Outcome EngineError) (new : EngineParts K) → IsCommitted g stamped again result new → CanStore (with_stamp s).rows u.whole.records
+      can result new h = can_store now call again s did u.whole u.its.alike u.its.sound u.taken h.unspent
 
-never_stops : (fault : StepFault) (e : EngineError) → (fault ≡ Memory → e ≡ errors.Memory) → (fault ≡ Spent → e ≡ errors.Spent) → e ≡ errors.Stopped → ⊥
-never_stops Memory e memory spent is = let not_so = memory refl in absurd cc
-never_stops Spent e memory spent is = let not_so = spent refl in absurd cc
+      -- it is stored
+      module _ (out : Outcome) (kept : K) (stopped : Bool) (new : EngineParts K) (h : IsCommitted g stamped again (Ok out) new) where
+        after_holds : HoldsWhole g new.keep s.limits (slim_broker (with_stamp s).broker) after
+        after_holds =
+            let its = h.stored u.whole.records u.its.holds (can (Ok out) new h) in
+            record {
+              alike = next_alike now call again s did u.whole u.its.alike;
+              sound = next_sound now call again s did u.whole u.its.alike u.its.sound u.taken h.unspent;
+              loaded = its.0;
+              holds = subst (λ (r : Records). g.holds new.keep r) (store_makes now call again s did u.whole u.its.alike) its.1;
+            }
 
--- the call is refused as its step was, and nothing changed
-pub refused_call : {K : Type 0} (g : Ghosts K) (now : ℕ) (call : Call) (p : EngineParts K) (fault : StepFault) (e : EngineError) → IsMidCall g p
-    → ((keep : K) (left r : Records) → g.holds keep r → g.leaves keep left → left ≡ r)
-    → (fault ≡ Memory → e ≡ errors.Memory) → (fault ≡ Spent → e ≡ errors.Spent) → (fault ≡ Spent → SpentStep p.step.limits p.step.start now call)
-    → Called g now call (running_before p) (Err e) (running_of (taken_back p))
-refused_call g now call p fault e mid held memory spent is_spent = record {
-  truly = λ sound. record {
-    step = tt;
-    stored = tt;
-    same = λ not. refl;
-    kept = λ not. (mid.its.stored mid.runs).1;
-    spent = λ is. is_spent (spent_fault fault e memory cc);
-    crash = λ runs left may. inl (held p.keep left p.step.start.records (mid.its.stored mid.runs).1 may);
-  };
-  answered = tt;
-  lines = (refl, refl);
-  runs = λ not. mid.runs;
-  limits = refl;
-  stopped = λ is. absurd (never_stops fault e memory spent cc);
-  cause = λ is runs. absurd (never_stops fault e memory spent cc);
-  still = λ was. let runs = mid.runs in absurd cc;
-  sound = λ sound. sound;
-}
+        after_hand : SaysAtHand g new.keep new.hand after.records
+        after_hand sound =
+            subst (λ (r : Records). SayWhatIsStored new.hand r) (store_makes now call again s did u.whole u.its.alike)
+            (h.at_hand u.whole.records (u.at_hand (h.device sound)) (can (Ok out) new h).fit)
+
+        stored_true : g.is_sound old.keep → IsTrulyCalled g now call (running old old.keep old.stopped u.whole) (Ok out) (running old new.keep new.stopped after)
+        stored_true sound = record {
+          step = whole_answered now call again s did u.whole u.its.alike (u.tells sound) out h.unspent h.told;
+          stored = after_holds.holds;
+          same = λ not. tt;
+          kept = λ not. tt;
+          spent = λ e. absurd cc;
+          crash = λ runs left may. whole_left now call again s did u.whole u.its.alike left h.unspent (h.crash u.whole.records left u.its.holds (can (Ok out) new h) may);
+        }
+
+      goes_on : (new : EngineParts K) (b : Broker) → GoesAlong b new → GoesAlong b (record new { step = at_rest s.limits b })
+      goes_on new b goes = record { serves = goes.serves; quiet = goes.quiet }
+
+      -- a step that was stored is a call that is answered
+      pub told_called : (out : Outcome) (new : EngineParts K) → IsCommitted g stamped again (Ok out) new → Called g now call (viewed_before g old) (Ok out) (viewed g new)
+      told_called out new h = subst (λ (t : Stepping). Called g now call (viewed_before g old) (Ok out) (viewed g (record new { step = t }))) (sym h.done) (record {
+        truly = λ sound. said_of_views new.keep new.stopped (slim_broker (with_stamp s).broker) (Ok out) u.whole after
+            (view_is old.keep s.limits s.start u.whole u.its (h.device sound))
+            (view_is new.keep s.limits (slim_broker (with_stamp s).broker) after (after_holds out new.keep new.stopped new h) sound)
+            (stored_true out new.keep new.stopped new h (h.device sound));
+        answered = lines_answered now call again s did out (filled (g.fillings old.keep) s.start) (filled (g.fillings new.keep) (slim_broker (with_stamp s).broker)) h.unspent h.told (refl, refl) (refl, refl);
+        runs = λ not. h.runs not;
+        limits = refl;
+        lines = tt;
+        stopped = λ e. absurd cc;
+        cause = λ e runs. absurd cc;
+        still = λ was. let runs = u.runs in absurd cc;
+        sound = h.device;
+      })
+
+      -- the engine is at rest once its step was stored
+      pub told_rest : (out : Outcome) (new : EngineParts K) → IsCommitted g stamped again (Ok out) new → IsAtRest g new
+      told_rest out new h = subst (λ (t : Stepping). IsAtRest g (record new { step = t })) (sym h.done) (record {
+        rest = refl;
+        slim = broker_once (with_stamp s).broker;
+        sound = record { whole = after; alike = (after_holds out new.keep new.stopped new h).alike; sound = (after_holds out new.keep new.stopped new h).sound };
+        its = λ runs. record { whole = after; its = after_holds out new.keep new.stopped new h; at_hand = after_hand out new.keep new.stopped new h };
+        goes = goes_on new (slim_broker (with_stamp s).broker) (subst (λ (t : Stepping). GoesAlong t.broker new) h.done h.goes);
+      })
+
+      -- or the store refuses it
+      module _ (e : EngineError) (new : EngineParts K) (h : IsCommitted g stamped again (Err e) new) where
+        kept_holds : e ≡ Memory → HoldsWhole g new.keep s.limits (slim_broker s.start) u.whole
+        kept_holds is =
+            let its = h.memory u.whole.records u.its.holds (can (Err e) new h) (ap Err is) in
+            record { alike = slim_through s.start u.whole u.its.alike; sound = u.its.sound; loaded = its.0; holds = its.1 }
+
+        left_by : (left : Records) → g.leaves new.keep left → IsLeftBy s.limits u.whole now call left
+        left_by left may = whole_left now call again s did u.whole u.its.alike left h.unspent (h.crash u.whole.records left u.its.holds (can (Err e) new h) may)
+
+      refused_view : (e : EngineError) (new : EngineParts K) → IsCommitted g stamped again (Err e) new → g.is_sound new.keep
+          → IsTrulyCalled g now call (running old old.keep old.stopped u.whole) (Err e) (running old new.keep new.stopped (filled (g.fillings new.keep) (slim_broker s.start)))
+      refused_view Memory new h sound = record {
+        step = tt;
+        stored = tt;
+        same = λ not. view_is new.keep s.limits (slim_broker s.start) u.whole (kept_holds Memory new h refl) sound;
+        kept = λ not. (kept_holds Memory new h refl).holds;
+        spent = λ is. absurd cc;
+        crash = λ runs left may. left_by Memory new h left may;
+      }
+      refused_view Stopped new h sound = record {
+        step = tt;
+        stored = tt;
+        same = λ not. absurd (not refl);
+        kept = λ not. absurd (not refl);
+        spent = λ is. absurd cc;
+        crash = λ runs left may. left_by Stopped new h left may;
+      }
+      refused_view Spent new h sound = absurd (h.spent refl)
+
+      -- a step that the store refused is a call that was refused
+      pub refused_called : (e : EngineError) (new : EngineParts K) → IsCommitted g stamped again (Err e) new → Called g now call (viewed_before g old) (Err e) (viewed g new)
+      refused_called e new h = subst (λ (t : Stepping). Called g now call (viewed_before g old) (Err e) (viewed g (record new { step = t }))) (sym h.same) (record {
+        truly = λ sound. said_of_views new.keep new.stopped (slim_broker s.start) (Err e) u.whole (filled (g.fillings new.keep) (slim_broker s.start))
+            (view_is old.keep s.limits s.start u.whole u.its (h.device sound)) refl (refused_view e new h sound);
+        answered = tt;
+        runs = h.runs;
+        limits = refl;
+        lines = (refl, refl);
+        stopped = h.stopped;
+        cause = λ is runs. inl (h.cause is);
+        still = λ was. let runs = u.runs in absurd cc;
+        sound = h.device;
+      })
+
+      refused_its : (e : EngineError) (new : EngineParts K) → IsCommitted g stamped again (Err e) new → new.stopped ≡ false → HasWhole g new.keep new.hand s.limits (slim_broker s.start)
+      refused_its Memory new h runs = record {
+        whole = u.whole;
+        its = kept_holds Memory new h refl;
+        at_hand = λ sound. subst (λ (hand : Hand). SayWhatIsStored hand u.whole.records) (sym h.kept) (u.at_hand (h.device sound));
+      }
+      refused_its Stopped new h runs = let stopped = h.stopped refl in absurd cc
+      refused_its Spent new h runs = absurd (h.spent refl)
+
+      -- the engine is at rest then
+      pub refused_rest : (e : EngineError) (new : EngineParts K) → IsCommitted g stamped again (Err e) new → IsAtRest g new
+      refused_rest e new h = subst (λ (t : Stepping). IsAtRest g (record new { step = t })) (sym h.same) (record {
+        rest = refl;
+        slim = broker_once s.start;
+        sound = record { whole = u.whole; alike = slim_through s.start u.whole u.its.alike; sound = u.its.sound };
+        its = refused_its e new h;
+        goes = goes_on new (slim_broker s.start) (subst (λ (t : Stepping). GoesAlong t.broker new) h.same h.goes);
+      })
+
+      -- so it is in either case
+      pub committed_called : (result : Result Outcome EngineError) (new : EngineParts K) → IsCommitted g stamped again result new → Called g now call (viewed_before g old) result (viewed g new)
+      committed_called (Ok out) new h = told_called out new h
+      committed_called (Err e) new h = refused_called e new h
+
+      -- the engine is at rest once the store was told, whatever it answered
+      pub committed_rest : (result : Result Outcome EngineError) (new : EngineParts K) → IsCommitted g stamped again result new → IsAtRest g new
+      committed_rest (Ok out) new h = told_rest out new h
+      committed_rest (Err e) new h = refused_rest e new h

@@ -75,9 +75,9 @@ pub record Called {K : Type 0} (g : Ghosts K) (now : ℕ) (call : Call) (old : R
   pub lines : OnErr result (KeepsLines old.broker new.broker)
   pub runs : (IsErrOf result Stopped → ⊥) → new.stopped ≡ false
   pub limits : new.limits ≡ old.limits
-  -- it stops if the store counted a failure, and stays stopped
+  -- it stops if the store counted a failure, or what it tells of a copy isn't what was stored; and stays stopped
   pub stopped : IsErrOf result Stopped → new.stopped ≡ true
-  pub cause : IsErrOf result Stopped → old.stopped ≡ false → g.counted new.keep ≢ g.counted old.keep
+  pub cause : IsErrOf result Stopped → old.stopped ≡ false → (g.counted new.keep ≢ g.counted old.keep) ⊎ (g.is_sound new.keep → ⊥)
   pub still : old.stopped ≡ true → IsErrOf result Stopped × (new ≡ old)
   -- a device that is sound after the call was sound before it
   pub sound : g.is_sound new.keep → g.is_sound old.keep

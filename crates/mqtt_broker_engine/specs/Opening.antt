@@ -6,7 +6,10 @@ use Rattle.mqtt_records.specs.declared.keep.KeepError.{KeepError}
 use Rattle.mqtt_records.specs.declared.keep.KeepError.TheVariants.{Memory, Disk, Size, Corrupt, Schema}
 use Rattle.mqtt_records.specs.declared.records.Records.{Records}
 use Rattle.mqtt_rules.specs.declared.Limits.{Limits}
+use Rattle.mqtt_rules.specs.State.{Broker}
 use Rattle.mqtt_rules.specs.Step.{BrokerOpening, SpentOpening}
+use Rattle.mqtt_rules_granting_laws.specs.Naming.{StoresPassedOn}
+use Rattle.mqtt_broker_engine.specs.Calling.{KeepsLines}
 use Rattle.mqtt_broker_engine.specs.Running.{Running}
 use Rattle.mqtt_broker_engine.specs.Closing.{IsStoredAfter}
 
@@ -23,15 +26,22 @@ pub record IsBegun {K : Type 0} (g : Ghosts K) (keep : K) (r : Records) (loaded 
   pub same : (h : Records) → g.holds keep h → g.holds loaded h
   pub crash : (after : Records) → g.leaves loaded after → g.leaves keep after
 
--- ---- Ok: the engine begins with the opening of lawful records that a load answered, and its store holds what that leaves
+-- ---- Ok: the engine begins with the opening of lawful records that a load answered, and its store holds what that leaves. What
+-- copies say is so while the store's device returns what was written
 
 pub record IsOpened {K : Type 0} (g : Ghosts K) (limits : Limits) (now : ℕ) (keep : K) (engine : Running K) : Type 0 where
   pub loaded : K
   pub records : Records
   pub load : IsLoad g keep records loaded
   pub lawful : IsLawful records
-  pub opening : BrokerOpening limits records now engine.broker
-  pub holds : g.holds engine.keep engine.broker.records
+  -- the properties of its copies and retained messages are such as publications pass on (3.3.2.3)
+  pub passed : StoresPassedOn records
+  -- the opening, with whose lines it begins whatever the device returns, and with all of it if the device is sound
+  pub after : Broker
+  pub opening : BrokerOpening limits records now after
+  pub lines : KeepsLines after engine.broker
+  pub whole : g.is_sound engine.keep → engine.broker ≡ after
+  pub holds : g.is_sound engine.keep → g.holds engine.keep engine.broker.records
   pub sound : g.is_sound engine.keep → g.is_sound loaded
   pub limits_are : engine.limits ≡ limits
   pub runs : engine.stopped ≡ false

@@ -1,5 +1,6 @@
 //! What is asked of the engine: a packet, a fault, a loss, a turn of sending, a turn of the clock (MQTT 5.0, 3, 4).
-ghost use Rattle.std.specs.Prelude.{◌≡◌, Some, true, false, IfOk, IfErr, OnErr, OnOk};
+ghost use Rattle.std.specs.Prelude.{◌≡◌, None, Some, true, false, IfOk, IfErr, OnErr, OnOk};
+ghost use Rattle.mqtt_base.specs.declared.limits.TheConstants.{PUMP_LIMIT};
 ghost use Rattle.mqtt_rules.specs.Contents.{IsTaken};
 ghost use Rattle.mqtt_rules.specs.Lines.{session_on};
 ghost use Rattle.mqtt_rules.specs.Routing.{subscribers};
@@ -8,13 +9,15 @@ ghost use Rattle.mqtt_broker_step.specs.Stepping.{at_rest};
 ghost use Rattle.mqtt_broker_calls.specs.Doing.{IsCalled};
 ghost use Rattle.mqtt_broker_clock.specs.Quiet.{AreQuietBefore};
 ghost use Rattle.mqtt_broker_calls.specs.Ready.{IsReady};
+ghost use Rattle.mqtt_broker_hand.specs.Reading.{AskedAtMost};
 ghost use Rattle.mqtt_broker_index.specs.Indexing.{Serves};
 ghost use Rattle.mqtt_broker_engine.specs.Calling.{Called};
 
 use crate::engine::Engine;
 use crate::outcome::Outcome;
+use crate::pumping::pump_once;
 use mqtt_base::Reason;
-use mqtt_broker_calls::{fault_at, first_at, input, lost_at, pump_at, tick_at};
+use mqtt_broker_calls::{fault_at, first_at, input, lost_at, tick_at};
 use mqtt_broker_clock::quiet_before;
 use mqtt_broker_index::Index;
 use mqtt_broker_step::{EngineError, Step, StepFault};
@@ -55,29 +58,6 @@ fn input_at(
     match session {
         Some(birth) => input(alloc, index, step, line, birth, packet, moment),
         None => first_at(alloc, index, step, line, packet, moment),
-    }
-}
-
-/// The step of a turn of sending, and whether more may be there.
-fn pump_once(
-    alloc: Global,
-    step: &mut Step,
-    line: u64,
-    moment: u64,
-    again: &mut bool,
-) -> Result<(), StepFault>
-    requires rest { step.old ≡ at_rest step.old.limits step.old.broker }
-    requires ready { IsReady step.old.limits step.old.broker }
-    ensures called { IsCalled moment (Pump line) again.new result step.new }
-    ensures start { step.new.start ≡ step.old.broker }
-    ensures limits { step.new.limits ≡ step.old.limits }
-{
-    match pump_at(alloc, step, line, moment) {
-        Ok(more) => {
-            *again = more;
-            Ok(())
-        }
-        Err(fault) => Err(fault),
     }
 }
 
@@ -246,10 +226,12 @@ impl<K: Keep> Engine<K> {
         }
     }
 
-    /// A turn of sending on a line that is linked.
-    fn pump_on(&mut self, line: u64, moment: u64) -> Result<Outcome, EngineError>
+    /// A turn of sending on a line without a session: nothing is sent, and nothing read.
+    fn pump_idle(&mut self, line: u64, moment: u64) -> Result<Outcome, EngineError>
         requires running { self.old.stopped ≡ false }
-        ensures { Called K.Keep moment (Pump line) self.old result self.new }
+        requires linked { session_on line self.old.broker ≡ Some None }
+        ensures called { Called K.Keep moment (Pump line) self.old result self.new }
+        ensures reads { K.read_so_far self.new.keep ≡ K.read_so_far self.old.keep }
     {
         let mut again = false;
         let (alloc, step) = (self.parts.alloc, &mut self.parts.step);
@@ -257,13 +239,25 @@ impl<K: Keep> Engine<K> {
         self.parts.finish(done, again)
     }
 
+    /// A turn of sending on a line with a session.
+    fn pump_on(&mut self, line: u64, birth: u64, moment: u64) -> Result<Outcome, EngineError>
+        requires running { self.old.stopped ≡ false }
+        requires linked { session_on line self.old.broker ≡ Some (Some birth) }
+        ensures called { Called K.Keep moment (Pump line) self.old result self.new }
+        ensures reads { AskedAtMost PUMP_LIMIT (K.read_so_far self.old.keep) (K.read_so_far self.new.keep) }
+    {
+        self.parts.pump_filled(line, birth, moment)
+    }
+
     /// A turn of sending: what waits for the session of a line goes out, up to 16 PUBLISH (4.6, 4.9); `again` says whether
-    /// more may be there. Refusals are those of `input`.
+    /// more may be there. The store is asked for contents at most 16 times. Refusals are those of `input`.
     pub fn pump(&mut self, line: u64, moment: u64) -> Result<Outcome, EngineError>
-        ensures { Called K.Keep moment (Pump line) self.old result self.new }
+        ensures called { Called K.Keep moment (Pump line) self.old result self.new }
+        ensures reads { AskedAtMost PUMP_LIMIT (K.read_so_far self.old.keep) (K.read_so_far self.new.keep) }
     {
         match self.session_on(line)? {
-            Some(_) => self.pump_on(line, moment),
+            Some(Some(birth)) => self.pump_on(line, birth, moment),
+            Some(None) => self.pump_idle(line, moment),
             None => self.skip(line, moment),
         }
     }

@@ -1,11 +1,13 @@
-//! The engine: a broker over a store, one call after the other (MQTT 5.0, 4.1).
+//! The engine: a broker over a store that has what its waiting copies say, one call after the other (MQTT 5.0, 3.3, 4.1).
 ghost use Rattle.std.specs.Prelude.{◌≡◌, None, false, is_some, option_copied};
-ghost use Rattle.mqtt_broker_index.specs.Indexing.{Serves};
 ghost use Rattle.mqtt_rules.specs.Routing.{subscribers};
 ghost use Rattle.mqtt_rules.specs.State.{line_at};
 ghost use Rattle.mqtt_rules.specs.Step.{BrokerStep, Call, NewLine, at_moment, copy_of, nothing_told};
+ghost use Rattle.mqtt_rules_alike_laws.specs.Slim.{slim_broker};
+ghost use Rattle.mqtt_rules_filling_laws.specs.Filling.{filled};
 ghost use Rattle.mqtt_broker_step.specs.Doing.{next_line};
 ghost use Rattle.mqtt_broker_step.specs.Stepping.{at_rest};
+ghost use Rattle.mqtt_broker_index.specs.Indexing.{Serves};
 ghost use Rattle.mqtt_broker_calls.specs.Sound.{IsSound};
 ghost use Rattle.mqtt_broker_engine.specs.Calling.{Called, IsOn, Tells};
 
@@ -13,6 +15,7 @@ use crate::holding::copy_of;
 use crate::outcome::{Outcome, nothing};
 use crate::parts::EngineParts;
 use mqtt_base::CopyId;
+use mqtt_broker_hand::AllAtHand;
 use mqtt_broker_index::Index;
 use mqtt_broker_step::{EngineError, Step};
 use mqtt_records::Keep;
@@ -20,29 +23,37 @@ use std::alloc::Global;
 use std::hash::RandomState;
 use std::marker::Model;
 
-/// A broker over a store. What its calls say of queues, and of what the store holds, they say if the store's device has
-/// returned what was written.
+/// A broker over a store, which has what its waiting copies say. What its calls say of queues, and of what the store holds,
+/// they say if the store's device has returned what was written.
 #[derive(Drop)]
 pub struct Engine<K: Keep> {
     pub(crate) parts: EngineParts<K>,
 }
 
 impl<K: Keep> Model for Engine<K> {
-    ghost use Rattle.mqtt_broker_engine.specs.Finishing.{IsAtRest, running_of};
     ghost use Rattle.mqtt_broker_engine.specs.Running.{Running};
+    ghost use Rattle.mqtt_broker_engine.specs.Finishing.{IsAtRest};
+    ghost use Rattle.mqtt_broker_engine.specs.Viewing.{viewed};
 
     ghost Value = { Running K };
 
-    ghost view = { λ e. running_of e.parts };
+    // Each waiting copy says what the store has for its place.
+    ghost view = { λ e. viewed K.Keep e.parts };
 
-    // Between calls no step is under way, and all that the engine has is of its broker.
+    // Between calls no step is under way, all rows are slim, and all that the engine has is of its broker.
     ghost invariant = { λ e. IsAtRest K.Keep e.parts };
 }
 
 impl<K: Keep> Engine<K> {
     /// An engine whose store holds what is stored, with no step under way, and with the index of the subscriptions
-    /// that stand. Takes no memory.
-    pub fn over(alloc: Global, hasher: RandomState, keep: K, step: Step, index: Index) -> Engine<K>
+    /// that stand. Rows are made slim: what waiting copies say is the store's. Takes no memory.
+    pub(crate) fn over(
+        alloc: Global,
+        hasher: RandomState,
+        keep: K,
+        step: Step,
+        index: Index,
+    ) -> Engine<K>
         requires rest { step ≡ at_rest step.limits step.broker }
         requires sound { IsSound step.limits step.broker }
         requires loaded { K.is_loaded keep }
@@ -51,16 +62,19 @@ impl<K: Keep> Engine<K> {
         ensures { result ≡ record {
           keep = keep;
           limits = step.limits;
-          broker = step.broker;
+          broker = filled (K.fillings keep) (slim_broker step.broker);
           stopped = false;
         } }
     {
         let mut index = index;
         index.settle();
+        let mut step = step;
+        step.make_all_slim();
         let parts = EngineParts {
             alloc,
             hasher,
             keep,
+            hand: AllAtHand::new(alloc),
             step,
             index,
             is_stale: false,
@@ -112,6 +126,13 @@ impl<K: Keep> Engine<K> {
         self.parts.keep.failures()
     }
 
+    /// How often its store was asked for contents, modulo 2^64. Takes no memory.
+    pub fn reads(&self) -> u64
+        ensures { result ≡ K.read_so_far self.now.keep }
+    {
+        self.parts.keep.reads()
+    }
+
     /// Nothing comes about but that the moment is the greatest handed in. Takes no memory.
     pub fn rest_at(&mut self, moment: u64) -> Outcome
         ensures told { Tells nothing_told result }
@@ -126,16 +147,19 @@ impl<K: Keep> Engine<K> {
     pub(crate) fn skip(&mut self, line: u64, moment: u64) -> Result<Outcome, EngineError>
         requires running { self.old.stopped ≡ false }
         requires unlinked { line_at line self.old.broker ≡ None }
-        ensures { (call : Call) → IsOn line call
+        ensures called { (call : Call) → IsOn line call
             → Called K.Keep moment call self.old result self.new }
+        ensures keep { self.new.keep ≡ self.old.keep }
     {
         self.parts.step.rest_at(moment);
         Ok(nothing(self.parts.alloc))
     }
 
-    /// The tables of its broker, to be looked at: no step is under way on them. Takes no memory.
+    /// The tables, to be looked at: no step is under way on them, and filled with what the store has they are the broker's.
+    /// Takes no memory.
     pub fn step(&self) -> &Step
-        ensures { result.now ≡ at_rest self.now.limits self.now.broker }
+        ensures rest { result.now ≡ at_rest self.now.limits result.now.broker }
+        ensures whole { filled (K.fillings self.now.keep) result.now.broker ≡ self.now.broker }
     {
         &self.parts.step
     }

@@ -1,15 +1,19 @@
 //! The engine of the broker: it is opened over what a store holds, each call is a step of the rules, and the store holds what
-//! the step leaves (MQTT 5.0, 4.1). Private: bytes are cut into packets by its caller.
+//! the step leaves; what waiting copies say is in the store alone (MQTT 5.0, 3.3, 4.1). Private: bytes are cut into packets by
+//! its caller.
 #![tactic(auto)]
 
 mod calling;
 mod closing;
+mod committing;
 mod engine;
 mod finishing;
 mod holding;
 mod opening;
 mod outcome;
 mod parts;
+mod passed;
+mod pumping;
 
 pub use engine::Engine;
 pub use opening::open;

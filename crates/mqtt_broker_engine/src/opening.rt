@@ -1,4 +1,4 @@
-//! A broker is opened over what a store holds (MQTT 5.0, 4.1).
+//! A broker is opened over what a store holds, and its rows become slim (MQTT 5.0, 3.3, 4.1).
 ghost use Rattle.std.specs.Prelude.{◌≡◌, ◌≢◌, ◌⊎◌, ℕ, IfOk, IfErr, OnOk, OnErr, IsErrOf};
 ghost use Rattle.mqtt_records_lawful.specs.Lawful.{IsLawful};
 ghost use Rattle.mqtt_records.specs.declared.records.Records.{Records as TheRecords};
@@ -6,6 +6,7 @@ ghost use Rattle.mqtt_rules.specs.Laws.{AreWithin};
 ghost use Rattle.mqtt_rules.specs.Routing.{subscribers};
 ghost use Rattle.mqtt_rules.specs.Step.{BrokerOpening, SpentOpening};
 ghost use Rattle.mqtt_rules.specs.declared.Limits.{Limits as TheLimits};
+ghost use Rattle.mqtt_rules_granting_laws.specs.Naming.{StoresPassedOn};
 ghost use Rattle.mqtt_broker_step.specs.Stepping.{at_rest};
 ghost use Rattle.mqtt_broker_calls.specs.Sound.{IsSound};
 ghost use Rattle.mqtt_broker_index.specs.Indexing.{Serves};
@@ -14,6 +15,7 @@ ghost use Rattle.mqtt_broker_engine.specs.Opening.{IsBegun, Opened};
 
 use crate::closing::close_all;
 use crate::engine::Engine;
+use crate::passed::records_pass_on;
 use mqtt_base::LAST_NUMBER;
 use mqtt_broker_index::Index;
 use mqtt_broker_step::{Step, StepFault, commit_kept};
@@ -28,11 +30,13 @@ use std::hash::RandomState;
 fn unopened(alloc: Global, records: Records, now: u64, limits: Limits) -> Result<Step, KeepError>
     ensures step { IfOk result (λ step. step ≡ resting limits now records) }
     ensures lawful { OnOk result (IsLawful records) }
+    ensures passed { OnOk result (StoresPassedOn records) }
     ensures corrupt { IsErrOf result KeepError.Corrupt → IsLawful records → ⊥ }
     ensures refused { IfErr result (λ error. (error ≡ KeepError.Memory) ⊎ (error ≡ KeepError.Corrupt)) }
 {
     match is_lawful(alloc, &records) {
         Ok(true) => {
+            records_pass_on(&records);
             let moment = records.moment.min(LAST_NUMBER).max(now.min(LAST_NUMBER));
             match Step::new(alloc, limits, records, moment) {
                 Ok(step) => Ok(step),
@@ -143,6 +147,7 @@ fn open_with<K: Keep>(
     requires begun { (now : ℕ) × (step ≡ resting step.limits now step.broker.records) }
     requires within { AreWithin step.limits }
     requires lawful { IsLawful step.broker.records }
+    requires passed { StoresPassedOn step.broker.records }
     requires serves { Serves index.sessions (subscribers step.broker.records) }
     ensures { (first : K) (now : ℕ) → step ≡ resting step.limits now step.broker.records
         → IsBegun K.Keep first step.broker.records keep
@@ -170,6 +175,7 @@ fn open_step<K: Keep>(
     requires begun { (now : ℕ) × (step ≡ resting step.limits now step.broker.records) }
     requires within { AreWithin step.limits }
     requires lawful { IsLawful step.broker.records }
+    requires passed { StoresPassedOn step.broker.records }
     ensures { (first : K) (now : ℕ) → step ≡ resting step.limits now step.broker.records
         → IsBegun K.Keep first step.broker.records keep
         → Opened K.Keep step.limits now first result }

@@ -1,10 +1,16 @@
-//! What an engine has: its store, the tables with the step under way, and the index that goes along (MQTT 5.0, 4.1).
+//! What an engine has: its store and what is at hand of it, the tables with the step under way, and the index that goes along
+//! (MQTT 5.0, 3.3, 4.1).
 ghost use Rattle.std.specs.Prelude.{◌≡◌, OnOk, IfErr};
-ghost use Rattle.mqtt_broker_index.specs.Indexing.{Serves};
+ghost use Rattle.mqtt_rules.specs.Laws.{IsOrdered};
 ghost use Rattle.mqtt_rules.specs.Routing.{subscribers};
+ghost use Rattle.mqtt_rules_alike_laws.specs.Slim.{slim_broker};
+ghost use Rattle.mqtt_rules_filling_laws.specs.Entered.{AreSlimBut};
 ghost use Rattle.mqtt_broker_step.specs.Stepping.{at_rest};
-ghost use Rattle.mqtt_broker_engine.specs.Finishing.{IsAtRest, running_of};
+ghost use Rattle.mqtt_broker_index.specs.Indexing.{Serves};
+ghost use Rattle.mqtt_broker_engine.specs.Finishing.{IsAtRest};
+ghost use Rattle.mqtt_broker_engine.specs.Viewing.{viewed};
 
+use mqtt_broker_hand::AllAtHand;
 use mqtt_broker_index::Index;
 use mqtt_broker_step::{EngineError, Step};
 use mqtt_records::Keep;
@@ -18,6 +24,8 @@ pub(crate) struct EngineParts<K: Keep> {
     /// For an index that is made anew.
     pub(crate) hasher: RandomState,
     pub(crate) keep: K,
+    /// What some waiting copies say: a cache of what the store has.
+    pub(crate) hand: AllAtHand,
     pub(crate) step: Step,
     pub(crate) index: Index,
     /// Whether the index was thrown away, and is to be made anew.
@@ -36,7 +44,8 @@ impl<K: Keep> EngineParts<K> {
         ensures ok { OnOk result (Serves self.new.index.sessions
             (subscribers self.new.step.broker.records)) }
         ensures fault { IfErr result (λ error. error ≡ EngineError.Memory) }
-        ensures same { running_of self.new ≡ running_of self.old }
+        ensures same { viewed K.Keep self.new ≡ viewed K.Keep self.old }
+        ensures step { self.new.step ≡ self.old.step }
         ensures rest { IsAtRest K.Keep self.new }
     {
         if !self.is_stale {
@@ -53,13 +62,17 @@ impl<K: Keep> EngineParts<K> {
         }
     }
 
-    /// The step under way is taken back, and the turns that groups took in it. Takes no memory.
-    pub(crate) fn take_back(&mut self)
+    /// The step under way is taken back, and the turns that groups took in it. The copies at these places, which a pump
+    /// filled, say nothing but their topics again. Takes no memory.
+    pub(crate) fn take_back(&mut self, birth: u64, places: &[u64])
+        requires slim { AreSlimBut birth places.now self.old.step.start.records }
+        requires ordered { IsOrdered self.old.step.start.records }
         ensures { self.new ≡ record self.old {
-          step = at_rest self.old.step.limits self.old.step.start;
+          step = at_rest self.old.step.limits (slim_broker self.old.step.start);
         } }
     {
         self.step.take_back();
+        self.step.make_slim(birth, places);
         self.index.take_back();
     }
 }

@@ -8,3 +8,4 @@ pub mod Entered
 pub mod Sending
 pub mod Forms
 pub mod Listed
+pub mod SendingAhead

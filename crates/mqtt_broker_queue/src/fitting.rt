@@ -6,7 +6,6 @@ ghost use Rattle.mqtt_records_message.specs.Queue.{IsSpelled};
 ghost use Rattle.mqtt_rules.specs.Fitting.{form_of, is_due, told_behind};
 ghost use Rattle.mqtt_rules.specs.State.{told_on};
 ghost use Rattle.mqtt_broker_packets.specs.Frames.{IsSpelledIn};
-ghost use Rattle.mqtt_broker_step.specs.Undoing.{moment_of};
 ghost use Rattle.mqtt_broker_queue.specs.Fitting.{fitting, listed};
 
 use mqtt_base::Phase;
@@ -114,15 +113,16 @@ fn show_spelled(rows: &[Boxed<CopyRow>])
 }
 
 /// The places of the rows that are too large with their whole topic and have a form that is within, with the bytes of
-/// that form. There is none, without a look at a row, if the client takes no aliases, or each packet.
+/// that form, at a moment. There is none, without a look at a row, if the client takes no aliases, or each packet.
 pub(crate) fn fitting_sizes(
     alloc: Global,
     step: &Step,
     state: &LineState,
+    now: u64,
     rows: &[Boxed<CopyRow>],
 ) -> Result<Vec<(u64, u32)>, StepFault>
-    ensures sizes { IfOk result (λ sizes. sizes.items ≡ fitting state.now
-        (moment_of step.now.broker) (told_on state.now.number step.now.broker.tellings) rows.now) }
+    ensures sizes { IfOk result (λ sizes. sizes.items ≡ fitting state.now now
+        (told_on state.now.number step.now.broker.tellings) rows.now) }
     ensures fault { IfErr result (λ fault. fault ≡ StepFault.Memory) }
 {
     if !step.takes_aliases(state.number()) {
@@ -133,5 +133,5 @@ pub(crate) fn fitting_sizes(
         return Ok(Vec::new(alloc));
     }
     let mut told = step.told_topics(state.number())?;
-    fitting(alloc, &mut told, step.moment(), state, rows)
+    fitting(alloc, &mut told, now, state, rows)
 }

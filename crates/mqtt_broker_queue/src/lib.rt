@@ -2,6 +2,7 @@
 //! (MQTT 5.0, 4.3, 4.4, 4.6, 4.9).
 #![tactic(auto)]
 
+mod ahead;
 mod answering;
 mod entering;
 mod fitting;
@@ -14,6 +15,7 @@ mod rooms;
 mod turning;
 mod turns;
 
+pub use ahead::sent_places;
 pub use answering::{Answered, puback, pubcomp, pubrec};
 pub use entering::enter;
 pub use lapsing::expire;

@@ -6,6 +6,7 @@ ghost use Rattle.mqtt_rules.specs.Fitting.{pump_turns};
 ghost use Rattle.mqtt_rules.specs.Outbound.{all_turn_deeds};
 ghost use Rattle.mqtt_rules.specs.State.{queue_on};
 ghost use Rattle.mqtt_rules.specs.Step.{Pump, is_again, publish_out};
+ghost use Rattle.mqtt_broker_step.specs.Undoing.{with_moment_of};
 ghost use Rattle.mqtt_broker_step.specs.Stepping.{Did, IsLeft};
 ghost use Rattle.mqtt_broker_queue.specs.Queues.{HasKeptOrders};
 ghost use Rattle.mqtt_broker_queue.specs.Turning.{is_sending, pumps};
@@ -46,16 +47,17 @@ fn sendings(turns: &[Turn]) -> usize
     count
 }
 
-/// The turns of one pump of a session that is connected on a line.
-fn pump_turns(
+/// The turns of one pump of a session that is connected on a line, at a moment.
+pub(crate) fn pump_turns(
     alloc: Global,
     step: &Step,
     state: &LineState,
     session: &Session,
+    now: u64,
 ) -> Result<Vec<Turn>, StepFault>
     requires { greatest_order (queue_on [] session.now) ≤ LAST_NUMBER }
     ensures turns { IfOk result (λ turns. turns.items
-        ≡ pump_turns state.now step.now.broker session.now) }
+        ≡ pump_turns state.now (with_moment_of now step.now.broker) session.now) }
     ensures rise { IfOk result (λ turns. Rises session.now.queue 0 turns.items) }
     ensures sent { (moment line : ℕ) → IfOk result (λ turns. length (filter_map publish_out
         (all_turn_deeds moment line session.now turns.items)) ≡ count_by is_sending turns.items) }
@@ -65,9 +67,9 @@ fn pump_turns(
     let way = Way {
         window: state.window(),
         largest: state.largest(),
-        now: step.moment(),
+        now,
     };
-    let sizes = fitting_sizes(alloc, step, state, rows)?;
+    let sizes = fitting_sizes(alloc, step, state, now, rows)?;
     let view = OnLine {
         went: state.went(),
         sizes: &sizes,
@@ -97,7 +99,7 @@ pub fn pump(alloc: Global, step: &mut Step, line: u64) -> Result<bool, StepFault
     let Some(session) = step.session(birth) else {
         return Ok(false);
     };
-    let turns = pump_turns(alloc, step, state, session)?;
+    let turns = pump_turns(alloc, step, state, session, step.moment())?;
     let again = sendings(&turns) == usize::from(PUMP_LIMIT);
     take_turns(alloc, step, line, birth, turns)?;
     Ok(again)

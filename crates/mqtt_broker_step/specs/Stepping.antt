@@ -7,6 +7,7 @@ use Rattle.mqtt_records.specs.declared.records.Records.{Records}
 use Rattle.mqtt_records.specs.Contents.{FitContents}
 use Rattle.mqtt_records.specs.Records.{FitAll, changed_all}
 use Rattle.mqtt_records.specs.Saying.{AllSayable}
+use Rattle.mqtt_records_names.specs.Slimming.{slim_entered}
 use Rattle.mqtt_rules.specs.declared.Limits.{Limits}
 use Rattle.mqtt_rules.specs.declared.Report.{Report}
 use Rattle.mqtt_rules.specs.State.{Broker, Env, MemberChoice}
@@ -14,7 +15,7 @@ use Rattle.mqtt_rules.specs.Deeds.{Part, Deed, Act, whose, At, after_all, rows_o
 use Rattle.mqtt_rules.specs.Step.{is_spent, stamped, with_moment}
 use Rattle.mqtt_broker_step.specs.declared.fault.StepFault.{StepFault}
 use Rattle.mqtt_broker_step.specs.declared.fault.StepFault.TheVariants.{Memory, Spent}
-use Rattle.mqtt_broker_step.specs.Undoing.{with_change, moment_of}
+use Rattle.mqtt_broker_step.specs.Undoing.{with_change, with_records, moment_of}
 
 pub record Stepping : Type 0 where
   pub limits : Limits
@@ -111,6 +112,10 @@ with_stamp s = record s { broker = with_moment s.rows s.broker; rows = stamped (
 -- no step is under way
 abbrev pub at_rest : Limits → Broker → Stepping
 at_rest limits b = record { limits = limits; start = b; broker = b; rows = []; outputs = []; closed = []; reports = [] }
+
+-- the broker after a step, whose copies that the step's rows put say nothing but their topics, as far as they stand still
+abbrev pub with_entered_slim : Stepping → Broker
+with_entered_slim s = with_records (slim_entered s.rows s.broker.records) s.broker
 
 -- what a step owes while it is under way: its rows make of the start what is stored now, and none gives a number above the last
 pub record IsStep (start broker : Broker) (rows : List Change) : Type 0 where

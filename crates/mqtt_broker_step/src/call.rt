@@ -1,5 +1,5 @@
 //! A step begins at a moment, and ends: the store is told, and it is done or taken back (MQTT 5.0, 4.1).
-ghost use Rattle.std.specs.Prelude.{◌≡◌, ◌≢◌, ◌⊎◌, false, IfOk, IfErr, OnOk, OnErr, IsErrOf};
+ghost use Rattle.std.specs.Prelude.{◌≡◌, ◌≢◌, ◌⊎◌, [], false, IfOk, IfErr, OnOk, OnErr, IsErrOf};
 ghost use Rattle.mqtt_records.specs.declared.records.Records.{Records};
 ghost use Rattle.mqtt_records.specs.Records.{changed_all};
 ghost use Rattle.mqtt_rules.specs.Step.{at_moment, is_spent};
@@ -12,6 +12,7 @@ use bytes::Bytes;
 use mqtt_base::LAST_NUMBER;
 use mqtt_records::{Change, Counter, Keep, KeepError};
 use mqtt_rules::Report;
+use std::alloc::Global;
 use std::mem;
 use thiserror::Error;
 
@@ -38,6 +39,24 @@ pub struct Outcome {
     pub closed: Vec<u64>,
     /// What came about.
     pub reports: Vec<Report>,
+}
+
+/// Takes out what a step told. Takes no memory.
+pub(crate) fn take_told(
+    alloc: Global,
+    outputs: &mut Vec<(u64, Bytes)>,
+    closed: &mut Vec<u64>,
+    reports: &mut Vec<Report>,
+) -> Outcome
+    ensures outputs { (result.outputs.items ≡ outputs.old.items) × (outputs.new.items ≡ []) }
+    ensures closed { (result.closed.items ≡ closed.old.items) × (closed.new.items ≡ []) }
+    ensures reports { (result.reports.items ≡ reports.old.items) × (reports.new.items ≡ []) }
+{
+    Outcome {
+        outputs: mem::replace(outputs, Vec::new(alloc)),
+        closed: mem::replace(closed, Vec::new(alloc)),
+        reports: mem::replace(reports, Vec::new(alloc)),
+    }
 }
 
 impl Step {
@@ -102,17 +121,19 @@ impl Step {
     {
         self.tables.settle();
         self.rows.clear();
-        Outcome {
-            outputs: mem::replace(&mut self.outputs, Vec::new(self.alloc)),
-            closed: mem::replace(&mut self.closed, Vec::new(self.alloc)),
-            reports: mem::replace(&mut self.reports, Vec::new(self.alloc)),
-        }
+        take_told(
+            self.alloc,
+            &mut self.outputs,
+            &mut self.closed,
+            &mut self.reports,
+        )
     }
 }
 
 /// Tells the store of a step that was done in place. The store may hold more than the tables say: what it holds then is
 /// promised if the step's rows can be stored over what it held. If it refuses, the step is taken back, and its own refusal
-/// is answered. `Memory` (1) and `Size` (3): nothing changed, here or there. `Disk` (2): the device failed.
+/// is answered. Copies stay as they are: nothing of a step is made slim here (`Step::settle_slim`). `Memory` (1) and
+/// `Size` (3): nothing changed, here or there. `Disk` (2): the device failed.
 pub fn commit_kept<K: Keep>(keep: &mut K, step: &mut Step) -> Result<Outcome, KeepError>
     requires loaded { K.is_loaded keep.old }
 
@@ -146,6 +167,9 @@ pub fn commit_kept<K: Keep>(keep: &mut K, step: &mut Step) -> Result<Outcome, Ke
     ensures crash { (r left : Records) → K.holds keep.old r → CanStore step.old.rows r
         → K.leaves keep.new left → (left ≡ r) ⊎ (left ≡ changed_all step.old.rows r) }
     ensures sound { K.is_sound keep.new → K.is_sound keep.old }
+
+    // The store isn't asked what copies say.
+    ensures reads { K.read_so_far keep.new ≡ K.read_so_far keep.old }
 {
     match keep.apply(step.rows()) {
         Ok(()) => Ok(step.settle()),
@@ -153,49 +177,5 @@ pub fn commit_kept<K: Keep>(keep: &mut K, step: &mut Step) -> Result<Outcome, Ke
             step.take_back();
             Err(error)
         }
-    }
-}
-
-/// Tells the store of a step that was done in place. The store may hold more than the tables say: what it holds then is
-/// promised if the step's rows can be stored over what it held. If it refuses, the step is taken back. `Memory` (1):
-/// nothing changed, here or there. `Stopped` (2): the store failed.
-pub fn commit<K: Keep>(keep: &mut K, step: &mut Step) -> Result<Outcome, EngineError>
-    requires loaded { K.is_loaded keep.old }
-
-    // The rows make of the start what is stored now, and none gives a number above the last.
-    ensures made { changed_all step.old.rows step.old.start.records
-        ≡ step.old.broker.records }
-    ensures unspent { is_spent step.old.rows ≡ false }
-    ensures outputs { IfOk result (λ out. out.outputs.items ≡ step.old.outputs) }
-    ensures closed { IfOk result (λ out. out.closed.items ≡ step.old.closed) }
-    ensures reports { IfOk result (λ out. out.reports.items ≡ step.old.reports) }
-    ensures done { OnOk result (step.new ≡ at_rest step.old.limits step.old.broker) }
-
-    // Whatever the store held, if the rows can be stored over it, it holds what they make of it.
-    ensures stored { (r : Records) → K.holds keep.old r → CanStore step.old.rows r
-        → OnOk result (K.is_loaded keep.new
-        × K.holds keep.new (changed_all step.old.rows r)) }
-
-    // Without the store's Ok nothing changed here, and after want of memory nothing there.
-    ensures same { OnErr result (step.new ≡ at_rest step.old.limits step.old.start) }
-    ensures memory { (r : Records) → K.holds keep.old r → CanStore step.old.rows r
-        → IsErrOf result EngineError.Memory → K.is_loaded keep.new × K.holds keep.new r }
-    ensures spent { IsErrOf result EngineError.Spent → ⊥ }
-
-    // It stops only if the store counted a failure.
-    ensures cause { IsErrOf result EngineError.Stopped
-        → K.counted keep.new ≢ K.counted keep.old }
-
-    // A crash leaves what the store held before the step or after it.
-    ensures crash { (r left : Records) → K.holds keep.old r → CanStore step.old.rows r
-        → K.leaves keep.new left → (left ≡ r) ⊎ (left ≡ changed_all step.old.rows r) }
-
-    // A device that is sound after the call was sound before it.
-    ensures sound { K.is_sound keep.new → K.is_sound keep.old }
-{
-    match commit_kept(keep, step) {
-        Ok(told) => Ok(told),
-        Err(KeepError::Memory) => Err(EngineError::Memory),
-        Err(_) => Err(EngineError::Stopped),
     }
 }

@@ -22,6 +22,7 @@ mod retained;
 mod retained_looks;
 mod seeking;
 mod sessions;
+mod slimming;
 mod started;
 mod step;
 mod subscribing;
@@ -29,7 +30,7 @@ mod tables;
 mod telling;
 mod undo;
 
-pub use call::{EngineError, Outcome, commit, commit_kept};
+pub use call::{EngineError, Outcome, commit_kept};
 pub use fault::StepFault;
 pub use line::{LineChange, LineState};
 pub use outputs::Outgoing;

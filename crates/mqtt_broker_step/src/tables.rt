@@ -1,11 +1,13 @@
 //! What is stored and the lines, changed in place, with a journal that takes the changes back.
-ghost use Rattle.std.specs.Prelude.{◌≡◌, ◌≤◌, [], None, Some, length, option_copied, IfOk, OnOk, OnErr};
+ghost use Rattle.std.specs.Prelude.{◌≡◌, ◌↔◌, ◌≤◌, [], None, Some, false, length, option_copied, IfOk, IsTrue, OnOk, OnErr};
 ghost use Rattle.mqtt_base.specs.declared.limits.TheConstants.{LINE_LIMIT as line_limit};
 ghost use Rattle.mqtt_records_rows.specs.Order.{IsAscending, row_at, put_row, change_row, remove_row};
 ghost use Rattle.mqtt_records.specs.Records.{changed, kept_place};
 ghost use Rattle.mqtt_records.specs.declared.session.Session.{Session as TheSession};
 ghost use Rattle.mqtt_records.specs.Session.{birth_of, copy_place};
+ghost use Rattle.mqtt_records.specs.Slim.{all_slim};
 ghost use Rattle.mqtt_records.specs.declared.change.Change.TheVariants.{RemoveSession, RemoveCopy, RemoveRetained};
+ghost use Rattle.mqtt_records_names.specs.Slimming.{slim_entered, slim_places, whole_places, TakesAll};
 ghost use Rattle.mqtt_topic.specs.Aliases.{IsInRange};
 ghost use Rattle.mqtt_rules.specs.Laws.{HasTables};
 ghost use Rattle.mqtt_rules.specs.State.{Line, session_at, session_named, told_line};
@@ -13,7 +15,7 @@ ghost use Rattle.mqtt_topic_aliases.specs.Told.{none_told};
 ghost use Rattle.mqtt_broker_step.specs.Lines.{line_changed, line_number, with_alias};
 ghost use Rattle.mqtt_broker_step.specs.Backs.{TakesLineBack, TakesTellingBack};
 ghost use Rattle.mqtt_broker_step.specs.Tellings.{telling_more};
-ghost use Rattle.mqtt_broker_step.specs.Undoing.{become, settled, taken_back, undone, broker_of, with_change, with_lines, with_line_changed, with_linked, with_tellings, with_moment_of, moment_of};
+ghost use Rattle.mqtt_broker_step.specs.Undoing.{become, settled, taken_back, undone, broker_of, with_change, with_records, with_lines, with_line_changed, with_linked, with_tellings, with_moment_of, moment_of};
 
 use crate::line::{LineChange, LineState};
 use crate::seeking::row_of;
@@ -21,7 +23,7 @@ use crate::started::{publications_before, subscribes_before};
 use crate::telling::LineTopics;
 use crate::undo::Undo;
 use mqtt_base::{LINE_LIMIT, Text};
-use mqtt_records::{Change, Records, Session};
+use mqtt_records::{Change, CopyContent, Records, Session};
 use mqtt_records_names::NamedRecords;
 use mqtt_records_rows::Rows;
 use mqtt_topic::TopicName;
@@ -471,5 +473,44 @@ impl Tables {
         ensures { self.new ≡ settled self.old.broker }
     {
         self.journal.clear();
+    }
+
+    /// The copies that these changes put say nothing but their topics; from here on nothing is taken back. Takes no memory.
+    pub(crate) fn settle_slim(&mut self, changes: &[Change])
+        ensures { self.new ≡ settled (with_records
+            (slim_entered changes.now self.old.broker.records) self.old.broker) }
+    {
+        self.journal.clear();
+        self.records.make_entered_slim(changes);
+    }
+
+    /// The copies at these places say nothing but their topics; from here on nothing is taken back. Takes no memory.
+    pub(crate) fn make_slim(&mut self, birth: u64, places: &[u64])
+        ensures { self.new ≡ settled (with_records
+            (slim_places birth places.now self.old.broker.records) self.old.broker) }
+    {
+        self.journal.clear();
+        self.records.make_slim(birth, places);
+    }
+
+    /// All copies say nothing but their topics; from here on nothing is taken back. Takes no memory.
+    pub(crate) fn make_all_slim(&mut self)
+        ensures { self.new ≡ settled (with_records
+            (all_slim self.old.broker.records) self.old.broker) }
+    {
+        self.journal.clear();
+        self.records.make_all_slim();
+    }
+
+    /// Has copies say what is told of them, all or none; from here on nothing is taken back. Takes no memory.
+    pub(crate) fn fill(&mut self, birth: u64, contents: Vec<CopyContent>) -> bool
+        ensures exact { IsTrue result
+            ↔ TakesAll birth contents.items self.old.broker.records }
+        ensures ok { IsTrue result → self.new ≡ settled (with_records
+            (whole_places birth contents.items self.old.broker.records) self.old.broker) }
+        ensures err { result ≡ false → self.new ≡ settled self.old.broker }
+    {
+        self.journal.clear();
+        self.records.fill(birth, contents)
     }
 }

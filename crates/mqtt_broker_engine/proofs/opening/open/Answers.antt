@@ -2,6 +2,7 @@ use Rattle.std.proofs.Common.{ap, sym, subst, inl, inr}
 use Rattle.std.specs.Prelude.{Err}
 use Rattle.mqtt_records_lawful.specs.Lawful.{IsLawful}
 use Rattle.mqtt_records.specs.declared.records.Records.{Records}
+use Rattle.mqtt_rules_granting_laws.specs.Naming.{StoresPassedOn}
 use Rattle.mqtt_rules.specs.declared.Limits.{Limits}
 use Rattle.mqtt_rules.specs.Laws.{AreWithin}
 use Rattle.mqtt_broker_step.specs.Stepping.{Stepping}
@@ -24,6 +25,9 @@ open_step-requires-clause-within g c = subst AreWithin (sym (ap (λ (t : Steppin
 
 pub open_step-requires-clause-lawful : goal.open_step-requires-clause-lawful
 open_step-requires-clause-lawful g c = subst IsLawful (sym (ap (λ (t : Stepping). t.broker.records) c.in-Ok-unopened.ensures.step)) c.in-Ok-unopened.ensures.lawful
+
+pub open_step-requires-clause-passed : goal.open_step-requires-clause-passed
+open_step-requires-clause-passed g c = subst StoresPassedOn (sym (ap (λ (t : Stepping). t.broker.records) c.in-Ok-unopened.ensures.step)) c.in-Ok-unopened.ensures.passed
 
 pub returns-in-Ok-unopened : goal.returns-in-Ok-unopened
 returns-in-Ok-unopened g c =

@@ -1,7 +1,8 @@
 use Rattle.std.proofs.Common.{◌≡◌, ap, inl, inr}
 use Rattle.std.specs.Prelude.{Err}
 use Rattle.mqtt_records.specs.declared.keep.KeepError.TheVariants.{Disk}
-use Rattle.mqtt_broker_engine.proofs.Answering.{opened_as, opened_sound, refused_store, rest_again}
+use Rattle.mqtt_broker_engine.proofs.Answering.{opened_sound, refused_store, rest_again}
+use Rattle.mqtt_broker_engine.proofs.Begun.{opened_as}
 use Rattle.mqtt_broker_engine.proofs.opening.open_with.Goals as goal
 
 pub over-requires-clause-rest : goal.over-requires-clause-rest
@@ -14,8 +15,11 @@ over-requires-clause-sound g c =
 
 pub returns-in-Ok : goal.returns-in-Ok
 returns-in-Ok g c = λ first now begun load.
-    opened_as g.K.Keep c.args.step.limits now first c.args.step.broker.records c.args.keep c.store.new.keep c.store.new.step c.over.result c.over.ensures
-    load c.requires.lawful (c.in-Ok.ensures.opened now begun) c.in-Ok.ensures.stored.1 c.in-Ok.ensures.sound c.in-Ok.ensures.rest
+    let s = c.store.new.step in
+    let opening = c.in-Ok.ensures.opened now begun in
+    opened_as g.K.Keep g.met.K.Keep.tells g.met.K.Keep.leaves_held c.args.step.limits now first c.args.step.broker.records c.args.keep c.store.new.keep s c.over.result c.over.ensures
+    load c.requires.lawful c.requires.passed opening (opened_sound c.args.step.limits now c.args.step.broker.records s c.requires.within c.requires.lawful opening c.in-Ok.ensures.rest)
+    c.in-Ok.ensures.stored.0 c.in-Ok.ensures.stored.1 c.in-Ok.ensures.sound c.in-Ok.ensures.rest
 
 pub returns-in-Err : goal.returns-in-Err
 returns-in-Err g c = λ first now begun load.

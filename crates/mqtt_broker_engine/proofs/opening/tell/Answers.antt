@@ -1,4 +1,4 @@
-use Rattle.std.proofs.Common.{◌≡◌, ap, inl, inr}
+use Rattle.std.proofs.Common.{ap, inl, inr}
 use Rattle.std.specs.Prelude.{Err}
 use Rattle.mqtt_broker_engine.proofs.Answering.{kept_unless_disk}
 use Rattle.mqtt_broker_engine.proofs.Stamped.{open_can_store, open_is, open_left}

@@ -12,9 +12,9 @@ returns-then-not-takes_aliases-clause-sizes c =
     let rows = c.args.rows.now in
     let untold : told_on c.number.result b.tellings ≡ none_told 0 = search rules in
     c.new.ensures.items
-    ∙ (sym (none_untold l b.now rows)
-    ∙ (ap (λ told. fitting l b.now told rows) (sym untold)
-    ∙ ap (λ n. fitting l b.now (told_on n b.tellings) rows) c.number.ensures))
+    ∙ (sym (none_untold l c.args.now rows)
+    ∙ (ap (λ told. fitting l c.args.now told rows) (sym untold)
+    ∙ ap (λ n. fitting l c.args.now (told_on n b.tellings) rows) c.number.ensures))
 
 pub returns-then-largest-ge-LARGEST_PACKET-clause-sizes :
     goal.returns-then-largest-ge-LARGEST_PACKET-clause-sizes
@@ -22,5 +22,5 @@ returns-then-largest-ge-LARGEST_PACKET-clause-sizes c =
     let l = c.args.state.now in
     let b = c.args.step.now.broker in
     c.new-then-largest-ge-LARGEST_PACKET.ensures.items
-    ∙ sym (none_large l b.now (told_on l.number b.tellings) c.args.rows.now
+    ∙ sym (none_large l c.args.now (told_on l.number b.tellings) c.args.rows.now
     (subst (λ n. 268435460 ≤ n) c.largest.ensures c.if-largest-ge-LARGEST_PACKET.true) c.show_spelled.ensures)

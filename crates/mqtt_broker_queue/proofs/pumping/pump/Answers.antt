@@ -6,7 +6,7 @@ use Rattle.mqtt_broker_step.specs.Stepping.{IsLeft}
 use Rattle.mqtt_broker_step.proofs.Inverse.{row_key}
 use Rattle.mqtt_broker_queue.specs.Turning.{is_sending, takes_turns, pumps}
 use Rattle.mqtt_broker_step.proofs.Sendings.{line_found}
-use Rattle.mqtt_broker_queue.proofs.Pumped.{pumps_is, taken_of}
+use Rattle.mqtt_broker_queue.proofs.Pumped.{now_turns, pumps_is, taken_of}
 use Rattle.mqtt_broker_step.proofs.Then.{same_act, same_left}
 use Rattle.mqtt_broker_queue.proofs.pumping.pump.Goals as goal
 
@@ -20,7 +20,7 @@ returns-clause-ok c =
     let there = sym c.in-Some.ensures in
     same_act (takes_turns c.args.line birth ts) (pumps c.args.line) c.args.step.now c.take_turns.new.step
     (pumps_is c.args.line birth ts l x b (sym (line_found c.args.line b.lines) ∙ there) (row_key line_number c.args.line b.lines l there)
-    (sym c.in-Some-session.ensures) (sym c.in-Some-session-2.ensures) c.in_ok-turns.ensures.turns) c.in_ok-take_turns.ensures.ok
+    (sym c.in-Some-session.ensures) (sym c.in-Some-session-2.ensures) (now_turns l x b c.moment.result ts c.in_ok-turns.ensures.turns c.moment.ensures)) c.in_ok-take_turns.ensures.ok
 
 pub returns-in_err-take_turns-clause-left : goal.returns-in_err-take_turns-clause-left
 returns-in_err-take_turns-clause-left c =
@@ -33,7 +33,7 @@ returns-in_err-take_turns-clause-left c =
     let left : IsLeft (pumps c.args.line) c.in_err-take_turns.field-0.0 c.args.step.now c.take_turns.new.step =
     same_left (takes_turns c.args.line birth ts) (pumps c.args.line) c.in_err-take_turns.field-0.0 c.args.step.now c.take_turns.new.step
     (pumps_is c.args.line birth ts l x b (sym (line_found c.args.line b.lines) ∙ there) (row_key line_number c.args.line b.lines l there)
-    (sym c.in-Some-session.ensures) (sym c.in-Some-session-2.ensures) c.in_ok-turns.ensures.turns) c.in_err-take_turns.ensures.left in
+    (sym c.in-Some-session.ensures) (sym c.in-Some-session-2.ensures) (now_turns l x b c.moment.result ts c.in_ok-turns.ensures.turns c.moment.ensures)) c.in_err-take_turns.ensures.left in
     search (rules, left)
 
 pub returns-clause-again : goal.returns-clause-again
@@ -45,7 +45,7 @@ returns-clause-again c =
     let ts = c.in_ok-turns.turns.items in
     let there = sym c.in-Some.ensures in
     let act = pumps_is c.args.line birth ts l x b (sym (line_found c.args.line b.lines) ∙ there) (row_key line_number c.args.line b.lines l there)
-    (sym c.in-Some-session.ensures) (sym c.in-Some-session-2.ensures) c.in_ok-turns.ensures.turns in
+    (sym c.in-Some-session.ensures) (sym c.in-Some-session-2.ensures) (now_turns l x b c.moment.result ts c.in_ok-turns.ensures.turns c.moment.ensures) in
     let sent : count_by is_sending ts ≡ length (filter_map publish_out (pumps c.args.line b)) =
     sym (c.in_ok-turns.ensures.sent b.now c.args.line)
     ∙ ap (λ ds. length (filter_map publish_out ds)) (sym (taken_of c.args.line birth ts x b (sym c.in-Some-session-2.ensures)) ∙ act) in

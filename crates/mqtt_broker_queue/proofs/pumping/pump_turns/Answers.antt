@@ -1,4 +1,4 @@
-use Rattle.std.proofs.Common.{◌≡◌, ◌≤◌, [], length, map, ap, sym, subst, ◌∙◌}
+use Rattle.std.proofs.Common.{◌≡◌, ◌≤◌, [], length, map, refl, ap, sym, subst, ◌∙◌}
 use Rattle.std.specs.Prelude.{count_by, filter_map}
 use Rattle.mqtt_base.specs.declared.limits.TheConstants.{LAST_NUMBER}
 use Rattle.mqtt_flow.specs.Queue.{greatest_order}
@@ -9,6 +9,7 @@ use Rattle.mqtt_rules.specs.Step.{publish_out}
 use Rattle.mqtt_rules.proofs.fit.Turns.{Rises}
 use Rattle.mqtt_rules.proofs.fit.TurnLists.{sized_pumps_rise}
 use Rattle.mqtt_rules.proofs.flight.SizedRows.{orders_sized}
+use Rattle.mqtt_broker_step.specs.Undoing.{with_moment_of}
 use Rattle.mqtt_broker_queue.specs.Turning.{is_sending}
 use Rattle.mqtt_broker_queue.proofs.Asked.{orders_alike}
 use Rattle.mqtt_broker_queue.proofs.Listed.{pumped}
@@ -28,11 +29,11 @@ look_pump-requires-clause-orders c =
 abbrev pumped-is : goal.returns-in-Ok-clause-turns
 pumped-is c =
     let l = c.args.state.now in
-    let b = c.args.step.now.broker in
+    let b = with_moment_of c.args.now c.args.step.now.broker in
     let rows = c.as_slice-rows.ensures.rows in
     c.in-Ok.ensures.turns
-    ∙ pumped l b c.args.session.now (way_with c.window.result c.largest.result c.moment.result) c.went.result.now c.deref.result.now c.as_slice-rows.result.now
-    (same_way c.window.ensures c.largest.ensures c.moment.ensures) c.went.ensures
+    ∙ pumped l b c.args.session.now (way_with c.window.result c.largest.result c.args.now) c.went.result.now c.deref.result.now c.as_slice-rows.result.now
+    (same_way c.window.ensures c.largest.ensures refl) c.went.ensures
     (c.deref.ensures.value ∙ c.in_ok-sizes.ensures.sizes) rows c.as_slice-rows.ensures.order
 
 pub returns-in-Ok-clause-turns : goal.returns-in-Ok-clause-turns
@@ -41,7 +42,7 @@ returns-in-Ok-clause-turns c = pumped-is c
 pub returns-in-Ok-clause-rise : goal.returns-in-Ok-clause-rise
 returns-in-Ok-clause-rise c =
     let l = c.args.state.now in
-    let b = c.args.step.now.broker in
+    let b = with_moment_of c.args.now c.args.step.now.broker in
     let x = c.args.session.now in
     subst (λ ts. Rises x.queue 0 ts) (sym (pumped-is c))
     (sized_pumps_rise (size_at (fitted l b.now (told_on l.number b.tellings) x.queue)) (way_of l b.now) l.went x c.as_slice-rows.ensures.order)
@@ -49,7 +50,7 @@ returns-in-Ok-clause-rise c =
 pub returns-in-Ok-clause-sent : goal.returns-in-Ok-clause-sent
 returns-in-Ok-clause-sent c = λ moment line.
     let l = c.args.state.now in
-    let b = c.args.step.now.broker in
+    let b = with_moment_of c.args.now c.args.step.now.broker in
     let x = c.args.session.now in
     subst (λ ts. length (filter_map publish_out (all_turn_deeds moment line x ts)) ≡ count_by is_sending ts) (sym (pumped-is c))
     (sized_pump_sends (size_at (fitted l b.now (told_on l.number b.tellings) x.queue)) (way_of l b.now) l.went moment line x c.as_slice-rows.ensures.order)

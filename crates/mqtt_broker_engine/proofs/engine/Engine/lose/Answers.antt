@@ -1,36 +1,44 @@
 -- The step begins in an engine at rest that runs, and its end is the engine's.
-use Rattle.std.proofs.Common.{◌∙◌, rules}
+use Rattle.std.proofs.Common.{◌≡◌, ◌∙◌, false, sym, subst, rules}
+use Rattle.mqtt_rules.specs.State.{Broker}
 use Rattle.mqtt_rules.specs.Step.{Lost}
-use Rattle.mqtt_broker_calls.proofs.Sources.{sound_ready}
-use Rattle.mqtt_broker_engine.proofs.Resting.{begins_call, called_of, called_stale}
+use Rattle.mqtt_rules_alike_laws.specs.Slim.{slim_broker}
+use Rattle.mqtt_broker_engine.proofs.Beginning.{begins_call, call_of_view}
+use Rattle.mqtt_broker_engine.proofs.Finished.{of_sound_ready}
+use Rattle.mqtt_broker_engine.proofs.Resting.{called_stale}
 use Rattle.mqtt_broker_engine.proofs.engine.Engine.lose.Goals as goal
 
 pub returns-in_err-renew : goal.returns-in_err-renew
 returns-in_err-renew g c =
-    called_stale g.K.Keep c.args.moment (Lost c.args.line) c.renew.new.self c.args.self.now _ c.in_err-renew.field-0.0 (search rules) c.in_err-renew.ensures.fault
-    c.renew.ensures.rest (c.renew.ensures.same ∙ c.self.view_is) c.requires.running g.met.K.Keep.leaves_held
+    called_stale g.K.Keep g.met.K.Keep.tells g.met.K.Keep.leaves_held c.args.moment (Lost c.args.line) c.renew.new.self c.renew.ensures.rest c.args.self.now _ c.in_err-renew.field-0.0 (search rules) c.in_err-renew.ensures.fault
+    (c.renew.ensures.same ∙ c.self.view_is) c.requires.running
 
 pub lost_at-done-requires-clause-rest : goal.lost_at-done-requires-clause-rest
 lost_at-done-requires-clause-rest g c = c.renew.ensures.rest.rest
 
 pub lost_at-done-requires-clause-ready : goal.lost_at-done-requires-clause-ready
-lost_at-done-requires-clause-ready g c = sound_ready _ _ c.renew.ensures.rest.its.sound
+lost_at-done-requires-clause-ready g c = of_sound_ready _ _ c.renew.ensures.rest.sound
 
 pub lost_at-done-requires-clause-serves : goal.lost_at-done-requires-clause-serves
 lost_at-done-requires-clause-serves g c = c.in_ok-renew.ensures.ok
 
-pub finish-requires-clause-mid : goal.finish-requires-clause-mid
-finish-requires-clause-mid g c =
-    begins_call g.K.Keep c.renew.new.self c.args.self.now c.lost_at-done.new.router c.lost_at-done.new.step c.renew.ensures.rest (c.renew.ensures.same ∙ c.self.view_is) c.requires.running c.lost_at-done.ensures.start c.lost_at-done.ensures.limits
-    (λ fresh. c.lost_at-done.ensures.serves _ c.in_ok-renew.ensures.ok)
+pub finish-requires-clause-under_way : goal.finish-requires-clause-under_way
+finish-requires-clause-under_way g c = (
+  c.args.moment,
+  Lost c.args.line,
+  begins_call g.K.Keep c.args.moment (Lost c.args.line) false c.lost_at-done.result c.renew.new.self c.args.self.now (c.renew.ensures.same ∙ c.self.view_is) c.lost_at-done.new.router c.lost_at-done.new.step c.lost_at-done.ensures.start c.lost_at-done.ensures.limits
+      c.renew.ensures.rest c.requires.running (λ never. never) tt (λ fresh. c.lost_at-done.ensures.serves _ c.in_ok-renew.ensures.ok) c.lost_at-done.ensures.called,
+)
 
-pub finish-requires-clause-called : goal.finish-requires-clause-called
-finish-requires-clause-called g c = (c.args.moment, Lost c.args.line, tt, c.lost_at-done.ensures.called)
+pub finish-requires-clause-slim : goal.finish-requires-clause-slim
+finish-requires-clause-slim g c = subst (λ (b : Broker). slim_broker b ≡ b) (sym c.lost_at-done.ensures.start) c.renew.ensures.rest.slim
 
 pub returns : goal.returns
 returns g c =
-    called_of g.K.Keep c.args.moment (Lost c.args.line) c.renew.new.self c.args.self.now c.lost_at-done.new.router c.lost_at-done.new.step _ _ (c.renew.ensures.same ∙ c.self.view_is) c.lost_at-done.ensures.start c.lost_at-done.ensures.limits
-    (c.finish.ensures.called c.args.moment (Lost c.args.line) c.lost_at-done.ensures.called)
+    call_of_view g.K.Keep c.args.moment (Lost c.args.line) false c.lost_at-done.result c.renew.new.self c.args.self.now (c.renew.ensures.same ∙ c.self.view_is) c.lost_at-done.new.router c.lost_at-done.new.step c.lost_at-done.ensures.start c.lost_at-done.ensures.limits _ _
+    (c.finish.ensures.called c.args.moment (Lost c.args.line)
+    (begins_call g.K.Keep c.args.moment (Lost c.args.line) false c.lost_at-done.result c.renew.new.self c.args.self.now (c.renew.ensures.same ∙ c.self.view_is) c.lost_at-done.new.router c.lost_at-done.new.step c.lost_at-done.ensures.start c.lost_at-done.ensures.limits
+    c.renew.ensures.rest c.requires.running (λ never. never) tt (λ fresh. c.lost_at-done.ensures.serves _ c.in_ok-renew.ensures.ok) c.lost_at-done.ensures.called))
 
 pub invariant_of-self : goal.invariant_of-self
 invariant_of-self g c = c.renew.ensures.rest

@@ -7,4 +7,4 @@ pub returns-in_err-session_on : goal.returns-in_err-session_on
 returns-in_err-session_on g c = called_stopped g.K.Keep c.args.moment (Lost c.args.line) c.args.self.now _ c.in_err-session_on.field-0.0 (search rules) c.in_err-session_on.ensures.fault c.in_err-session_on.ensures.err
 
 pub returns-in-None : goal.returns-in-None
-returns-in-None g c = c.skip.ensures (Lost c.args.line) refl
+returns-in-None g c = c.skip.ensures.called (Lost c.args.line) refl

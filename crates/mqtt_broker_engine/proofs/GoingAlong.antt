@@ -1,0 +1,51 @@
+-- What goes along with a broker, its index and the moment before which nothing is due, goes along with an alike one: neither asks for anything
+-- of what waiting copies say.
+use Rattle.std.proofs.Common.{◌≡◌, ℕ, List, [], ◌∷◌, sym, ap, ◌∙◌}
+use Rattle.std.specs.Prelude.{◌-◌, ◌/◌}
+use Rattle.std.specs.List.{AllByRecursion}
+use Rattle.mqtt_flow.specs.Outbound.{is_past, is_waiting}
+use Rattle.mqtt_flow.specs.declared.entry.QueuedCopy.{QueuedCopy}
+use Rattle.mqtt_records_message.specs.Queue.{CopyRow}
+use Rattle.mqtt_records.specs.declared.records.Records.{Records}
+use Rattle.mqtt_records.specs.declared.session.Session.{Session}
+use Rattle.mqtt_rules.specs.Routing.{subscriber_of, subscribers}
+use Rattle.mqtt_rules_alike_laws.specs.Alike.{Each, AlikeRows, AlikeSessions, AlikeRecords, with_queue, with_sessions}
+use Rattle.mqtt_rules_alike_laws.proofs.Pairs.{map_same}
+use Rattle.mqtt_rules_alike_laws.proofs.States.{by_queue, by_sessions}
+use Rattle.mqtt_broker_clock.specs.Quiet.{AreQuiet, AreQuietBefore, IsFresh, IsQuiet}
+
+-- ---- lists that are alike one by one
+
+-- what holds of the items of one holds of those of the other
+all_alike : {X : Type 0} (R : X → X → Type 0) (P : X → Type 0) → ((x y : X) → R x y → P x → P y) → (xs ys : List X) → Each R xs ys → AllByRecursion P xs → AllByRecursion P ys
+all_alike R P k [] [] h a = tt
+all_alike R P k [] (y ∷ ys) h a = absurd h
+all_alike R P k (x ∷ xs) [] h a = absurd h
+all_alike R P k (x ∷ xs) (y ∷ ys) h a = (k x y h.0 a.0, all_alike R P k xs ys h.1 a.1)
+
+-- what doesn't ask for the queue's words
+sessions_alike : (P : Session → Type 0) → ((s : Session) (q : List CopyRow) → Each AlikeRows s.queue q → P s → P (with_queue q s)) → (xs ys : List Session) → Each AlikeSessions xs ys → AllByRecursion P xs → AllByRecursion P ys
+sessions_alike P k = all_alike AlikeSessions P (λ s t h. by_queue (λ (x : Session). P s → P x) s (k s) t h)
+
+-- ---- what goes along
+
+-- alike records have the same subscriptions
+pub subscribers_alike : (r o : Records) → AlikeRecords r o → subscribers r ≡ subscribers o
+subscribers_alike r o h =
+    by_sessions (λ (x : Records). subscribers r ≡ subscribers x) r
+    (λ ss i. map_same AlikeSessions subscriber_of subscriber_of (λ s t k. ap subscriber_of k.rest) r.sessions ss i) o h
+
+fresh_alike : (now : ℕ) (x y : CopyRow) → AlikeRows x y → IsFresh now x → IsFresh now y
+fresh_alike now x y k fresh = λ waits.
+    sym (ap (λ (q : QueuedCopy). is_past q.expiry ((now - q.arrived) / 1000)) k.copy.seen) ∙ fresh (ap is_waiting k.phase ∙ waits)
+
+quiet_alike_at : (now : ℕ) (r : Records) (ss : List Session) → Each AlikeSessions r.sessions ss → AreQuiet now r → AreQuiet now (with_sessions ss r)
+quiet_alike_at now r ss h q = record {
+  sessions = sessions_alike (IsQuiet now) (λ s rows i k. record { will = k.will; stays = k.stays; copies = all_alike AlikeRows (IsFresh now) (fresh_alike now) s.queue rows i k.copies }) r.sessions ss h q.sessions;
+  retained = q.retained;
+}
+
+-- of alike records the same is due
+pub quiet_alike : (limit : ℕ) (r o : Records) → AlikeRecords r o → AreQuietBefore limit r → AreQuietBefore limit o
+quiet_alike limit r o h quiet = λ now before.
+    by_sessions (λ (x : Records). AreQuiet now x) r (λ ss i. quiet_alike_at now r ss i (quiet now before)) o h
