@@ -1,13 +1,16 @@
 //! Publishes to the broker over the store in memory, without sockets, and tells the time of each kind of step; for
 //! bench/engine/run, reconnects and queues. Words: how many batches of 16 publications, sessions that went away, filters of
 //! each, copies that wait in each, readers, batches of 16 times that a client comes back, and batches of 16 answers of a
-//! reader with such a queue.
+//! reader with such a queue. Or copies wait over the store in SQL, for bench/engine/waiting: `fill`, a file, how many sessions,
+//! copies in each and bytes of a message; or `drain` and the file.
 #![tactic(auto)]
 
 mod bed;
 mod packets;
+mod waiting;
 
 use crate::bed::{Crowd, Lines, Step, Tally, fill, gather, make};
+use crate::waiting::{Waiting, run_waiting};
 use mqtt_broker::{Engine, KeepError, Limits};
 use mqtt_flow::Full;
 use mqtt_records::MemKeep;
@@ -341,20 +344,56 @@ fn sizes_of(words: &[String]) -> anyhow::Result<Sizes> {
     })
 }
 
+/// What the command line asks for, if it is `fill`; few small ones in memory if there is no word.
+fn waiting_of(words: &[String]) -> anyhow::Result<Waiting> {
+    let sessions = number(words.get(3), 3)?;
+    let copies = number(words.get(4), 40)?;
+    let bytes = number(words.get(5), 200)?;
+    Ok(Waiting {
+        sessions,
+        copies,
+        bytes,
+    })
+}
+
+/// The word at a place.
+fn word<'a>(words: &'a [String], place: usize, other: &'static str) -> &'a str {
+    words.get(place).map_or(other, |word| word.as_str())
+}
+
+/// Batches over the store in memory.
+fn run_batches(rt: &HostRuntime, hasher: RandomState, words: &[String]) -> anyhow::Result<()> {
+    let sizes = sizes_of(words)?;
+    if sizes.batches > 0 {
+        run_all(rt, rt.alloc(), hasher, sizes)?;
+    }
+    if sizes.returns > 0 {
+        run_all_returns(rt, rt.alloc(), hasher, sizes)?;
+    }
+    if sizes.answers > 0 {
+        run_all_queues(rt, rt.alloc(), hasher, sizes)?;
+    }
+    Ok(())
+}
+
+/// What the command line asks for.
+fn run_words(rt: &HostRuntime, hasher: RandomState, words: &[String]) -> anyhow::Result<()> {
+    let place = word(words, 2, ":memory:");
+    match word(words, 1, "") {
+        "fill" => run_waiting(rt, hasher, place, Some(waiting_of(words)?)),
+        "drain" => run_waiting(rt, hasher, place, None),
+        "" => {
+            run_batches(rt, hasher, words)?;
+            run_waiting(rt, hasher, place, Some(waiting_of(words)?))
+        }
+        _ => run_batches(rt, hasher, words),
+    }
+}
+
 fn main(rt: HostRuntime) -> anyhow::Result<()> {
     let hasher = RandomState::new(&rt)?;
     let words: Vec<String> = env::args(&rt)?.collect(rt.alloc())?;
-    let sizes = sizes_of(&words);
+    let ran = run_words(&rt, hasher, words.as_slice());
     drop(words);
-    let sizes = sizes?;
-    if sizes.batches > 0 {
-        run_all(&rt, rt.alloc(), hasher, sizes)?;
-    }
-    if sizes.returns > 0 {
-        run_all_returns(&rt, rt.alloc(), hasher, sizes)?;
-    }
-    if sizes.answers > 0 {
-        run_all_queues(&rt, rt.alloc(), hasher, sizes)?;
-    }
-    Ok(())
+    ran
 }

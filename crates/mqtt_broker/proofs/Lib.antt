@@ -9,3 +9,4 @@ pub mod Opened
 pub mod FirstPackets
 pub mod HeldBytes
 pub mod Lent
+pub mod Looked

@@ -12,6 +12,7 @@ use Rattle.mqtt_broker_engine.specs.Running.{Running}
 use Rattle.mqtt_broker_engine.specs.Opening.{IsOpened}
 use Rattle.mqtt_broker.specs.Serving.{IsOfLines}
 use Rattle.mqtt_broker.proofs.Left.{moment_lines, numbers_all}
+use Rattle.mqtt_broker.proofs.Serving.{of_lines_kept}
 use Rattle.mqtt_broker.proofs.Unlinked.{un_opening}
 
 -- of a broker that was just opened no line is linked
@@ -29,4 +30,6 @@ of_lines_opened limits now r new o =
 
 -- so it is where an engine begins
 pub of_lines_begun : {K : Type 0} (g : Ghosts K) (limits : Limits) (now : ℕ) (keep : K) (engine : Running K) (held : List HeldLine) → held ≡ [] → IsOpened g limits now keep engine → IsOfLines held engine.broker
-of_lines_begun g limits now keep engine held none o = subst (λ (hs : List HeldLine). IsOfLines hs engine.broker) (sym none) (of_lines_opened limits now o.records engine.broker o.opening)
+of_lines_begun g limits now keep engine held none o =
+    subst (λ (hs : List HeldLine). IsOfLines hs engine.broker) (sym none)
+    (of_lines_kept [] o.after engine.broker o.lines (of_lines_opened limits now o.records o.after o.opening))

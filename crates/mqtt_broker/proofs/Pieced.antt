@@ -1,5 +1,5 @@
 -- What the first bytes of a line ask, done by the engine, is the step of a piece.
-use Rattle.std.proofs.Common.{◌≡◌, ℕ, ◌<◌, ◌≤◌, Bool, true, false, cond, List, [], ◌∷◌, length, Option, Some, None, refl, sym, ap, subst, ◌∙◌, inl}
+use Rattle.std.proofs.Common.{◌≡◌, ℕ, ◌<◌, ◌≤◌, Bool, true, false, cond, List, [], ◌∷◌, length, Option, Some, None, refl, sym, ap, subst, ◌∙◌, ◌⊎◌, inl}
 use Rattle.std.specs.Prelude.{◌≢◌, ◌&&◌, Result, Ok, Err, IsErrOf, is_some, map, suc}
 use Rattle.mqtt_codec_parts.specs.Faults.{answer_to}
 use Rattle.mqtt_packet.specs.Front.{first_of}
@@ -302,7 +302,8 @@ module _ {K : Type 0} (g : Ghosts K) (now line : ℕ) (piece : List ℕ) (old ne
     spent_if None error h sound e = absurd (no_other error h.memory.0 e)
     spent_if (Some c) error h sound e = (h.truly sound).spent e
 
-    stopped_if : (call : Option Call) (error : EngineError) → CalledIf g now call old (Err error) new → IsErrOf {T = Outcome} (Err error) Stopped → (new.stopped ≡ true) × (g.counted new.keep ≢ g.counted old.keep)
+    stopped_if : (call : Option Call) (error : EngineError) → CalledIf g now call old (Err error) new → IsErrOf {T = Outcome} (Err error) Stopped
+        → (new.stopped ≡ true) × ((g.counted new.keep ≢ g.counted old.keep) ⊎ (g.is_sound new.keep → ⊥))
     stopped_if None error h e = absurd (no_stop error h.memory.0 e)
     stopped_if (Some c) error h e = (h.stopped e, h.cause e running)
 

@@ -1,5 +1,5 @@
 -- What calls of the engine make of the lines and of what they hold.
-use Rattle.std.proofs.Common.{◌≡◌, ℕ, suc, true, false, List, Option, Some, None, map, refl, sym, ap, subst, ◌∙◌, inl}
+use Rattle.std.proofs.Common.{◌≡◌, ℕ, suc, true, false, List, Option, Some, None, map, refl, sym, ap, subst, ◌∙◌, arith, inl}
 use Rattle.std.specs.Prelude.{Result, Ok, Err, IfOk, OnErr, IsErrOf, is_some}
 use Rattle.mqtt_records.specs.declared.keep.Keep.{Ghosts}
 use Rattle.mqtt_records.specs.declared.records.Records.{Records}
@@ -9,6 +9,7 @@ use Rattle.mqtt_rules.specs.State.{Broker, Line, line_at}
 use Rattle.mqtt_rules.specs.Step.{Call, at_moment, nothing_told}
 use Rattle.mqtt_broker_step.specs.declared.call.EngineError.{EngineError}
 use Rattle.mqtt_broker_step.specs.declared.call.EngineError.TheVariants.{Stopped, Spent}
+use Rattle.mqtt_broker_hand.specs.Reading.{AskedAtMost}
 use Rattle.mqtt_broker.specs.Framers.{HeldLine, line_of}
 use Rattle.mqtt_broker_engine.specs.declared.outcome.Outcome.{Outcome}
 use Rattle.mqtt_broker_engine.specs.Calling.{Called, IsOn, KeepsLines, Tells}
@@ -100,3 +101,9 @@ of_lines_called g now call old new held rest (Ok out) is h ok err lines =
     (of_lines_step old.limits a.before now call a.answered.told a.after held is a.answered.step (of_lines_kept held old.broker a.before a.begins lines)))
 of_lines_called g now call old new held rest (Err e) is h ok err lines =
     subst (λ (hs : List HeldLine). IsOfLines hs new.broker) (sym err) (of_lines_kept held old.broker new.broker h.lines lines)
+
+-- ---- how often the store is asked
+
+-- a store that stays as it is wasn't asked
+pub asked_never : {K : Type 0} (count : K → ℕ) (limit : ℕ) (old new : K) → new ≡ old → AskedAtMost limit (count old) (count new)
+asked_never count limit old new same = (0, omega arith, ap count same)

@@ -1,5 +1,5 @@
 -- A piece: bytes come on a line, and the first packet, or fault, that is whole is answered (MQTT 5.0, 2.1, 4.13).
-use Rattle.std.specs.Prelude.{◌≡◌, ◌≢◌, ℕ, true, false, List, Option, Some, None, Result, IfOk, OnOk, OnErr, IsErrOf}
+use Rattle.std.specs.Prelude.{◌≡◌, ◌≢◌, ◌⊎◌, ℕ, true, false, List, Option, Some, None, Result, IfOk, OnOk, OnErr, IsErrOf}
 use Rattle.mqtt_records.specs.declared.keep.Keep.{Ghosts}
 use Rattle.mqtt_records.specs.declared.records.Records.{Records}
 use Rattle.mqtt_rules.specs.declared.Limits.{Limits}
@@ -77,9 +77,10 @@ pub record PieceCalled {K : Type 0} (g : Ghosts K) (now line : ℕ) (piece : Lis
   pub kept : OnErr result (new.held ≡ old.held)
   pub runs : (IsErrOf result Stopped → ⊥) → new.running.stopped ≡ false
   pub limits : new.running.limits ≡ old.running.limits
-  -- it stops if the store counted a failure, and stays stopped
+  -- it stops if the store counted a failure, or what it tells of a copy isn't what was stored; and stays stopped
   pub stopped : IsErrOf result Stopped → new.running.stopped ≡ true
-  pub cause : IsErrOf result Stopped → old.running.stopped ≡ false → g.counted new.running.keep ≢ g.counted old.running.keep
+  pub cause : IsErrOf result Stopped → old.running.stopped ≡ false
+      → (g.counted new.running.keep ≢ g.counted old.running.keep) ⊎ (g.is_sound new.running.keep → ⊥)
   pub still : old.running.stopped ≡ true → IsErrOf result Stopped × (new ≡ old)
   -- a device that is sound after the call was sound before it
   pub sound : g.is_sound new.running.keep → g.is_sound old.running.keep

@@ -31,6 +31,7 @@ pub(crate) fn pass_over<K: Keep>(
     ensures told { engine.old.stopped ≡ false → IsOkAnd result (λ out. Tells nothing_told out) }
     ensures lines { (held : List HeldLine) → IsOfLines held engine.old.broker
         → IsOfLines held engine.new.broker }
+    ensures keep { engine.new.keep ≡ engine.old.keep }
 {
     if engine.is_stopped() {
         return Err(EngineError::Stopped);

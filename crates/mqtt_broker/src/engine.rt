@@ -1,8 +1,10 @@
 //! The engine of the broker over a store, with the bytes of its lines (MQTT 5.0, 2.1, 4.1).
 ghost use Rattle.std.specs.Prelude.{◌≡◌, ◌≤◌, length, IfOk, option_copied};
+ghost use Rattle.mqtt_base.specs.declared.limits.TheConstants.{PUMP_LIMIT};
 ghost use Rattle.mqtt_rules.specs.Contents.{IsTaken};
 ghost use Rattle.mqtt_rules.specs.Step.{BrokerStep, Input, Lost, NewLine, Pump, Tick, copy_of, nothing_told};
 ghost use Rattle.mqtt_broker_step.specs.Doing.{next_line};
+ghost use Rattle.mqtt_broker_hand.specs.Reading.{AskedAtMost};
 ghost use Rattle.mqtt_broker.specs.Piece.{PieceCalled};
 ghost use Rattle.mqtt_broker.specs.Serving.{IsPassedOver, Served, with_linked};
 
@@ -66,8 +68,8 @@ impl<K: Keep> Engine<K> {
     /// Bytes come on a line: as many as fit are taken, and the first packet, or fault, that is whole is answered, at most
     /// one (2.1, 3, 4.13). `taken` says how many were taken, and `again` whether more is whole: give the rest on, and
     /// call again. On a line that isn't linked nothing is done, without memory. `Memory` (1) and `Spent` (3): nothing
-    /// changed, and no byte was taken. `Stopped` (2): the store has failed; no byte was taken, the same lines are linked,
-    /// and no more is said of the broker.
+    /// changed, and no byte was taken. `Stopped` (2): the store has failed, or told what wasn't stored; no byte was taken,
+    /// the same lines are linked, and no more is said of the broker.
     pub fn piece(&mut self, line: u64, piece: &[u8], moment: u64) -> Result<Outcome, EngineError>
         ensures called { PieceCalled K.Keep moment line piece.now self.old result self.new }
         ensures within { IfOk result (λ out. out.taken ≤ length piece.now) }
@@ -112,9 +114,12 @@ impl<K: Keep> Engine<K> {
     }
 
     /// A turn of sending: what waits for the session of a line goes out, up to 16 PUBLISH (4.6, 4.9); `again` says whether
-    /// more may be there. On a line that isn't linked nothing is done, without memory. Refusals are those of `piece`.
+    /// more may be there. The store is asked for contents at most 16 times. On a line that isn't linked nothing is done,
+    /// without memory. Refusals are those of `piece`.
     pub fn pump(&mut self, line: u64, moment: u64) -> Result<Outcome, EngineError>
         ensures called { Served K.Keep moment (Pump line) self.old result self.new }
+        ensures reads { AskedAtMost PUMP_LIMIT (K.read_so_far self.old.running.keep)
+            (K.read_so_far self.new.running.keep) }
         ensures unlinked { IsPassedOver line self.old result }
     {
         if !self.framers.has(line) {
@@ -154,6 +159,13 @@ impl<K: Keep> Engine<K> {
         ensures { result ≡ K.counted self.now.running.keep }
     {
         self.inner.failures()
+    }
+
+    /// How often its store was asked for what copies say, modulo 2^64. Takes no memory.
+    pub fn reads(&self) -> u64
+        ensures { result ≡ K.read_so_far self.now.running.keep }
+    {
+        self.inner.reads()
     }
 
     /// Gives the store back. Takes no memory.

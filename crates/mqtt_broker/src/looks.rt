@@ -15,6 +15,7 @@ impl<K: Keep> Engine<K> {
     }
 
     /// Whether a further line may be linked: fewer than 64 stand, and fewer than 2^62 were linked (ours). Takes no memory.
+    #[tactic(auto, using(crate::proofs::Looked::links_same))]
     pub fn may_link(&self) -> bool
         ensures { result ≡ can_link self.now.running.broker }
     {
@@ -34,6 +35,7 @@ impl<K: Keep> Engine<K> {
     }
 
     /// How many sessions stand. Takes no memory.
+    #[tactic(auto, using(crate::proofs::Looked::sessions_long))]
     pub fn sessions_len(&self) -> usize
         ensures { result ≡ length self.now.running.broker.records.sessions }
     {
@@ -41,6 +43,7 @@ impl<K: Keep> Engine<K> {
     }
 
     /// The number of the last session that began: from 1, in the order in which they did. Takes no memory.
+    #[tactic(auto, using(crate::proofs::Looked::births_same))]
     pub fn births(&self) -> u64
         ensures { result ≡ self.now.running.broker.records.births }
     {
@@ -48,6 +51,7 @@ impl<K: Keep> Engine<K> {
     }
 
     /// The number of the last publication that was accepted: from 1, in the order in which they were. Takes no memory.
+    #[tactic(auto, using(crate::proofs::Looked::publications_same))]
     pub fn publications(&self) -> u64
         ensures { result ≡ self.now.running.broker.records.publications }
     {

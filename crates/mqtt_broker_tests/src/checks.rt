@@ -1,6 +1,7 @@
 //! All that is asked of the broker over stores in memory, in SQL, and over stores whose device fails (MQTT 5.0, 2.1, 3, 4).
 
 use crate::costly::judge_costly;
+use crate::drained::judge_drained;
 use crate::judging::{How, judge_all};
 use crate::scripts::{clients, closing, filters, publishing, receiving, refusing, turning};
 use crate::sql::judge_spent;
@@ -35,6 +36,8 @@ pub enum What {
     Frames,
     /// Whether a SUBSCRIBE of 64 KB gets all that is retained for each of its filters.
     Costly,
+    /// Whether a queue of a thousand copies is drained sixteen at a time, with a question to the store for each 64.
+    Drained,
 }
 
 /// Scripts that are short enough to be played once for each of their growths.
@@ -89,6 +92,7 @@ fn judge_what(
         What::Wanting => judge_subjects(wrong, alloc, hasher, How::Twice(SHORT)),
         What::Frames => judge_sweeps(wrong, script, alloc, hasher),
         What::Costly => judge_costly(wrong, script, alloc, hasher),
+        What::Drained => judge_drained(wrong, alloc, hasher),
     }
 }
 

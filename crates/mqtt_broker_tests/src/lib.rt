@@ -9,6 +9,8 @@ mod checks;
 #[cfg(test)]
 mod costly;
 #[cfg(test)]
+mod drained;
+#[cfg(test)]
 mod engine;
 #[cfg(test)]
 mod faults;

@@ -67,3 +67,9 @@ fn a_subscribe_of_64_kilobytes_gets_all_that_is_retained_for_each_filter(
     let hasher = RandomState::new(&rt)?;
     check(rt.alloc(), hasher, What::Costly)
 }
+
+#[test]
+fn a_queue_of_a_thousand_copies_is_drained_sixteen_at_a_time(rt: HostRuntime) -> Result<(), Fail> {
+    let hasher = RandomState::new(&rt)?;
+    check(rt.alloc(), hasher, What::Drained)
+}

@@ -175,7 +175,7 @@ module _ {K : Type 0} (g : Ghosts K) where
           let same : h.from ≡ starts.at = ok_is w.stage h.from starts.at h.was starts.stage in
           let came = has_come h.from h.was (h.runs.sound sound) in
           let limits_are : h.from.limits ≡ limits = ap (λ (s : Staged K). s.limits) same ∙ starts.limits_are in
-          let world_is : world_at h.from ≡ begun = ap (λ (s : Staged K). world_at s) same ∙ starts.world in
+          let world_is : world_at h.from ≡ begun = ap (λ (s : Staged K). world_at s) same ∙ starts.world (from_sound es ts new h sound) in
           subst (λ (x : World). RunsTo limits es ts x (world_at h.to)) world_is
           (subst (λ (l : Limits). RunsTo l es ts (world_at h.from) (world_at h.to)) limits_are (h.runs.runs sound came.reached came.knowing))
 

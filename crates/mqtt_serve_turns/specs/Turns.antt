@@ -6,8 +6,10 @@ use Rattle.mqtt_records.specs.declared.keep.Keep.{Ghosts}
 use Rattle.mqtt_records.specs.declared.records.Records.{Records}
 use Rattle.mqtt_broker_step.specs.declared.call.EngineError.{EngineError}
 use Rattle.mqtt_broker_step.specs.declared.call.EngineError.TheVariants.{Memory, Stopped, Spent}
+use Rattle.mqtt_broker_engine.specs.Calling.{KeepsLines}
 use Rattle.mqtt_broker_engine.specs.declared.outcome.Outcome.{Outcome}
 use Rattle.mqtt_rules.specs.declared.Limits.{Limits}
+use Rattle.mqtt_rules.specs.State.{Broker}
 use Rattle.mqtt_rules.specs.Step.{BrokerOpening, BrokerStep, NewLine, Lost, Pump, Tick, nothing_told}
 use Rattle.mqtt_broker_step.specs.Doing.{next_line}
 use Rattle.mqtt_broker.specs.Piece.{PieceCalled}
@@ -304,9 +306,13 @@ pub record Begins {K : Type 0} (g : Ghosts K) (limits : Limits) (moment : ℕ) (
   -- what the store has, and such as a crash of it may leave; of a device that lied nothing is said
   pub exact : (held : Records) → g.holds keep held → g.is_sound start.running.keep → records ≡ held
   pub found : g.is_sound start.running.keep → g.leaves keep records
-  pub opening : BrokerOpening limits records moment start.running.broker
+  -- the opening, with whose lines it begins; and with all of it, if the device returned what was written
+  pub after : Broker
+  pub opening : BrokerOpening limits records moment after
+  pub lines : KeepsLines after start.running.broker
+  pub whole : g.is_sound start.running.keep → start.running.broker ≡ after
   pub limits_are : start.running.limits ≡ limits
-  pub holds : g.holds start.running.keep start.running.broker.records
+  pub holds : g.is_sound start.running.keep → g.holds start.running.keep start.running.broker.records
   pub silent : start.held ≡ []
 
 -- an engine runs so many turns over a link that has no connection yet

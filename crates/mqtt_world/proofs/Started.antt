@@ -1,22 +1,20 @@
 -- A world that begins, from what the opening of its broker is (MQTT 5.0, 4.1).
-use Rattle.std.proofs.Common.{◌≡◌, ℕ, List, [], ◌∷◌, refl, sym, ap, subst, ◌∙◌}
+use Rattle.std.proofs.Common.{◌≡◌, ℕ, List, [], refl, sym, ap, subst, ◌∙◌}
 use Rattle.std.specs.Prelude.{Ok}
-use Rattle.std.specs.List.{AllByRecursion}
-use Rattle.mqtt_topic.specs.Names.{IsTopicName}
 use Rattle.mqtt_records_lawful.specs.Lawful.{IsLawful}
 use Rattle.mqtt_records.specs.declared.keep.Keep.{Ghosts}
 use Rattle.mqtt_records.specs.declared.records.Records.{Records}
 use Rattle.mqtt_world_model.specs.World.{Stranger, World}
 use Rattle.mqtt_script.specs.declared.event.Event.{Event}
-use Rattle.mqtt_rules_granting_laws.specs.Naming.{HasNames, NamesTopics, StoresPassedOn}
-use Rattle.mqtt_rules_granting_laws.proofs.Steps.{stored_named}
+use Rattle.mqtt_rules_granting_laws.specs.Naming.{NamesTopics, StoresPassedOn}
+use Rattle.mqtt_rules_granting_laws.proofs.Steps.{opening_named, stored_named}
 use Rattle.mqtt_rules_spelling_laws.specs.Sending.{HaveSentPhases}
 use Rattle.mqtt_rules_spelling_laws.proofs.Steps.{well_begun}
 use Rattle.mqtt_world_acceptance_laws.specs.Fair.{opened_world}
 use Rattle.mqtt_world_reading_laws.specs.UnderWay.{IsUninhabited}
-use Rattle.mqtt_rules.specs.Contents.{AreContentsLawful, HasTopics, IsTopic}
+use Rattle.mqtt_rules.proofs.contents.LawfulContents.{lawful_contents}
 use Rattle.mqtt_rules.specs.Laws.{AreWithin}
-use Rattle.mqtt_rules.specs.State.{Broker, Line, MemberChoice}
+use Rattle.mqtt_rules.specs.State.{Broker, MemberChoice}
 use Rattle.mqtt_rules.specs.Step.{opened}
 use Rattle.mqtt_rules.specs.declared.Limits.{Limits}
 use Rattle.mqtt_world_clients.specs.Ends.{Ends}
@@ -26,24 +24,12 @@ use Rattle.mqtt_world_knowing_laws.specs.Knowing.{HasKnowingEnds}
 use Rattle.mqtt_world_knowing_laws.proofs.Calls.{opened_untold}
 use Rattle.mqtt_world_telling_laws.proofs.Given.{opening_numbered}
 use Rattle.mqtt_world_scene.specs.Scenes.{Played}
-use Rattle.mqtt_world.specs.Stages.{IsStanding}
+use Rattle.mqtt_world.specs.Stages.{IsSoundAt, IsStanding, Staged}
 use Rattle.mqtt_world.specs.Worlds.{Came, Starts}
 use Rattle.mqtt_world.proofs.Course.{ok_is}
 use Rattle.mqtt_world.proofs.Staged.{staged}
 
 -- ---- what is stored names its topics, so ends know what they will be told
-
-topics_named : (es : List (ℕ × List ℕ)) → AllByRecursion (λ e. IsTopic e.1) es → AllByRecursion (λ e. IsTopicName e.1) es
-topics_named [] h = tt
-topics_named (e ∷ es) h = (h.0.name, topics_named es h.1)
-
-lines_named : (ls : List Line) → AllByRecursion HasTopics ls → AllByRecursion HasNames ls
-lines_named [] h = tt
-lines_named (l ∷ ls) h = (topics_named l.aliases.topics h.0, lines_named ls h.1)
-
--- lawful contents do, whose properties were passed on
-names_topics : (b : Broker) → AreContentsLawful b → StoresPassedOn b.records → NamesTopics b
-names_topics b h passed = record { stored = stored_named b.records h.stored passed; lines = lines_named b.lines h.lines }
 
 knowing_first : (limits : Limits) (choice : MemberChoice) (now : ℕ) (r : Records) → NamesTopics (opened limits choice now r)
     → HasKnowingEnds (opened_world limits choice now r)
@@ -62,21 +48,21 @@ knowing_first limits choice now r named = record {
 -- ---- a beginning
 
 module _ {K : Type 0} (g : Ghosts K) (limits : Limits) (r : Records) (s : Played K) where
-  world_began : (o : Opens g limits 0 r s) → s.ends ≡ no_ends → world_of 0 [] s ≡ opened_world limits o.choice 0 r
-  world_began o none =
+  world_began : (o : Opens g limits 0 r s) → s.ends ≡ no_ends → g.is_sound s.engine.running.keep → world_of 0 [] s ≡ opened_world limits o.choice 0 r
+  world_began o none sound =
       let at : Broker → Ends → World = λ b e. record { broker = b; now = 0; publishers = e.publishers; receivers = e.receivers; strangers = [] } in
-      ap (λ (b : Broker). at b s.ends) o.broker ∙ ap (at (opened limits o.choice 0 r)) none
+      ap (λ (b : Broker). at b s.ends) (o.broker sound) ∙ ap (at (opened limits o.choice 0 r)) none
 
-  came_first : (events : List Event) (o : Opens g limits 0 r s) → s.ends ≡ no_ends → events ≡ [] → AreWithin limits → IsLawful r → HaveSentPhases r
-      → StoresPassedOn s.engine.running.broker.records → Came (opened_world limits o.choice 0 r) events (staged s [] 0 limits)
-  came_first events o none nothing within lawful phases passed =
+  came_first : (events : List Event) (o : Opens g limits 0 r s) → s.ends ≡ no_ends → g.is_sound s.engine.running.keep → events ≡ [] → AreWithin limits → IsLawful r
+      → HaveSentPhases r → StoresPassedOn r → Came (opened_world limits o.choice 0 r) events (staged s [] 0 limits)
+  came_first events o none sound nothing within lawful phases passed =
       subst (λ (es : List Event). Came (opened_world limits o.choice 0 r) es (staged s [] 0 limits)) (sym nothing) (record {
         within = within;
-        reached = subst (IsReached limits) (sym o.broker) (opens o.choice 0 r lawful phases o.unspent);
-        knowing = subst HasKnowingEnds (sym (world_began o none)) (knowing_first limits o.choice 0 r (names_topics (opened limits o.choice 0 r)
-            (well_begun limits o.choice 0 r o.unspent lawful phases).contents (subst (λ (b : Broker). StoresPassedOn b.records) o.broker passed)));
+        reached = subst (IsReached limits) (sym (o.broker sound)) (opens o.choice 0 r lawful phases o.unspent);
+        knowing = subst HasKnowingEnds (sym (world_began o none sound))
+            (knowing_first limits o.choice 0 r (opening_named limits o.choice 0 r (stored_named r (lawful_contents r lawful) passed)));
         tells = [];
-        runs = (refl, world_began o none);
+        runs = (refl, world_began o none sound);
       })
 
 -- nobody is there where a broker was opened
@@ -88,9 +74,16 @@ module _ {K : Type 0} (g : Ghosts K) (limits : Limits) (keep : K) (s : Played K)
   pub begun_stands : AreWithin limits → (b : Begins g limits 0 keep s) → IsStanding g (staged s [] 0 limits)
   begun_stands within b = record { playable = b.opens.playable; limits = sym b.opens.limits_are; within = within }
 
-  starts : (events : List Event) → AreWithin limits → Begins g limits 0 keep s → StoresPassedOn s.engine.running.broker.records → events ≡ []
+  nobody_there : s.ends ≡ no_ends → IsUninhabited (world_of 0 [] s)
+  nobody_there none = record {
+    publishers = ap (λ (e : Ends). e.publishers) none;
+    receivers = ap (λ (e : Ends). e.receivers) none;
+    strangers = refl;
+  }
+
+  starts : (events : List Event) → AreWithin limits → Begins g limits 0 keep s → events ≡ []
       → Starts g limits keep (record { stage = Ok (staged s [] 0 limits); events = events })
-  starts events within b passed nothing = record {
+  starts events within b nothing = record {
     loaded = b.loaded;
     records = b.records;
     load = b.load;
@@ -101,11 +94,14 @@ module _ {K : Type 0} (g : Ghosts K) (limits : Limits) (keep : K) (s : Played K)
     sound = b.sound;
     stage = refl;
     limits_are = refl;
+    now = refl;
+    nobody = nobody_there b.ends;
     world = world_began g limits b.records s b.opens b.ends;
     events = nothing;
     comes = λ phases t is sound.
-        subst (Came (opened_world limits b.opens.choice 0 b.records) events) (ok_is (Ok (staged s [] 0 limits)) (staged s [] 0 limits) t refl is)
-        (came_first g limits b.records s events b.opens b.ends nothing within b.lawful phases passed);
+        let at : staged s [] 0 limits ≡ t = ok_is (Ok (staged s [] 0 limits)) (staged s [] 0 limits) t refl is in
+        subst (Came (opened_world limits b.opens.choice 0 b.records) events) at
+        (came_first g limits b.records s events b.opens b.ends (subst (λ (x : Staged K). IsSoundAt g x) (sym at) sound) nothing within b.lawful phases b.passed);
     alone = alone_at_first limits b.opens.choice 0 b.records;
     sends = λ phases. well_begun limits b.opens.choice 0 b.records b.opens.unspent b.lawful phases;
   }
@@ -116,7 +112,7 @@ module _ {K : Type 0} (g : Ghosts K) (limits : Limits) (keep : K) (s : Played K)
 
   -- an opening on lawful records starts a world, if there is no stranger yet and no event has happened
   pub starts_in : (ss : List Stranger) (events : List Event) → ss ≡ [] → events ≡ [] → AreWithin limits → Begins g limits 0 keep s
-      → StoresPassedOn s.engine.running.broker.records → Starts g limits keep (record { stage = Ok (staged s ss 0 limits); events = events })
-  starts_in ss events nobody nothing within b passed =
+      → Starts g limits keep (record { stage = Ok (staged s ss 0 limits); events = events })
+  starts_in ss events nobody nothing within b =
       subst (λ (xs : List Stranger). Starts g limits keep (record { stage = Ok (staged s xs 0 limits); events = events })) (sym nobody)
-      (starts events within b passed nothing)
+      (starts events within b nothing)

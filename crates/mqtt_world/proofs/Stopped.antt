@@ -65,7 +65,7 @@ module _ {K : Type 0} (g : Ghosts K) (now : ℕ) (limits : Limits) (old new : Pl
       → IsReached limits old.engine.running.broker → IsReached limits new.engine.running.broker
   reached_again r sound reached =
       let o = r.opens sound in
-      subst (IsReached limits) (sym o.broker) (opens_again o.choice now old.engine.running.broker reached o.unspent)
+      subst (IsReached limits) (sym (o.broker sound)) (opens_again o.choice now old.engine.running.broker reached o.unspent)
 
   -- if the broker is opened again on a sound device, so is its world, in which no stranger has a line
   pub reopened : (ss : List Stranger) → Reopens g limits now old new → g.is_sound new.engine.running.keep
@@ -77,6 +77,6 @@ module _ {K : Type 0} (g : Ghosts K) (now : ℕ) (limits : Limits) (old new : Pl
       record {
         choice = o.choice;
         unspent = o.unspent;
-        is = ap (λ (b : Broker). stands b new.ends) o.broker
+        is = ap (λ (b : Broker). stands b new.ends) (o.broker sound)
             ∙ ap (stands (opened limits o.choice now old.engine.running.broker.records)) r.ends;
       }

@@ -169,7 +169,8 @@ TellsFirstBad {K} g start es answer old new = (from to : Staged K) → old.stage
 
 -- ---- how a world begins
 
--- it begins at moment 0 with an opening of lawful records that the store's load answered, without ends or strangers
+-- it begins at moment 0 with an opening of lawful records that the store's load answered, without ends or strangers; it is the
+-- definitions' world, if the device of its store is sound
 pub record Starts {K : Type 0} (g : Ghosts K) (limits : Limits) (keep : K) (w : Lasting K) : Type 0 where
   pub loaded : K
   pub records : Records
@@ -181,7 +182,9 @@ pub record Starts {K : Type 0} (g : Ghosts K) (limits : Limits) (keep : K) (w : 
   pub sound : IsSoundAt g at → g.is_sound loaded
   pub stage : w.stage ≡ Ok at
   pub limits_are : at.limits ≡ limits
-  pub world : world_at at ≡ opened_world limits choice 0 records
+  pub now : at.now ≡ 0
+  pub nobody : IsUninhabited (world_at at)
+  pub world : IsSoundAt g at → world_at at ≡ opened_world limits choice 0 records
   pub events : w.events ≡ []
   -- its runs have all that is proved of every run, if what was in flight has identifiers of two bytes (2.2.1)
   pub comes : HaveSentPhases records → HasCome g (opened_world limits choice 0 records) w

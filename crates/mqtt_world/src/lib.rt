@@ -6,7 +6,6 @@ mod draining;
 mod drains;
 mod kept;
 mod looks;
-mod passed;
 mod playing;
 mod stage;
 mod stopping;

@@ -13,7 +13,6 @@ ghost use Rattle.mqtt_world_scene.specs.declared.over.Over.{Over as Why};
 ghost use Rattle.mqtt_world_scene.specs.declared.over.Over.TheVariants as over;
 
 use crate::kept::Kept;
-use crate::passed::scene_passes_on;
 use crate::stage::Stage;
 use mqtt_records::Keep;
 use mqtt_rules::Limits;
@@ -74,21 +73,18 @@ impl<K: Keep> World<K> {
         ensures refused { IfErr result (IsNoStart K.Keep limits 0 keep) }
     {
         match Scene::open(alloc, keep, 0, limits, hasher) {
-            Ok(scene) => {
-                scene_passes_on(&scene);
-                Ok(World {
+            Ok(scene) => Ok(World {
+                alloc,
+                stage: Ok(Stage {
+                    scene,
+                    strangers: Strangers::new(alloc),
+                    now: 0,
+                    limits,
+                    hasher,
                     alloc,
-                    stage: Ok(Stage {
-                        scene,
-                        strangers: Strangers::new(alloc),
-                        now: 0,
-                        limits,
-                        hasher,
-                        alloc,
-                    }),
-                    events: Kept::new(alloc),
-                })
-            }
+                }),
+                events: Kept::new(alloc),
+            }),
             Err(over) => {
                 let fault = over.fault();
                 drop(over);

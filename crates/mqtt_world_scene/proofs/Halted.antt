@@ -38,12 +38,18 @@ module _ {K : Type 0} (g : Ghosts K) where
   abbrev scene_of : Serving K → Ends → Played K
   scene_of engine ends = record { engine = engine; ends = ends }
 
+  -- a store that failed is a cause; of one whose device isn't sound nothing is said, so any call will do
+  stopped_due : (s : Played K) (left : K) (now : ℕ) → IsPlayable g s
+      → (g.counted left ≢ g.counted s.engine.running.keep) ⊎ (g.is_sound left → ⊥) → IsStoreDue g
+  stopped_due s left now playable (inl failed) = store_failed s left playable failed
+  stopped_due s left now playable (inr lied) = numbers_spent s left now Tick playable (λ sound. absurd (lied sound))
+
   -- ---- a call of the broker
 
   call_due_at : (s : Played K) (now : ℕ) (call : Call) (error : EngineError) (mid : Serving K) → IsPlayable g s
       → Served g now call s.engine (Err error) mid → IsErrorDue g error
   call_due_at s now call Memory mid playable served = tt
-  call_due_at s now call Stopped mid playable served = store_failed s mid.running.keep playable (served.called.cause refl playable.runs)
+  call_due_at s now call Stopped mid playable served = stopped_due s mid.running.keep now playable (served.called.cause refl playable.runs)
   call_due_at s now call Spent mid playable served =
       numbers_spent s mid.running.keep now call playable (λ sound. (served.called.truly sound).spent refl)
 
@@ -65,7 +71,7 @@ module _ {K : Type 0} (g : Ghosts K) where
   piece_due_at : (s : Played K) (now line : ℕ) (piece : List ℕ) (error : EngineError) (mid : Serving K) → IsPlayable g s
       → PieceCalled g now line piece s.engine (Err error) mid → IsErrorDue g error
   piece_due_at s now line piece Memory mid playable called = tt
-  piece_due_at s now line piece Stopped mid playable called = store_failed s mid.running.keep playable (called.cause refl playable.runs)
+  piece_due_at s now line piece Stopped mid playable called = stopped_due s mid.running.keep now playable (called.cause refl playable.runs)
   piece_due_at s now line piece Spent mid playable called =
       spent_due s mid.running.keep now (call_by line piece s.engine) playable (λ sound. (called.truly sound).spent refl)
 

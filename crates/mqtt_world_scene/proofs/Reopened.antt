@@ -42,9 +42,9 @@ opens g limits now keep s o none =
     record {
       choice = choice;
       unspent = sym (spent_capped limits choice now o.records) ∙ o.opening.unspent;
-      broker = o.opening.new_is ∙ opened_capped limits choice now o.records;
+      broker = λ sound. o.whole sound ∙ o.opening.new_is ∙ opened_capped limits choice now o.records;
       limits_are = o.limits_are;
-      playable = record { runs = o.runs; stored = λ sound. o.holds; clear = subst HoldNone (sym none) tt };
+      playable = record { runs = o.runs; stored = o.holds; clear = subst HoldNone (sym none) tt };
     }
 
 at_moment_of : {K E : Type 0} (g : Ghosts K) (limits : Limits) (now moment : ℕ) (keep : K) (engine : Serving K)
@@ -73,6 +73,7 @@ begins g limits now moment keep engine ends result moment_is is begun held none 
       load = o.load;
       sound = o.sound;
       lawful = o.lawful;
+      passed = o.passed;
       opens = opens g limits now keep (record { engine = engine; ends = ends }) o (none_held engine result is held);
       ends = none;
     }

@@ -5,17 +5,19 @@ use Rattle.mqtt_records.specs.declared.keep.Keep.{Ghosts}
 use Rattle.mqtt_records.specs.declared.records.Records.{Records}
 use Rattle.mqtt_broker_engine.specs.Opening.{IsLoad}
 use Rattle.mqtt_world_model.specs.World.{publisher_restarted, receiver_restarted}
+use Rattle.mqtt_rules_granting_laws.specs.Naming.{StoresPassedOn}
 use Rattle.mqtt_rules.specs.State.{MemberChoice}
 use Rattle.mqtt_rules.specs.Step.{is_opening_spent, opened}
 use Rattle.mqtt_rules.specs.declared.Limits.{Limits}
 use Rattle.mqtt_world_clients.specs.Ends.{Ends}
 use Rattle.mqtt_world_scene.specs.Scenes.{IsPlayable, Played, WasSound}
 
--- the broker begins with an opening of these records, for some choice of members, that spends no number
+-- a broker is opened on these records, for some choice of members, and that spends no number; it is what that opening leaves, while
+-- the device of its store returns what was written
 pub record Opens {K : Type 0} (g : Ghosts K) (limits : Limits) (now : ℕ) (r : Records) (s : Played K) : Type 0 where
   pub choice : MemberChoice
   pub unspent : is_opening_spent limits choice now r ≡ false
-  pub broker : s.engine.running.broker ≡ opened limits choice now r
+  pub broker : g.is_sound s.engine.running.keep → s.engine.running.broker ≡ opened limits choice now r
   pub limits_are : s.engine.running.limits ≡ limits
   pub playable : IsPlayable g s
 
@@ -30,6 +32,7 @@ pub record Begins {K : Type 0} (g : Ghosts K) (limits : Limits) (now : ℕ) (kee
   pub load : IsLoad g keep records loaded
   pub sound : g.is_sound s.engine.running.keep → g.is_sound loaded
   pub lawful : IsLawful records
+  pub passed : StoresPassedOn records
   pub opens : Opens g limits now records s
   pub ends : s.ends ≡ no_ends
 

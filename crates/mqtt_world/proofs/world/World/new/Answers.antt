@@ -11,7 +11,7 @@ invariant_of-result g c =
 
 pub returns-in-Ok-clause-starts : goal.returns-in-Ok-clause-starts
 returns-in-Ok-clause-starts g c =
-    starts_in g.K.Keep c.args.limits c.args.keep c.in-Ok.scene c.new.result c.new-in-Ok.result c.new.ensures c.new-in-Ok.ensures c.requires.within c.in-Ok.ensures.begins c.scene_passes_on.ensures
+    starts_in g.K.Keep c.args.limits c.args.keep c.in-Ok.scene c.new.result c.new-in-Ok.result c.new.ensures c.new-in-Ok.ensures c.requires.within c.in-Ok.ensures.begins
 
 pub returns-in-Err-clause-refused : goal.returns-in-Err-clause-refused
 returns-in-Err-clause-refused g c =
