@@ -4,4 +4,3 @@ pub mod Kept
 pub mod Known
 pub mod Settled
 pub mod Spelled
-pub mod Further

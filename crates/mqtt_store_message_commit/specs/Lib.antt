@@ -1,4 +1,3 @@
 pub mod Parts
 pub mod Making
 pub mod Settled
-pub mod Together

@@ -4,6 +4,4 @@
 #[cfg(test)]
 mod changes;
 #[cfg(test)]
-mod receivers;
-#[cfg(test)]
 mod steps;

@@ -1,3 +1,0 @@
-pub mod Further
-pub mod InsertFour
-pub mod Pushed
