@@ -1,5 +1,5 @@
 -- Rows in the order of their keys: where a search ends, and what an edit there makes.
-use Rattle.std.proofs.Common.{◌≡◌, ℕ, ◌-◌, zero, suc, ◌<◌, ◌≤◌, Bool, true, false, not, ◌||◌, List, [], ◌∷◌, length, filter, map, get_or, nat_eq, nat_lt, ltb, insert, remove, refl, sym, ap, subst, ◌∙◌, arith, inl, inr, ◌⊎◌}
+use Rattle.std.proofs.Common.{◌≡◌, ℕ, ◌-◌, zero, suc, ◌<◌, ◌≤◌, Bool, true, false, not, ◌||◌, cond, List, [], ◌∷◌, length, filter, map, take, get_or, nat_eq, nat_lt, ltb, insert, remove, refl, sym, ap, subst, ◌∙◌, arith, inl, inr, ◌⊎◌}
 use Rattle.std.specs.Prelude.{Option, Some, None, Ok, Err, is_some, slice_get, slice_set}
 use Rattle.std.specs.List.{AllWithin}
 use Rattle.std.specs.List.Sorted.{IsNonDecreasingBy}
@@ -38,6 +38,26 @@ module _ {X : Type 0} (key : X → ℕ) where
   front_len_is k (x ∷ xs) (suc i) le low high =
       let here : ltb (key x) k ≡ true = low 0 x (omega arith) (omega arith) in
       rw here (ap suc (front_len_is k xs i (omega (arith, le)) (λ j d a b. low (suc j) d (omega arith) (omega (arith, b))) (λ j d a b. high (suc j) d (omega (arith, a)) (omega (arith, b)))))
+
+  -- rows in front are in order as all are
+  above_take : (n i : ℕ) (xs : List X) → IsAbove key n xs → IsAbove key n (take i xs)
+  above_take n zero xs up = tt
+  above_take n (suc i) [] up = tt
+  above_take n (suc i) (x ∷ xs) up = (up.0, above_take n i xs up.1)
+
+  pub ascending_take : (i : ℕ) (xs : List X) → IsAscending key xs → IsAscending key (take i xs)
+  ascending_take zero xs up = tt
+  ascending_take (suc i) [] up = tt
+  ascending_take (suc i) (x ∷ xs) up = (above_take (key x) i xs up.0, ascending_take i xs up.1)
+
+  -- a key that isn't above that of a row has its place before this row
+  pub front_take : (k i : ℕ) (xs : List X) (x : X) → slice_get xs i ≡ Some x → k ≤ key x → front_len key k (take i xs) ≡ front_len key k xs
+  front_take k i [] x there le = absurd cc
+  front_take k zero (y ∷ ys) x there le =
+      let it : y ≡ x = cc in
+      let above : k ≤ key y = subst (λ z. k ≤ key z) (sym it) le in
+      rw (le-ltb (key y) k above) refl
+  front_take k (suc i) (y ∷ ys) x there le = ap (λ n. cond (nat_lt (key y) k) (suc n) zero) (front_take k i ys x there le)
 
   -- ---- what stands where a search ends
 

@@ -1,6 +1,6 @@
 //! Lists of rows in the order of their keys.
 ghost use Rattle.std.specs.Prelude.{◌≡◌, ◌↔◌, ◌<◌, ◌≤◌, List, [], Option, IfOk, IsSomeAnd, IsTrue, false, option_copied, not};
-ghost use Rattle.std.specs.Prelude.{length, filter, map, slice_get, insert, option_and_then, bytes_eq, vec_len, vec_capacity};
+ghost use Rattle.std.specs.Prelude.{length, filter, map, take, slice_get, insert, option_and_then, bytes_eq, vec_len, vec_capacity};
 ghost use Rattle.mqtt_records_rows.specs.Order.{IsAscending, IsFound, front_len, last_row};
 ghost use Rattle.mqtt_records_rows.specs.Order.{row_at, has_row, put_row, remove_row, change_row};
 
@@ -8,12 +8,35 @@ use crate::row::{CloneRow, Editable, Fillable, Named, Parted, Row, Slimmable};
 use std::alloc::{AllocError, Global};
 use std::marker::Model;
 
+/// So many rows in front are looked at before all others: copies leave a queue there.
+const FRONT: usize = 32;
+
 /// How many rows have a lower key.
-fn place_of<R: Row>(rows: &[R], key: u64) -> usize
+fn place_in<R: Row>(rows: &[R], key: u64) -> usize
     requires { IsAscending R.key_of rows.now }
     ensures { result ≡ front_len R.key_of key rows.now }
 {
     rows.partition_point(|row| row.key() < key)
+}
+
+/// The first rows, so many. Takes no memory.
+fn first_rows<R>(rows: &[R], len: usize) -> &[R]
+    requires { len ≤ length rows.now }
+    ensures { result.now ≡ take len rows.now }
+{
+    &rows[..len]
+}
+
+/// How many rows have a lower key. What stands in front is found there.
+fn place_of<R: Row>(rows: &[R], key: u64) -> usize
+    requires { IsAscending R.key_of rows.now }
+    ensures { result ≡ front_len R.key_of key rows.now }
+{
+    if FRONT < rows.len() && key <= rows[FRONT].key() {
+        place_in(first_rows(rows, FRONT), key)
+    } else {
+        place_in(rows, key)
+    }
 }
 
 /// Where the row with the key stands, or where it would.

@@ -1,11 +1,17 @@
-use Rattle.std.proofs.Common.{rules, ltb}
-use Rattle.std.proofs.lemmas.List.Sorted.{IsPartitionPoint-from_clause, IsPartitionedBy-ltb}
-use Rattle.mqtt_records_rows.proofs.OrderLemmas.{ascending_rises, front_len_is}
+use Rattle.std.proofs.Common.{◌≤◌, length, refl, sym, ap, subst, ◌∙◌}
+use Rattle.std.proofs.lemmas.Option.{slice_get_read}
+use Rattle.mqtt_records_rows.specs.Order.{IsAscending, front_len}
+use Rattle.mqtt_records_rows.proofs.OrderLemmas.{ascending_take, front_take}
 use Rattle.mqtt_records_rows.proofs.rows.place_of.Goals as goal
 
-pub returns : goal.returns
-returns g c =
+pub place_in-requires : goal.place_in-requires
+place_in-requires g c = subst (IsAscending g.R.Row.key_of) (sym c.first_rows.ensures) (ascending_take g.R.Row.key_of 32 c.args.rows.now c.requires)
+
+pub returns-then-key : goal.returns-then-key
+returns-then-key g c =
     let key = g.R.Row.key_of in
-    let parted = IsPartitionedBy-ltb key _ c.args.key (ascending_rises key _ c.requires) in
-    let point = IsPartitionPoint-from_clause (λ row. ltb (key row) c.args.key) _ _ c.partition_point.ensures.partitioned parted (λ a r q k. search rules) in
-    front_len_is key c.args.key _ _ c.partition_point.ensures.bound point.0 point.1
+    let rows = c.args.rows.now in
+    let row = c.index-rows-32.result in
+    let there = slice_get_read rows (length rows) 32 row refl c.if-rows-gt-FRONT.true c.index-rows-32.is in
+    let within : c.args.key ≤ key row = subst (λ n. c.args.key ≤ n) c.key.ensures c.if-key.true in
+    c.place_in.ensures ∙ ap (front_len key c.args.key) c.first_rows.ensures ∙ front_take key c.args.key 32 rows row there within
