@@ -2,7 +2,7 @@
 use Rattle.std.proofs.Common.{◌≡◌, ℕ, Bool, true, false, List, Option, Some, None, refl, ap, sym, subst, ◌∙◌, inr}
 use Rattle.std.specs.Prelude.{Result, Err, ⊤}
 use Rattle.std.specs.List.{AllByRecursion}
-use Rattle.mqtt_records_message.specs.declared.content.CopyContent.{CopyContent}
+use Rattle.mqtt_records_message.specs.Content.{CopyContent}
 use Rattle.mqtt_records_message.specs.Filling.{Fillings}
 use Rattle.mqtt_records_rows.specs.Order.{IsAscending, row_at}
 use Rattle.mqtt_records.specs.declared.keep.Keep.{Ghosts}

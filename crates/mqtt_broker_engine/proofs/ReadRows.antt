@@ -6,7 +6,7 @@ use Rattle.std.proofs.lemmas.Bool.{cases_Bool, eqb-true}
 use Rattle.std.proofs.lemmas.Cmp.{nat_eq_equiv}
 use Rattle.mqtt_topic_aliases.specs.declared.sizes.OtherBytes.{OtherBytes}
 use Rattle.mqtt_flow.specs.declared.entry.QueuedCopy.{QueuedCopy}
-use Rattle.mqtt_records_message.specs.declared.content.CopyContent.{CopyContent}
+use Rattle.mqtt_records_message.specs.Content.{CopyContent}
 use Rattle.mqtt_records_message.specs.Filling.{Filling, Fillings, HasBytesOf, filled_with, said_by}
 use Rattle.mqtt_records_message.specs.Queue.{CopyRow, IsSpelled, identifier_len}
 use Rattle.mqtt_records_message.proofs.Filling.{said_slim}

@@ -47,7 +47,7 @@ fn places_of(alloc: Global, contents: &[CopyContent]) -> Result<Vec<u64>, StepFa
 {
     let mut places = Vec::with_capacity(alloc, contents.len())?;
     for content in contents {
-        places.push(content.place)?;
+        places.push(content.place())?;
     }
     Ok(places)
 }

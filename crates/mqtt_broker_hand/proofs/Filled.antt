@@ -6,7 +6,7 @@ use Rattle.std.specs.List.{IsAllAdjacentAnswer}
 use Rattle.std.specs.Ordering.{nat_cmp}
 use Rattle.std.proofs.lemmas.Bool.{cases_Bool, cases_eq, cases_order, eq-eqb, le-leb, le-ltb, lt-leb, lt-ltb, ltb-true, ne_eqb}
 use Rattle.mqtt_flow_ring.specs.AtHand.{Ascend, AreAbove, ContentsAtHand, content_in, nothing_waits}
-use Rattle.mqtt_records_message.specs.declared.content.CopyContent.{CopyContent}
+use Rattle.mqtt_records_message.specs.Content.{CopyContent}
 use Rattle.mqtt_records_message.specs.Queue.{CopyRow}
 use Rattle.mqtt_records_rows.specs.Order.{IsAbove, IsAscending, row_at}
 use Rattle.mqtt_records_rows.proofs.OrderLemmas.{above_less, above_none, apart}

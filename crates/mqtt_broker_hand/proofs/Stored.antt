@@ -8,7 +8,7 @@ use Rattle.mqtt_base.specs.declared.session.Phase.{Phase}
 use Rattle.mqtt_flow_ring.specs.AtHand.{ContentsAtHand, content_at, content_in, entered, has_room, left, nothing_waits, without}
 use Rattle.mqtt_flow_ring.proofs.LawLemmas.{entered_is_found, entered_others, left_is_gone, left_others}
 use Rattle.mqtt_flow_ring.proofs.RingLemmas.{content_in-past}
-use Rattle.mqtt_records_message.specs.declared.content.CopyContent.{CopyContent}
+use Rattle.mqtt_records_message.specs.Content.{CopyContent}
 use Rattle.mqtt_records_message.specs.Queue.{CopyRow}
 use Rattle.mqtt_records_rows.specs.Order.{HasRoomFor, change_row, has_row, put_row, remove_row, row_at}
 use Rattle.mqtt_records_rows.proofs.OrderLemmas.{apart}

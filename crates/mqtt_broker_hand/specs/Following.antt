@@ -1,7 +1,7 @@
 -- How what is at hand goes along with changes of records (MQTT 5.0, 4.1, 4.6).
 use Rattle.std.specs.Prelude.{◌≡◌, ◌⊎◌, ℕ, cond, List, [], ◌∷◌, nat_eq, Option, Some, None}
 use Rattle.mqtt_flow_ring.specs.AtHand.{ContentsAtHand, entered, left, nothing_waits}
-use Rattle.mqtt_records_message.specs.declared.content.CopyContent.{CopyContent}
+use Rattle.mqtt_records_message.specs.Content.{CopyContent}
 use Rattle.mqtt_records_message.specs.Queue.{CopyRow}
 use Rattle.mqtt_records.specs.declared.change.Change.{Change}
 use Rattle.mqtt_records.specs.declared.change.Change.TheVariants.{SetCounter, PutSession, SetSession, RemoveSession, PutWill, RemoveWill, PutSubscription, RemoveSubscription, PutInbound, RemoveInbound, PutCopy, SetCopy, RemoveCopy, PutRetained, RemoveRetained}

@@ -1,7 +1,7 @@
 -- A store is asked for what copies say: what stays, how often it is asked, and what is at hand then (MQTT 5.0, 4.1).
 use Rattle.std.specs.Prelude.{◌≡◌, ◌≢◌, ◌⊎◌, ℕ, zero, suc, ◌+◌, ◌%◌, ◌^◌, ◌≤◌, List, [], ◌∷◌, ⊤, Option, IsSome}
 use Rattle.mqtt_flow_ring.specs.AtHand.{content_at}
-use Rattle.mqtt_records_message.specs.declared.content.CopyContent.{CopyContent}
+use Rattle.mqtt_records_message.specs.Content.{CopyContent}
 use Rattle.mqtt_records.specs.declared.records.Records.{Records}
 use Rattle.mqtt_records.specs.declared.keep.Keep.{Ghosts}
 use Rattle.mqtt_records.specs.declared.keep.KeepError.{KeepError}

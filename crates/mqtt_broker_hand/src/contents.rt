@@ -1,4 +1,4 @@
-//! What copies say, cloned, and put beside their places (MQTT 5.0, 3.3).
+//! What copies say, in order, and put beside their places (MQTT 5.0, 3.3).
 ghost use Rattle.std.specs.Prelude.{◌≡◌, IfOk, IsTrue};
 ghost use Rattle.mqtt_flow_ring.specs.AtHand.{Ascend};
 ghost use Rattle.mqtt_broker_hand.specs.Hand.{by_place, first_at};
@@ -6,24 +6,11 @@ ghost use Rattle.mqtt_broker_hand.specs.Hand.{by_place, first_at};
 use mqtt_records::CopyContent;
 use std::alloc::{AllocError, Global};
 
-/// The same once more; the bytes are shared.
-pub(crate) fn clone_of(content: &CopyContent) -> Result<CopyContent, AllocError>
-    ensures { IfOk result (λ copy. copy ≡ content.now) }
-{
-    Ok(CopyContent {
-        place: content.place,
-        identifiers: content.identifiers.clone()?,
-        topic: content.topic.clone()?,
-        properties: content.properties.clone()?,
-        payload: content.payload.clone()?,
-    })
-}
-
 /// Whether the places ascend.
 pub(crate) fn are_in_order(contents: &[CopyContent]) -> bool
     ensures { IsTrue result → Ascend (by_place contents.now) }
 {
-    contents.is_sorted_by(|content, next| content.place < next.place)
+    contents.is_sorted_by(|content, next| content.place() < next.place())
 }
 
 /// Each beside its place.
@@ -35,7 +22,7 @@ pub(crate) fn with_places(
 {
     let mut entries = Vec::with_capacity(alloc, contents.len())?;
     for content in contents {
-        entries.push((content.place, content))?;
+        entries.push((content.place(), content))?;
     }
     Ok(entries)
 }
@@ -50,8 +37,8 @@ pub(crate) fn first_at(
     let Some(content) = contents.first() else {
         return Ok(None);
     };
-    if content.place != place {
+    if content.place() != place {
         return Ok(None);
     }
-    Ok(Some(clone_of(content)?))
+    Ok(Some(content.clone()?))
 }

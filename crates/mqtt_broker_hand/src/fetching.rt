@@ -5,7 +5,7 @@ ghost use Rattle.mqtt_records.specs.declared.records.Records.{Records};
 ghost use Rattle.mqtt_broker_hand.specs.Hand.{IsQueueInOrder, SayWhatIsStored, at_hand_of, contents_at};
 ghost use Rattle.mqtt_broker_hand.specs.Reading.{AreAtHand, HasFailed, HasOne, WasAsked};
 
-use crate::contents::{clone_of, first_at};
+use crate::contents::first_at;
 use crate::hand::AllAtHand;
 use mqtt_flow_ring::AT_HAND_LIMIT;
 use mqtt_records::{CopyContent, Keep, KeepError};
@@ -69,7 +69,7 @@ impl AllAtHand {
             → (keep.new ≡ keep.old) × (self.new ≡ self.old) }
     {
         match self.find(birth, place) {
-            Some(content) => Ok(Some(clone_of(content)?)),
+            Some(content) => Ok(Some(content.clone()?)),
             None => self.read(alloc, keep, birth, place),
         }
     }

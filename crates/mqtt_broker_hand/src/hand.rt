@@ -2,7 +2,7 @@
 ghost use Rattle.std.specs.Prelude.{◌≡◌, ◌≢◌, ◌≤◌, ℕ, false, IsTrue, Some, option_copied, length};
 ghost use Rattle.mqtt_flow_ring.specs.declared.at_hand.TheConstants.{AT_HAND_LIMIT};
 ghost use Rattle.mqtt_flow_ring.specs.AtHand.{content_at, left, nothing_waits};
-ghost use Rattle.mqtt_records_message.specs.declared.content.CopyContent.{CopyContent};
+ghost use Rattle.mqtt_records_message.specs.Content.{CopyContent};
 ghost use Rattle.mqtt_records.specs.declared.records.Records.{Records};
 ghost use Rattle.mqtt_records.specs.Telling.{contents_from};
 ghost use Rattle.mqtt_broker_hand.specs.Following.{copy_put};
@@ -84,7 +84,7 @@ impl AllAtHand {
     {
         let mut at_hand = self.take(birth);
         at_hand.leave(row.place());
-        let Ok(content) = content_of(row) else {
+        let Ok(content) = content_of(alloc, row) else {
             return false;
         };
         if at_hand.enter(alloc, row.place(), content).is_err() {

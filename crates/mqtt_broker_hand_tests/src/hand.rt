@@ -89,7 +89,7 @@ fn step(
 /// The last byte of a copy's payload, if that is at hand.
 fn said(hand: &AllAtHand, birth: u64, place: u64) -> Option<u8> {
     match hand.find(birth, place) {
-        Some(content) => content.payload.as_slice().last().copied(),
+        Some(content) => content.payload().as_slice().last().copied(),
         None => None,
     }
 }
@@ -100,8 +100,8 @@ fn are_of(contents: &[CopyContent], places: &[u64]) -> bool {
         return false;
     }
     for (content, place) in contents.iter().zip(places) {
-        let payload = content.payload.as_slice().last().copied();
-        if content.place != *place || payload.map(u64::from) != Some(*place) {
+        let payload = content.payload().as_slice().last().copied();
+        if content.place() != *place || payload.map(u64::from) != Some(*place) {
             return false;
         }
     }

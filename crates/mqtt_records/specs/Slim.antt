@@ -1,6 +1,6 @@
 -- Copies in queues that say nothing but their topic, and what fills them again (3.3, 4.1).
 use Rattle.std.specs.Prelude.{ℕ, map, IsSomeAnd}
-use Rattle.mqtt_records_message.specs.declared.content.CopyContent.{CopyContent}
+use Rattle.mqtt_records_message.specs.Content.{CopyContent}
 use Rattle.mqtt_records_rows.specs.Order.{row_at}
 use Rattle.mqtt_records.specs.declared.records.Records.{Records}
 use Rattle.mqtt_records.specs.Session.{birth_of, with_slim, with_all_slim, with_filled, HasRowFor}

@@ -1,6 +1,6 @@
 -- What the waiting copies of records say, as a store tells it (3.3, 4.1).
 use Rattle.std.specs.Prelude.{◌≡◌, ℕ, Bool, List, [], map, filter, take, nat_le, Option, Some, None}
-use Rattle.mqtt_records_message.specs.declared.content.CopyContent.{CopyContent}
+use Rattle.mqtt_records_message.specs.Content.{CopyContent}
 use Rattle.mqtt_records_message.specs.Filling.{Filling, Fillings, filling_of}
 use Rattle.mqtt_records_message.specs.Queue.{CopyRow}
 use Rattle.mqtt_records_rows.specs.Order.{row_at}

@@ -17,7 +17,7 @@ impl Fillable for Session {
     ghost filled = { with_filled };
 
     fn fill_in(&mut self, content: CopyContent) -> bool {
-        let place = content.place;
+        let place = content.place();
         self.queue.fill(place, content)
     }
 

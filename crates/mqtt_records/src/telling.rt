@@ -30,19 +30,20 @@ fn first_rows(rows: &[Boxed<CopyRow>], limit: u32) -> &[Boxed<CopyRow>]
 }
 
 /// What the copy of a row says; the bytes are shared with it. Want of memory also if the row is slim.
-pub fn content_of(row: &CopyRow) -> Result<CopyContent, AllocError>
+pub fn content_of(alloc: Global, row: &CopyRow) -> Result<CopyContent, AllocError>
     ensures { IfOk result (λ content. content ≡ copy_content row.now) }
 {
     let Some(copy) = row.whole() else {
         return Err(AllocError);
     };
-    Ok(CopyContent {
-        place: row.place(),
-        identifiers: copy.identifiers.clone()?,
-        topic: copy.content.topic.clone()?,
-        properties: copy.content.properties.clone()?,
-        payload: copy.content.payload.clone()?,
-    })
+    CopyContent::new(
+        alloc,
+        row.place(),
+        copy.identifiers.clone()?,
+        copy.content.topic.clone()?,
+        copy.content.properties.clone()?,
+        copy.content.payload.clone()?,
+    )
 }
 
 /// What each row's copy says, in order.
@@ -51,7 +52,7 @@ fn contents_of(alloc: Global, rows: &[Boxed<CopyRow>]) -> Result<Vec<CopyContent
 {
     let mut all = Vec::with_capacity(alloc, rows.len())?;
     for row in rows {
-        let content = content_of(row.get())?;
+        let content = content_of(alloc, row.get())?;
         all.push(content)?;
     }
     Ok(all)

@@ -2,7 +2,7 @@
 use Rattle.std.proofs.Common.{◌≡◌, ℕ, List, Option, length, sym, ap, ap₂, subst, ◌∙◌}
 use Rattle.mqtt_props.specs.declared.table.PropName.TheVariants.{MessageExpiryInterval}
 use Rattle.mqtt_props.specs.Properties.{Prop, FitsBlock, props}
-use Rattle.mqtt_records_message.specs.declared.content.CopyContent.{CopyContent}
+use Rattle.mqtt_records_message.specs.Content.{CopyContent}
 use Rattle.mqtt_records_message.specs.Filling.{Filling, filling_of, filled_copy, filled_with, said_by, HasBytesOf}
 use Rattle.mqtt_records_message.specs.PassedOn.{number_at, sent_after}
 use Rattle.mqtt_records_message.specs.Queue.{CopyRow, IsSpelled}

@@ -1,4 +1,5 @@
 pub mod Filling
+pub mod InMemory
 pub mod PassedLemmas
 pub mod SentSizes
 pub mod Slim

@@ -2,7 +2,6 @@
 use Rattle.std.proofs.Common.{◌≡◌, ℕ, zero, suc, ◌+◌, ◌-◌, ◌^◌, ◌<◌, ◌≤◌, ◌⊎◌, true, false, List, [], ◌∷◌, ◌++◌, map, length, nat_le, Option, Some, None, refl, sym, ap, ap₂, subst, ◌∙◌, append_assoc, append-nil, arith, inl, inr}
 use Rattle.std.specs.Prelude.{⊤, ◌==◌, option_map, find}
 use Rattle.std.specs.List.{AllByRecursion}
-use Rattle.std.specs.Option.{is_some}
 use Rattle.std.proofs.lemmas.Bool.{cases_Bool, eqb-true}
 use Rattle.std.proofs.lemmas.List.{length-append}
 use Rattle.mqtt_base.specs.declared.session.Phase.{Phase}
@@ -16,7 +15,7 @@ use Rattle.mqtt_props.specs.Edits.{only, without}
 use Rattle.mqtt_records_message.specs.declared.message.MessageCopy.{MessageCopy}
 use Rattle.mqtt_records_message.specs.PassedOn.{aged, identified, number_in, number_at, property, rises_from, sent_after, IsPassedOn}
 use Rattle.mqtt_records_message.specs.Queue.{CopyRow, first_sent, remaining, publish_size, IsSpelled, Knows}
-use Rattle.mqtt_records_message.specs.Slim.{zeros, front_filler, back_filler, interval_alone, interval_bytes, bare_properties, bare, slim_copy, slim, copy_by}
+use Rattle.mqtt_records_message.specs.Slim.{zeros, front_filler, back_filler, interval_alone, interval_bytes, bare_properties, bare, slim_copy, slim}
 use Rattle.mqtt_records_message.proofs.PassedLemmas.{rises-lower}
 use Rattle.mqtt_records_message.proofs.SentSizes.{props-cons, props-three, block-same, each-append}
 
@@ -377,33 +376,3 @@ row_with place phase copy = record { place = place; phase = phase; copy = copy }
 -- so does a slim row
 pub row_once : (e : CopyRow) → slim (slim e) ≡ slim e
 row_once e = ap (row_with e.place e.phase) (slim_once e.copy)
-
--- ---- by what is in memory
-
--- the bytes of a payload that is left out
-pub payload_by : (left : Option ℕ) (payload bytes : ℕ) (interval : Option ℕ) (copy : MessageCopy) → left ≡ Some payload → payload ≡ length (copy_by left bytes interval copy).content.payload
-payload_by left payload bytes interval copy is = rw is (sym (zeros_len payload))
-
--- a row's properties are such as publications pass on, if those in memory are
-pub passes_by : (left : Option ℕ) (bytes : ℕ) (interval : Option ℕ) (copy : MessageCopy) → IsPassedOn copy.content.properties → IsPassedOn (copy_by left bytes interval copy).content.properties
-passes_by None bytes interval copy passes = passes
-passes_by (Some payload) bytes interval copy passes = bare_passes bytes interval
-
--- what a row remembers of its copy it remembers of what is left
-pub bare_knows : (all bytes : ℕ) (interval : Option ℕ) (payload : ℕ) (copy : MessageCopy) → payload ≡ length copy.content.payload → Knows all bytes interval copy
-    → Knows all bytes interval (bare bytes interval payload copy)
-bare_knows all bytes interval payload copy is knows =
-    let same : bare bytes interval payload copy ≡ slim_copy copy = ap (λ (n : ℕ). bare bytes interval n copy) is ∙ bare_is_slim all bytes interval copy knows in
-    subst (Knows all bytes interval) (sym same) (slim_knows all bytes interval copy knows)
-
--- a row of which something is left out is slim
-pub slim_by : (left : Option ℕ) (all bytes : ℕ) (interval : Option ℕ) (copy : MessageCopy) → is_some left ≡ true → Knows all bytes interval (copy_by left bytes interval copy)
-    → slim_copy (copy_by left bytes interval copy) ≡ copy_by left bytes interval copy
-slim_by None all bytes interval copy is knows = absurd cc
-slim_by (Some payload) all bytes interval copy is knows = slim_bare all bytes interval payload copy knows
-
--- of one of which nothing is left out the copy in memory is known
-pub whole_by : (left : Option ℕ) (all bytes : ℕ) (interval : Option ℕ) (copy : MessageCopy) → is_some left ≡ false → Knows all bytes interval (copy_by left bytes interval copy)
-    → Knows all bytes interval copy
-whole_by None all bytes interval copy is knows = knows
-whole_by (Some payload) all bytes interval copy is knows = absurd cc

@@ -1,4 +1,6 @@
+pub mod Content
 pub mod Filling
+pub mod Held
 pub mod Parts
 pub mod PassedOn
 pub mod Queue

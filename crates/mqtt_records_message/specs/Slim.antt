@@ -1,10 +1,10 @@
 -- A row that says nothing but its topic (MQTT 5.0, 3.3).
-use Rattle.std.specs.Prelude.{⊤, ◌≡◌, ℕ, zero, suc, ◌-◌, List, [], ◌∷◌, ◌++◌, length, Option, Some, None}
+use Rattle.std.specs.Prelude.{ℕ, zero, suc, ◌-◌, List, [], ◌∷◌, ◌++◌, length, Option, Some, None}
 use Rattle.mqtt_props.specs.Properties.{Prop, Byte, U32, Binary, props}
 use Rattle.mqtt_props.specs.declared.table.PropName.TheVariants.{PayloadFormatIndicator, MessageExpiryInterval, CorrelationData}
 use Rattle.mqtt_records_message.specs.declared.message.MessageCopy.{MessageCopy}
 use Rattle.mqtt_records_message.specs.PassedOn.{property, number_at}
-use Rattle.mqtt_records_message.specs.Queue.{CopyRow, Knows, first_sent}
+use Rattle.mqtt_records_message.specs.Queue.{CopyRow, first_sent}
 
 abbrev pub zeros : ℕ → List ℕ
 zeros zero = []
@@ -60,20 +60,3 @@ slim_copy copy =
 
 abbrev pub slim : CopyRow → CopyRow
 slim e = record e { copy = slim_copy e.copy }
-
--- ---- what is in memory of a row's copy: all of it, or all but what is left out, with the bytes of the payload
-
-abbrev pub copy_by : Option ℕ → ℕ → Option ℕ → MessageCopy → MessageCopy
-copy_by None bytes interval copy = copy
-copy_by (Some payload) bytes interval copy = bare bytes interval payload copy
-
--- of what is left out nothing is there
-abbrev pub IsLeftOut : Option ℕ → MessageCopy → Type 0
-IsLeftOut None copy = ⊤
-IsLeftOut (Some payload) copy =
-    (copy.identifiers ≡ []) × (copy.content.properties ≡ []) × (copy.content.payload ≡ [])
-
--- a row remembers of its copy what it has to, and has what is not left out
-pub record Remembers (all properties : ℕ) (interval left : Option ℕ) (copy : MessageCopy) : Type 0 where
-  pub known : Knows all properties interval (copy_by left properties interval copy)
-  pub out : IsLeftOut left copy

@@ -1,7 +1,7 @@
 //! Laws of slim rows, in other words than their definitions (3.3, 4.6).
 ghost use Rattle.std.specs.Prelude.{◌≡◌, length};
 ghost use Rattle.mqtt_props.specs.declared.table.PropName.TheVariants.{MessageExpiryInterval};
-ghost use Rattle.mqtt_records_message.specs.declared.content.CopyContent.{CopyContent};
+ghost use Rattle.mqtt_records_message.specs.Content.{CopyContent};
 ghost use Rattle.mqtt_records_message.specs.declared.message.MessageCopy.{MessageCopy};
 ghost use Rattle.mqtt_records_message.specs.Filling.{filled_with, filling_of, said_by, HasBytesOf};
 ghost use Rattle.mqtt_records_message.specs.PassedOn.{number_at, IsPassedOn};

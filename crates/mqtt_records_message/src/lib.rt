@@ -3,6 +3,7 @@
 
 mod content;
 mod fault;
+mod held;
 mod laws;
 mod message;
 mod parts;

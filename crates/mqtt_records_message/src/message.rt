@@ -50,13 +50,6 @@ impl SubscriptionIdentifiers {
         Ok(())
     }
 
-    /// Leaves none of them in memory.
-    pub(crate) fn forget(&mut self)
-        ensures { self.new ≡ [] }
-    {
-        self.all = Vec::new(*self.all.allocator());
-    }
-
     /// All of them, in order. Takes no memory.
     pub fn as_slice(&self) -> &[u32]
         ensures { result.now ≡ self.now }

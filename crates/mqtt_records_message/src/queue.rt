@@ -10,46 +10,45 @@ ghost use Rattle.mqtt_records_message.specs.Slim.{slim};
 
 use crate::content::CopyContent;
 use crate::fault::CopyFault;
+use crate::held::{Held, clone_of};
 use crate::message::MessageCopy;
 use crate::parts::CopyPart;
-use crate::properties::PassedOn;
 use crate::sizes::{expiry_in, pairs_len, sent_len};
-use bytes::Bytes;
 use mqtt_base::{CopyId, Phase, Qos, Text, VARINT_LIMIT, varint_len};
 use mqtt_props::PropFault;
 use mqtt_records_rows::{CloneRow, Editable, Row};
 use std::alloc::{AllocError, Global};
 use std::marker::Model;
+use std::mem;
 
 /// A copy in a session's queue (4.3, 4.6): its place, from 1, in the order in which copies are sent,
 /// how far it has come, and what is sent. Its PUBLISH has a spelling, of a size that is remembered; so are
-/// the bytes of its properties, and its Message Expiry Interval. A row may be slim: then Subscription
-/// Identifiers, properties and payload are not in memory.
+/// the bytes of its properties and of its payload, and its Message Expiry Interval. A row may be slim: then
+/// Subscription Identifiers, properties and payload are not in memory.
 #[derive(Drop)]
 pub struct CopyRow {
     place: u64,
     phase: Phase,
     size: u32,
     pairs: u32,
+    payload: u32,
     expiry: Option<u32>,
-    /// Of a slim row the bytes of the payload.
-    left_out: Option<u32>,
-    copy: MessageCopy,
+    held: Held,
 }
 
 impl Model for CopyRow {
     ghost use Rattle.mqtt_records_message.specs.Queue.{CopyRow as Queued};
-    ghost use Rattle.mqtt_records_message.specs.Slim.{copy_by, Remembers};
+    ghost use Rattle.mqtt_records_message.specs.Held.{held_copy, Remembers};
 
     ghost Value = { Queued };
 
     ghost view = { λ a. record {
       place = a.place;
       phase = a.phase;
-      copy = copy_by a.left_out a.pairs a.expiry a.copy;
+      copy = held_copy a.pairs a.payload a.expiry a.held;
     } };
 
-    ghost invariant = { λ a. Remembers a.size a.pairs a.expiry a.left_out a.copy };
+    ghost invariant = { λ a. Remembers a.size a.pairs a.payload a.expiry a.held };
 }
 
 /// Bytes of the packet identifier of a PUBLISH (2.2.1).
@@ -126,21 +125,26 @@ impl CopyRow {
             ≡ record { place = place; phase = phase; copy = copy }) }
         ensures refused { IfErr result (RefusesCopy copy) }
     {
+        let (pairs, size) = match sizes_of(alloc, &copy) {
+            Ok(sizes) => sizes,
+            Err(fault) => {
+                drop(copy);
+                return Err(fault);
+            }
+        };
+        let payload = copy.content.payload.len() as u32;
         let expiry = expiry_in(&copy.content.properties.lend());
-        match sizes_of(alloc, &copy) {
-            Ok((pairs, size)) => Ok(CopyRow {
+        match Box::new(alloc, copy) {
+            Ok(copy) => Ok(CopyRow {
                 place,
                 phase,
                 size,
                 pairs,
+                payload,
                 expiry,
-                left_out: None,
-                copy,
+                held: Held::Whole(copy),
             }),
-            Err(fault) => {
-                drop(copy);
-                Err(fault)
-            }
+            Err(_) => Err(CopyFault::Memory),
         }
     }
 
@@ -163,9 +167,10 @@ impl CopyRow {
         ensures exact { IfSome result (λ copy. copy.now ≡ self.now.copy) }
         ensures slim { result ≡ None → self.now ≡ slim self.now }
     {
-        match self.left_out {
-            None => Some(&self.copy),
-            Some(_) => None,
+        match &self.held {
+            Held::Whole(copy) => Some(copy),
+            Held::Slim(_) => None,
+            Held::Nothing => unreachable!(),
         }
     }
 
@@ -173,35 +178,55 @@ impl CopyRow {
     pub fn id(&self) -> &CopyId
         ensures { result.now ≡ self.now.copy.id }
     {
-        &self.copy.id
+        match &self.held {
+            Held::Whole(copy) => &copy.id,
+            Held::Slim(rest) => &rest.id,
+            Held::Nothing => unreachable!(),
+        }
     }
 
     /// The quality of service at which it is sent. Takes no memory.
     pub fn qos(&self) -> Qos
         ensures { result ≡ self.now.copy.qos }
     {
-        self.copy.qos
+        match &self.held {
+            Held::Whole(copy) => copy.qos,
+            Held::Slim(rest) => rest.qos,
+            Held::Nothing => unreachable!(),
+        }
     }
 
     /// Whether RETAIN is sent as 1. Takes no memory.
     pub fn retain(&self) -> bool
         ensures { result ≡ self.now.copy.retain }
     {
-        self.copy.retain
+        match &self.held {
+            Held::Whole(copy) => copy.retain,
+            Held::Slim(rest) => rest.retain,
+            Held::Nothing => unreachable!(),
+        }
     }
 
     /// The topic of its publication. Takes no memory.
     pub fn topic(&self) -> &Text
         ensures { result.now ≡ self.now.copy.content.topic }
     {
-        &self.copy.content.topic
+        match &self.held {
+            Held::Whole(copy) => &copy.content.topic,
+            Held::Slim(rest) => &rest.topic,
+            Held::Nothing => unreachable!(),
+        }
     }
 
     /// When its publication was accepted: a moment in milliseconds. Takes no memory.
     pub fn arrived(&self) -> u64
         ensures { result ≡ self.now.copy.content.arrived }
     {
-        self.copy.content.arrived
+        match &self.held {
+            Held::Whole(copy) => copy.content.arrived,
+            Held::Slim(rest) => rest.arrived,
+            Held::Nothing => unreachable!(),
+        }
     }
 
     /// Its Message Expiry Interval as received, in seconds, if it has one (3.3.2.3.3). Takes no memory.
@@ -222,10 +247,7 @@ impl CopyRow {
     pub fn payload_len(&self) -> usize
         ensures { result ≡ length self.now.copy.content.payload }
     {
-        match self.left_out {
-            None => self.copy.content.payload.len(),
-            Some(payload) => payload as usize,
-        }
+        self.payload as usize
     }
 
     /// Its properties are such as publications pass on. Takes no memory.
@@ -233,7 +255,13 @@ impl CopyRow {
         ensures { IsPassedOn self.now.copy.content.properties }
     {
         // Of a whole row this list shows it, of a slim one the row's value.
-        let _list = self.copy.content.properties.lend();
+        match &self.held {
+            Held::Whole(copy) => {
+                let _list = copy.content.properties.lend();
+            }
+            Held::Slim(_) => {}
+            Held::Nothing => unreachable!(),
+        }
     }
 
     /// Whether this may be what the copy says: it has as many bytes, and the same Message Expiry Interval.
@@ -241,12 +269,12 @@ impl CopyRow {
     pub fn has_bytes(&self, content: &CopyContent) -> bool
         ensures { IsTrue result ↔ HasBytesOf self.now.copy content.now }
     {
-        let list = content.properties.lend();
-        let Some(pairs) = sent_len(&list, content.identifiers.as_slice()) else {
+        let list = content.properties().lend();
+        let Some(pairs) = sent_len(&list, content.identifiers().as_slice()) else {
             return false;
         };
         pairs == self.pairs as usize
-            && content.payload.len() == self.payload_len()
+            && content.payload().len() == self.payload_len()
             && expiry_in(&list) == self.expiry
     }
 
@@ -255,13 +283,8 @@ impl CopyRow {
     pub fn make_slim(&mut self)
         ensures { self.new ≡ slim self.old }
     {
-        if self.left_out.is_some() {
-            return;
-        }
-        self.left_out = Some(self.copy.content.payload.len() as u32);
-        self.copy.identifiers.forget();
-        self.copy.content.properties = PassedOn::new();
-        self.copy.content.payload = Bytes::new();
+        let held = mem::replace(&mut self.held, Held::Nothing);
+        self.held = Held::Slim(held.into_rest());
     }
 
     /// Takes in what the copy says, if it has as many bytes as the row remembers, and the same Message
@@ -275,10 +298,8 @@ impl CopyRow {
             drop(content);
             return false;
         }
-        self.left_out = None;
-        self.copy.identifiers = content.identifiers;
-        self.copy.content.properties = content.properties;
-        self.copy.content.payload = content.payload;
+        let held = mem::replace(&mut self.held, Held::Nothing);
+        self.held = Held::Whole(held.into_rest().saying(content));
         true
     }
 
@@ -329,9 +350,9 @@ impl Clone for CopyRow {
             phase: self.phase,
             size: self.size,
             pairs: self.pairs,
+            payload: self.payload,
             expiry: self.expiry,
-            left_out: self.left_out,
-            copy: self.copy.clone()?,
+            held: clone_of(&self.held)?,
         })
     }
 }

@@ -72,7 +72,7 @@ impl NamedRecords {
         let Some(session) = self.records.sessions.get(birth) else {
             return false;
         };
-        let Some(row) = session.get().queue.get(content.place) else {
+        let Some(row) = session.get().queue.get(content.place()) else {
             return false;
         };
         row.get().has_bytes(content)

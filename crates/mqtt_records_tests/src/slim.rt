@@ -67,13 +67,14 @@ fn told(
     identifier: u32,
     payload: &[u8],
 ) -> Result<CopyContent, PropFault> {
-    Ok(CopyContent {
-        place: 3,
-        identifiers: SubscriptionIdentifiers::from_slice(alloc, &[identifier])?,
-        topic: topic(alloc)?,
-        properties: properties(alloc, interval, kind)?,
-        payload: Bytes::copy_from_slice(alloc, payload)?,
-    })
+    Ok(CopyContent::new(
+        alloc,
+        3,
+        SubscriptionIdentifiers::from_slice(alloc, &[identifier])?,
+        topic(alloc)?,
+        properties(alloc, interval, kind)?,
+        Bytes::copy_from_slice(alloc, payload)?,
+    )?)
 }
 
 #[test]

@@ -43,7 +43,7 @@ fn have_places(contents: &[CopyContent], places: &[u64]) -> bool {
         return false;
     }
     for (content, place) in contents.iter().zip(places) {
-        if content.place != *place {
+        if content.place() != *place {
             return false;
         }
     }
@@ -75,11 +75,11 @@ fn a_copy_is_told_with_what_it_says(rt: HostRuntime) -> Result<(), Fail> {
     let [content] = contents.as_slice() else {
         panic!(rt; "not one copy");
     };
-    assert_eq!(rt; content.place, 5);
-    assert_eq!(rt; content.identifiers.as_slice(), [7].as_slice());
-    assert_eq!(rt; content.topic.as_str(), "a/b");
-    assert_eq!(rt; content.properties.lend().len(), 0);
-    assert_eq!(rt; content.payload.as_slice(), b"hi".as_slice());
+    assert_eq!(rt; content.place(), 5);
+    assert_eq!(rt; content.identifiers().as_slice(), [7].as_slice());
+    assert_eq!(rt; content.topic().as_str(), "a/b");
+    assert_eq!(rt; content.properties().lend().len(), 0);
+    assert_eq!(rt; content.payload().as_slice(), b"hi".as_slice());
     drop(contents);
     drop(keep);
     Ok(())
@@ -129,6 +129,27 @@ fn told(alloc: Global, keep: &mut MemKeep) -> Result<CopyContent, KeepError> {
         Some(content) => Ok(content),
         None => Err(KeepError::Corrupt),
     }
+}
+
+/// What a store tells of the copy at place 5, with its own place and payload.
+fn told_as(
+    alloc: Global,
+    keep: &mut MemKeep,
+    place: u64,
+    payload: &[u8],
+) -> Result<CopyContent, KeepError> {
+    let payload = Bytes::copy_from_slice(alloc, payload)?;
+    let content = told(alloc, keep)?;
+    let other = CopyContent::new(
+        alloc,
+        place,
+        content.identifiers().clone()?,
+        content.topic().clone()?,
+        content.properties().clone()?,
+        payload,
+    )?;
+    drop(content);
+    Ok(other)
 }
 
 #[test]
@@ -181,15 +202,15 @@ fn what_a_copy_says_is_read_off_its_row(rt: HostRuntime) -> Result<(), Fail> {
     let Some(whole) = row(&records, 5) else {
         panic!(rt; "no copy stands there");
     };
-    let content = content_of(whole)?;
-    assert_eq!(rt; content.place, 5);
-    assert_eq!(rt; content.payload.as_slice(), b"hi".as_slice());
+    let content = content_of(alloc, whole)?;
+    assert_eq!(rt; content.place(), 5);
+    assert_eq!(rt; content.payload().as_slice(), b"hi".as_slice());
     drop(content);
     records.make_slim(1, 5);
     let Some(slim) = row(&records, 5) else {
         panic!(rt; "it stands there still");
     };
-    assert!(rt; content_of(slim).is_err(), "a slim row hasn't it");
+    assert!(rt; content_of(alloc, slim).is_err(), "a slim row hasn't it");
     drop(records);
     drop(keep);
     Ok(())
@@ -203,11 +224,9 @@ fn a_slim_copy_takes_in_nothing_else(rt: HostRuntime) -> Result<(), Fail> {
     let mut records = keep.load(alloc)?;
     records.make_slim(1, 5);
     assert!(rt; !records.fill(2, told(alloc, &mut keep)?), "no such copy");
-    let mut elsewhere = told(alloc, &mut keep)?;
-    elsewhere.place = 6;
+    let elsewhere = told_as(alloc, &mut keep, 6, b"hi")?;
     assert!(rt; !records.fill(1, elsewhere), "no copy stands there");
-    let mut longer = told(alloc, &mut keep)?;
-    longer.payload = Bytes::copy_from_slice(alloc, b"hi!")?;
+    let longer = told_as(alloc, &mut keep, 5, b"hi!")?;
     assert!(rt; !records.fill(1, longer), "it has other bytes");
     assert_eq!(rt; looks(&records, 5), Some((14, false)), "it stays slim");
     drop(records);

@@ -2,7 +2,7 @@
 use Rattle.std.specs.Prelude.{◌≡◌, ℕ, false, ◌&&◌, nat_eq, List, map}
 use Rattle.std.specs.List.{AllByRecursion}
 use Rattle.mqtt_flow_inbound.specs.Identifiers.{is_among}
-use Rattle.mqtt_records_message.specs.declared.content.CopyContent.{CopyContent}
+use Rattle.mqtt_records_message.specs.Content.{CopyContent}
 use Rattle.mqtt_records_message.specs.Queue.{CopyRow}
 use Rattle.mqtt_records_message.specs.Slim.{slim}
 use Rattle.mqtt_records.specs.declared.session.Session.{Session}

@@ -1,7 +1,7 @@
 //! Laws of brokers whose waiting copies say their topic alone, beside what there is to fill them with (3.3, 4.3, 4.6).
 ghost use Rattle.std.specs.Prelude.{◌≡◌, ◌≤◌, ℕ, List, length, Option};
 ghost use Rattle.mqtt_base.specs.declared.limits.TheConstants.{PUMP_LIMIT};
-ghost use Rattle.mqtt_records_message.specs.declared.content.CopyContent.{CopyContent};
+ghost use Rattle.mqtt_records_message.specs.Content.{CopyContent};
 ghost use Rattle.mqtt_records_message.specs.Filling.{Fillings};
 ghost use Rattle.mqtt_records.specs.Records.{FitAll, changed_all};
 ghost use Rattle.mqtt_records.specs.declared.change.Change.{Change};

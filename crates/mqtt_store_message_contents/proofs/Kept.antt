@@ -17,7 +17,7 @@ use Rattle.mqtt_store_schema_two.specs.declared.tables.Making.{Making}
 use Rattle.mqtt_store_message_rows.specs.Ones.{one_identifiers}
 use Rattle.mqtt_store_message_rows.specs.Gives.{parts_of}
 use Rattle.mqtt_store_message_read.specs.Kept.{HasRecordsTwo}
-use Rattle.mqtt_records_message.specs.declared.content.CopyContent.{CopyContent}
+use Rattle.mqtt_records_message.specs.Content.{CopyContent}
 use Rattle.mqtt_records.specs.Telling.{contents_from}
 use Rattle.mqtt_store_message_contents.specs.Said.{SaysCopyContent}
 use Rattle.mqtt_store_message_contents.proofs.Shown.{asked_for}

@@ -7,7 +7,7 @@ use Rattle.mqtt_props.specs.Properties.{Prop, IsProp, FitsBlock, block}
 use Rattle.mqtt_props.specs.Reading.{block_at}
 use Rattle.mqtt_records_message.specs.PassedOn.{identified}
 use Rattle.mqtt_records_message.specs.Queue.{CopyRow}
-use Rattle.mqtt_records_message.specs.declared.content.CopyContent.{CopyContent}
+use Rattle.mqtt_records_message.specs.Content.{CopyContent}
 use Rattle.mqtt_records.specs.Telling.{copy_content}
 use Rattle.mqtt_store_rows.specs.Blocks.{SaysPassed}
 use Rattle.mqtt_store_rows.specs.Lists.{AreRows}

@@ -5,7 +5,7 @@ use Rattle.sqlite_value.specs.Order.{Row, column}
 use Rattle.mqtt_base.specs.Values.{FitsText}
 use Rattle.mqtt_props.specs.Properties.{block}
 use Rattle.mqtt_records_message.specs.Queue.{CopyRow}
-use Rattle.mqtt_records_message.specs.declared.content.CopyContent.{CopyContent}
+use Rattle.mqtt_records_message.specs.Content.{CopyContent}
 use Rattle.mqtt_records.specs.declared.records.Records.{Records}
 use Rattle.mqtt_records.specs.Telling.{queue_at, is_from}
 use Rattle.mqtt_store_rows.specs.Values.{number, IsCounted}

@@ -1,6 +1,6 @@
 //! What the row says that joins a copy in a queue with its message (3.3).
 ghost use Rattle.std.specs.Prelude.{◌≡◌, ◌⊎◌, IfOk, IfErr, IsErrOf};
-ghost use Rattle.mqtt_records_message.specs.declared.content.CopyContent.{CopyContent as Said};
+ghost use Rattle.mqtt_records_message.specs.Content.{CopyContent as Said};
 ghost use Rattle.mqtt_store_message_contents.specs.Said.{SaysCopyContent};
 
 use mqtt_records::KeepError;
@@ -26,11 +26,5 @@ pub(crate) fn content_of(alloc: Global, row: &Row) -> Result<CopyContent, KeepEr
     let topic = text(alloc, value_at(row, 2))?;
     let properties = passed(alloc, value_at(row, 3))?;
     let payload = blob(alloc, value_at(row, 4))?;
-    Ok(CopyContent {
-        place,
-        identifiers,
-        topic,
-        properties,
-        payload,
-    })
+    Ok(CopyContent::new(alloc, place, identifiers, topic, properties, payload)?)
 }

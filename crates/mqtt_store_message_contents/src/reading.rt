@@ -2,7 +2,7 @@
 ghost use Rattle.std.specs.Prelude.{◌≡◌, ◌<◌, ◌⊎◌, ◌-◌, ◌^◌, List, IfOk, IfErr, OnOk, IsErrOf, IsTrue, min, pos};
 ghost use Rattle.sqlite.specs.Held.{state};
 ghost use Rattle.sqlite.specs.State.{HasCleanDisk};
-ghost use Rattle.mqtt_records_message.specs.declared.content.CopyContent.{CopyContent as Said};
+ghost use Rattle.mqtt_records_message.specs.Content.{CopyContent as Said};
 ghost use Rattle.mqtt_records.specs.declared.records.Records.{Records};
 ghost use Rattle.mqtt_records.specs.Telling.{contents_from};
 ghost use Rattle.mqtt_store_rows.specs.Lists.{AreRows};

@@ -29,7 +29,7 @@ fn have_places(contents: &[CopyContent], places: &[u64]) -> bool {
         return false;
     }
     for (content, place) in contents.iter().zip(places) {
-        if content.place != *place {
+        if content.place() != *place {
             return false;
         }
     }
@@ -59,13 +59,13 @@ fn a_copy_has_what_its_message_says(rt: HostRuntime) -> Result<(), Fail> {
         let [first, second] = contents.as_slice() else {
             panic!(rt; "not two copies");
         };
-        assert_eq!(rt; first.identifiers.as_slice(), [1, 200].as_slice());
-        assert_eq!(rt; first.topic.as_str(), "a/c");
-        assert_eq!(rt; first.properties.lend().len(), 2);
-        assert_eq!(rt; first.payload.as_slice(), b"hi".as_slice());
-        assert!(rt; second.identifiers.as_slice().is_empty());
-        assert_eq!(rt; second.topic.as_str(), "a/d");
-        assert!(rt; second.payload.as_slice().is_empty());
+        assert_eq!(rt; first.identifiers().as_slice(), [1, 200].as_slice());
+        assert_eq!(rt; first.topic().as_str(), "a/c");
+        assert_eq!(rt; first.properties().lend().len(), 2);
+        assert_eq!(rt; first.payload().as_slice(), b"hi".as_slice());
+        assert!(rt; second.identifiers().as_slice().is_empty());
+        assert_eq!(rt; second.topic().as_str(), "a/d");
+        assert!(rt; second.payload().as_slice().is_empty());
         drop(contents);
     }
     Ok(())

@@ -25,13 +25,13 @@ const ASKED: [(u64, u64, u32); 9] = [
 
 /// A sum with what is told of a copy behind it.
 fn with_copy(sum: u64, content: &CopyContent) -> u64 {
-    let mut sum = with(sum, content.place);
-    for identifier in content.identifiers.as_slice() {
+    let mut sum = with(sum, content.place());
+    for identifier in content.identifiers().as_slice() {
         sum = with(sum, u64::from(*identifier));
     }
-    sum = with_bytes(sum, content.topic.as_str().as_bytes());
-    sum = with(sum, content.properties.lend().len() as u64);
-    with_bytes(sum, content.payload.as_slice())
+    sum = with_bytes(sum, content.topic().as_str().as_bytes());
+    sum = with(sum, content.properties().lend().len() as u64);
+    with_bytes(sum, content.payload().as_slice())
 }
 
 /// How many copies are told, and a sum over what is told of them.

@@ -1,6 +1,6 @@
 use Rattle.std.proofs.Common.{◌≡◌, ap, rules, subst, sym}
 use Rattle.std.specs.Prelude.{Err, IfErr, Result, Option}
-use Rattle.mqtt_records_message.specs.declared.content.CopyContent.{CopyContent}
+use Rattle.mqtt_records_message.specs.Content.{CopyContent}
 use Rattle.mqtt_records.specs.declared.keep.KeepError.{KeepError}
 use Rattle.mqtt_broker_hand.specs.Hand.{first_at}
 use Rattle.mqtt_broker_hand.specs.Reading.{HasFailed}

@@ -1,21 +1,24 @@
--- What is left out is what a slim row has not (MQTT 5.0, 3.3).
-use Rattle.std.proofs.Common.{◌≡◌, sym, ap, subst, ◌∙◌}
-use Rattle.mqtt_records_message.specs.Queue.{CopyRow}
-use Rattle.mqtt_records_message.specs.Slim.{slim}
-use Rattle.mqtt_records_message.proofs.Slim.{row_with, slim_by, whole_by, bare_knows}
+-- What is left of a copy stands for the slim one (MQTT 5.0, 3.3).
+use Rattle.std.proofs.Common.{sym, ap, subst, ◌∙◌}
+use Rattle.mqtt_records_message.specs.declared.held.Held.TheVariants.{Slim}
+use Rattle.mqtt_records_message.specs.declared.held.Rest.{Rest}
+use Rattle.mqtt_records_message.specs.Held.{rest_of, spread, Remembers}
+use Rattle.mqtt_records_message.specs.Slim.{bare, slim}
+use Rattle.mqtt_records_message.proofs.InMemory.{rest_is_slim, rest_remembers}
+use Rattle.mqtt_records_message.proofs.Slim.{row_with}
 use Rattle.mqtt_records_message.proofs.queue.CopyRow.make_slim.Goals as goal
 
-pub returns-then-is_some : goal.returns-then-is_some
-returns-then-is_some c =
+pub returns : goal.returns
+returns c =
     let row = c.self.inside in
-    let same = slim_by row.left_out row.size row.pairs row.expiry row.copy (sym c.is_some.ensures ∙ c.if-is_some.true) c.self.invariant.known in
-    subst (λ (e : CopyRow). e ≡ slim e) c.self.view_is (ap (row_with row.place row.phase) (sym same))
+    let same = c.into_rest.ensures ∙ ap rest_of c.replace-held.ensures.value in
+    ap (λ (rest : Rest). row_with row.place row.phase (bare row.pairs row.expiry row.payload (spread rest))) same
+    ∙ ap (row_with row.place row.phase) (rest_is_slim row.size row.pairs row.payload row.expiry row.held c.self.invariant)
+    ∙ ap slim c.self.view_is
 
 pub invariant_of-self : goal.invariant_of-self
 invariant_of-self c =
     let row = c.self.inside in
-    let whole = whole_by row.left_out row.size row.pairs row.expiry row.copy (sym c.is_some.ensures ∙ c.if-is_some.false) c.self.invariant.known in
-    record {
-      known = bare_knows row.size row.pairs row.expiry c.len.result row.copy c.len.ensures.value whole;
-      out = (c.forget.ensures, c.new.ensures, c.new-2.ensures);
-    }
+    let same = c.into_rest.ensures ∙ ap rest_of c.replace-held.ensures.value in
+    subst (λ (rest : Rest). Remembers row.size row.pairs row.payload row.expiry (Slim rest)) (sym same)
+    (rest_remembers row.size row.pairs row.payload row.expiry row.held c.self.invariant)

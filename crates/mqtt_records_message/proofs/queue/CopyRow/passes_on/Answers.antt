@@ -2,10 +2,10 @@
 use Rattle.std.proofs.Common.{subst}
 use Rattle.mqtt_records_message.specs.PassedOn.{IsPassedOn}
 use Rattle.mqtt_records_message.specs.Queue.{CopyRow}
-use Rattle.mqtt_records_message.proofs.Slim.{passes_by}
+use Rattle.mqtt_records_message.proofs.InMemory.{rest_passes}
 use Rattle.mqtt_records_message.proofs.queue.CopyRow.passes_on.Goals as goal
 
-pub returns : goal.returns
-returns c =
+pub returns-in-Slim : goal.returns-in-Slim
+returns-in-Slim c =
     let row = c.self.inside in
-    subst (λ (e : CopyRow). IsPassedOn e.copy.content.properties) c.self.view_is (passes_by row.left_out row.pairs row.expiry row.copy c.lend-list.ensures.good)
+    subst (λ (e : CopyRow). IsPassedOn e.copy.content.properties) c.self.view_is (rest_passes row.pairs row.payload row.expiry row.held c.in-Slim.field-0 c.in-Slim.is)

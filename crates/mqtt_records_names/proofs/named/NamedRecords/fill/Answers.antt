@@ -1,6 +1,6 @@
 -- When one copy is filled, the others can be filled still.
 use Rattle.std.proofs.Common.{◌≡◌, ◌∷◌, List, rules, ap, sym, subst, ◌∙◌}
-use Rattle.mqtt_records_message.specs.declared.content.CopyContent.{CopyContent}
+use Rattle.mqtt_records_message.specs.Content.{CopyContent}
 use Rattle.mqtt_records_names.specs.Slimming.{whole_places, TakesAll}
 use Rattle.mqtt_records_names.proofs.FilledRows.{others_stand}
 use Rattle.mqtt_records_names.proofs.named.NamedRecords.fill.Goals as goal

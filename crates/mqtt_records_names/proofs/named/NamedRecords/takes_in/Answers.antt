@@ -14,10 +14,10 @@ returns-in_default c =
 pub returns-in_default-get : goal.returns-in_default-get
 returns-in_default-get c =
     subst (λ (r : Records). IsTrue false ↔ TakesIn c.args.birth c.args.content.now r) c.self.view_is
-    (never (no_row c.args.birth c.args.content.now c.get-2.result.now c.self.inside.records (ap Some c.get-2.ensures ∙ c.in-Some.ensures) c.in_default-get.ensures))
+    (never (no_row c.args.birth c.args.content.now c.get-2.result.now c.self.inside.records (ap Some c.get-2.ensures ∙ c.in-Some.ensures) (rw c.place.ensures at c.in_default-get.ensures)))
 
 pub returns : goal.returns
 returns c =
     subst (λ (r : Records). IsTrue c.has_bytes.result ↔ TakesIn c.args.birth c.args.content.now r) c.self.view_is
     (stands c.args.birth c.args.content.now c.has_bytes.result c.get-2.result.now c.get-4.result.now c.self.inside.records
-    (ap Some c.get-2.ensures ∙ c.in-Some.ensures) (ap Some c.get-4.ensures ∙ c.in-Some-get.ensures) c.has_bytes.ensures)
+    (ap Some c.get-2.ensures ∙ c.in-Some.ensures) (rw c.place.ensures at (ap Some c.get-4.ensures ∙ c.in-Some-get.ensures)) c.has_bytes.ensures)
