@@ -4,3 +4,4 @@ pub mod Kept
 pub mod Known
 pub mod Settled
 pub mod Spelled
+pub mod Further

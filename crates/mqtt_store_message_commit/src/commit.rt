@@ -12,11 +12,13 @@ ghost use Rattle.mqtt_store_columns.specs.Shortened.{shortened};
 ghost use Rattle.mqtt_store_message_commit.specs.Parts.{ArePartsOf};
 ghost use Rattle.mqtt_store_message_commit.specs.Making.{Makes, Needs, MakeAll, NeedAll, MayCommit, publication_in};
 ghost use Rattle.mqtt_store_message_commit.specs.Settled.{IsSettled};
+ghost use Rattle.mqtt_store_message_commit.specs.Together.{known_unless};
 
 use crate::change::table_change_of;
 use crate::parts::{Parts, parts_of};
+use crate::together::write_behind;
 use mqtt_records::Change;
-use mqtt_store_columns::{goes_by, known_behind};
+use mqtt_store_columns::{Known, goes_by, known_behind};
 use mqtt_store_message::{change_knowing, is_sized};
 use sqlite::{Alter, Connection, Error, ErrorCode, Transaction};
 use std::alloc::Global;
@@ -115,8 +117,19 @@ fn publication_put(change: &Change) -> Option<u64>
     }
 }
 
+/// What is known of the changes to come: nothing if a copy was put, behind which others may be.
+fn known_unless(known: Option<Known>, put: Option<u64>) -> Option<Known>
+    ensures { result ≡ known_unless known put }
+{
+    match put {
+        Some(_) => None,
+        None => known,
+    }
+}
+
 /// Writes what changes say, one after the other, but for copies that go with their session. The
-/// message of copies that are put one behind the other is put with the first.
+/// message of copies that are put one behind the other is put with the first, and they are put four
+/// at a time.
 fn write_changes<S: Alter>(
     alloc: Global,
     tx: &mut Transaction<'_, S>,
@@ -135,7 +148,8 @@ fn write_changes<S: Alter>(
         known = known_behind(known, change, after);
         write_unless(alloc, tx, goes_by(known), stands, change)?;
         stands = publication_put(change);
-        rest = after;
+        known = known_unless(known, stands);
+        rest = write_behind(alloc, tx, stands, after)?;
     }
     Ok(())
 }

@@ -6,6 +6,7 @@ mod columns;
 mod commit;
 mod laws;
 mod parts;
+mod together;
 
 pub use change::table_change_of;
 pub use commit::{commit_changes, write_change};
