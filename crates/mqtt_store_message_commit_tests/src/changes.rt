@@ -18,7 +18,7 @@ fn text(alloc: Global, text: &str) -> Result<Text, AllocError> {
 }
 
 /// `hi` to `a/b`.
-fn content(alloc: Global) -> Result<Content, AllocError> {
+pub(crate) fn content(alloc: Global) -> Result<Content, AllocError> {
     let topic = text(alloc, "a/b")?;
     match Bytes::copy_from_slice(alloc, b"hi") {
         Ok(payload) => Ok(Content {
@@ -34,11 +34,19 @@ fn content(alloc: Global) -> Result<Content, AllocError> {
     }
 }
 
+/// The client of a session: `r1` ..
+fn client(alloc: Global, birth: u64) -> Result<Text, AllocError> {
+    let name = format!(in alloc; "r{birth}")?;
+    let client = text(alloc, name.as_str());
+    drop(name);
+    client
+}
+
 /// The own row of a session that doesn't expire.
 fn columns(alloc: Global, birth: u64, closed: Option<u64>) -> Result<Columns, AllocError> {
     Ok(Columns {
         birth,
-        client: text(alloc, if birth == 1 { "r1" } else { "r2" })?,
+        client: client(alloc, birth)?,
         expiry: u32::MAX,
         closed,
     })

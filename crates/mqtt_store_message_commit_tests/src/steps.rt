@@ -34,7 +34,7 @@ fn take_over<S: Alter>(conn: &mut Connection<S>) -> Result<(), Error> {
 }
 
 /// A database of schema 2 in memory.
-fn database(alloc: Global, is_new: bool) -> Result<Connection<MemStore>, Error> {
+pub(crate) fn database(alloc: Global, is_new: bool) -> Result<Connection<MemStore>, Error> {
     let mut conn = Connection::open_in_memory(alloc)?;
     let made = if is_new {
         make_new(&mut conn)
@@ -135,7 +135,7 @@ fn make<S: Alter>(
 }
 
 /// The number that a query finds.
-fn number<S: Alter>(conn: &mut Connection<S>, sql: &str) -> Result<i64, Error> {
+pub(crate) fn number<S: Alter>(conn: &mut Connection<S>, sql: &str) -> Result<i64, Error> {
     conn.query_row(sql, &[])?.get(0)
 }
 
