@@ -149,12 +149,13 @@ fn given<S: Alter>(alloc: Global, conn: &mut Connection<S>) -> Result<Records, K
         queued: Vec::new(alloc),
         kept: Vec::new(alloc),
     };
-    let answer = match read_all(conn, &mut tables) {
-        Ok(()) => lawful_records_of(alloc, &tables),
-        Err(error) => Err(fault_of(&error)),
-    };
-    drop(tables);
-    answer
+    match read_all(conn, &mut tables) {
+        Ok(()) => lawful_records_of(alloc, tables),
+        Err(error) => {
+            drop(tables);
+            Err(fault_of(&error))
+        }
+    }
 }
 
 /// The records of a database that had schema 1. `Corrupt` if its tables of schema 1 have rows.

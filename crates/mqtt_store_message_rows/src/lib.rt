@@ -12,6 +12,7 @@ mod queues;
 mod referred;
 mod refers;
 mod tables;
+mod taken;
 
 pub use identifiers::identifiers_of;
 pub use kept::retained_of;

@@ -16,6 +16,7 @@ use mqtt_records_message::CopyRow;
 use mqtt_records_rows::{Boxed, Rows, newest_comes_last};
 use sqlite::Row;
 use std::alloc::Global;
+use std::collections::VecDeque;
 
 /// Sessions by their births.
 pub(crate) type Sessions = Rows<Boxed<Session>, SESSION_LIMIT>;
@@ -48,43 +49,37 @@ fn with_queue(session: Session, queue: Rows<Boxed<CopyRow>, QUEUE_LIMIT>) -> Ses
     }
 }
 
-/// Moves sessions into another list, each with the queue that the rows say. `Corrupt` if they say
-/// no queues of these.
+/// Moves sessions into another list, each with the queue that the rows say, which are let go as
+/// soon as it is made. `Corrupt` if they say no queues of these.
 pub(crate) fn put_queues(
     alloc: Global,
     messages: &Messages,
-    rows: &[Row],
+    rows: Vec<Row>,
     bare: &mut Sessions,
     all: &mut Sessions,
 ) -> Result<(), KeepError>
     requires none { all.old ≡ [] }
     requires table { IsTable birth_of SESSION_LIMIT bare.old }
     requires within { AllByRecursion IsWithin bare.old }
-    ensures ok { OnOk result (AreQueues messages.now rows.now all.new) }
+    ensures ok { OnOk result (AreQueues messages.now rows.items all.new) }
     ensures same { OnOk result (map without_queue all.new ≡ map without_queue bare.old) }
     ensures within { OnOk result (AllByRecursion IsWithin all.new) }
     ensures err { IsErrOf result KeepError.Corrupt → (ss : List Session)
-        → AreQueues messages.now rows.now ss
+        → AreQueues messages.now rows.items ss
         → map without_queue ss ≡ map without_queue bare.old → AllByRecursion IsWithin ss → ⊥ }
     ensures fault { IfErr result (λ e. (e ≡ KeepError.Memory) ⊎ (e ≡ KeepError.Corrupt)) }
 {
-    let mut left = rows;
+    let mut left = VecDeque::from_vec(rows);
     newest_comes_last::<Boxed<Session>>();
     while let Some(session) = take_first(bare) {
-        let (queue, rest) = match part_with::<Boxed<CopyRow>, QUEUE_LIMIT>(
-            alloc,
-            messages,
-            session.birth,
-            left,
-        ) {
-            Ok(part) => part,
+        let queue = match part_with(alloc, messages, session.birth, &mut left) {
+            Ok(queue) => queue,
             Err(fault) => {
                 drop(session);
                 return Err(fault);
             }
         };
         all.put(Boxed::new(alloc, with_queue(session, queue))?);
-        left = rest;
     }
     if left.is_empty() {
         Ok(())

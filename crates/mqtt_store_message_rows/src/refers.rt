@@ -10,11 +10,12 @@ ghost use Rattle.mqtt_store_rows.specs.Lists.{AreRows, TakesAll};
 ghost use Rattle.mqtt_store_message_rows.specs.Joins.{Stands};
 
 use crate::messages::Messages;
+use crate::taken::take_rows;
 use mqtt_records::KeepError;
 use mqtt_records_message::Content;
 use mqtt_records_rows::{Boxed, Row, Rows, newest_comes_last};
-use mqtt_store_rows::front_of;
 use std::alloc::Global;
+use std::collections::VecDeque;
 
 /// What is said under a number, by what arrived then. Its bytes are shared. `Corrupt` if no
 /// message has the number.
@@ -101,24 +102,24 @@ pub fn all_with<P: Refers, const LIMIT: usize>(
     Ok(all)
 }
 
-/// The items of the session's rows at the front, and the rows behind them. `Corrupt` if the
+/// Takes the items of the session's rows at the front, and lets these rows go. `Corrupt` if the
 /// session has no such list.
-pub fn part_with<'a, P: Refers, const LIMIT: usize>(
+pub fn part_with<P: Refers, const LIMIT: usize>(
     alloc: Global,
     messages: &Messages,
     birth: u64,
-    rows: &'a [sqlite::Row],
-) -> Result<(Rows<P, LIMIT>, &'a [sqlite::Row]), KeepError>
-    ensures ok { IfOk result (λ x. TakesAll (P.says messages.now) birth x.0 rows.now x.1.now) }
-    ensures within { IfOk result (λ x. IsTable P.key_of LIMIT x.0) }
+    rows: &mut VecDeque<sqlite::Row>,
+) -> Result<Rows<P, LIMIT>, KeepError>
+    ensures ok { IfOk result
+        (λ all. TakesAll (P.says messages.now) birth all rows.old.items rows.new.items) }
+    ensures within { IfOk result (λ all. IsTable P.key_of LIMIT all) }
     ensures err { IsErrOf result KeepError.Corrupt → (all : List P) (rest : List SqlRow)
-        → TakesAll (P.says messages.now) birth all rows.now rest
+        → TakesAll (P.says messages.now) birth all rows.old.items rest
         → IsTable P.key_of LIMIT all → ⊥ }
     ensures fault { IfErr result (λ e. (e ≡ KeepError.Memory) ⊎ (e ≡ KeepError.Corrupt)) }
 {
-    let count = front_of(rows, birth);
-    match all_with(alloc, messages, &rows[..count]) {
-        Ok(all) => Ok((all, &rows[count..])),
-        Err(fault) => Err(fault),
-    }
+    let part = take_rows(alloc, rows, birth)?;
+    let all = all_with(alloc, messages, &part);
+    drop(part);
+    all
 }

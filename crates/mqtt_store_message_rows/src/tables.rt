@@ -77,15 +77,15 @@ fn bare_sessions(alloc: Global, tables: &Tables) -> Result<Sessions, KeepError>
 }
 
 /// The sessions that the rows say with these messages.
-fn sessions_with(alloc: Global, messages: &Messages, tables: &Tables) -> Result<Sessions, KeepError>
-    ensures ok { IfOk result (AreSessionsWith messages.now (rows_in tables.now)) }
+fn sessions_with(alloc: Global, messages: &Messages, tables: Tables) -> Result<Sessions, KeepError>
+    ensures ok { IfOk result (AreSessionsWith messages.now (rows_in tables)) }
     ensures within { IfOk result (λ all. IsTable birth_of SESSION_LIMIT all × AllByRecursion IsWithin all) }
     ensures err { IsErrOf result KeepError.Corrupt → (all : List Session)
-        → AreSessionsWith messages.now (rows_in tables.now) all
+        → AreSessionsWith messages.now (rows_in tables) all
         → IsTable birth_of SESSION_LIMIT all → AllByRecursion IsWithin all → ⊥ }
     ensures fault { IfErr result (λ e. (e ≡ KeepError.Memory) ⊎ (e ≡ KeepError.Corrupt)) }
 {
-    let mut bare = match bare_sessions(alloc, tables) {
+    let mut bare = match bare_sessions(alloc, &tables) {
         Ok(bare) => bare,
         Err(fault) => return Err(fault),
     };
@@ -96,7 +96,7 @@ fn sessions_with(alloc: Global, messages: &Messages, tables: &Tables) -> Result<
             return Err(KeepError::Memory);
         }
     };
-    let put = put_queues(alloc, messages, &tables.queued, &mut bare, &mut all);
+    let put = put_queues(alloc, messages, tables.queued, &mut bare, &mut all);
     drop(bare);
     match put {
         Ok(()) => Ok(all),
@@ -108,22 +108,26 @@ fn sessions_with(alloc: Global, messages: &Messages, tables: &Tables) -> Result<
 }
 
 /// The records that the rows give with these messages, be these referred to or not.
-fn joined(alloc: Global, messages: &Messages, tables: &Tables) -> Result<Records, KeepError>
-    ensures ok { IfOk result (GivesBy messages.now (rows_in tables.now)) }
+fn joined(alloc: Global, messages: &Messages, tables: Tables) -> Result<Records, KeepError>
+    ensures ok { IfOk result (GivesBy messages.now (rows_in tables)) }
     ensures within { IfOk result (λ r. AreWithin r) }
     ensures err { IsErrOf result KeepError.Corrupt → (r : Records)
-        → GivesBy messages.now (rows_in tables.now) r → AreWithin r → ⊥ }
+        → GivesBy messages.now (rows_in tables) r → AreWithin r → ⊥ }
     ensures fault { IfErr result (λ e. (e ≡ KeepError.Memory) ⊎ (e ≡ KeepError.Corrupt)) }
 {
     let Some(numbers) = counters_of(&tables.meta) else {
         return Err(KeepError::Corrupt);
     };
-    let sessions = match sessions_with(alloc, messages, tables) {
-        Ok(sessions) => sessions,
+    let retained = match all_with::<Boxed<RetainedMessage>, RETAINED_LIMIT>(
+        alloc,
+        messages,
+        &tables.kept,
+    ) {
+        Ok(retained) => retained,
         Err(fault) => return Err(fault),
     };
-    match all_with::<Boxed<RetainedMessage>, RETAINED_LIMIT>(alloc, messages, &tables.kept) {
-        Ok(retained) => Ok(Records {
+    match sessions_with(alloc, messages, tables) {
+        Ok(sessions) => Ok(Records {
             births: numbers.births,
             publications: numbers.publications,
             subscribes: numbers.subscribes,
@@ -133,19 +137,19 @@ fn joined(alloc: Global, messages: &Messages, tables: &Tables) -> Result<Records
             retained,
         }),
         Err(fault) => {
-            drop(sessions);
+            drop(retained);
             Err(fault)
         }
     }
 }
 
 /// The records that the rows give with these messages, each of which is referred to.
-fn records_with(alloc: Global, messages: &Messages, tables: &Tables) -> Result<Records, KeepError>
-    ensures ok { IfOk result (GivesBy messages.now (rows_in tables.now)) }
+fn records_with(alloc: Global, messages: &Messages, tables: Tables) -> Result<Records, KeepError>
+    ensures ok { IfOk result (GivesBy messages.now (rows_in tables)) }
     ensures referred { IfOk result (λ r. AllByRecursion (IsReferred r) messages.now) }
     ensures within { IfOk result (λ r. AreWithin r) }
     ensures err { IsErrOf result KeepError.Corrupt → (r : Records)
-        → GivesBy messages.now (rows_in tables.now) r
+        → GivesBy messages.now (rows_in tables) r
         → AllByRecursion (IsReferred r) messages.now → AreWithin r → ⊥ }
     ensures fault { IfErr result (λ e. (e ≡ KeepError.Memory) ⊎ (e ≡ KeepError.Corrupt)) }
 {
@@ -167,12 +171,13 @@ fn records_with(alloc: Global, messages: &Messages, tables: &Tables) -> Result<R
 }
 
 /// The records that the rows give. `Corrupt` if they give none whose lists are in order and
-/// within their limits.
-pub fn records_of(alloc: Global, tables: &Tables) -> Result<Records, KeepError>
-    ensures ok { IfOk result (λ r. Gives (rows_in tables.now) r) }
+/// within their limits. The rows of a queue are let go once it is made: so copies do not stand in
+/// memory twice.
+pub fn records_of(alloc: Global, tables: Tables) -> Result<Records, KeepError>
+    ensures ok { IfOk result (λ r. Gives (rows_in tables) r) }
     ensures within { IfOk result (λ r. AreWithin r) }
     ensures err { IsErrOf result KeepError.Corrupt
-        → (r : Records) → Gives (rows_in tables.now) r → AreWithin r → ⊥ }
+        → (r : Records) → Gives (rows_in tables) r → AreWithin r → ⊥ }
     ensures fault { IfErr result (λ e. (e ≡ KeepError.Memory) ⊎ (e ≡ KeepError.Corrupt)) }
 {
     let messages = match messages_of(alloc, &tables.messages) {
@@ -184,12 +189,13 @@ pub fn records_of(alloc: Global, tables: &Tables) -> Result<Records, KeepError>
     records
 }
 
-/// The lawful records that the rows give. `Corrupt` if they give none.
-pub fn lawful_records_of(alloc: Global, tables: &Tables) -> Result<Records, KeepError>
-    ensures ok { IfOk result (λ r. Gives (rows_in tables.now) r) }
+/// The lawful records that the rows give. `Corrupt` if they give none. The rows of a queue are let
+/// go once it is made.
+pub fn lawful_records_of(alloc: Global, tables: Tables) -> Result<Records, KeepError>
+    ensures ok { IfOk result (λ r. Gives (rows_in tables) r) }
     ensures lawful { IfOk result (λ r. IsLawful r) }
     ensures err { IsErrOf result KeepError.Corrupt
-        → (r : Records) → Gives (rows_in tables.now) r → IsLawful r → ⊥ }
+        → (r : Records) → Gives (rows_in tables) r → IsLawful r → ⊥ }
     ensures fault { IfErr result (λ e. (e ≡ KeepError.Memory) ⊎ (e ≡ KeepError.Corrupt)) }
 {
     let records = match records_of(alloc, tables) {

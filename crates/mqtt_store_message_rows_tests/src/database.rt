@@ -92,7 +92,5 @@ pub(crate) fn after<S: Alter>(
     }
     let tables = tables(conn)?;
     conn.execute_batch("ROLLBACK")?;
-    let found = records_of(alloc, &tables);
-    drop(tables);
-    Ok(found)
+    Ok(records_of(alloc, tables))
 }

@@ -9,7 +9,7 @@ use std::test::Fail;
 fn rows_say_numbers_and_sessions(rt: HostRuntime) -> Result<(), Fail> {
     let mut conn = database(rt.alloc())?;
     let tables = tables(&mut conn)?;
-    let records = lawful_records_of(rt.alloc(), &tables)?;
+    let records = lawful_records_of(rt.alloc(), tables)?;
     assert_eq!(rt;
         (records.births, records.publications, records.subscribes),
         (2, 2, 2)
@@ -27,7 +27,6 @@ fn rows_say_numbers_and_sessions(rt: HostRuntime) -> Result<(), Fail> {
         (1, 1)
     );
     drop(records);
-    drop(tables);
     drop(conn);
     Ok(())
 }
@@ -36,7 +35,7 @@ fn rows_say_numbers_and_sessions(rt: HostRuntime) -> Result<(), Fail> {
 fn copies_say_what_their_messages_say(rt: HostRuntime) -> Result<(), Fail> {
     let mut conn = database(rt.alloc())?;
     let tables = tables(&mut conn)?;
-    let records = records_of(rt.alloc(), &tables)?;
+    let records = records_of(rt.alloc(), tables)?;
     let Some(subscriber) = records.sessions.get(1) else {
         panic!(rt; "no subscriber");
     };
@@ -73,7 +72,6 @@ fn copies_say_what_their_messages_say(rt: HostRuntime) -> Result<(), Fail> {
         (8, false)
     );
     drop(records);
-    drop(tables);
     drop(conn);
     Ok(())
 }
@@ -82,7 +80,7 @@ fn copies_say_what_their_messages_say(rt: HostRuntime) -> Result<(), Fail> {
 fn what_is_said_once_is_said_to_all(rt: HostRuntime) -> Result<(), Fail> {
     let mut conn = database(rt.alloc())?;
     let tables = tables(&mut conn)?;
-    let records = records_of(rt.alloc(), &tables)?;
+    let records = records_of(rt.alloc(), tables)?;
     let Some(subscriber) = records.sessions.get(2) else {
         panic!(rt; "no subscriber");
     };
@@ -110,7 +108,6 @@ fn what_is_said_once_is_said_to_all(rt: HostRuntime) -> Result<(), Fail> {
     assert_eq!(rt; (kept.content.payload.len(), kept.content.arrived), (2, 8));
     assert!(rt; !kept.content.payload.is_unique() && !copy.content.payload.is_unique());
     drop(records);
-    drop(tables);
     drop(conn);
     Ok(())
 }

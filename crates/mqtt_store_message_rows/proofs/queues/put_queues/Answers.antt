@@ -1,5 +1,5 @@
-use Rattle.std.proofs.Common.{◌≡◌, ◌<◌, List, [], ◌∷◌, ◌++◌, length, length-append, append_assoc, map, refl, sym, ap, subst, ◌∙◌, arith}
-use Rattle.std.specs.Prelude.{Err}
+use Rattle.std.proofs.Common.{◌≡◌, ℕ, ◌<◌, List, [], ◌∷◌, ◌++◌, length, length-append, append_assoc, map, refl, sym, ap, subst, ◌∙◌, arith}
+use Rattle.std.specs.Prelude.{Err, ◌==◌}
 use Rattle.std.specs.List.{AllByRecursion}
 use Rattle.mqtt_base.specs.declared.limits.TheConstants.{SESSION_LIMIT}
 use Rattle.mqtt_records.specs.declared.keep.KeepError.{KeepError}
@@ -16,7 +16,7 @@ use Rattle.mqtt_store_message_rows.proofs.QueueLemmas.{same_order, same_count, s
 use Rattle.mqtt_store_message_rows.proofs.queues.put_queues.Goals as goal
 
 pub loop-session-init : goal.loop-session-init
-loop-session-init c = rw c.requires.none record {
+loop-session-init c = rw (c.requires.none, c.from_vec-left.ensures.items) record {
   sound = λ ss h. h;
   complete = λ ss are same within. record { those = ss; are = are; same = same; all = within };
   same = refl;
@@ -30,7 +30,7 @@ returns-in-Err-clause-err c e ss are same within =
     let s = c.in-Some.session in
     let bare = c.take_first.new.sessions in
     let all = c.loop-session.all in
-    let left = c.loop-session.left.now in
+    let left = c.loop-session.left.items in
     let held = c.loop-session.invariant in
     let cut : c.loop-session.bare ≡ s ∷ bare = c.in-Some.ensures in
     let whole : map without_queue (all ++ s ∷ bare) ≡ map without_queue c.args.bare.now = subst (λ (l : List Session). map without_queue (all ++ l) ≡ map without_queue c.args.bare.now) cut held.same in
@@ -42,13 +42,13 @@ returns-in-Err-clause-err c e ss are same within =
 pub loop-session-preserved : goal.loop-session-preserved
 loop-session-preserved c =
     let messages = c.args.messages.now in
-    let rows = c.args.rows.now in
+    let rows = c.args.rows.items in
     let s = c.in-Some.session in
     let bare = c.take_first.new.sessions in
     let all = c.loop-session.all in
-    let left = c.loop-session.left.now in
-    let queue = c.in-Ok.part.0 in
-    let rest = c.in-Ok.part.1.now in
+    let left = c.loop-session.left.items in
+    let queue = c.in-Ok.queue in
+    let rest = c.part_with.new.rows.items in
     let held = c.loop-session.invariant in
     let t : Session = record s { queue = queue } in
     let made : c.in_ok-new.field-0 ≡ t = c.in_ok-new.ensures ∙ c.with_queue.ensures in
@@ -74,10 +74,10 @@ loop-session-preserved c =
       bare_within = within.1;
     }
 
-pub returns-else-is_empty-clause-err : goal.returns-else-is_empty-clause-err
-returns-else-is_empty-clause-err c e ss are same within =
+pub returns-clause-err : goal.returns-clause-err
+returns-clause-err c e ss are same within =
     let messages = c.args.messages.now in
-    let left = c.loop-session.left.now in
+    let left = c.loop-session.left in
     let none : c.loop-session.bare ≡ [] = c.in_default.ensures.0 in
-    let held = subst (λ (l : List Session). Left messages left l) none (c.loop-session.invariant.complete ss are same within) in
-    not_empty left c.if-is_empty.ensures (left_none messages left held)
+    let held = subst (λ (l : List Session). Left messages left.items l) none (c.loop-session.invariant.complete ss are same within) in
+    not_empty left.items (c.if-is_empty.ensures ∙ ap (λ (n : ℕ). n == 0) left.ok.0) (left_none messages left.items held)

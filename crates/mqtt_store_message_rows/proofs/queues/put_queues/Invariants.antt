@@ -8,8 +8,8 @@ use Rattle.mqtt_store_message_rows.proofs.queues.put_queues.Given as goal
 
 abbrev pub invariant-loop-session : goal.invariant-loop-session
 invariant-loop-session l = record {
-  sound : (ss : List Session) → AreQueues l.messages l.left ss → AreQueues l.messages l.rows (l.all ++ ss);
-  complete : (ss : List Session) → AreQueues l.messages l.rows ss → map without_queue ss ≡ map without_queue l.fn.bare → AllByRecursion IsWithin ss → Left l.messages l.left l.bare;
+  sound : (ss : List Session) → AreQueues l.messages l.left.items ss → AreQueues l.messages l.fn.rows.items (l.all ++ ss);
+  complete : (ss : List Session) → AreQueues l.messages l.fn.rows.items ss → map without_queue ss ≡ map without_queue l.fn.bare → AllByRecursion IsWithin ss → Left l.messages l.left.items l.bare;
   same : map without_queue (l.all ++ l.bare) ≡ map without_queue l.fn.bare;
   each : AllByRecursion IsWithin l.all;
   bare_within : AllByRecursion IsWithin l.bare;

@@ -1,15 +1,13 @@
-use Rattle.std.proofs.Common.{◌≡◌, List, take, sym, ap, subst}
-use Rattle.std.specs.Prelude.{Err}
+use Rattle.std.proofs.Common.{◌≡◌, List, sym, subst, ◌∙◌}
 use Rattle.sqlite_value.specs.Order.{Row}
-use Rattle.mqtt_records.specs.declared.keep.KeepError.{KeepError}
 use Rattle.mqtt_store_rows.specs.Lists.{AreRows}
-use Rattle.mqtt_store_rows.proofs.ListLemmas.{same_front}
+use Rattle.mqtt_store_message_rows.proofs.TakenLemmas.{same_taken}
 use Rattle.mqtt_store_message_rows.proofs.refers.part_with.Goals as goal
 
-pub returns-in-Err-clause-err : goal.returns-in-Err-clause-err
-returns-in-Err-clause-err g c e all rest taken list =
-    let rows = c.args.rows.now in
-    let same : c.in-Err.fault ≡ KeepError.Corrupt = cc in
-    let found = c.front_of-count.ensures in
-    let whole : take c.front_of-count.result rows ≡ taken.takes.front = same_front c.args.birth c.front_of-count.result rows taken.takes.front rest taken.takes.parts taken.takes.mine taken.ends found.within found.mine found.rest in
-    c.in-Err.ensures.err (ap Err same) all (subst (λ (l : List Row). AreRows (g.P.Refers.says c.args.messages.now) l all) (sym whole) taken.takes.are) list
+pub returns-clause-err : goal.returns-clause-err
+returns-clause-err g c e all rest taken list =
+    let part = c.in_ok-part.part.items in
+    let found = c.in_ok-part.ensures in
+    let same : part ≡ taken.takes.front = same_taken c.args.birth c.args.rows.now.items part c.take_rows.new.rows.items taken.takes.front rest found.parts found.mine found.rest taken.takes.parts taken.takes.mine taken.ends in
+    let whole : c.deref.result.now ≡ taken.takes.front = c.deref.ensures.value ∙ same in
+    c.all_with-all.ensures.err e all (subst (λ (l : List Row). AreRows (g.P.Refers.says c.args.messages.now) l all) (sym whole) taken.takes.are) list

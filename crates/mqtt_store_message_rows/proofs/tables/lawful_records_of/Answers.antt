@@ -15,7 +15,7 @@ returns-in-Err-clause-err c e r gives lawful =
 pub returns-in-Ok-false-clause-err : goal.returns-in-Ok-false-clause-err
 returns-in-Ok-false-clause-err c e r gives lawful =
     let found = c.in-Ok.ensures in
-    let same : r ≡ c.in-Ok.records = one_records (rows_in c.args.tables.now) r c.in-Ok.records gives (lawful_within r lawful) found.ok found.within in
+    let same : r ≡ c.in-Ok.records = one_records (rows_in c.args.tables) r c.in-Ok.records gives (lawful_within r lawful) found.ok found.within in
     let is = c.in-Ok-false.ensures.1 (subst IsLawful same lawful) in
     let no = c.in-Ok-false.field-0-test in
     absurd cc

@@ -12,7 +12,7 @@ use Rattle.mqtt_store_message_rows.proofs.tables.records_of.Goals as goal
 
 pub returns-clause-err : goal.returns-clause-err
 returns-clause-err c e r gives within =
-    let rows = rows_in c.args.tables.now in
+    let rows = rows_in c.args.tables in
     let said = subst (λ (l : List Row). AreRows SaysMessage l c.in-Ok.messages) c.deref.ensures.value c.in-Ok.ensures.ok in
     let same : gives.messages ≡ c.in-Ok.messages = same_rows SaysMessage one_message rows.messages gives.messages c.in-Ok.messages gives.said said in
     c.records_with-records.ensures.err e r (subst (λ (l : List StoredMessage). GivesBy l rows r) same gives.by) (subst (AllByRecursion (IsReferred r)) same gives.referred) within

@@ -16,10 +16,10 @@ returns-in-Err-clause-err c e all are table within =
 pub returns-in-Ok-put-clause-within : goal.returns-in-Ok-put-clause-within
 returns-in-Ok-put-clause-within c = (same_table SESSION_LIMIT c.put_queues-put.new.all c.in-Ok.bare c.in-Ok-put.ensures.same c.in-Ok.ensures.within.0, c.in-Ok-put.ensures.within)
 
-pub returns-in-Err-put-clause-err : goal.returns-in-Err-put-clause-err
-returns-in-Err-put-clause-err c e all are table within =
+pub returns-clause-err : goal.returns-clause-err
+returns-clause-err c e all are table within =
     let same : c.in-Err-put.fault ≡ KeepError.Corrupt = cc in
-    let rows = rows_in c.args.tables.now in
+    let rows = rows_in c.args.tables in
     let found = c.in-Ok.ensures in
     let alike : map without_queue all ≡ c.in-Ok.bare = one_sessions rows.sessions (parts_of rows) (map without_queue all) c.in-Ok.bare are.others found.ok (same_order (map without_queue all) all (without_twice all) table.ascending) found.within.0.ascending in
-    c.in-Err-put.ensures.err (ap Err same) all (rw c.deref.ensures.value are.queues) (alike ∙ sym found.bare) within
+    c.in-Err-put.ensures.err (ap Err same) all are.queues (alike ∙ sym found.bare) within
