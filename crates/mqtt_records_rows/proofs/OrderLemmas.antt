@@ -39,12 +39,12 @@ module _ {X : Type 0} (key : X → ℕ) where
       let here : ltb (key x) k ≡ true = low 0 x (omega arith) (omega arith) in
       rw here (ap suc (front_len_is k xs i (omega (arith, le)) (λ j d a b. low (suc j) d (omega arith) (omega (arith, b))) (λ j d a b. high (suc j) d (omega (arith, a)) (omega (arith, b)))))
 
-  -- rows in front are in order as all are
   above_take : (n i : ℕ) (xs : List X) → IsAbove key n xs → IsAbove key n (take i xs)
   above_take n zero xs up = tt
   above_take n (suc i) [] up = tt
   above_take n (suc i) (x ∷ xs) up = (up.0, above_take n i xs up.1)
 
+  -- rows in front are in order as all are
   pub ascending_take : (i : ℕ) (xs : List X) → IsAscending key xs → IsAscending key (take i xs)
   ascending_take zero xs up = tt
   ascending_take (suc i) [] up = tt
