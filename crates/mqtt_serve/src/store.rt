@@ -14,6 +14,7 @@ use mqtt_broker_step::EngineError;
 use mqtt_link::ServeFault;
 use mqtt_records::{Keep, KeepError};
 use mqtt_rules::Limits;
+use mqtt_serve_database::make_database;
 use mqtt_store::SqlKeep;
 use sqlite::{Alter, Connection, Error, ErrorCode, FileFrom, FileStore, Start};
 use std::alloc::Global;
@@ -46,6 +47,8 @@ pub(crate) fn open_database<S: Start>(
     ensures no_file { path.now ≡ codes ":memory:" → result ≡ Err ServeFault.Store }
     ensures fault { IfErr result (λ fault. fault ≢ ServeFault.Socket) }
 {
+    // A new database gets smaller pages than the kit's. If it was not made so, the opening makes it, or says what is wrong.
+    let _ = make_database(rt, path);
     match Connection::open_from(rt, path, false, start) {
         Ok(conn) => Ok(conn),
         Err((error, left)) => {
