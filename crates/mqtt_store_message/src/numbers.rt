@@ -7,7 +7,7 @@ use sqlite::{Error, Row};
 use std::alloc::Global;
 
 /// A number as SQL has it.
-pub(crate) fn whole(n: u64) -> i64
+pub fn whole(n: u64) -> i64
     requires { n < 2 ^ 63 }
     ensures { result ≡ pos n }
 {
@@ -15,7 +15,7 @@ pub(crate) fn whole(n: u64) -> i64
 }
 
 /// A number that may be missing, as SQL has it.
-pub(crate) fn whole_or_none(n: Option<u64>) -> Option<i64>
+pub fn whole_or_none(n: Option<u64>) -> Option<i64>
     requires { IfSome n (λ n. n < 2 ^ 63) }
     ensures { result ≡ option_map pos n }
 {

@@ -10,7 +10,7 @@ use crate::queued::QueuedColumns;
 const NUMBER_LIMIT: u64 = 1 << 63;
 
 /// Whether SQL has the number.
-pub(crate) fn fits(n: u64) -> bool
+pub fn fits(n: u64) -> bool
     ensures { IsTrue result ↔ n < 2 ^ 63 }
 {
     n < NUMBER_LIMIT
@@ -27,7 +27,7 @@ fn fits_if_any(n: Option<u64>) -> bool
 }
 
 /// Whether SQL has the numbers of a copy.
-fn is_sized_copy(copy: &QueuedColumns<'_>) -> bool
+pub fn is_sized_copy(copy: &QueuedColumns<'_>) -> bool
     ensures { IsTrue result ↔ IsSizedCopy copy.now }
 {
     fits(copy.publication)

@@ -1,7 +1,6 @@
 //! Further copies of a publication in schema 2, four of which one statement puts (MQTT 5.0, 4.1). Private.
 #![tactic(auto)]
 
-mod numbers;
 mod together;
 
 pub use together::{insert_four, push_copy};

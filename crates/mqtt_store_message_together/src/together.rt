@@ -8,8 +8,7 @@ ghost use Rattle.mqtt_store_message.specs.Rows.{queued_row, IsSized};
 ghost use Rattle.mqtt_store_message_together.specs.Together.{Coming, coming_rows, InsertsEach};
 ghost use Rattle.mqtt_store_message.specs.Changing.{ChangesAs};
 
-use crate::numbers::{fits, is_sized_copy, whole, whole_or_none};
-use mqtt_store_message::QueuedColumns;
+use mqtt_store_message::{QueuedColumns, fits, is_sized_copy, whole, whole_or_none};
 use sqlite::types::ValueRef;
 use sqlite::{Alter, Constraint, Error, ErrorCode, Transaction, params};
 use std::alloc::AllocError;
