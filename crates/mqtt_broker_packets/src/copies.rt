@@ -16,8 +16,9 @@ ghost use Rattle.mqtt_broker_packets.specs.Frames.{identifier_bytes, IsSizeIn, I
 use crate::frame::{frame_begin, frame_end};
 use crate::sent::sent_push;
 use bytes::Bytes;
-use mqtt_base::{Qos, VARINT_LIMIT, blob_push, u16_push, varint_len, varint_push};
-use mqtt_records_message::{Content, CopyRow, MessageCopy, sent_len};
+use mqtt_base::{Qos, Text, VARINT_LIMIT, blob_push, u16_push, varint_len, varint_push};
+use mqtt_props::PropsRef;
+use mqtt_records_message::{CopyRef, CopyRow, sent_len};
 use mqtt_topic_aliases::{Form, OtherBytes, size_in};
 use std::alloc::{AllocError, Global};
 
@@ -65,11 +66,32 @@ fn identifier_len(qos: Qos) -> usize
     }
 }
 
-/// Whole seconds since the publication was accepted.
-fn seconds_waited(now: u64, content: &Content) -> u64
-    ensures { result ≡ seconds_waited now content.now }
+/// Whole seconds since the publication of a copy was accepted.
+fn seconds_waited(now: u64, copy: &CopyRef<'_>) -> u64
+    ensures { result ≡ seconds_waited now copy.now.content }
 {
-    now.saturating_sub(content.arrived) / 1_000
+    now.saturating_sub(copy.content.arrived) / 1_000
+}
+
+/// The topic of a copy.
+fn topic_of<'a>(copy: &'a CopyRef<'_>) -> &'a Text
+    ensures { result.now ≡ copy.now.content.topic }
+{
+    copy.content.topic
+}
+
+/// The properties of a copy as they were passed on.
+fn properties_of<'a>(copy: &'a CopyRef<'_>) -> PropsRef<'a>
+    ensures { result ≡ copy.now.content.properties }
+{
+    copy.content.properties.lend()
+}
+
+/// The Subscription Identifiers of a copy.
+fn identifiers_of<'a>(copy: &'a CopyRef<'_>) -> &'a [u32]
+    ensures { result.now ≡ copy.now.identifiers }
+{
+    copy.identifiers.as_slice()
 }
 
 /// The bytes besides topic and Topic Alias, by the bytes of the properties and of the payload.
@@ -83,7 +105,7 @@ fn other_of(properties: usize, qos: Qos, payload: usize) -> OtherBytes
 
 /// The bytes that a copy's PUBLISH has besides its topic and a Topic Alias, if the properties are a
 /// block: the same at each moment, with DUP or without, under each identifier (3.3). Takes no memory.
-pub fn other_bytes(copy: &MessageCopy) -> Option<OtherBytes>
+pub fn other_bytes(copy: &CopyRef<'_>) -> Option<OtherBytes>
     ensures exact { MatchOption result (¬ FitsBlock (first_sent copy.now))
         (λ other. other ≡ other_bytes copy.now) }
     ensures fits { OnSome result (FitsBlock (first_sent copy.now)) }
@@ -104,7 +126,7 @@ pub fn row_other_bytes(row: &CopyRow) -> OtherBytes
 }
 
 /// The bytes of the topic that stands in a form, without its length (3.3.2.1).
-fn topic_len(form: Form, copy: &MessageCopy) -> usize
+fn topic_len(form: Form, copy: &CopyRef<'_>) -> usize
     ensures value { result ≡ length (topic_in form copy.now.content.topic) }
     ensures below { result < 2 ^ 16 }
 {
@@ -126,7 +148,7 @@ fn alias_len(form: Form) -> usize
 }
 
 /// The lengths of a copy's PUBLISH in a form, by its other bytes, if it has a spelling.
-fn lengths_by(form: Form, other: OtherBytes, copy: &MessageCopy) -> Option<Lengths>
+fn lengths_by(form: Form, other: OtherBytes, copy: &CopyRef<'_>) -> Option<Lengths>
     requires other { other ≡ other_bytes copy.now }
     requires fits { FitsBlock (first_sent copy.now) }
     ensures { MatchOption result (¬ IsSpelledIn form copy.now) (Measures form copy.now) }
@@ -148,7 +170,7 @@ fn lengths_by(form: Form, other: OtherBytes, copy: &MessageCopy) -> Option<Lengt
 }
 
 /// The lengths of a copy's PUBLISH in a form, if it has a spelling.
-fn lengths_in(form: Form, copy: &MessageCopy) -> Option<Lengths>
+fn lengths_in(form: Form, copy: &CopyRef<'_>) -> Option<Lengths>
     ensures { MatchOption result (¬ IsSpelledIn form copy.now) (Measures form copy.now) }
 {
     let other = other_bytes(copy)?;
@@ -156,7 +178,7 @@ fn lengths_in(form: Form, copy: &MessageCopy) -> Option<Lengths>
 }
 
 /// Writes the topic of a form at the end (3.3.2.1).
-fn topic_push(out: &mut Vec<u8>, form: Form, copy: &MessageCopy) -> Result<(), AllocError>
+fn topic_push(out: &mut Vec<u8>, form: Form, copy: &CopyRef<'_>) -> Result<(), AllocError>
     ensures { OnOk result (out.new.items
         ≡ out.old.items ++ blob (topic_in form copy.now.content.topic)) }
 {
@@ -171,7 +193,7 @@ fn head_push(
     out: &mut Vec<u8>,
     identifier: u16,
     form: Form,
-    copy: &MessageCopy,
+    copy: &CopyRef<'_>,
 ) -> Result<(), AllocError>
     ensures { OnOk result (out.new.items ≡ out.old.items
         ++ (blob (topic_in form copy.now.content.topic) ++ identifier_bytes copy.now.qos identifier)) }
@@ -187,7 +209,7 @@ fn block_push(
     now: u64,
     pairs: usize,
     form: Form,
-    copy: &MessageCopy,
+    copy: &CopyRef<'_>,
 ) -> Result<(), AllocError>
     requires spelled { IsSpelledIn form copy.now }
     requires pairs { pairs ≡ length (props (first_sent copy.now)) + alias_size form }
@@ -195,15 +217,9 @@ fn block_push(
         ≡ out.old.items ++ block (with_alias (alias_in form) (properties_sent now copy.now))) }
 {
     varint_push(out, pairs as u32)?;
-    let list = copy.content.properties.lend();
-    let waited = seconds_waited(now, &copy.content);
-    sent_push(
-        out,
-        &list,
-        waited,
-        copy.identifiers.as_slice(),
-        form.alias(),
-    )
+    let list = properties_of(copy);
+    let waited = seconds_waited(now, copy);
+    sent_push(out, &list, waited, identifiers_of(copy), form.alias())
 }
 
 /// Writes all behind the fixed header at the end.
@@ -213,7 +229,7 @@ fn body_push(
     identifier: u16,
     pairs: usize,
     form: Form,
-    copy: &MessageCopy,
+    copy: &CopyRef<'_>,
 ) -> Result<(), AllocError>
     requires spelled { IsSpelledIn form copy.now }
     requires pairs { pairs ≡ length (props (first_sent copy.now)) + alias_size form }
@@ -226,7 +242,7 @@ fn body_push(
 }
 
 /// Whether a copy's PUBLISH has a spelling (2.1.4). Takes no memory.
-pub fn has_spelling(copy: &MessageCopy) -> bool
+pub fn has_spelling(copy: &CopyRef<'_>) -> bool
     ensures { IsTrue result ↔ IsSpelled copy.now }
 {
     lengths_in(Form::Plain, copy).is_some()
@@ -235,7 +251,7 @@ pub fn has_spelling(copy: &MessageCopy) -> bool
 /// How many bytes a copy's PUBLISH takes in a form, fixed header included: the same at each moment,
 /// with DUP or without, under each identifier; none if it has no spelling (2.1.4, 3.3). Takes no
 /// memory.
-pub fn publish_in_len(form: Form, copy: &MessageCopy) -> Option<usize>
+pub fn publish_in_len(form: Form, copy: &CopyRef<'_>) -> Option<usize>
     ensures exact { MatchOption result (¬ IsSpelledIn form copy.now) (IsSizeIn form copy.now) }
     ensures spelled { OnSome result (IsSpelledIn form copy.now) }
     ensures bound { IfSome result (λ size. size < 2 ^ 28 + 5) }
@@ -243,13 +259,13 @@ pub fn publish_in_len(form: Form, copy: &MessageCopy) -> Option<usize>
     let Some(other) = other_bytes(copy) else {
         return None;
     };
-    size_in(form, &copy.content.topic, other)
+    size_in(form, topic_of(copy), other)
 }
 
 /// How many bytes a copy's PUBLISH takes, fixed header included: the same at each moment, with DUP
 /// or without, under each identifier (3.3). Takes no memory.
 #[tactic(auto, using(crate::proofs::Spelled::spelled_plain))]
-pub fn publish_len(copy: &MessageCopy) -> usize
+pub fn publish_len(copy: &CopyRef<'_>) -> usize
     requires { IsSpelled copy.now }
     ensures exact { IsSizeOf copy.now result }
     ensures bound { result < 2 ^ 28 + 5 }
@@ -266,7 +282,7 @@ pub fn publish_in(
     dup: bool,
     identifier: u16,
     form: Form,
-    copy: &MessageCopy,
+    copy: &CopyRef<'_>,
 ) -> Result<Bytes, AllocError>
     requires { IsSpelledIn form copy.now }
     ensures { IfOk result (λ bytes. bytes
@@ -287,7 +303,7 @@ pub fn publish(
     now: u64,
     dup: bool,
     identifier: u16,
-    copy: &MessageCopy,
+    copy: &CopyRef<'_>,
 ) -> Result<Bytes, AllocError>
     requires { IsSpelled copy.now }
     ensures { IfOk result (λ bytes. bytes ≡ shortest_of (publish_of now dup identifier copy.now)) }

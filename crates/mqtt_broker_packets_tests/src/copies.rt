@@ -103,10 +103,10 @@ fn sent(
     copy: MessageCopy,
     want: &[u8],
 ) -> Result<(), AllocError> {
-    let is_spelled = has_spelling(&copy);
+    let is_spelled = has_spelling(&copy.lend());
     assert!(rt; is_spelled, "the copy has a spelling");
-    assert_eq!(rt; publish_len(&copy), want.len());
-    let bytes = publish(alloc, now, dup, 1, &copy);
+    assert_eq!(rt; publish_len(&copy.lend()), want.len());
+    let bytes = publish(alloc, now, dup, 1, &copy.lend());
     drop(copy);
     match bytes {
         Ok(bytes) => {
@@ -181,7 +181,7 @@ fn too_great_an_identifier_has_no_spelling(rt: HostRuntime) -> Result<(), Fail> 
     let alloc = rt.alloc();
     // a Variable Byte Integer is at most 268,435,455 (1.5.5)
     let copy = copy(alloc, Qos::AtMostOnce, &[1 << 28], PassedOn::new())?;
-    let is_spelled = has_spelling(&copy);
+    let is_spelled = has_spelling(&copy.lend());
     drop(copy);
     assert!(rt; !is_spelled, "2^28 has no spelling");
     Ok(())
@@ -201,7 +201,7 @@ fn a_queued_copy_is_sent_as_it_was_measured(rt: HostRuntime) -> Result<(), Fail>
     };
     assert_eq!(rt; row_other_bytes(&row), want);
     let bytes = match row.whole() {
-        Some(copy) => publish(alloc, 0, false, 1, copy),
+        Some(copy) => publish(alloc, 0, false, 1, &copy),
         None => Err(AllocError),
     };
     drop(row);

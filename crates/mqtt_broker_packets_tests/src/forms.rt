@@ -20,12 +20,12 @@ fn goes_out(
     copy: &MessageCopy,
     want: &[u8],
 ) -> Result<(), AllocError> {
-    let Some(size) = publish_in_len(form, copy) else {
+    let Some(size) = publish_in_len(form, &copy.lend()) else {
         assert!(rt; false, "it has a spelling in this form");
         return Ok(());
     };
     assert_eq!(rt; size, want.len());
-    let bytes = publish_in(alloc, now, dup, identifier, form, copy)?;
+    let bytes = publish_in(alloc, now, dup, identifier, form, &copy.lend())?;
     assert_eq!(rt; bytes.as_slice(), want);
     drop(bytes);
     Ok(())
@@ -91,7 +91,7 @@ fn the_other_bytes_are_counted(rt: HostRuntime) -> Result<(), Fail> {
     let alloc = rt.alloc();
     let properties = passed(alloc, Some(10), true)?;
     let copy = copy(alloc, Qos::AtLeastOnce, &[7, 8], properties)?;
-    let found = other_bytes(&copy);
+    let found = other_bytes(&copy.lend());
     drop(copy);
     // five of the interval, four of the identifiers, seven of the User Property
     let want = OtherBytes {
@@ -106,8 +106,8 @@ fn the_other_bytes_are_counted(rt: HostRuntime) -> Result<(), Fail> {
 fn too_great_an_identifier_has_no_spelling_in_any_form(rt: HostRuntime) -> Result<(), Fail> {
     let alloc = rt.alloc();
     let copy = copy(alloc, Qos::AtMostOnce, &[1 << 28], PassedOn::new())?;
-    let named = publish_in_len(Form::Named(1), &copy);
-    let found = other_bytes(&copy);
+    let named = publish_in_len(Form::Named(1), &copy.lend());
+    let found = other_bytes(&copy.lend());
     drop(copy);
     assert_eq!(rt; named, None);
     assert_eq!(rt; found, None);

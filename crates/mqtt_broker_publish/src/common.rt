@@ -80,7 +80,7 @@ fn spell(alloc: Global, moment: u64, copy: &MessageCopy) -> Result<Encoded, Allo
     ensures { IfOk result (λ made. IsEncoded made.moment copy.now made.bytes
         × (made.bytes ≡ shortest_of (publish_of moment false 0 copy.now))) }
 {
-    let bytes = publish(alloc, moment, false, 0, copy)?;
+    let bytes = publish(alloc, moment, false, 0, &copy.lend())?;
     Ok(Encoded { moment, bytes })
 }
 

@@ -11,9 +11,9 @@ ghost use Rattle.mqtt_broker_step.specs.Undoing.{moment_of};
 ghost use Rattle.mqtt_broker_queue.specs.Fitting.{IsOutgoingIn, offers};
 
 use mqtt_base::Text;
-use mqtt_broker_packets::{other_bytes, publish_in};
+use mqtt_broker_packets::{other_bytes, publish_in, row_other_bytes};
 use mqtt_broker_step::{Outgoing, Step, StepFault};
-use mqtt_records_message::{CopyRow, MessageCopy};
+use mqtt_records_message::{CopyRef, CopyRow, MessageCopy};
 use mqtt_topic_aliases::Form;
 use std::alloc::{AllocError, Global};
 
@@ -27,20 +27,16 @@ fn told_by(form: Form, topic: &Text) -> Result<Option<Text>, AllocError>
     }
 }
 
-/// The form in which the PUBLISH of a copy, which has a spelling, goes out on a line: plain, without a look at its
-/// bytes, to a client that takes no aliases (3.3.2.3.4). Takes no memory.
-fn form_on(step: &Step, line: u64, copy: &MessageCopy) -> Form
-    requires { IsSpelled copy.now }
+/// The form in which the PUBLISH of a row's copy goes out on a line: plain, without a look at its bytes, to a client
+/// that takes no aliases (3.3.2.3.4). Takes no memory.
+fn form_on(step: &Step, line: u64, row: &CopyRow) -> Form
     ensures { (moment id : ℕ) (dup : Bool)
-        → result ≡ form_on line (published_of moment dup id copy.now) step.now.broker }
+        → result ≡ form_on line (published_of moment dup id row.now.copy) step.now.broker }
 {
     if !step.takes_aliases(line) {
         return Form::Plain;
     }
-    let Some(other) = other_bytes(copy) else {
-        unreachable!();
-    };
-    step.form_of(line, &copy.content.topic, other)
+    step.form_of(line, row.topic(), row_other_bytes(row))
 }
 
 /// The form in which the PUBLISH of a copy, which has a spelling, goes out on a line whose client takes so many bytes;
@@ -49,7 +45,7 @@ fn form_within(step: &Step, line: u64, largest: u32, copy: &MessageCopy) -> Opti
     requires { IsSpelled copy.now }
     ensures { result ≡ form_of largest (told_on line step.now.broker.tellings) copy.now }
 {
-    let Some(other) = other_bytes(copy) else {
+    let Some(other) = other_bytes(&copy.lend()) else {
         unreachable!();
     };
     step.form_within(line, largest, &copy.content.topic, other)
@@ -63,14 +59,14 @@ fn outgoing(
     dup: bool,
     identifier: u16,
     form: Form,
-    copy: &MessageCopy,
+    copy: &CopyRef<'_>,
 ) -> Result<Outgoing, AllocError>
     requires { IsSpelledIn form copy.now }
     ensures { IfOk result (IsOutgoingIn form (published_of moment dup identifier copy.now)) }
 {
     let bytes = publish_in(alloc, moment, dup, identifier, form, copy)?;
     Ok(Outgoing {
-        told: told_by(form, &copy.content.topic)?,
+        told: told_by(form, copy.content.topic)?,
         bytes,
     })
 }
@@ -93,8 +89,8 @@ pub(crate) fn outgoing_row(
     let Some(copy) = row.whole() else {
         return Err(AllocError);
     };
-    let form = form_on(step, line, copy);
-    outgoing(alloc, step.moment(), dup, identifier, form, copy)
+    let form = form_on(step, line, row);
+    outgoing(alloc, step.moment(), dup, identifier, form, &copy)
 }
 
 /// A copy of QoS 0, whose PUBLISH has a spelling, goes out on a line in the first of its forms that is within what the
@@ -115,6 +111,6 @@ pub fn offer_publish(
     let Some(form) = form_within(step, line, state.largest(), copy) else {
         return Ok(());
     };
-    let out = outgoing(alloc, step.moment(), false, 0, form, copy)?;
+    let out = outgoing(alloc, step.moment(), false, 0, form, &copy.lend())?;
     step.send_publish(line, out)
 }

@@ -2,9 +2,9 @@
 
 use crate::telling::Telling;
 use mqtt_base::Phase;
-use mqtt_records::{Content, CopyRow, Records, RetainedMessage, Session, Subscription, Will};
+use mqtt_records::{ContentRef, CopyRow, Records, RetainedMessage, Session, Subscription, Will};
 
-fn tell_content(told: &mut Telling, content: &Content) {
+fn tell_content(told: &mut Telling, content: &ContentRef<'_>) {
     told.word(content.topic.as_str());
     told.pair("@", content.arrived);
     told.word(" ");
@@ -80,7 +80,7 @@ fn tell_retained(told: &mut Telling, row: &RetainedMessage) {
     told.word(row.sender.as_str());
     told.pair(" ", row.publication);
     told.pair(" ", row.qos as u64);
-    tell_content(told, &row.content);
+    tell_content(told, &row.content.lend());
 }
 
 /// All rows but the moment.

@@ -17,8 +17,8 @@ pub use keep::{Keep, KeepError};
 pub use laws::{ended_session_leaves_nothing, numbers_never_fall};
 pub use memory::MemKeep;
 pub use mqtt_records_message::{
-    Content, CopyContent, CopyFault, CopyPart, CopyRow, MessageCopy, PassedOn, RetainedMessage,
-    SubscriptionIdentifiers, Will,
+    Content, ContentRef, CopyContent, CopyFault, CopyPart, CopyRef, CopyRow, MessageCopy, PassedOn,
+    RetainedMessage, SubscriptionIdentifiers, Will,
 };
 pub use mqtt_records_rows::{
     Boxed, CloneRow, Editable, Fillable, Named, Parted, Row, Rows, newest_comes_last,

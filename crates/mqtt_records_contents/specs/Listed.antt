@@ -1,6 +1,5 @@
 -- All that is said in records, as a list, and how it is seen that it agrees.
 use Rattle.std.specs.Prelude.{◌≡◌, ℕ, List, ◌++◌, length, map, flat_map}
-use Rattle.std.specs.Borrow.{Bor}
 use Rattle.std.specs.List.{AllAdjacentBelow}
 use Rattle.mqtt_records_message.specs.declared.message.Content.{Content}
 use Rattle.mqtt_records.specs.declared.records.Records.{Records}
@@ -12,8 +11,8 @@ abbrev pub AreAlike : Content → Content → Type 0
 AreAlike x y = (x.topic ≡ y.topic) × (x.properties ≡ y.properties) × (x.payload ≡ y.payload)
 
 -- a number with the content that is lent
-abbrev pub said : ℕ × Bor Content → StoredMessage
-said x = stored_message x.0 x.1.now
+abbrev pub said : ℕ × Content → StoredMessage
+said x = stored_message x.0 x.1
 
 -- by the copies of each session in turn, then by the retained messages
 abbrev pub messages_of : Records → List StoredMessage
@@ -28,5 +27,5 @@ abbrev pub AllAgree : List StoredMessage → Type 0
 AllAgree ms = (m n : StoredMessage) → Has ms m → Has ms n → Agrees m n
 
 -- each agrees with the next
-abbrev pub NeighboursAgree : List (ℕ × Bor Content) → Type 0
+abbrev pub NeighboursAgree : List (ℕ × Content) → Type 0
 NeighboursAgree lent = AllAdjacentBelow (λ x y. Agrees (said x) (said y)) lent (length lent)

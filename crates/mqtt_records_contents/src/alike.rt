@@ -4,7 +4,7 @@ ghost use Rattle.mqtt_props.specs.Views.{prop_of, value_of};
 ghost use Rattle.mqtt_records_contents.specs.Listed.{AreAlike};
 
 use mqtt_props::{PropRef, PropsRef, ValueRef};
-use mqtt_records_message::Content;
+use mqtt_records_message::ContentRef;
 
 /// Whether two values are the same.
 fn is_same_value(one: ValueRef<'_>, other: ValueRef<'_>) -> bool
@@ -48,10 +48,10 @@ fn are_same_properties(these: &PropsRef<'_>, others: &PropsRef<'_>) -> bool
 }
 
 /// Whether two contents say the same. When they were accepted is no part of it.
-pub(crate) fn are_alike(one: &Content, other: &Content) -> bool
+pub(crate) fn are_alike(one: &ContentRef<'_>, other: &ContentRef<'_>) -> bool
     ensures { IsTrue result ↔ AreAlike one.now other.now }
 {
-    one.topic == other.topic
+    *one.topic == *other.topic
         && are_same_properties(&one.properties.lend(), &other.properties.lend())
-        && one.payload == other.payload
+        && *one.payload == *other.payload
 }

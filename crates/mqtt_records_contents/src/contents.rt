@@ -5,18 +5,18 @@ ghost use Rattle.mqtt_records_contents.specs.Listed.{messages_of, said, Agrees, 
 
 use crate::alike::are_alike;
 use mqtt_records::{Records, Session};
-use mqtt_records_message::{Content, CopyRow, RetainedMessage};
+use mqtt_records_message::{ContentRef, CopyRow, RetainedMessage};
 use mqtt_records_rows::Boxed;
 use std::alloc::{AllocError, Global};
 
 /// The number of a publication, and what is said under it.
-type Said<'a> = (u64, &'a Content);
+type Said<'a> = (u64, ContentRef<'a>);
 
 /// Whether two messages say the same if they have one number.
 fn agree(one: &Said<'_>, next: &Said<'_>) -> bool
     ensures { IsTrue result ↔ Agrees (said one.now) (said next.now) }
 {
-    one.0 != next.0 || are_alike(next.1, one.1)
+    one.0 != next.0 || are_alike(&next.1, &one.1)
 }
 
 /// Whether each message agrees with the next.
@@ -54,7 +54,7 @@ fn push_queue<'a>(
         let Some(copy) = row.get().whole() else {
             return Err(AllocError);
         };
-        messages.push((copy.id.publication, &copy.content))?;
+        messages.push((copy.id.publication, copy.content))?;
         rest = after;
     }
     Ok(())
@@ -87,7 +87,7 @@ fn push_retained<'a>(
     let mut rest = retained;
     while let Some((kept, after)) = rest.split_first() {
         let kept = kept.get();
-        messages.push((kept.publication, &kept.content))?;
+        messages.push((kept.publication, kept.content.lend()))?;
         rest = after;
     }
     Ok(())

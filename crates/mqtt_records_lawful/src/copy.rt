@@ -8,7 +8,7 @@ use crate::message::{are_properties, is_message};
 use crate::rows::{Last, Lawful, is_up_to};
 use mqtt_base::{Cause, LAST_NUMBER, Phase, Qos, Text};
 use mqtt_props::Place;
-use mqtt_records_message::{CopyRow, MessageCopy};
+use mqtt_records_message::{CopyRef, CopyRow};
 use mqtt_topic::{Shared, TopicFault};
 use std::alloc::{AllocError, Global};
 
@@ -62,7 +62,7 @@ fn is_phase(qos: Qos, phase: Phase) -> bool
 }
 
 /// Whether what is sent of a copy keeps its rules.
-fn is_sent(alloc: Global, copy: &MessageCopy) -> Result<bool, AllocError>
+fn is_sent(alloc: Global, copy: &CopyRef<'_>) -> Result<bool, AllocError>
     ensures { IfOk result (λ lawful. IsTrue lawful
         ↔ IsMessage Publish copy.now.content.topic (first_sent copy.now) copy.now.content.payload) }
 {
@@ -74,9 +74,9 @@ fn is_sent(alloc: Global, copy: &MessageCopy) -> Result<bool, AllocError>
         Ok(list) => {
             let is_lawful = is_message(
                 Place::Publish,
-                &content.topic,
+                content.topic,
                 &list.lend(),
-                &content.payload,
+                content.payload,
             );
             drop(list);
             is_lawful
@@ -115,7 +115,7 @@ impl Lawful for CopyRow {
                 && is_phase(copy.qos, self.phase())
                 && is_cause(alloc, &copy.id.cause, last.subscribes)?
                 && are_properties(Place::Publish, &copy.content.properties.lend())
-                && is_sent(alloc, copy)?,
+                && is_sent(alloc, &copy)?,
         )
     }
 }

@@ -1,45 +1,24 @@
 -- What is in memory of a copy in a queue, and the copy that it stands for (MQTT 5.0, 3.3).
-use Rattle.std.specs.Prelude.{⊤, ◌≡◌, ℕ, [], length, Option, false}
-use Rattle.mqtt_base.specs.declared.session.Cause.TheVariants.{Direct}
-use Rattle.mqtt_base.specs.declared.session.Qos.TheVariants.{AtMostOnce}
+use Rattle.std.specs.Prelude.{⊤, ◌≡◌, ℕ, [], length, Option}
 use Rattle.mqtt_records_message.specs.declared.held.Held.{Held}
-use Rattle.mqtt_records_message.specs.declared.held.Held.TheVariants.{Whole, Slim, Nothing}
+use Rattle.mqtt_records_message.specs.declared.held.Held.TheVariants.{Whole, Slim}
 use Rattle.mqtt_records_message.specs.declared.held.Rest.{Rest}
 use Rattle.mqtt_records_message.specs.declared.message.MessageCopy.{MessageCopy}
+use Rattle.mqtt_records_message.specs.Filling.{Filling, filled_copy}
 use Rattle.mqtt_records_message.specs.Queue.{Knows}
-use Rattle.mqtt_records_message.specs.Slim.{bare}
+use Rattle.mqtt_records_message.specs.Slim.{bare_properties, zeros}
 
--- all of the copy, or what rules read
-abbrev pub IsThere : Held → Type 0
-IsThere (Whole copy) = ⊤
-IsThere (Slim rest) = ⊤
-IsThere Nothing = ⊥
-
--- the same copy, or the same rest, in whichever box
+-- the same, in whichever box
 abbrev pub IsSame : Held → Held → Type 0
-IsSame (Whole copy) (Whole other) = other.value ≡ copy.value
-IsSame (Whole copy) (Slim rest) = ⊥
-IsSame (Whole copy) Nothing = ⊥
-IsSame (Slim rest) (Whole other) = ⊥
-IsSame (Slim rest) (Slim other) = other ≡ rest
-IsSame (Slim rest) Nothing = ⊥
-IsSame Nothing (Whole other) = ⊥
-IsSame Nothing (Slim other) = ⊥
-IsSame Nothing Nothing = ⊤
+IsSame (Whole said) (Whole other) = other.value ≡ said.value
+IsSame (Whole said) Slim = ⊥
+IsSame Slim (Whole other) = ⊥
+IsSame Slim Slim = ⊤
 
 -- what rules read of a copy, and its topic
 abbrev pub rest_in : MessageCopy → Rest
 rest_in copy =
     record { id = copy.id; qos = copy.qos; retain = copy.retain; topic = copy.content.topic; arrived = copy.content.arrived }
-
-abbrev pub nothing : Rest
-nothing =
-    record { id = record { publication = 0; birth = 0; cause = Direct }; qos = AtMostOnce; retain = false; topic = []; arrived = 0 }
-
-abbrev pub rest_of : Held → Rest
-rest_of (Whole copy) = rest_in copy.value
-rest_of (Slim rest) = rest
-rest_of Nothing = nothing
 
 -- a copy of which this is the rest, and which says nothing
 abbrev pub spread : Rest → MessageCopy
@@ -51,14 +30,17 @@ spread rest = record {
   content = record { topic = rest.topic; properties = []; payload = []; arrived = rest.arrived };
 }
 
--- the copy, by the bytes of its properties and payload and its Message Expiry Interval
-abbrev pub held_copy : ℕ → ℕ → Option ℕ → Held → MessageCopy
-held_copy pairs payload interval (Whole copy) = copy.value
-held_copy pairs payload interval (Slim rest) = bare pairs interval payload (spread rest)
-held_copy pairs payload interval Nothing = bare pairs interval payload (spread nothing)
+-- what is said beside the topic: what is in memory, or as many bytes that say nothing but the Message Expiry Interval
+abbrev pub said_in : ℕ → ℕ → Option ℕ → Held → Filling
+said_in pairs payload interval (Whole said) = said.value
+said_in pairs payload interval Slim =
+    record { identifiers = []; properties = bare_properties pairs interval; payload = zeros payload }
 
--- a row remembers of its copy what it has to, and has the copy or its rest
-pub record Remembers (size pairs payload : ℕ) (interval : Option ℕ) (held : Held) : Type 0 where
-  pub there : IsThere held
-  pub known : Knows size pairs interval (held_copy pairs payload interval held)
-  pub rest : payload ≡ length (held_copy pairs payload interval held).content.payload
+-- the copy, by the bytes of its properties and payload and its Message Expiry Interval
+abbrev pub held_copy : ℕ → ℕ → Option ℕ → Rest → Held → MessageCopy
+held_copy pairs payload interval rest held = filled_copy (said_in pairs payload interval held) (spread rest)
+
+-- a row remembers of its copy what it has to
+pub record Remembers (size pairs payload : ℕ) (interval : Option ℕ) (copy : MessageCopy) : Type 0 where
+  pub known : Knows size pairs interval copy
+  pub rest : payload ≡ length copy.content.payload

@@ -1,20 +1,22 @@
 //! What a copy in a queue says (3.3).
 ghost use Rattle.std.specs.Prelude.{◌≡◌, IfOk};
+ghost use Rattle.mqtt_records_message.specs.Filling.{said_by};
 
-use crate::message::{Content, MessageCopy, SubscriptionIdentifiers};
+use crate::held::Said;
+use crate::message::SubscriptionIdentifiers;
 use crate::properties::PassedOn;
 use bytes::Bytes;
-use mqtt_base::{Cause, CopyId, Qos, Text};
+use mqtt_base::Text;
 use std::alloc::{AllocError, Global};
 use std::marker::Model;
 
-/// What a copy in a session's queue says, and its place there. It comes in the box in which a row keeps its copy,
-/// so that the row takes it in without memory.
+/// What a copy in a session's queue says, and its place there. What it says beside its topic comes in the box in which a
+/// row keeps that, so that the row takes it in without memory.
 #[derive(Drop)]
 pub struct CopyContent {
     place: u64,
-    /// Of the copy what it says; what else there is of it the row knows.
-    copy: Box<MessageCopy>,
+    topic: Text,
+    said: Box<Said>,
 }
 
 impl Model for CopyContent {
@@ -24,10 +26,10 @@ impl Model for CopyContent {
 
     ghost view = { λ a. record {
       place = a.place;
-      identifiers = a.copy.value.identifiers;
-      topic = a.copy.value.content.topic;
-      properties = a.copy.value.content.properties;
-      payload = a.copy.value.content.payload;
+      identifiers = a.said.value.identifiers;
+      topic = a.topic;
+      properties = a.said.value.properties;
+      payload = a.said.value.payload;
     } };
 }
 
@@ -50,26 +52,18 @@ impl CopyContent {
           payload = payload;
         }) }
     {
-        let copy = MessageCopy {
-            id: CopyId {
-                publication: 0,
-                birth: 0,
-                cause: Cause::Direct,
-            },
-            qos: Qos::AtMostOnce,
-            retain: false,
+        let said = Said {
             identifiers,
-            content: Content {
-                topic,
-                properties,
-                payload,
-                arrived: 0,
-            },
+            properties,
+            payload,
         };
-        Ok(CopyContent {
-            place,
-            copy: Box::new(alloc, copy)?,
-        })
+        match Box::new(alloc, said) {
+            Ok(said) => Ok(CopyContent { place, topic, said }),
+            Err(_) => {
+                drop(topic);
+                Err(AllocError)
+            }
+        }
     }
 
     /// Its place in the queue. Takes no memory.
@@ -83,37 +77,41 @@ impl CopyContent {
     pub fn identifiers(&self) -> &SubscriptionIdentifiers
         ensures { result.now ≡ self.now.identifiers }
     {
-        &self.copy.identifiers
+        &self.said.identifiers
     }
 
     /// The topic of its publication. Takes no memory.
     pub fn topic(&self) -> &Text
         ensures { result.now ≡ self.now.topic }
     {
-        &self.copy.content.topic
+        &self.topic
     }
 
     /// The properties of its publication, as they are passed on. Takes no memory.
     pub fn properties(&self) -> &PassedOn
         ensures { result.now ≡ self.now.properties }
     {
-        &self.copy.content.properties
+        &self.said.properties
     }
 
     /// The payload of its publication. Takes no memory.
     pub fn payload(&self) -> &Bytes
         ensures { result.now ≡ self.now.payload }
     {
-        &self.copy.content.payload
+        &self.said.payload
     }
 
-    /// The copy as far as this says it. Takes no memory.
-    pub(crate) fn into_copy(self) -> Box<MessageCopy>
-        ensures identifiers { result.value.identifiers ≡ self.identifiers }
-        ensures properties { result.value.content.properties ≡ self.properties }
-        ensures payload { result.value.content.payload ≡ self.payload }
+    /// What the copy says beside its topic. Takes no memory.
+    pub(crate) fn into_said(self) -> Box<Said>
+        ensures { result.value ≡ said_by self }
     {
-        self.copy
+        let CopyContent {
+            place: _,
+            topic,
+            said,
+        } = self;
+        drop(topic);
+        said
     }
 }
 
@@ -124,7 +122,8 @@ impl Clone for CopyContent {
     fn clone(&self) -> Result<CopyContent, AllocError> {
         Ok(CopyContent {
             place: self.place,
-            copy: self.copy.clone()?,
+            topic: self.topic.clone()?,
+            said: self.said.clone()?,
         })
     }
 }

@@ -1,14 +1,16 @@
 //! What is in memory of a copy in a queue (3.3, 4.1).
 ghost use Rattle.std.specs.Prelude.{◌≡◌, IfOk};
-ghost use Rattle.mqtt_records_message.specs.Filling.{filled_copy, said_by};
-ghost use Rattle.mqtt_records_message.specs.Held.{rest_in, rest_of, spread, IsSame, IsThere};
+ghost use Rattle.mqtt_records_message.specs.Filling.{filling_of};
+ghost use Rattle.mqtt_records_message.specs.Held.{rest_in, IsSame};
 
-use crate::content::CopyContent;
-use crate::message::{Content, MessageCopy};
+use crate::message::{Content, MessageCopy, SubscriptionIdentifiers};
+use crate::properties::PassedOn;
+use bytes::Bytes;
 use mqtt_base::{CopyId, Qos, Text};
 use std::alloc::AllocError;
+use std::marker::Model;
 
-/// What rules read of a copy, and its topic: what a slim row has of it.
+/// What rules read of a copy, and its topic: what each row has of it.
 #[derive(Drop)]
 pub(crate) struct Rest {
     pub(crate) id: CopyId,
@@ -18,20 +20,39 @@ pub(crate) struct Rest {
     pub(crate) arrived: u64,
 }
 
-/// What is in memory of a copy.
+/// What a copy says beside its topic.
+#[derive(Drop)]
+pub(crate) struct Said {
+    pub(crate) identifiers: SubscriptionIdentifiers,
+    pub(crate) properties: PassedOn,
+    pub(crate) payload: Bytes,
+}
+
+impl Model for Said {
+    ghost use Rattle.mqtt_records_message.specs.Filling.{Filling};
+
+    ghost Value = { Filling };
+
+    ghost view = { λ a. record {
+      identifiers = a.identifiers;
+      properties = a.properties;
+      payload = a.payload;
+    } };
+}
+
+/// What is in memory of what a copy says beside its topic.
 #[derive(Drop)]
 pub(crate) enum Held {
     /// All of it, in a box of its own.
-    Whole(Box<MessageCopy>),
-    /// What rules read, and its topic.
-    Slim(Rest),
-    /// Nothing, while a row goes from one to the other.
-    Nothing,
+    Whole(Box<Said>),
+    /// Nothing.
+    Slim,
 }
 
-/// What rules read of a copy, and its topic; all else is let go.
-fn rest_in(copy: MessageCopy) -> Rest
-    ensures { result ≡ rest_in copy }
+/// A copy in two parts: what rules read with the topic, and what it says beside that. Takes no memory.
+pub(crate) fn parted(copy: MessageCopy) -> (Rest, Said)
+    ensures rest { result.0 ≡ rest_in copy }
+    ensures said { result.1 ≡ filling_of copy }
 {
     let MessageCopy {
         id,
@@ -46,45 +67,19 @@ fn rest_in(copy: MessageCopy) -> Rest
         payload,
         arrived,
     } = content;
-    drop(identifiers);
-    drop(properties);
-    drop(payload);
-    Rest {
+    let rest = Rest {
         id,
         qos,
         retain,
         topic,
         arrived,
-    }
-}
-
-impl Held {
-    /// What rules read of the copy, and its topic; all else is let go. Takes no memory.
-    pub(crate) fn into_rest(self) -> Rest
-        requires { IsThere self }
-        ensures { result ≡ rest_of self }
-    {
-        match self {
-            Held::Whole(copy) => rest_in(Box::into_inner(copy)),
-            Held::Slim(rest) => rest,
-            Held::Nothing => unreachable!(),
-        }
-    }
-}
-
-impl Rest {
-    /// The copy of which this is the rest, with what it says. Takes no memory.
-    pub(crate) fn saying(self, content: CopyContent) -> Box<MessageCopy>
-        ensures { result.value ≡ filled_copy (said_by content) (spread self) }
-    {
-        let mut copy = content.into_copy();
-        copy.id = self.id;
-        copy.qos = self.qos;
-        copy.retain = self.retain;
-        copy.content.topic = self.topic;
-        copy.content.arrived = self.arrived;
-        copy
-    }
+    };
+    let said = Said {
+        identifiers,
+        properties,
+        payload,
+    };
+    (rest, said)
 }
 
 impl Clone for Rest {
@@ -101,13 +96,25 @@ impl Clone for Rest {
     }
 }
 
+impl Clone for Said {
+    ghost is_clone = { λ value copy. copy ≡ value };
+
+    /// Another owner of the same bytes.
+    fn clone(&self) -> Result<Said, AllocError> {
+        Ok(Said {
+            identifiers: self.identifiers.clone()?,
+            properties: self.properties.clone()?,
+            payload: self.payload.clone()?,
+        })
+    }
+}
+
 /// The same once more; the bytes are shared.
 pub(crate) fn clone_of(held: &Held) -> Result<Held, AllocError>
     ensures { IfOk result (IsSame held.now) }
 {
     match held {
-        Held::Whole(copy) => Ok(Held::Whole(copy.clone()?)),
-        Held::Slim(rest) => Ok(Held::Slim(rest.clone()?)),
-        Held::Nothing => Ok(Held::Nothing),
+        Held::Whole(said) => Ok(Held::Whole(said.clone()?)),
+        Held::Slim => Ok(Held::Slim),
     }
 }

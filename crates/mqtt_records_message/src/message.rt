@@ -1,6 +1,7 @@
 //! What is kept of a message: content, Will, copy, retained message (3.1.3, 3.3).
 ghost use Rattle.std.specs.Prelude.{◌≡◌, ◌++◌, [], ◌∷◌, List, IfOk, OnOk, length};
 
+use crate::lent::{ContentRef, CopyRef};
 use crate::properties::PassedOn;
 use bytes::Bytes;
 use mqtt_base::{CopyId, Qos, Text};
@@ -80,6 +81,26 @@ pub struct Content {
     pub arrived: u64,
 }
 
+impl Content {
+    /// Lends it. Takes no memory.
+    pub fn lend(&self) -> ContentRef<'_>
+        ensures { result ≡ self.now }
+    {
+        let Content {
+            topic,
+            properties,
+            payload,
+            arrived,
+        } = self;
+        ContentRef {
+            topic,
+            properties,
+            payload,
+            arrived: *arrived,
+        }
+    }
+}
+
 impl Clone for Content {
     ghost is_clone = { λ value copy. copy ≡ value };
 
@@ -138,6 +159,28 @@ pub struct MessageCopy {
     pub identifiers: SubscriptionIdentifiers,
     /// What it says.
     pub content: Content,
+}
+
+impl MessageCopy {
+    /// Lends it. Takes no memory.
+    pub fn lend(&self) -> CopyRef<'_>
+        ensures { result ≡ self.now }
+    {
+        let MessageCopy {
+            id,
+            qos,
+            retain,
+            identifiers,
+            content,
+        } = self;
+        CopyRef {
+            id,
+            qos: *qos,
+            retain: *retain,
+            identifiers,
+            content: content.lend(),
+        }
+    }
 }
 
 impl Clone for MessageCopy {

@@ -10,7 +10,8 @@ ghost use Rattle.mqtt_records_message.specs.Slim.{slim};
 
 use crate::content::CopyContent;
 use crate::fault::CopyFault;
-use crate::held::{Held, clone_of};
+use crate::held::{Held, Rest, clone_of, parted};
+use crate::lent::{ContentRef, CopyRef};
 use crate::message::MessageCopy;
 use crate::parts::CopyPart;
 use crate::sizes::{expiry_in, pairs_len, sent_len};
@@ -19,7 +20,6 @@ use mqtt_props::PropFault;
 use mqtt_records_rows::{CloneRow, Editable, Row};
 use std::alloc::{AllocError, Global};
 use std::marker::Model;
-use std::mem;
 
 /// A copy in a session's queue (4.3, 4.6): its place, from 1, in the order in which copies are sent,
 /// how far it has come, and what is sent. Its PUBLISH has a spelling, of a size that is remembered; so are
@@ -33,6 +33,7 @@ pub struct CopyRow {
     pairs: u32,
     payload: u32,
     expiry: Option<u32>,
+    rest: Rest,
     held: Held,
 }
 
@@ -45,10 +46,10 @@ impl Model for CopyRow {
     ghost view = { λ a. record {
       place = a.place;
       phase = a.phase;
-      copy = held_copy a.pairs a.payload a.expiry a.held;
+      copy = held_copy a.pairs a.payload a.expiry a.rest a.held;
     } };
 
-    ghost invariant = { λ a. Remembers a.size a.pairs a.payload a.expiry a.held };
+    ghost invariant = { λ a. Remembers a.size a.pairs a.payload a.expiry (held_copy a.pairs a.payload a.expiry a.rest a.held) };
 }
 
 /// Bytes of the packet identifier of a PUBLISH (2.2.1).
@@ -134,17 +135,22 @@ impl CopyRow {
         };
         let payload = copy.content.payload.len() as u32;
         let expiry = expiry_in(&copy.content.properties.lend());
-        match Box::new(alloc, copy) {
-            Ok(copy) => Ok(CopyRow {
+        let (rest, said) = parted(copy);
+        match Box::new(alloc, said) {
+            Ok(said) => Ok(CopyRow {
                 place,
                 phase,
                 size,
                 pairs,
                 payload,
                 expiry,
-                held: Held::Whole(copy),
+                rest,
+                held: Held::Whole(said),
             }),
-            Err(_) => Err(CopyFault::Memory),
+            Err(_) => {
+                drop(rest);
+                Err(CopyFault::Memory)
+            }
         }
     }
 
@@ -163,14 +169,24 @@ impl CopyRow {
     }
 
     /// What is sent, if the row has it; a slim row hasn't. Takes no memory.
-    pub fn whole(&self) -> Option<&MessageCopy>
-        ensures exact { IfSome result (λ copy. copy.now ≡ self.now.copy) }
+    pub fn whole(&self) -> Option<CopyRef<'_>>
+        ensures exact { IfSome result (λ copy. copy ≡ self.now.copy) }
         ensures slim { result ≡ None → self.now ≡ slim self.now }
     {
         match &self.held {
-            Held::Whole(copy) => Some(copy),
-            Held::Slim(_) => None,
-            Held::Nothing => unreachable!(),
+            Held::Whole(said) => Some(CopyRef {
+                id: &self.rest.id,
+                qos: self.rest.qos,
+                retain: self.rest.retain,
+                identifiers: &said.identifiers,
+                content: ContentRef {
+                    topic: &self.rest.topic,
+                    properties: &said.properties,
+                    payload: &said.payload,
+                    arrived: self.rest.arrived,
+                },
+            }),
+            Held::Slim => None,
         }
     }
 
@@ -178,55 +194,35 @@ impl CopyRow {
     pub fn id(&self) -> &CopyId
         ensures { result.now ≡ self.now.copy.id }
     {
-        match &self.held {
-            Held::Whole(copy) => &copy.id,
-            Held::Slim(rest) => &rest.id,
-            Held::Nothing => unreachable!(),
-        }
+        &self.rest.id
     }
 
     /// The quality of service at which it is sent. Takes no memory.
     pub fn qos(&self) -> Qos
         ensures { result ≡ self.now.copy.qos }
     {
-        match &self.held {
-            Held::Whole(copy) => copy.qos,
-            Held::Slim(rest) => rest.qos,
-            Held::Nothing => unreachable!(),
-        }
+        self.rest.qos
     }
 
     /// Whether RETAIN is sent as 1. Takes no memory.
     pub fn retain(&self) -> bool
         ensures { result ≡ self.now.copy.retain }
     {
-        match &self.held {
-            Held::Whole(copy) => copy.retain,
-            Held::Slim(rest) => rest.retain,
-            Held::Nothing => unreachable!(),
-        }
+        self.rest.retain
     }
 
     /// The topic of its publication. Takes no memory.
     pub fn topic(&self) -> &Text
         ensures { result.now ≡ self.now.copy.content.topic }
     {
-        match &self.held {
-            Held::Whole(copy) => &copy.content.topic,
-            Held::Slim(rest) => &rest.topic,
-            Held::Nothing => unreachable!(),
-        }
+        &self.rest.topic
     }
 
     /// When its publication was accepted: a moment in milliseconds. Takes no memory.
     pub fn arrived(&self) -> u64
         ensures { result ≡ self.now.copy.content.arrived }
     {
-        match &self.held {
-            Held::Whole(copy) => copy.content.arrived,
-            Held::Slim(rest) => rest.arrived,
-            Held::Nothing => unreachable!(),
-        }
+        self.rest.arrived
     }
 
     /// Its Message Expiry Interval as received, in seconds, if it has one (3.3.2.3.3). Takes no memory.
@@ -256,11 +252,10 @@ impl CopyRow {
     {
         // Of a whole row this list shows it, of a slim one the row's value.
         match &self.held {
-            Held::Whole(copy) => {
-                let _list = copy.content.properties.lend();
+            Held::Whole(said) => {
+                let _list = said.properties.lend();
             }
-            Held::Slim(_) => {}
-            Held::Nothing => unreachable!(),
+            Held::Slim => {}
         }
     }
 
@@ -283,8 +278,7 @@ impl CopyRow {
     pub fn make_slim(&mut self)
         ensures { self.new ≡ slim self.old }
     {
-        let held = mem::replace(&mut self.held, Held::Nothing);
-        self.held = Held::Slim(held.into_rest());
+        self.held = Held::Slim;
     }
 
     /// Takes in what the copy says, if it has as many bytes as the row remembers, and the same Message
@@ -298,8 +292,7 @@ impl CopyRow {
             drop(content);
             return false;
         }
-        let held = mem::replace(&mut self.held, Held::Nothing);
-        self.held = Held::Whole(held.into_rest().saying(content));
+        self.held = Held::Whole(content.into_said());
         true
     }
 
@@ -352,6 +345,7 @@ impl Clone for CopyRow {
             pairs: self.pairs,
             payload: self.payload,
             expiry: self.expiry,
+            rest: self.rest.clone()?,
             held: clone_of(&self.held)?,
         })
     }

@@ -1,7 +1,7 @@
 //! What records say, in numbers.
 
 use mqtt_base::{Cause, Phase};
-use mqtt_records::{Content, CopyRow, Records, RetainedMessage, Session, Subscription, Will};
+use mqtt_records::{ContentRef, CopyRow, Records, RetainedMessage, Session, Subscription, Will};
 
 /// What records say: the five numbers, how many rows of each of the six kinds, and a sum over all that the rows hold.
 pub(crate) type Seen = [u64; 12];
@@ -41,7 +41,7 @@ fn with_phase(sum: u64, phase: Phase) -> u64 {
     }
 }
 
-fn with_content(sum: u64, content: &Content) -> u64 {
+fn with_content(sum: u64, content: &ContentRef<'_>) -> u64 {
     let mut sum = with_bytes(sum, content.topic.as_str().as_bytes());
     sum = with_bytes(sum, content.payload.as_slice());
     with(sum, content.arrived)
@@ -98,7 +98,7 @@ fn with_session(sum: u64, session: &Session) -> u64 {
 fn with_retained(sum: u64, kept: &RetainedMessage) -> u64 {
     let mut sum = with_bytes(with(sum, kept.place), kept.sender.as_str().as_bytes());
     sum = with(with(sum, kept.publication), kept.qos as u64);
-    with_content(sum, &kept.content)
+    with_content(sum, &kept.content.lend())
 }
 
 /// How many sessions, Wills, subscriptions, open identifiers and copies there are, and the sum.

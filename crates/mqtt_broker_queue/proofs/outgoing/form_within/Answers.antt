@@ -1,5 +1,5 @@
-use Rattle.std.proofs.Common.{false, refl}
-use Rattle.mqtt_rules.specs.Forms.{published_of}
+use Rattle.std.proofs.Common.{false, refl, ap, ◌∙◌}
+use Rattle.mqtt_rules.specs.Forms.{other_bytes, published_of}
 use Rattle.mqtt_broker_queue.proofs.Forms.{found_by}
 use Rattle.mqtt_broker_queue.proofs.outgoing.form_within.Goals as goal
 
@@ -7,4 +7,4 @@ pub returns : goal.returns
 returns c =
     let copy = c.args.copy.now in
     c.form_within.ensures (published_of copy.content.arrived false 1 copy) refl
-    (found_by c.in-Some.other copy c.in-Some.ensures.exact copy.content.arrived 1 false)
+    (found_by c.in-Some.other copy (c.in-Some.ensures.exact ∙ ap other_bytes c.lend.ensures) copy.content.arrived 1 false)

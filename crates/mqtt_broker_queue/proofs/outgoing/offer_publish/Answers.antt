@@ -1,4 +1,6 @@
 use Rattle.std.proofs.Common.{◌≡◌, rules, false, [], ◌∷◌, ap, sym, subst, ◌∙◌, Some, None}
+use Rattle.mqtt_records_message.specs.declared.message.MessageCopy.{MessageCopy}
+use Rattle.mqtt_broker_packets.specs.Frames.{IsSpelledIn}
 use Rattle.mqtt_rules.specs.Deeds.{Send, always}
 use Rattle.mqtt_rules.specs.Fitting.{form_of}
 use Rattle.mqtt_rules.specs.Forms.{published_of}
@@ -31,8 +33,9 @@ pub outgoing-requires : goal.outgoing-requires
 outgoing-requires c =
     let told = told_on c.args.line c.args.step.now.broker.tellings in
     let copy = c.args.copy.now in
-    form_spelled c.in-Some.state.now.largest told copy (Some c.in-Some-form_within.form)
-    (c.in-Some-form_within.ensures ∙ ap (λ most. form_of most told copy) c.largest.ensures) c.requires
+    subst (IsSpelledIn c.in-Some-form_within.form) (sym c.lend.ensures)
+    (form_spelled c.in-Some.state.now.largest told copy (Some c.in-Some-form_within.form)
+    (c.in-Some-form_within.ensures ∙ ap (λ most. form_of most told copy) c.largest.ensures) c.requires)
 
 pub returns-clause-ok : goal.returns-clause-ok
 returns-clause-ok c =
@@ -49,7 +52,8 @@ returns-clause-ok c =
     let is : form_of l.largest (told_on n b.tellings) copy ≡ Some form =
     sym (c.in-Some-form_within.ensures ∙ ap (λ most. form_of most (told_on n b.tellings) copy) c.largest.ensures) in
     let made : IsOutgoingIn form (published_of b.now false 0 copy) out =
-    subst (λ t. IsOutgoingIn form (published_of t false 0 copy) out) c.moment.ensures c.in_ok-out.ensures in
+    subst (λ t. IsOutgoingIn form (published_of t false 0 copy) out) c.moment.ensures
+    (subst (λ (m : MessageCopy). IsOutgoingIn form (published_of c.moment.result false 0 m) out) c.lend.ensures c.in_ok-out.ensures) in
     on_ok c.send_publish.result
     (same_act (always (Send n packet ∷ [])) (offers n copy) s c.send_publish.new.self (offers_are n (Some form) l copy b found (row_key line_number n b.lines l there) is))
     (c.send_publish.ensures.ok (published_of b.now false 0 copy) (out_offered n form l copy b out found is made))

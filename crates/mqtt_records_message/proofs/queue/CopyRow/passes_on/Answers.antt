@@ -8,4 +8,4 @@ use Rattle.mqtt_records_message.proofs.queue.CopyRow.passes_on.Goals as goal
 pub returns-in-Slim : goal.returns-in-Slim
 returns-in-Slim c =
     let row = c.self.inside in
-    subst (λ (e : CopyRow). IsPassedOn e.copy.content.properties) c.self.view_is (rest_passes row.pairs row.payload row.expiry row.held c.in-Slim.field-0 c.in-Slim.is)
+    subst (λ (e : CopyRow). IsPassedOn e.copy.content.properties) c.self.view_is (rest_passes row.pairs row.payload row.expiry row.rest row.held c.in-Slim.is)

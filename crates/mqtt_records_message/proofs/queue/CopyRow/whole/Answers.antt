@@ -9,5 +9,5 @@ use Rattle.mqtt_records_message.proofs.queue.CopyRow.whole.Goals as goal
 pub returns-in-Slim-clause-slim : goal.returns-in-Slim-clause-slim
 returns-in-Slim-clause-slim c none =
     let row = c.self.inside in
-    let same = rest_alone row.size row.pairs row.payload row.expiry row.held c.in-Slim.field-0 c.in-Slim.is c.self.invariant in
+    let same = rest_alone row.size row.pairs row.payload row.expiry row.rest row.held c.in-Slim.is c.self.invariant in
     subst (λ (e : CopyRow). e ≡ slim e) c.self.view_is (ap (row_with row.place row.phase) (sym same))
