@@ -6,6 +6,7 @@ use crate::packets::{SUBSCRIBE_QUEUED, connect};
 use anyhow::Context;
 use mqtt_broker::{Engine, Keep, KeepError, Limits};
 use mqtt_flow::Full;
+use mqtt_serve_database::make_database;
 use mqtt_store::SqlKeep;
 use sqlite::{Alter, Connection};
 use std::alloc::Global;
@@ -234,6 +235,8 @@ fn run_at(
         drop(conn);
         return Ok(drained);
     }
+    // A new file is as the server makes it.
+    let _made = make_database(rt, place)?;
     let conn = Connection::open(rt, place)?;
     let (conn, drained) = run_over(alloc, hasher, conn, waiting)?;
     conn.close()?;

@@ -8,6 +8,7 @@ mod course;
 use crate::changes::Maker;
 use crate::course::{commits, counts, fill, messages};
 use mqtt_records::{Keep, KeepError};
+use mqtt_serve_database::make_database;
 use mqtt_store::SqlKeep;
 use sqlite::{Alter, Connection};
 use std::alloc::Global;
@@ -114,6 +115,8 @@ fn measure_at(rt: &HostRuntime, place: &str, deed: Deed<'_>) -> anyhow::Result<(
         drop(keep);
         return done;
     }
+    // A new file is as the server makes it.
+    let _made = make_database(rt, place)?;
     let mut keep = store_over(alloc, Connection::open(rt, place)?)?;
     let done = measure(rt, &mut keep, alloc, deed);
     let closed = keep.into_inner().close();
