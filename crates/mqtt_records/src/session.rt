@@ -360,7 +360,7 @@ impl Editable for Session {
                 self.queue.edit(place, CopyPart::SetPhase { phase });
             }
             SessionPart::SlimCopy { place } => self.queue.edit(place, CopyPart::MakeSlim),
-            SessionPart::RemoveCopy { place } => self.queue.remove(place),
+            SessionPart::RemoveCopy { place } => self.queue.let_go(place),
         }
     }
 

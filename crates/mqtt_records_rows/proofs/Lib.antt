@@ -3,3 +3,4 @@ pub mod LookUps
 pub mod KeyLemmas
 pub mod DifferLemmas
 pub mod FillLemmas
+pub mod FrontLemmas

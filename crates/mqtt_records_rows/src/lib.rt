@@ -2,6 +2,7 @@
 #![tactic(auto)]
 
 mod distinct;
+mod front;
 mod laws;
 mod row;
 mod rows;

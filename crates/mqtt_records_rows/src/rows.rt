@@ -1,15 +1,13 @@
 //! Lists of rows in the order of their keys.
 ghost use Rattle.std.specs.Prelude.{◌≡◌, ◌↔◌, ◌<◌, ◌≤◌, List, [], Option, IfOk, IsSomeAnd, IsTrue, false, option_copied, not};
-ghost use Rattle.std.specs.Prelude.{length, filter, map, take, slice_get, insert, option_and_then, bytes_eq, vec_len, vec_capacity};
+ghost use Rattle.std.specs.Prelude.{length, filter, map, take, drop, slice_get, insert, option_and_then, bytes_eq, vec_len, vec_capacity};
 ghost use Rattle.mqtt_records_rows.specs.Order.{IsAscending, IsFound, front_len, last_row};
 ghost use Rattle.mqtt_records_rows.specs.Order.{row_at, has_row, put_row, remove_row, change_row};
 
+use crate::front::{FRONT, behind, close_up, leave, make_place, take_out};
 use crate::row::{CloneRow, Editable, Fillable, Named, Parted, Row, Slimmable};
 use std::alloc::{AllocError, Global};
 use std::marker::Model;
-
-/// So many rows in front are looked at before all others: copies leave a queue there.
-const FRONT: usize = 32;
 
 /// How many rows have a lower key.
 fn place_in<R: Row>(rows: &[R], key: u64) -> usize
@@ -62,40 +60,45 @@ fn insert_in<R: Drop>(rows: &mut Vec<R>, place: usize, row: R)
     let _done = rows.insert(place, row);
 }
 
-/// Puts a row by its key; a list with `limit` rows takes no further key.
-fn put_in<R: Row>(rows: &mut Vec<R>, limit: usize, row: R)
-    requires order { IsAscending R.key_of rows.old.items }
+/// Puts a row by its key behind those that have left; a list with `limit` rows takes no further key.
+fn put_in<R: Row>(rows: &mut Vec<R>, gone: usize, limit: usize, row: R)
+    requires gone { gone ≤ vec_len rows.old }
+    requires order { IsAscending R.key_of (drop gone rows.old.items) }
     requires room { limit ≤ vec_capacity rows.old }
-    ensures items { rows.new.items ≡ put_row R.key_of limit row rows.old.items }
+    requires place { length (drop gone rows.old.items) < limit → vec_len rows.old < limit }
+    ensures gone { gone ≤ vec_len rows.new }
+    ensures items { drop gone rows.new.items ≡ put_row R.key_of limit row (drop gone rows.old.items) }
     ensures room { limit ≤ vec_capacity rows.new }
 {
-    match search(rows, row.key()) {
-        Ok(place) => rows[place] = row,
+    match search(behind(rows, gone), row.key()) {
+        Ok(place) => rows[gone + place] = row,
         Err(place) => {
-            if rows.len() < limit {
-                insert_in(rows, place, row);
+            if rows.len() - gone < limit {
+                insert_in(rows, gone + place, row);
             }
         }
     }
 }
 
 /// At most `LIMIT` rows in the order of their keys. All the memory of the list is taken when it is
-/// made.
+/// made. Of a long list some rows that have left may still stand in front, slim.
 #[derive(Drop)]
 pub struct Rows<R: Row, const LIMIT: usize> {
     rows: Vec<R>,
+    /// How many in front have left.
+    gone: usize,
 }
 
 impl<R: Row, const LIMIT: usize> Model for Rows<R, LIMIT> {
-    ghost use Rattle.std.specs.Prelude.{List, ◌≤◌, length, vec_capacity};
+    ghost use Rattle.std.specs.Prelude.{List, ◌≤◌, length, drop, vec_len, vec_capacity};
     ghost use Rattle.mqtt_records_rows.specs.Order.{IsAscending};
 
     ghost Value = { List R };
 
-    ghost view = { λ a. a.rows.items };
+    ghost view = { λ a. drop a.gone a.rows.items };
 
-    ghost invariant = { λ a. IsAscending R.key_of a.rows.items × (LIMIT ≤ vec_capacity a.rows)
-        × (length a.rows.items ≤ LIMIT) };
+    ghost invariant = { λ a. IsAscending R.key_of (drop a.gone a.rows.items) × (LIMIT ≤ vec_capacity a.rows)
+        × (length (drop a.gone a.rows.items) ≤ LIMIT) × (a.gone ≤ vec_len a.rows) };
 }
 
 impl<R: Row, const LIMIT: usize> Rows<R, LIMIT> {
@@ -105,6 +108,7 @@ impl<R: Row, const LIMIT: usize> Rows<R, LIMIT> {
     {
         Ok(Rows {
             rows: Vec::with_capacity(alloc, LIMIT)?,
+            gone: 0,
         })
     }
 
@@ -112,7 +116,7 @@ impl<R: Row, const LIMIT: usize> Rows<R, LIMIT> {
     pub fn len(&self) -> usize
         ensures { result ≡ length self.now }
     {
-        self.rows.len()
+        self.rows.len() - self.gone
     }
 
     /// The rows in order. Takes no memory.
@@ -121,15 +125,16 @@ impl<R: Row, const LIMIT: usize> Rows<R, LIMIT> {
         ensures few { length self.now ≤ LIMIT }
         ensures rows { result.now ≡ self.now }
     {
-        self.rows.as_slice()
+        behind(&self.rows, self.gone)
     }
 
     /// The row with the key. Takes no memory.
     pub fn get(&self, key: u64) -> Option<&R>
         ensures { option_copied result ≡ row_at R.key_of key self.now }
     {
-        match search(&self.rows, key) {
-            Ok(place) => Some(&self.rows[place]),
+        let rows = self.as_slice();
+        match search(rows, key) {
+            Ok(place) => Some(&rows[place]),
             Err(_) => None,
         }
     }
@@ -138,36 +143,37 @@ impl<R: Row, const LIMIT: usize> Rows<R, LIMIT> {
     pub fn has(&self, key: u64) -> bool
         ensures { result ≡ has_row R.key_of key self.now }
     {
-        search(&self.rows, key).is_ok()
+        search(self.as_slice(), key).is_ok()
     }
 
     /// The row at a place from 0. Takes no memory.
     pub fn at(&self, place: usize) -> Option<&R>
         ensures { option_copied result ≡ slice_get self.now place }
     {
-        self.rows.get(place)
+        self.as_slice().get(place)
     }
 
     /// The row with the greatest key. Takes no memory.
     pub fn last(&self) -> Option<&R>
         ensures { option_copied result ≡ last_row R.key_of self.now }
     {
-        self.rows.last()
+        self.as_slice().last()
     }
 
     /// Puts a row by its key; a list with `LIMIT` rows takes no further key. Takes no memory.
     pub fn put(&mut self, row: R)
         ensures { self.new ≡ put_row R.key_of LIMIT row self.old }
     {
-        put_in(&mut self.rows, LIMIT, row);
+        self.gone = make_place(&mut self.rows, self.gone, LIMIT);
+        put_in(&mut self.rows, self.gone, LIMIT, row);
     }
 
     /// Removes the row with the key, if there is one. Takes no memory.
     pub fn remove(&mut self, key: u64)
         ensures { self.new ≡ remove_row R.key_of key self.old }
     {
-        if let Ok(place) = search(&self.rows, key) {
-            let _row = self.rows.remove(place);
+        if let Ok(place) = search(self.as_slice(), key) {
+            let _row = take_out(&mut self.rows, self.gone, place);
         }
     }
 
@@ -176,8 +182,8 @@ impl<R: Row, const LIMIT: usize> Rows<R, LIMIT> {
         ensures row { result ≡ row_at R.key_of key self.old }
         ensures rest { self.new ≡ remove_row R.key_of key self.old }
     {
-        match search(&self.rows, key) {
-            Ok(place) => Some(self.rows.remove(place)),
+        match search(self.as_slice(), key) {
+            Ok(place) => Some(take_out(&mut self.rows, self.gone, place)),
             Err(_) => None,
         }
     }
@@ -188,10 +194,10 @@ impl<R: CloneRow, const LIMIT: usize> Clone for Rows<R, LIMIT> {
 
     fn clone(&self) -> Result<Self, AllocError> {
         let mut rows = Vec::with_capacity(*self.rows.allocator(), LIMIT)?;
-        for row in &self.rows {
+        for row in self.as_slice() {
             rows.push(row.clone()?)?;
         }
-        Ok(Rows { rows })
+        Ok(Rows { rows, gone: 0 })
     }
 }
 
@@ -200,8 +206,8 @@ impl<R: Editable, const LIMIT: usize> Rows<R, LIMIT> {
     pub fn edit(&mut self, key: u64, part: R::Part)
         ensures { self.new ≡ change_row R.key_of key (R.edited part) self.old }
     {
-        if let Ok(place) = search(&self.rows, key) {
-            self.rows[place].edit(part);
+        if let Ok(place) = search(self.as_slice(), key) {
+            self.rows[self.gone + place].edit(part);
         }
     }
 }
@@ -213,8 +219,8 @@ impl<R: Parted, const LIMIT: usize> Rows<R, LIMIT> {
         ensures taken { result ≡ option_and_then (R.taken place) (row_at R.key_of key self.old) }
         ensures rest { self.new ≡ change_row R.key_of key (R.left place) self.old }
     {
-        match search(&self.rows, key) {
-            Ok(at) => self.rows[at].take_part(place),
+        match search(self.as_slice(), key) {
+            Ok(at) => self.rows[self.gone + at].take_part(place),
             Err(_) => None,
         }
     }
@@ -228,8 +234,8 @@ impl<R: Fillable, const LIMIT: usize> Rows<R, LIMIT> {
         ensures ok { IsTrue result → self.new ≡ change_row R.key_of key (R.filled filling) self.old }
         ensures err { result ≡ false → self.new ≡ self.old }
     {
-        match search(&self.rows, key) {
-            Ok(place) => self.rows[place].fill_in(filling),
+        match search(self.as_slice(), key) {
+            Ok(place) => self.rows[self.gone + place].fill_in(filling),
             Err(_) => {
                 drop(filling);
                 false
@@ -263,6 +269,16 @@ impl<R: Slimmable, const LIMIT: usize> Rows<R, LIMIT> {
     {
         slim_list(&mut self.rows);
     }
+
+    /// Removes the row with the key, if there is one. In front of a long list it takes the time of the rows before
+    /// it alone: the list moves up once many have left. Takes no memory.
+    pub fn let_go(&mut self, key: u64)
+        ensures { self.new ≡ remove_row R.key_of key self.old }
+    {
+        if let Ok(place) = search(self.as_slice(), key) {
+            self.gone = leave(&mut self.rows, self.gone, place);
+        }
+    }
 }
 
 impl<R: Named, const LIMIT: usize> Rows<R, LIMIT> {
@@ -270,6 +286,8 @@ impl<R: Named, const LIMIT: usize> Rows<R, LIMIT> {
     pub fn remove_named(&mut self, name: &str)
         ensures { self.new ≡ filter (λ row. not (bytes_eq (R.name_of row) name.now)) self.old }
     {
+        close_up(&mut self.rows, self.gone);
+        self.gone = 0;
         self.rows.retain(|row| row.name() != name);
     }
 }

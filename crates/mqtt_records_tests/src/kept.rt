@@ -40,7 +40,7 @@ fn content(alloc: Global) -> Result<Content, AllocError> {
     }
 }
 
-fn session(
+pub(crate) fn session(
     alloc: Global,
     birth: u64,
     client: &str,

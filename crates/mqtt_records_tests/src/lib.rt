@@ -4,6 +4,8 @@
 #[cfg(test)]
 mod kept;
 #[cfg(test)]
+mod long;
+#[cfg(test)]
 mod sent;
 #[cfg(test)]
 mod slim;
