@@ -106,23 +106,34 @@ fn measure<K: Keep>(
     Ok(())
 }
 
-/// The same in memory, or in a file, which is closed at the end.
-fn measure_at(rt: &HostRuntime, place: &str, deed: Deed<'_>) -> anyhow::Result<()> {
+/// The same in memory.
+fn measure_in_memory(rt: &HostRuntime, deed: Deed<'_>) -> anyhow::Result<()> {
     let alloc = rt.alloc();
-    if place == ":memory:" {
-        let mut keep = store_over(alloc, Connection::open_in_memory(alloc)?)?;
-        let done = measure(rt, &mut keep, alloc, deed);
-        drop(keep);
-        return done;
-    }
-    // A new file is as the server makes it.
-    let _made = make_database(rt, place)?;
-    let mut keep = store_over(alloc, Connection::open(rt, place)?)?;
+    let mut keep = store_over(alloc, Connection::open_in_memory(alloc)?)?;
+    let done = measure(rt, &mut keep, alloc, deed);
+    drop(keep);
+    done
+}
+
+/// The same in a file, which is closed at the end.
+fn measure_in_file(rt: &HostRuntime, path: &str, deed: Deed<'_>) -> anyhow::Result<()> {
+    let alloc = rt.alloc();
+    let mut keep = store_over(alloc, Connection::open(rt, path)?)?;
     let done = measure(rt, &mut keep, alloc, deed);
     let closed = keep.into_inner().close();
     done?;
     closed?;
     Ok(())
+}
+
+/// The same at a place: in memory, or in a file.
+fn measure_at(rt: &HostRuntime, place: &str, deed: Deed<'_>) -> anyhow::Result<()> {
+    if place == ":memory:" {
+        return measure_in_memory(rt, deed);
+    }
+    // A new file is as the server makes it.
+    let _made = make_database(rt, place)?;
+    measure_in_file(rt, place, deed)
 }
 
 /// The number that a word says; 100 if there is none.
