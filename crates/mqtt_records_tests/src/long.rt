@@ -51,7 +51,10 @@ fn copies_leave_a_long_queue_in_any_order(rt: HostRuntime) -> Result<(), Fail> {
             records.change(copy(alloc, 1, place)?);
             places.push(place)?;
         }
-        assert!(rt; stand(&records, &places), "the others stand after turn {turn}");
+        assert!(rt;
+            stand(&records, &places),
+            "the others stand after turn {turn}"
+        );
     }
     let again = records.clone()?;
     drop(records);
