@@ -33,6 +33,12 @@ module _ {X : Type 0} where
   drop_further zero (x ∷ xs) ys is = absurd (omega (arith, is))
   drop_further (suc n) (x ∷ xs) ys is = drop_further n xs ys (omega (arith, is))
 
+  -- a front with the row behind it
+  pub take_further : (n : ℕ) (xs ys : List X) → n ≡ suc (length xs) → take n (xs ++ ys) ≡ xs ++ take 1 ys
+  take_further n [] ys is = let one : n ≡ 1 = omega (arith, is) in ap (λ (m : ℕ). take m ys) one
+  take_further zero (x ∷ xs) ys is = absurd (omega (arith, is))
+  take_further (suc n) (x ∷ xs) ys is = ap (λ (zs : List X). x ∷ zs) (take_further n xs ys (omega (arith, is)))
+
   -- a row set behind a front is set in what is behind it
   pub drop_set : (g i n : ℕ) (xs : List X) (x : X) → n ≡ g + i → drop g (slice_set xs n x) ≡ slice_set (drop g xs) i x
   drop_set zero i n xs x is = let same : n ≡ i = omega (arith, is) in ap (λ (m : ℕ). slice_set xs m x) same

@@ -1,5 +1,6 @@
 //! Rows of which some have left in front: their places stay for a while, so that no other row moves.
-ghost use Rattle.std.specs.Prelude.{◌≡◌, ◌<◌, ◌≤◌, ◌+◌, drop, remove, length, slice_index_or, vec_len, vec_capacity};
+ghost use Rattle.std.specs.Prelude.{◌≡◌, ◌<◌, ◌≤◌, ◌+◌, map, take, drop, remove, length, slice_index_or, vec_len, vec_capacity};
+ghost use Rattle.mqtt_records_rows.specs.Front.{left_with};
 
 use crate::row::Slimmable;
 
@@ -37,6 +38,7 @@ pub(crate) fn make_place<R: Drop>(rows: &mut Vec<R>, gone: usize, limit: usize) 
     requires { gone ≤ vec_len rows.old }
     ensures rest { drop result rows.new.items ≡ drop gone rows.old.items }
     ensures gone { result ≤ vec_len rows.new }
+    ensures few { result ≤ gone }
     ensures place { length (drop gone rows.old.items) < limit → vec_len rows.new < limit }
     ensures capacity { vec_capacity rows.new ≡ vec_capacity rows.old }
 {
@@ -63,6 +65,7 @@ pub(crate) fn take_out<R>(rows: &mut Vec<R>, gone: usize, place: usize) -> R
 fn bring_to_front<R: Slimmable>(rows: &mut [R], place: usize)
     requires { place < length rows.old }
     ensures rest { drop 1 rows.new ≡ remove rows.old place }
+    ensures slim { take 1 rows.new ≡ map R.slimmed (take 1 (drop place rows.old)) }
     ensures len { length rows.new ≡ length rows.old }
 {
     rows[place].leave_out();
@@ -74,6 +77,7 @@ fn bring_to_front<R: Slimmable>(rows: &mut [R], place: usize)
 fn pass_all_by<R: Slimmable>(rows: &mut [R], gone: usize, place: usize)
     requires { gone + place < length rows.old }
     ensures rest { drop (gone + 1) rows.new ≡ remove (drop gone rows.old) place }
+    ensures slim { take (gone + 1) rows.new ≡ left_with R.slimmed gone place rows.old }
     ensures len { length rows.new ≡ length rows.old }
 {
     let (_, behind) = rows.split_at_mut(gone);
@@ -84,6 +88,7 @@ fn pass_all_by<R: Slimmable>(rows: &mut [R], gone: usize, place: usize)
 fn pass_by<R: Slimmable>(rows: &mut Vec<R>, gone: usize, place: usize)
     requires { gone + place < vec_len rows.old }
     ensures rest { drop (gone + 1) rows.new.items ≡ remove (drop gone rows.old.items) place }
+    ensures slim { take (gone + 1) rows.new.items ≡ left_with R.slimmed gone place rows.old.items }
     ensures len { vec_len rows.new ≡ vec_len rows.old }
     ensures capacity { vec_capacity rows.new ≡ vec_capacity rows.old }
 {
@@ -94,7 +99,9 @@ fn pass_by<R: Slimmable>(rows: &mut Vec<R>, gone: usize, place: usize)
 fn close_at_times<R: Drop>(rows: &mut Vec<R>, gone: usize) -> usize
     requires { gone ≤ vec_len rows.old }
     ensures rest { drop result rows.new.items ≡ drop gone rows.old.items }
+    ensures left { 0 < result → take result rows.new.items ≡ take gone rows.old.items }
     ensures gone { result ≤ vec_len rows.new }
+    ensures few { result < FRONT }
     ensures capacity { vec_capacity rows.new ≡ vec_capacity rows.old }
 {
     if gone < FRONT {
@@ -110,7 +117,9 @@ fn close_at_times<R: Drop>(rows: &mut Vec<R>, gone: usize) -> usize
 pub(crate) fn leave<R: Slimmable>(rows: &mut Vec<R>, gone: usize, place: usize) -> usize
     requires { gone + place < vec_len rows.old }
     ensures rest { drop result rows.new.items ≡ remove (drop gone rows.old.items) place }
+    ensures slim { 0 < result → take result rows.new.items ≡ left_with R.slimmed gone place rows.old.items }
     ensures gone { result ≤ vec_len rows.new }
+    ensures few { result < FRONT }
     ensures capacity { vec_capacity rows.new ≡ vec_capacity rows.old }
 {
     if place < FRONT && rows.len() - gone > LONG {

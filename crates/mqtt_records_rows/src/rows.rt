@@ -85,20 +85,21 @@ fn put_in<R: Row>(rows: &mut Vec<R>, gone: usize, limit: usize, row: R)
 #[derive(Drop)]
 pub struct Rows<R: Row, const LIMIT: usize> {
     rows: Vec<R>,
-    /// How many in front have left.
+    /// How many in front have left: fewer than `FRONT`.
     gone: usize,
 }
 
 impl<R: Row, const LIMIT: usize> Model for Rows<R, LIMIT> {
-    ghost use Rattle.std.specs.Prelude.{List, ◌≤◌, length, drop, vec_len, vec_capacity};
+    ghost use Rattle.std.specs.Prelude.{List, ◌<◌, ◌≤◌, length, drop, vec_len, vec_capacity};
     ghost use Rattle.mqtt_records_rows.specs.Order.{IsAscending};
+    ghost use Rattle.mqtt_records_rows.specs.declared.front.TheConstants.{FRONT};
 
     ghost Value = { List R };
 
     ghost view = { λ a. drop a.gone a.rows.items };
 
     ghost invariant = { λ a. IsAscending R.key_of (drop a.gone a.rows.items) × (LIMIT ≤ vec_capacity a.rows)
-        × (length (drop a.gone a.rows.items) ≤ LIMIT) × (a.gone ≤ vec_len a.rows) };
+        × (length (drop a.gone a.rows.items) ≤ LIMIT) × (a.gone ≤ vec_len a.rows) × (a.gone < FRONT) };
 }
 
 impl<R: Row, const LIMIT: usize> Rows<R, LIMIT> {

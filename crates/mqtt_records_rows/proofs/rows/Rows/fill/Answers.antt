@@ -19,7 +19,7 @@ invariant_of-self g c =
     let row = filled_or_same c.fill_in.result c.fill_in.new.self _ _ c.fill_in.ensures.ok c.fill_in.ensures.err ∙ ap f there in
     let made = drop_set gone at (gone + at) all c.fill_in.new.self refl ∙ (ap (slice_set rows at) row ∙ change_at key c.args.key f rows at c.index_mut.result.now c.self.invariant.0 found) in
     let kept = λ (x : g.row.R.Denot). key_of_either key full c.fill_in.result x (g.met.R.Fillable.filled_key c.args.filling x) in
-    (rw made (change-ascending key c.args.key f rows kept c.self.invariant.0), c.self.invariant.1, rw (made, change-length key c.args.key f rows) c.self.invariant.2, c.self.invariant.3)
+    (rw made (change-ascending key c.args.key f rows kept c.self.invariant.0), c.self.invariant.1, rw (made, change-length key c.args.key f rows) c.self.invariant.2, c.self.invariant.3, c.self.invariant.4)
 
 pub returns-in-Ok-clause-exact : goal.returns-in-Ok-clause-exact
 returns-in-Ok-clause-exact g c =

@@ -11,7 +11,7 @@ invariant_of-self g c =
     let rows = drop gone c.self.inside.rows.items in
     let f = g.R.Slimmable.slimmed in
     let made = ap (drop gone) c.slim_list.ensures.items ∙ drop_map gone f c.self.inside.rows.items in
-    (rw made (map-ascending key f rows (λ x. g.met.R.Slimmable.slimmed_key x) c.self.invariant.0), rw c.slim_list.ensures.capacity c.self.invariant.1, rw (made, length-map rows f) c.self.invariant.2, rw c.slim_list.ensures.len c.self.invariant.3)
+    (rw made (map-ascending key f rows (λ x. g.met.R.Slimmable.slimmed_key x) c.self.invariant.0), rw c.slim_list.ensures.capacity c.self.invariant.1, rw (made, length-map rows f) c.self.invariant.2, rw c.slim_list.ensures.len c.self.invariant.3, c.self.invariant.4)
 
 pub returns : goal.returns
 returns g c =

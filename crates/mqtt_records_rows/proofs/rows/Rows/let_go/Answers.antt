@@ -10,7 +10,7 @@ invariant_of-self g c =
     let rest = c.leave-self-inside.ensures.rest ∙ remove_at key c.args.key rows c.in-Ok.place c.self.invariant.0 found in
     let less = remove-length key c.args.key rows in
     let few : length rows ≤ g.row.LIMIT = c.self.invariant.2 in
-    (rw rest (remove-ascending key c.args.key rows c.self.invariant.0), rw c.leave-self-inside.ensures.capacity c.self.invariant.1, rw rest (omega (arith, less, few)), c.leave-self-inside.ensures.gone)
+    (rw rest (remove-ascending key c.args.key rows c.self.invariant.0), rw c.leave-self-inside.ensures.capacity c.self.invariant.1, rw rest (omega (arith, less, few)), c.leave-self-inside.ensures.gone, c.leave-self-inside.ensures.few)
 
 pub returns-in-Ok : goal.returns-in-Ok
 returns-in-Ok g c =

@@ -10,7 +10,7 @@ invariant_of-self g c =
     let kept = filter_same _ stays _ (λ x b h r. search rules) _ _ c.retain.ensures.filtered ∙ ap (filter stays) c.close_up.ensures.items in
     let less = filter-length g.R.Row.key_of stays rows in
     let few : length rows ≤ g.row.LIMIT = c.self.invariant.2 in
-    (rw kept (filter-ascending g.R.Row.key_of _ rows c.self.invariant.0), rw (c.retain.ensures.capacity, c.close_up.ensures.capacity) c.self.invariant.1, rw kept (omega (arith, less, few)), omega arith)
+    (rw kept (filter-ascending g.R.Row.key_of _ rows c.self.invariant.0), rw (c.retain.ensures.capacity, c.close_up.ensures.capacity) c.self.invariant.1, rw kept (omega (arith, less, few)), omega arith, omega arith)
 
 pub returns : goal.returns
 returns g c =

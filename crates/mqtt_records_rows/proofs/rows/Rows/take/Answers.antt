@@ -10,7 +10,7 @@ invariant_of-self g c =
     let rest = c.take_out.ensures.rest ∙ remove_at key c.args.key rows c.in-Ok.place c.self.invariant.0 found in
     let less = remove-length key c.args.key rows in
     let few : length rows ≤ g.row.LIMIT = c.self.invariant.2 in
-    (rw rest (remove-ascending key c.args.key rows c.self.invariant.0), rw c.take_out.ensures.capacity c.self.invariant.1, rw rest (omega (arith, less, few)), c.take_out.ensures.gone)
+    (rw rest (remove-ascending key c.args.key rows c.self.invariant.0), rw c.take_out.ensures.capacity c.self.invariant.1, rw rest (omega (arith, less, few)), c.take_out.ensures.gone, c.self.invariant.4)
 
 pub returns-in-Ok-clause-row : goal.returns-in-Ok-clause-row
 returns-in-Ok-clause-row g c =

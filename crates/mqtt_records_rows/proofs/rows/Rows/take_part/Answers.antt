@@ -16,7 +16,7 @@ invariant_of-self g c =
     let there = c.index_mut.ensures.value ∙ drop_get gone at (gone + at) all c.index_mut.result.now refl in
     let row = c.take_part.ensures.rest ∙ ap f there in
     let made = drop_set gone at (gone + at) all c.take_part.new.self refl ∙ (ap (slice_set rows at) row ∙ change_at key c.args.key f rows at c.index_mut.result.now c.self.invariant.0 found) in
-    (rw made (change-ascending key c.args.key f rows (λ x. g.met.R.Parted.left_key c.args.place x) c.self.invariant.0), c.self.invariant.1, rw (made, change-length key c.args.key f rows) c.self.invariant.2, c.self.invariant.3)
+    (rw made (change-ascending key c.args.key f rows (λ x. g.met.R.Parted.left_key c.args.place x) c.self.invariant.0), c.self.invariant.1, rw (made, change-length key c.args.key f rows) c.self.invariant.2, c.self.invariant.3, c.self.invariant.4)
 
 pub returns-in-Ok-clause-taken : goal.returns-in-Ok-clause-taken
 returns-in-Ok-clause-taken g c =
