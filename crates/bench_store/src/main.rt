@@ -5,9 +5,10 @@ use anyhow::Context;
 use bytes::Bytes;
 use mqtt_base::{Cause, CopyId, Phase, Qos, Text};
 use mqtt_records::{
-    Boxed, Change, Columns, Content, CopyRow, Keep, KeepError, MemKeep, MessageCopy, PassedOn,
-    Records, SessionRow, SubscriptionIdentifiers,
+    Boxed, Change, Columns, Content, CopyRow, MessageCopy, PassedOn, Records, SessionRow,
+    SubscriptionIdentifiers,
 };
+use mqtt_records_keep::{Keep, KeepError, MemKeep};
 use std::alloc::{AllocError, Global};
 use std::env;
 use std::time::{CpuClock, Duration};

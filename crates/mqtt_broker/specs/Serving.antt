@@ -1,7 +1,7 @@
 -- The engine with the bytes of its lines: what it is between calls, and what a call makes of it (MQTT 5.0, 2.1, 4.1).
 use Rattle.std.specs.Prelude.{◌≡◌, ℕ, suc, Bool, false, not, nat_eq, List, [], ◌∷◌, ◌++◌, filter, map, Option, Some, None, Result, IsOkAnd, IfOk, OnErr}
 use Rattle.std.specs.List.{list_any}
-use Rattle.mqtt_records.specs.declared.keep.Keep.{Ghosts}
+use Rattle.mqtt_records_keep.specs.declared.keep.Keep.{Ghosts}
 use Rattle.mqtt_records_rows.specs.Order.{IsBelow, remove_row}
 use Rattle.mqtt_rules.specs.Lines.{line_number}
 use Rattle.mqtt_rules.specs.State.{Broker, line_at}

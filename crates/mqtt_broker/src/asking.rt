@@ -17,7 +17,7 @@ use crate::held::end_all;
 use crate::holding::Held;
 use mqtt_broker_engine::{Engine, Outcome};
 use mqtt_broker_step::EngineError;
-use mqtt_records::Keep;
+use mqtt_records_keep::Keep;
 
 /// What comes, or is asked, on a line that isn't linked does nothing but that the moment is the greatest handed in.
 /// Takes no memory.

@@ -15,7 +15,7 @@ use mqtt_base::CopyId;
 use mqtt_broker_engine::{Engine as Inner, Outcome};
 use mqtt_broker_step::EngineError;
 use mqtt_codec::Packet;
-use mqtt_records::Keep;
+use mqtt_records_keep::Keep;
 use std::marker::Model;
 
 /// A broker over a store. A line, one connection, is named by its number. What its calls say of queues, and of what the

@@ -21,5 +21,5 @@ pub use mqtt_base::CopyId;
 pub use mqtt_broker_engine::Outcome;
 pub use mqtt_broker_step::EngineError;
 pub use mqtt_codec::Packet;
-pub use mqtt_records::{Keep, KeepError};
+pub use mqtt_records_keep::{Keep, KeepError};
 pub use mqtt_rules::Limits;

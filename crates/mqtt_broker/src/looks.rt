@@ -4,7 +4,7 @@ ghost use Rattle.mqtt_rules.specs.State.{line_at, session_named};
 ghost use Rattle.mqtt_rules.specs.Step.{can_link};
 
 use crate::engine::Engine;
-use mqtt_records::Keep;
+use mqtt_records_keep::Keep;
 
 impl<K: Keep> Engine<K> {
     /// Whether a line is linked. Takes no memory.

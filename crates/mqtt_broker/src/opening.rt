@@ -7,7 +7,7 @@ ghost use Rattle.mqtt_broker.specs.Opening.{running_in};
 use crate::engine::Engine;
 use crate::framers::Framers;
 use mqtt_broker_engine::open;
-use mqtt_records::{Keep, KeepError};
+use mqtt_records_keep::{Keep, KeepError};
 use mqtt_rules::Limits;
 use std::alloc::Global;
 use std::hash::RandomState;

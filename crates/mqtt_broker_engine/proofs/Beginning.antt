@@ -1,7 +1,7 @@
 -- A step begins on rows that are alike to those of the whole broker.
 use Rattle.std.proofs.Common.{◌≡◌, ℕ, Bool, false, ap, sym, subst, ◌∙◌}
 use Rattle.std.specs.Prelude.{Result, ⊤}
-use Rattle.mqtt_records.specs.declared.keep.Keep.{Ghosts}
+use Rattle.mqtt_records_keep.specs.declared.keep.Keep.{Ghosts}
 use Rattle.mqtt_routes.specs.Subscriptions.{HeldSessions}
 use Rattle.mqtt_rules.specs.declared.Limits.{Limits}
 use Rattle.mqtt_rules.specs.Contents.{TakesLawful}

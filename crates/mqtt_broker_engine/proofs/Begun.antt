@@ -2,10 +2,10 @@
 use Rattle.std.proofs.Common.{◌≡◌, ℕ, false, refl, ap, sym, subst}
 use Rattle.std.specs.Prelude.{Ok}
 use Rattle.mqtt_records_lawful.specs.Lawful.{IsLawful}
-use Rattle.mqtt_records.specs.declared.keep.Keep.{Ghosts}
+use Rattle.mqtt_records_keep.specs.declared.keep.Keep.{Ghosts}
 use Rattle.mqtt_records.specs.declared.records.Records.{Records}
 use Rattle.mqtt_records.specs.Telling.{AreTold}
-use Rattle.mqtt_rules_granting_laws.specs.Naming.{StoresPassedOn}
+use Rattle.mqtt_records.specs.PassedOn.{StoresPassedOn}
 use Rattle.mqtt_rules.specs.declared.Limits.{Limits}
 use Rattle.mqtt_rules.specs.State.{Broker}
 use Rattle.mqtt_rules.specs.Step.{BrokerOpening}

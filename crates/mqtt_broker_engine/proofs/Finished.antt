@@ -1,7 +1,7 @@
 -- How a call is finished over a store that has what waiting copies say.
 use Rattle.std.proofs.Common.{◌≡◌, ℕ, Bool, true, false, refl, ap, sym, subst, ◌∙◌, inl}
 use Rattle.std.specs.Prelude.{Result, Ok, Err, ⊤}
-use Rattle.mqtt_records.specs.declared.keep.Keep.{Ghosts}
+use Rattle.mqtt_records_keep.specs.declared.keep.Keep.{Ghosts}
 use Rattle.mqtt_records.specs.declared.records.Records.{Records}
 use Rattle.mqtt_records.specs.Telling.{AreTold}
 use Rattle.mqtt_routes.specs.Subscriptions.{HeldSessions}

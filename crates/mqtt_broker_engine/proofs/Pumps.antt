@@ -5,9 +5,9 @@ use Rattle.std.specs.List.{AllByRecursion}
 use Rattle.mqtt_records_message.specs.Content.{CopyContent}
 use Rattle.mqtt_records_message.specs.Filling.{Fillings}
 use Rattle.mqtt_records_rows.specs.Order.{IsAscending, row_at}
-use Rattle.mqtt_records.specs.declared.keep.Keep.{Ghosts}
-use Rattle.mqtt_records.specs.declared.keep.KeepError.{KeepError}
-use Rattle.mqtt_records.specs.declared.keep.KeepError.TheVariants as keeps
+use Rattle.mqtt_records_keep.specs.declared.keep.Keep.{Ghosts}
+use Rattle.mqtt_records_keep.specs.declared.keep.KeepError.{KeepError}
+use Rattle.mqtt_records_keep.specs.declared.keep.KeepError.TheVariants as keeps
 use Rattle.mqtt_records.specs.declared.records.Records.{Records}
 use Rattle.mqtt_records.specs.declared.session.Session.{Session}
 use Rattle.mqtt_records.specs.Session.{birth_of, copy_place}

@@ -3,9 +3,9 @@ use Rattle.std.proofs.Common.{◌≡◌, ◌≢◌, ◌⊎◌, ◌≤◌, ℕ, B
 use Rattle.std.specs.Prelude.{Result, Ok, Err, IfOk, OnErr, option_map}
 use Rattle.mqtt_base.specs.declared.limits.TheConstants.{PUMP_LIMIT}
 use Rattle.mqtt_records_message.specs.Filling.{Fillings}
-use Rattle.mqtt_records.specs.declared.keep.Keep.{Ghosts}
-use Rattle.mqtt_records.specs.declared.keep.KeepError.{KeepError}
-use Rattle.mqtt_records.specs.declared.keep.KeepError.TheVariants as keeps
+use Rattle.mqtt_records_keep.specs.declared.keep.Keep.{Ghosts}
+use Rattle.mqtt_records_keep.specs.declared.keep.KeepError.{KeepError}
+use Rattle.mqtt_records_keep.specs.declared.keep.KeepError.TheVariants as keeps
 use Rattle.mqtt_records.specs.declared.records.Records.{Records}
 use Rattle.mqtt_records.specs.Telling.{AreTold}
 use Rattle.mqtt_rules.specs.declared.Limits.{Limits}

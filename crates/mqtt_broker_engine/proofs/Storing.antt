@@ -1,6 +1,6 @@
 -- What a commit says of whatever the store held, said of the records with which the step began (MQTT 5.0, 4.1).
 use Rattle.std.proofs.Common.{◌≡◌, ◌⊎◌, subst}
-use Rattle.mqtt_records.specs.declared.keep.Keep.{Ghosts}
+use Rattle.mqtt_records_keep.specs.declared.keep.Keep.{Ghosts}
 use Rattle.mqtt_records.specs.declared.records.Records.{Records}
 use Rattle.mqtt_records.specs.Records.{changed_all}
 use Rattle.mqtt_broker_step.specs.Stepping.{Stepping}

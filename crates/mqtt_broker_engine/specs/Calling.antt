@@ -1,6 +1,6 @@
 -- A call: the step that it is of the broker, and what is answered (MQTT 5.0, 4.1).
 use Rattle.std.specs.Prelude.{◌≡◌, ◌≢◌, ◌⊎◌, ℕ, true, false, Result, IfOk, OnOk, OnErr, IsErrOf}
-use Rattle.mqtt_records.specs.declared.keep.Keep.{Ghosts}
+use Rattle.mqtt_records_keep.specs.declared.keep.Keep.{Ghosts}
 use Rattle.mqtt_records.specs.declared.records.Records.{Records}
 use Rattle.mqtt_rules.specs.declared.Limits.{Limits}
 use Rattle.mqtt_rules.specs.State.{Broker, MemberChoice, stored}

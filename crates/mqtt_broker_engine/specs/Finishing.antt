@@ -1,6 +1,6 @@
 -- What an engine has between its calls and in them, and how a call is finished (MQTT 5.0, 3.3, 4.1).
 use Rattle.std.specs.Prelude.{◌≡◌, ◌≢◌, ◌⊎◌, ℕ, Bool, true, false, Result, ⊤, IfOk, OnOk, OnErr, IsErrOf}
-use Rattle.mqtt_records.specs.declared.keep.Keep.{Ghosts}
+use Rattle.mqtt_records_keep.specs.declared.keep.Keep.{Ghosts}
 use Rattle.mqtt_records.specs.declared.records.Records.{Records}
 use Rattle.mqtt_records.specs.Records.{FitAll, changed_all}
 use Rattle.mqtt_rules.specs.declared.Limits.{Limits}

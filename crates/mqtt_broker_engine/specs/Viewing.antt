@@ -1,5 +1,5 @@
 -- The whole broker of an engine whose memory holds slim rows (MQTT 5.0, 3.3).
-use Rattle.mqtt_records.specs.declared.keep.Keep.{Ghosts}
+use Rattle.mqtt_records_keep.specs.declared.keep.Keep.{Ghosts}
 use Rattle.mqtt_rules.specs.State.{Broker}
 use Rattle.mqtt_rules_filling_laws.specs.Filling.{filled}
 use Rattle.mqtt_broker_engine.specs.Running.{Running}

@@ -22,7 +22,7 @@ use mqtt_broker_clock::quiet_before;
 use mqtt_broker_index::Index;
 use mqtt_broker_step::{EngineError, Step, StepFault};
 use mqtt_codec::Packet;
-use mqtt_records::Keep;
+use mqtt_records_keep::Keep;
 use std::alloc::Global;
 
 /// The session that is connected on a line, if the line is linked.

@@ -8,7 +8,7 @@ ghost use Rattle.mqtt_broker_step.specs.Stepping.{CanStore, at_rest, with_entere
 
 use mqtt_broker_hand::AllAtHand;
 use mqtt_broker_step::{EngineError, Outcome, Step};
-use mqtt_records::{Keep, KeepError};
+use mqtt_records_keep::{Keep, KeepError};
 use std::alloc::Global;
 
 /// Tells the store of a step that was done in place. The store may hold more than the tables say: what it holds then is

@@ -18,7 +18,7 @@ use mqtt_base::CopyId;
 use mqtt_broker_hand::AllAtHand;
 use mqtt_broker_index::Index;
 use mqtt_broker_step::{EngineError, Step};
-use mqtt_records::Keep;
+use mqtt_records_keep::Keep;
 use std::alloc::Global;
 use std::hash::RandomState;
 use std::marker::Model;

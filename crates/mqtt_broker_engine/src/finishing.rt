@@ -16,7 +16,7 @@ use crate::parts::EngineParts;
 use mqtt_broker_clock::quiet_after;
 use mqtt_broker_index::Index;
 use mqtt_broker_step::{EngineError, Step, StepFault};
-use mqtt_records::Keep;
+use mqtt_records_keep::Keep;
 
 /// The number of a fault stays.
 fn refusal(fault: StepFault) -> EngineError

@@ -12,7 +12,6 @@ mod holding;
 mod opening;
 mod outcome;
 mod parts;
-mod passed;
 mod pumping;
 
 pub use engine::Engine;

@@ -13,7 +13,7 @@ ghost use Rattle.mqtt_broker_engine.specs.Viewing.{viewed};
 use mqtt_broker_hand::AllAtHand;
 use mqtt_broker_index::Index;
 use mqtt_broker_step::{EngineError, Step};
-use mqtt_records::Keep;
+use mqtt_records_keep::Keep;
 use std::alloc::Global;
 use std::hash::RandomState;
 

@@ -26,7 +26,8 @@ use crate::parts::EngineParts;
 use mqtt_broker_calls::pump_at;
 use mqtt_broker_queue::sent_places;
 use mqtt_broker_step::{EngineError, Step, StepFault};
-use mqtt_records::{CopyContent, Keep, KeepError};
+use mqtt_records::CopyContent;
+use mqtt_records_keep::{Keep, KeepError};
 use std::alloc::Global;
 
 /// Why a call ends whose contents were not read.

@@ -4,9 +4,9 @@ use Rattle.std.specs.Prelude.{IsSome, Option, Some, None, option_to_list}
 use Rattle.mqtt_flow_ring.specs.AtHand.{content_at}
 use Rattle.mqtt_records_message.specs.Content.{CopyContent}
 use Rattle.mqtt_records.specs.declared.records.Records.{Records}
-use Rattle.mqtt_records.specs.declared.keep.Keep.{Ghosts}
-use Rattle.mqtt_records.specs.declared.keep.KeepError.{KeepError}
-use Rattle.mqtt_records.specs.declared.keep.KeepError.TheVariants.{Memory, Disk}
+use Rattle.mqtt_records_keep.specs.declared.keep.Keep.{Ghosts}
+use Rattle.mqtt_records_keep.specs.declared.keep.KeepError.{KeepError}
+use Rattle.mqtt_records_keep.specs.declared.keep.KeepError.TheVariants.{Memory, Disk}
 use Rattle.mqtt_records.specs.Telling.{contents_from, queue_at}
 use Rattle.mqtt_broker_hand.specs.Hand.{Hand, IsQueueInOrder, SayWhatIsStored, at_hand_of, contents_at, first_at, stored_content}
 use Rattle.mqtt_broker_hand.specs.Reading.{AreAtHand, AskedAtMost, HasFailed, HasOne, WasAsked, asked}

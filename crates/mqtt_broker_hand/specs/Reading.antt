@@ -3,9 +3,9 @@ use Rattle.std.specs.Prelude.{◌≡◌, ◌≢◌, ◌⊎◌, ℕ, zero, suc, �
 use Rattle.mqtt_flow_ring.specs.AtHand.{content_at}
 use Rattle.mqtt_records_message.specs.Content.{CopyContent}
 use Rattle.mqtt_records.specs.declared.records.Records.{Records}
-use Rattle.mqtt_records.specs.declared.keep.Keep.{Ghosts}
-use Rattle.mqtt_records.specs.declared.keep.KeepError.{KeepError}
-use Rattle.mqtt_records.specs.declared.keep.KeepError.TheVariants.{Memory, Disk}
+use Rattle.mqtt_records_keep.specs.declared.keep.Keep.{Ghosts}
+use Rattle.mqtt_records_keep.specs.declared.keep.KeepError.{KeepError}
+use Rattle.mqtt_records_keep.specs.declared.keep.KeepError.TheVariants.{Memory, Disk}
 use Rattle.mqtt_broker_hand.specs.Hand.{Hand, IsQueueInOrder, SayWhatIsStored, at_hand_of, stored_content}
 
 -- ---- how often a store is asked

@@ -8,7 +8,8 @@ ghost use Rattle.mqtt_broker_hand.specs.Reading.{AreAtHand, HasFailed, HasOne, W
 use crate::contents::first_at;
 use crate::hand::AllAtHand;
 use mqtt_flow_ring::AT_HAND_LIMIT;
-use mqtt_records::{CopyContent, Keep, KeepError};
+use mqtt_records::CopyContent;
+use mqtt_records_keep::{Keep, KeepError};
 use std::alloc::{AllocError, Global};
 
 /// Puts one more behind, if there is one.

@@ -4,9 +4,10 @@ use bytes::Bytes;
 use mqtt_base::{Cause, CopyId, Phase, Qos, Text};
 use mqtt_broker_hand::AllAtHand;
 use mqtt_records::{
-    Boxed, Change, Columns, Content, CopyContent, CopyRow, Keep, MemKeep, MessageCopy, PassedOn,
-    SessionRow, SubscriptionIdentifiers,
+    Boxed, Change, Columns, Content, CopyContent, CopyRow, MessageCopy, PassedOn, SessionRow,
+    SubscriptionIdentifiers,
 };
+use mqtt_records_keep::{Keep, MemKeep};
 use std::alloc::{AllocError, Global};
 use std::process::Abort;
 use std::test::Fail;

@@ -5,8 +5,8 @@ use crate::run::{Part, Played, play_over};
 use crate::sql::judge_in_sql;
 use crate::telling::Telling;
 use crate::unread::UnreadKeep;
-use mqtt_records::MemKeep;
-use mqtt_records::faulty::{Failure, FaultyKeep};
+use mqtt_records_keep::MemKeep;
+use mqtt_records_keep::faulty::{Failure, FaultyKeep};
 use std::alloc::{AllocError, Global};
 use std::hash::RandomState;
 

@@ -1,6 +1,7 @@
 //! A store that can't be read once.
 
-use mqtt_records::{Change, CopyContent, Keep, KeepError, MemKeep, Records};
+use mqtt_records::{Change, CopyContent, Records};
+use mqtt_records_keep::{Keep, KeepError, MemKeep};
 use std::alloc::{AllocError, Global};
 
 /// A store in memory of which one `load` answers Disk.

@@ -60,7 +60,7 @@ fn contents_of(alloc: Global, rows: &[Boxed<CopyRow>]) -> Result<Vec<CopyContent
 
 /// What the first copies of a session say from a place on, at most so many, in the order of the queue; nothing of a
 /// session that isn't there.
-pub(crate) fn contents_in(
+pub fn contents_in(
     alloc: Global,
     records: &Records,
     birth: u64,

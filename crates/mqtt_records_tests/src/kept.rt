@@ -6,12 +6,12 @@ use mqtt_base::{
     SUBSCRIPTION_LIMIT, SubscriptionOptions, Text,
 };
 use mqtt_props::PropList;
-use mqtt_records::faulty::{Failure, FaultyKeep};
 use mqtt_records::{
-    Boxed, Change, Columns, Content, CopyRow, Counter, Keep, KeepError, MemKeep, MessageCopy,
-    PassedOn, Records, RetainedMessage, Rows, SessionRow, Subscription, SubscriptionIdentifiers,
-    Will,
+    Boxed, Change, Columns, Content, CopyRow, Counter, MessageCopy, PassedOn, Records,
+    RetainedMessage, Rows, SessionRow, Subscription, SubscriptionIdentifiers, Will,
 };
+use mqtt_records_keep::faulty::{Failure, FaultyKeep};
+use mqtt_records_keep::{Keep, KeepError, MemKeep};
 use std::alloc::{AllocError, Global};
 use std::process::Abort;
 use std::test::Fail;

@@ -2,8 +2,9 @@
 
 use crate::kept::{add, all, copy, course};
 use bytes::Bytes;
-use mqtt_records::faulty::{Failure, FaultyKeep};
-use mqtt_records::{Change, CopyContent, CopyRow, Keep, KeepError, MemKeep, Records, content_of};
+use mqtt_records::{Change, CopyContent, CopyRow, Records, content_of};
+use mqtt_records_keep::faulty::{Failure, FaultyKeep};
+use mqtt_records_keep::{Keep, KeepError, MemKeep};
 use std::alloc::{AllocError, Global};
 use std::process::Abort;
 use std::test::Fail;

@@ -1,7 +1,7 @@
 -- What a refused event says of a world that runs.
 use Rattle.std.proofs.Common.{ℕ, subst}
 use Rattle.std.specs.Prelude.{Result, IfErr, IsErrOf}
-use Rattle.mqtt_records.specs.declared.keep.Keep.{Ghosts}
+use Rattle.mqtt_records_keep.specs.declared.keep.Keep.{Ghosts}
 use Rattle.mqtt_world_model.specs.Tellings.{Telling}
 use Rattle.mqtt_world_peers.specs.declared.told.RunFault.{RunFault}
 use Rattle.mqtt_world_peers.specs.declared.told.RunFault.TheVariants as fault

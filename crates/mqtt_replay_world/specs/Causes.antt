@@ -1,7 +1,7 @@
 -- Why a replay ends for its store (MQTT 5.0, 4.1).
 use Rattle.std.specs.Prelude.{◌⊎◌, ⊤, ℕ}
 use Rattle.mqtt_records_lawful.specs.Lawful.{IsLawful}
-use Rattle.mqtt_records.specs.declared.keep.Keep.{Ghosts}
+use Rattle.mqtt_records_keep.specs.declared.keep.Keep.{Ghosts}
 use Rattle.mqtt_records.specs.declared.records.Records.{Records}
 use Rattle.mqtt_rules.specs.State.{Broker}
 use Rattle.mqtt_rules.specs.Step.{Call, SpentOpening, SpentStep}

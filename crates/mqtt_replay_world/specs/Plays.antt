@@ -1,6 +1,6 @@
 -- What can happen in a world that runs, and what the replay of a script shows of it (MQTT 5.0, 4.1 to 4.4).
 use Rattle.std.specs.Prelude.{[], ◌∷◌, unwrap_or}
-use Rattle.mqtt_records.specs.declared.keep.Keep.{Ghosts}
+use Rattle.mqtt_records_keep.specs.declared.keep.Keep.{Ghosts}
 use Rattle.mqtt_replay.specs.Playing.{Play}
 use Rattle.mqtt_world_scene.specs.Halting.{IsStoreDue}
 use Rattle.mqtt_world.specs.Worlds.{CantHappen, Happen, Lasting, done_in, handed_in, publications_in, queue_in, seen, sent_in, sessions_in}

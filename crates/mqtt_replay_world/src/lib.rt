@@ -6,7 +6,7 @@ mod playing;
 mod program;
 mod replaying;
 
-pub use mqtt_records::Keep;
+pub use mqtt_records_keep::Keep;
 pub use mqtt_rules::Limits;
 pub use mqtt_script::{Played, ReplayFault};
 pub use program::replay_at;

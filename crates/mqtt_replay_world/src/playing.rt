@@ -2,7 +2,7 @@
 
 ghost use Rattle.std.specs.Prelude.{◌≡◌};
 
-use mqtt_records::Keep;
+use mqtt_records_keep::Keep;
 use mqtt_replay::Runs;
 use mqtt_script::Event;
 use mqtt_world::World;

@@ -10,7 +10,7 @@ ghost use Rattle.mqtt_replay_world.specs.Causes.{IsNumberDue, IsReplayDue, ends_
 ghost use Rattle.mqtt_replay_world.specs.Texts.{FrontOver, FrontText, ReplayText, ReplaysOver, Wrote};
 
 use crate::playing::Playing;
-use mqtt_records::{Keep, MemKeep};
+use mqtt_records_keep::{Keep, MemKeep};
 use mqtt_rules::Limits;
 use mqtt_script::{Played, ReplayFault};
 use mqtt_world::World;

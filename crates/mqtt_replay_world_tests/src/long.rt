@@ -1,7 +1,7 @@
 //! A script of 100,000 events, and stores that fail (MQTT 5.0, 4.1).
 
 use crate::playing::{in_memory, over_faulty};
-use mqtt_records::faulty::Failure;
+use mqtt_records_keep::faulty::Failure;
 use mqtt_replay_world::{Played, ReplayFault};
 use std::alloc::{AllocError, Global};
 use std::hash::RandomState;

@@ -3,7 +3,7 @@
 ghost use Rattle.mqtt_rules.specs.Laws.{AreWithin};
 
 use mqtt_flow::Full;
-use mqtt_records::faulty::{Failure, FaultyKeep};
+use mqtt_records_keep::faulty::{Failure, FaultyKeep};
 use mqtt_replay_world::{Limits, Played, ReplayFault, replay, replay_over};
 use mqtt_store::SqlKeep;
 use sqlite::Connection;

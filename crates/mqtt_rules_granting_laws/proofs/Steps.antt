@@ -16,7 +16,8 @@ use Rattle.mqtt_rules_granting_laws.proofs.Blocks.{passed_is_unaliased}
 use Rattle.mqtt_rules_granting_laws.proofs.Deeds.{AllName, kept_all, sends_topics, sends_users}
 use Rattle.mqtt_rules_granting_laws.proofs.Grants.{call_grants, grants_none, grants_within_most, opening_grants}
 use Rattle.mqtt_rules_granting_laws.specs.Granting.{TakesWithin}
-use Rattle.mqtt_rules_granting_laws.specs.Naming.{HasNamed, IsNamed, IsNamedWill, NamesTopics, SendsUsersLast, StoresNamed, StoresPassedOn}
+use Rattle.mqtt_rules_granting_laws.specs.Naming.{HasNamed, IsNamed, IsNamedWill, NamesTopics, SendsUsersLast, StoresNamed}
+use Rattle.mqtt_records.specs.PassedOn.{StoresPassedOn}
 use Rattle.mqtt_rules_telling_laws.proofs.Deeds.{knows, means}
 use Rattle.mqtt_rules_telling_laws.specs.Meaning.{AllMean, GrantsNone, GrantsWithin, Knows, SendsItsTopic, after_reading_all, on_line}
 use Rattle.mqtt_topic.specs.Aliases.{AliasTable}

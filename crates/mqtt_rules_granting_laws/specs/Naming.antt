@@ -9,7 +9,6 @@ use Rattle.mqtt_props.specs.Properties.{Prop}
 use Rattle.mqtt_props.specs.declared.table.PropName.TheVariants.{TopicAlias, UserProperty}
 use Rattle.mqtt_records.specs.declared.records.Records.{Records}
 use Rattle.mqtt_records.specs.declared.session.Session.{Session}
-use Rattle.mqtt_records_message.specs.PassedOn.{IsPassedOn}
 use Rattle.mqtt_records_message.specs.Queue.{CopyRow}
 use Rattle.mqtt_records_message.specs.declared.message.Content.{Content}
 use Rattle.mqtt_records_message.specs.declared.message.RetainedMessage.{RetainedMessage}
@@ -48,11 +47,6 @@ pub record HasNamed (s : Session) : Type 0 where
 pub record StoresNamed (r : Records) : Type 0 where
   pub sessions : AllByRecursion HasNamed r.sessions
   pub retained : AllByRecursion (λ (k : RetainedMessage). IsNamed k.content) r.retained
-
--- all properties that are stored are such as publications pass on, as their type in code has it
-pub record StoresPassedOn (r : Records) : Type 0 where
-  pub sessions : AllByRecursion (λ (s : Session). AllByRecursion (λ (e : CopyRow). IsPassedOn e.copy.content.properties) s.queue) r.sessions
-  pub retained : AllByRecursion (λ (k : RetainedMessage). IsPassedOn k.content.properties) r.retained
 
 -- ---- a broker
 

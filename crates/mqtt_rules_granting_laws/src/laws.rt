@@ -10,7 +10,8 @@ ghost use Rattle.mqtt_rules.specs.State.{Broker, MemberChoice, told_on};
 ghost use Rattle.mqtt_rules.specs.Step.{Call, deeds, opened, opening_deeds, stepped, told};
 ghost use Rattle.mqtt_rules_telling_laws.specs.Meaning.{AllMean, GrantsNone, GrantsWithin, Knows, SendsItsTopic, after_reading_all, on_line};
 ghost use Rattle.mqtt_rules_granting_laws.specs.Granting.{TakesWithin};
-ghost use Rattle.mqtt_rules_granting_laws.specs.Naming.{NamesTopics, SendsUsersLast, StoresNamed, StoresPassedOn};
+ghost use Rattle.mqtt_rules_granting_laws.specs.Naming.{NamesTopics, SendsUsersLast, StoresNamed};
+ghost use Rattle.mqtt_records.specs.PassedOn.{StoresPassedOn};
 
 /// If all that a broker holds names its topics, so does each PUBLISH that a step sends, it has no Topic
 /// Alias, and its User Properties come last. All that the broker holds names its topics after the step too, whatever is asked of it, and after an

@@ -11,7 +11,7 @@ use Rattle.sqlite.specs.Held.{Held, IsNew, state}
 use Rattle.sqlite.specs.Files.{file_state, over_files, IsOpened}
 use Rattle.sqlite.specs.Start.{FindsIn}
 use Rattle.mqtt_rules.specs.declared.Limits.{Limits}
-use Rattle.mqtt_records.specs.declared.keep.Keep as keep
+use Rattle.mqtt_records_keep.specs.declared.keep.Keep as keep
 use Rattle.mqtt_records.specs.declared.records.Records.{Records}
 use Rattle.mqtt_store.specs.Holding.{Holds, Leaves}
 use Rattle.mqtt_store.specs.Opening.{OpensAnew, rolled_back}

@@ -14,7 +14,7 @@ use crate::store::{
 };
 use mqtt_broker::Engine;
 use mqtt_link::ServeFault;
-use mqtt_records::Keep;
+use mqtt_records_keep::Keep;
 use mqtt_rules::Limits;
 use mqtt_serve_turns::{Links, run_turns};
 use mqtt_store::SqlKeep;

@@ -12,7 +12,7 @@ ghost use Rattle.mqtt_serve.specs.Database.{IsAsked, IsStoreOver};
 use mqtt_broker::Engine;
 use mqtt_broker_step::EngineError;
 use mqtt_link::ServeFault;
-use mqtt_records::{Keep, KeepError};
+use mqtt_records_keep::{Keep, KeepError};
 use mqtt_rules::Limits;
 use mqtt_serve_database::make_database;
 use mqtt_store::SqlKeep;

@@ -8,7 +8,7 @@ use crate::connection::Connection;
 use mqtt_base::LINE_LIMIT;
 use mqtt_broker::Engine;
 use mqtt_link::{Got, Link};
-use mqtt_records::Keep;
+use mqtt_records_keep::Keep;
 use std::alloc::Global;
 
 /// At most one connection is accepted, and linked; it is dropped if as many are here as may be, or the broker links no

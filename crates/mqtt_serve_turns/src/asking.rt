@@ -10,7 +10,7 @@ use mqtt_broker::Engine;
 use mqtt_broker_engine::Outcome;
 use mqtt_broker_step::EngineError;
 use mqtt_link::Link;
-use mqtt_records::Keep;
+use mqtt_records_keep::Keep;
 
 /// The number of the line at a place.
 pub(crate) fn number_at<L: Link>(lines: &[Connection<L>], place: usize) -> u64

@@ -9,7 +9,7 @@ use crate::telling::lose;
 use mqtt_broker::Engine;
 use mqtt_broker_step::EngineError;
 use mqtt_link::Link;
-use mqtt_records::Keep;
+use mqtt_records_keep::Keep;
 
 /// The most pieces that a read is given in (ours); no run comes there.
 const PIECE_LIMIT: u64 = u64::MAX;

@@ -10,7 +10,7 @@ use crate::turn::READ_LIMIT;
 use mqtt_broker::Engine;
 use mqtt_broker_step::EngineError;
 use mqtt_link::Link;
-use mqtt_records::Keep;
+use mqtt_records_keep::Keep;
 
 /// The connection at a place is read once: how many bytes came.
 fn read_at<L: Link>(

@@ -8,7 +8,7 @@ use crate::turn::{Links, serve_turn};
 use mqtt_broker::Engine;
 use mqtt_broker_step::EngineError;
 use mqtt_link::Link;
-use mqtt_records::Keep;
+use mqtt_records_keep::Keep;
 
 /// A clock. One that tells its moments has `told`; of another it says nothing.
 pub trait Timer {

@@ -15,7 +15,7 @@ use mqtt_base::LINE_LIMIT;
 use mqtt_broker::Engine;
 use mqtt_broker_step::EngineError;
 use mqtt_link::Link;
-use mqtt_records::Keep;
+use mqtt_records_keep::Keep;
 use std::alloc::{AllocError, Global};
 use std::marker::Model;
 

@@ -1,7 +1,8 @@
 //! Whose turn it is in a group, if memory is wanting for a step (MQTT 5.0, 4.8.2).
 use crate::turns::LIMITS;
 use mqtt_broker::Engine;
-use mqtt_records::{Change, CopyContent, Keep, KeepError, MemKeep, Records};
+use mqtt_records::{Change, CopyContent, Records};
+use mqtt_records_keep::{Keep, KeepError, MemKeep};
 use std::alloc::{AllocError, Global};
 use std::hash::RandomState;
 use std::test::Fail;

@@ -2,7 +2,7 @@
 use crate::turns::LIMITS;
 use mqtt_broker::Engine;
 use mqtt_link::{Got, Link};
-use mqtt_records::{Keep, MemKeep};
+use mqtt_records_keep::{Keep, MemKeep};
 use mqtt_serve_turns::{Links, serve_turn};
 use std::alloc::{AllocError, Global};
 use std::hash::RandomState;

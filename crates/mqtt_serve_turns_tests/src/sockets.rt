@@ -4,7 +4,7 @@ use crate::clients::Stage;
 use crate::turns::{CONNACK, LIMITS, PUBLISHED, PUBLISHER, SUBSCRIBED, SUBSCRIBER, are};
 use mqtt_broker::Engine;
 use mqtt_link::{Got, NetLink, got};
-use mqtt_records::{Keep, MemKeep};
+use mqtt_records_keep::{Keep, MemKeep};
 use mqtt_serve_turns::{Links, serve_turn};
 use std::hash::RandomState;
 use std::io;

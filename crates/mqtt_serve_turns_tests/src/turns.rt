@@ -3,7 +3,7 @@
 use crate::clients::{Call, Clients, Fault, Stage, Wrong};
 use mqtt_broker::Engine;
 use mqtt_flow::Full;
-use mqtt_records::{Keep, MemKeep};
+use mqtt_records_keep::{Keep, MemKeep};
 use mqtt_rules::Limits;
 use mqtt_serve_turns::{Links, serve_turn};
 use std::alloc::Global;

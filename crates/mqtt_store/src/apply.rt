@@ -9,7 +9,8 @@ ghost use Rattle.mqtt_store_laws.specs.Written.{AllSayable};
 ghost use Rattle.mqtt_store_load.specs.Loading.{IsOrdered};
 ghost use Rattle.mqtt_store.specs.Holding.{Holds, Leaves, IsLoaded};
 
-use mqtt_records::{Change, KeepError};
+use mqtt_records::Change;
+use mqtt_records_keep::KeepError;
 use mqtt_store_message_commit::commit_changes;
 use mqtt_store_read::probe;
 use sqlite::{Alter, Connection, Error, ErrorCode};

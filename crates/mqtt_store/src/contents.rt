@@ -7,7 +7,8 @@ ghost use Rattle.mqtt_records.specs.Telling.{contents_from};
 ghost use Rattle.mqtt_store_load.specs.Loading.{IsOrdered};
 ghost use Rattle.mqtt_store.specs.Holding.{Holds, Leaves, IsLoaded};
 
-use mqtt_records::{CopyContent, KeepError};
+use mqtt_records::CopyContent;
+use mqtt_records_keep::KeepError;
 use mqtt_store_message_contents::contents_in;
 use mqtt_store_read::probe;
 use sqlite::{Alter, Connection};

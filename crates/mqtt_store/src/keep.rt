@@ -13,7 +13,8 @@ use crate::apply::apply_all;
 use crate::contents::read_contents;
 use crate::load::load_records;
 use crate::opening::reopen;
-use mqtt_records::{Change, CopyContent, Keep, KeepError, Records, all_pass_on};
+use mqtt_records::{Change, CopyContent, Records, all_pass_on};
+use mqtt_records_keep::{Keep, KeepError};
 use sqlite::{Alter, Connection, Error};
 use std::alloc::Global;
 

@@ -7,7 +7,8 @@ ghost use Rattle.mqtt_store_message_read.specs.Refusals.{RefusesEither};
 ghost use Rattle.mqtt_store_load.specs.Loading.{HasKept, IsOrdered};
 ghost use Rattle.mqtt_store.specs.Holding.{Holds, Leaves};
 
-use mqtt_records::{KeepError, Records};
+use mqtt_records::Records;
+use mqtt_records_keep::KeepError;
 use mqtt_store_load::load_from;
 use sqlite::{Alter, Connection};
 use std::alloc::Global;

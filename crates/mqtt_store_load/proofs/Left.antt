@@ -10,8 +10,8 @@ use Rattle.sqlite.specs.Effect.{Database}
 use Rattle.sqlite.specs.Held.{Held, state}
 use Rattle.sqlite.specs.State.{State, HasCleanDisk, Survives, IsLive}
 use Rattle.sqlite.proofs.StateLemmas.{survives_weaker}
-use Rattle.mqtt_records.specs.declared.keep.KeepError.{KeepError}
-use Rattle.mqtt_records.specs.declared.keep.KeepError.TheVariants.{Memory, Disk, Size, Corrupt, Schema as OtherSchema}
+use Rattle.mqtt_records_keep.specs.declared.keep.KeepError.{KeepError}
+use Rattle.mqtt_records_keep.specs.declared.keep.KeepError.TheVariants.{Memory, Disk, Size, Corrupt, Schema as OtherSchema}
 use Rattle.mqtt_records.specs.declared.records.Records.{Records}
 use Rattle.mqtt_records.specs.Records.{nothing}
 use Rattle.mqtt_store_schema.specs.Creation.{first}

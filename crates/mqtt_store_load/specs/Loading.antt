@@ -7,7 +7,7 @@ use Rattle.sqlite_trees.specs.declared.store.Store.{Ghosts}
 use Rattle.sqlite.specs.Effect.{Database}
 use Rattle.sqlite.specs.Held.{Held, state}
 use Rattle.sqlite.specs.State.{State, HasCleanDisk, Survives}
-use Rattle.mqtt_records.specs.declared.keep.KeepError.{KeepError}
+use Rattle.mqtt_records_keep.specs.declared.keep.KeepError.{KeepError}
 use Rattle.mqtt_records.specs.declared.records.Records.{Records}
 use Rattle.mqtt_store_schema.specs.Settled.{IsSettled}
 use Rattle.mqtt_store_schema_two.specs.Tables.{second_schema}

@@ -9,7 +9,8 @@ ghost use Rattle.mqtt_store_message_read.specs.Refusals.{RefusesEither};
 ghost use Rattle.mqtt_store_load.specs.Keeping.{FindsIn};
 ghost use Rattle.mqtt_store_load.specs.Loading.{IsTidy, IsOrdered, HasKept, OnlyLoads, Loads};
 
-use mqtt_records::{KeepError, Records};
+use mqtt_records::Records;
+use mqtt_records_keep::KeepError;
 use mqtt_store_message_read::{begin_second, first_records_or_refusal, records_or_refusal};
 use mqtt_store_migration::migrate;
 use mqtt_store_read::fault_of;

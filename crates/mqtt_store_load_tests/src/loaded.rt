@@ -5,7 +5,8 @@ ghost use Rattle.mqtt_store_load.specs.Loading.{IsOrdered};
 
 use crate::databases::{Base, database};
 use crate::opened::reopen;
-use mqtt_records::{KeepError, Records};
+use mqtt_records::Records;
+use mqtt_records_keep::KeepError;
 use mqtt_store_load::load_from;
 use mqtt_store_schema_two::{FoundStore, Making, found_store};
 use sqlite::{Alter, Connection, Error};

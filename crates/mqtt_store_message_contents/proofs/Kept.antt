@@ -7,8 +7,8 @@ use Rattle.sqlite.specs.State.{State, Shown}
 use Rattle.sqlite.proofs.Callers.{reads_as}
 use Rattle.mqtt_props.specs.Properties.{Prop}
 use Rattle.mqtt_records.specs.declared.records.Records.{Records}
-use Rattle.mqtt_records.specs.declared.keep.KeepError.{KeepError}
-use Rattle.mqtt_records.specs.declared.keep.KeepError.TheVariants.{Memory, Disk, Corrupt}
+use Rattle.mqtt_records_keep.specs.declared.keep.KeepError.{KeepError}
+use Rattle.mqtt_records_keep.specs.declared.keep.KeepError.TheVariants.{Memory, Disk, Corrupt}
 use Rattle.mqtt_store_rows.specs.Lists.{AreRows}
 use Rattle.mqtt_store_rows.specs.Ones.{one_number, one_text, one_blob, one_passed}
 use Rattle.mqtt_store_rows.proofs.LawfulLemmas.{lawful_within}

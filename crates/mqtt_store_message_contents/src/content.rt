@@ -3,7 +3,7 @@ ghost use Rattle.std.specs.Prelude.{◌≡◌, ◌⊎◌, IfOk, IfErr, IsErrOf};
 ghost use Rattle.mqtt_records_message.specs.Content.{CopyContent as Said};
 ghost use Rattle.mqtt_store_message_contents.specs.Said.{SaysCopyContent};
 
-use mqtt_records::KeepError;
+use mqtt_records_keep::KeepError;
 use mqtt_records_message::CopyContent;
 use mqtt_store_message_rows::identifiers_of;
 use mqtt_store_rows::{blob, counted, passed, text, value_at};

@@ -14,7 +14,7 @@ ghost use Rattle.mqtt_store_message_read.specs.Kept.{HasRecordsTwo};
 ghost use Rattle.mqtt_store_message_contents.specs.Said.{SaysCopyContent, content_rows};
 
 use crate::content::content_of;
-use mqtt_records::KeepError;
+use mqtt_records_keep::KeepError;
 use mqtt_records_message::CopyContent;
 use mqtt_store_read::fault_of;
 use sqlite::{Alter, Connection, Error, Row, params};

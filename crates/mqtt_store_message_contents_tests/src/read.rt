@@ -1,7 +1,8 @@
 //! What is read of queues.
 
 use super::database::{filled, lengthen};
-use mqtt_records::{CopyContent, KeepError};
+use mqtt_records::CopyContent;
+use mqtt_records_keep::KeepError;
 use mqtt_store_message_contents::contents_in;
 use mqtt_store_schema_two::Making;
 use sqlite::{Alter, Connection};

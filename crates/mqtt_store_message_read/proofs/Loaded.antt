@@ -3,7 +3,7 @@ use Rattle.std.proofs.Common.{Result, Ok, Err, IfOk, sym, subst}
 use Rattle.sqlite_trees.specs.Tree.{Trees}
 use Rattle.mqtt_records_lawful.specs.Lawful.{IsLawful}
 use Rattle.mqtt_records.specs.declared.records.Records.{Records}
-use Rattle.mqtt_records.specs.declared.keep.KeepError.{KeepError}
+use Rattle.mqtt_records_keep.specs.declared.keep.KeepError.{KeepError}
 use Rattle.mqtt_store_rows.proofs.LawfulLemmas.{lawful_within}
 use Rattle.mqtt_store_schema_two.specs.declared.tables.Making.{Making}
 use Rattle.mqtt_store_message_rows.specs.Gives.{Rows, Gives}

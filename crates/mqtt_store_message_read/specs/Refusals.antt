@@ -4,8 +4,8 @@ use Rattle.sqlite_trees.specs.declared.store.Store.{Ghosts}
 use Rattle.sqlite.specs.Held.{Held, state}
 use Rattle.sqlite.specs.State.{State}
 use Rattle.mqtt_records.specs.declared.records.Records.{Records}
-use Rattle.mqtt_records.specs.declared.keep.KeepError.{KeepError}
-use Rattle.mqtt_records.specs.declared.keep.KeepError.TheVariants.{Memory, Disk, Size, Corrupt, Schema}
+use Rattle.mqtt_records_keep.specs.declared.keep.KeepError.{KeepError}
+use Rattle.mqtt_records_keep.specs.declared.keep.KeepError.TheVariants.{Memory, Disk, Size, Corrupt, Schema}
 use Rattle.mqtt_store_schema.specs.Tables.{keep_schema}
 use Rattle.mqtt_store_schema_two.specs.Tables.{second_schema}
 use Rattle.mqtt_store_schema_two.specs.Finding.{Differs, SaysKnown, SaysUnknown}

@@ -13,7 +13,8 @@ ghost use Rattle.mqtt_store_message_read.specs.Listing.{IsAddedListing};
 ghost use Rattle.mqtt_store_message_read.specs.Kept.{AreSharedListed, AreAddedListed, HasRecordsTwo};
 
 use crate::reading::{AddedTable, rows_of_added};
-use mqtt_records::{KeepError, Records};
+use mqtt_records::Records;
+use mqtt_records_keep::KeepError;
 use mqtt_store_message_rows::{Tables, lawful_records_of};
 use mqtt_store_read::{fault_of, rows_of};
 use mqtt_store_schema::StoreTable;

@@ -9,7 +9,8 @@ ghost use Rattle.mqtt_store_schema_two.specs.Creation.{IsNewSecond, MakesSecond}
 ghost use Rattle.mqtt_store_schema_two.specs.declared.tables.Making.{Making};
 ghost use Rattle.mqtt_store_message_read.specs.Opening.{HasNowTwo, BeginsSecond};
 
-use mqtt_records::{KeepError, Records};
+use mqtt_records::Records;
+use mqtt_records_keep::KeepError;
 use mqtt_store_read::{fault_of, probe};
 use mqtt_store_schema_two::create_second;
 use sqlite::{Alter, Connection};

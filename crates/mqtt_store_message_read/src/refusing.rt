@@ -12,7 +12,8 @@ ghost use Rattle.mqtt_store_message_read.specs.Kept.{HasRecordsTwo};
 ghost use Rattle.mqtt_store_message_read.specs.Refusals.{RefusesEither};
 
 use crate::loading::records_in;
-use mqtt_records::{KeepError, Records};
+use mqtt_records::Records;
+use mqtt_records_keep::KeepError;
 use mqtt_store_read::{fault_of, records_in as first_records_in};
 use mqtt_store_schema::schema_said;
 use mqtt_store_schema_two::Making;

@@ -1,6 +1,7 @@
 //! Databases in memory with the tables of schema 2, made in each way, and some rows.
 
-use mqtt_records::{KeepError, Records};
+use mqtt_records::Records;
+use mqtt_records_keep::KeepError;
 use mqtt_store_message_read::records_or_refusal;
 use mqtt_store_schema::create_store;
 use mqtt_store_schema_two::{Making, add_tables, create_second};

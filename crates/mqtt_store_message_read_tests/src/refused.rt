@@ -1,7 +1,7 @@
 //! What is refused, and why.
 
 use super::database::{after, fill, first, second};
-use mqtt_records::KeepError;
+use mqtt_records_keep::KeepError;
 use mqtt_store_message_read::first_records_or_refusal;
 use mqtt_store_schema_two::Making;
 use std::test::Fail;

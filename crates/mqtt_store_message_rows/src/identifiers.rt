@@ -8,7 +8,7 @@ ghost use Rattle.mqtt_store_message_rows.specs.Rows.{ArePairs, SaysIdentifiers};
 
 use mqtt_base::varint_read;
 use mqtt_props::PropName;
-use mqtt_records::KeepError;
+use mqtt_records_keep::KeepError;
 use mqtt_records_message::SubscriptionIdentifiers;
 use sqlite::types::ValueRef;
 use std::alloc::Global;

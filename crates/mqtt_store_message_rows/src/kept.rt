@@ -9,7 +9,7 @@ ghost use Rattle.mqtt_store_message_rows.specs.Joins.{Stands, SaysRetained};
 
 use crate::messages::Messages;
 use crate::refers::{Refers, content_at};
-use mqtt_records::KeepError;
+use mqtt_records_keep::KeepError;
 use mqtt_records_message::{Content, RetainedMessage};
 use mqtt_store_rows::{counted, kept, qos, text, value_at};
 use sqlite::Row;

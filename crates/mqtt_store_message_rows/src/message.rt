@@ -5,7 +5,7 @@ ghost use Rattle.mqtt_store_message_rows.specs.Rows.{SaysMessage};
 
 use bytes::Bytes;
 use mqtt_base::{QUEUE_LIMIT, RETAINED_LIMIT, SESSION_LIMIT, Text};
-use mqtt_records::KeepError;
+use mqtt_records_keep::KeepError;
 use mqtt_records_message::{Content, PassedOn};
 use mqtt_records_rows::Row;
 use mqtt_store_rows::{blob, counted, is_short, passed, text, value_at};

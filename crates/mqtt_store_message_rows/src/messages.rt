@@ -7,7 +7,7 @@ ghost use Rattle.mqtt_store_message_rows.specs.Rows.{SaysMessage};
 ghost use Rattle.mqtt_store_message_rows.specs.Joins.{publication_of};
 
 use crate::message::{MESSAGE_LIMIT, Message, message_of};
-use mqtt_records::KeepError;
+use mqtt_records_keep::KeepError;
 use mqtt_records_rows::Row;
 use std::alloc::Global;
 use std::marker::Model;

@@ -17,7 +17,7 @@ use crate::identifiers::identifiers_of;
 use crate::messages::Messages;
 use crate::refers::{Refers, content_at};
 use mqtt_base::{CopyId, Qos};
-use mqtt_records::KeepError;
+use mqtt_records_keep::KeepError;
 use mqtt_records_message::{Content, CopyFault, CopyRow, MessageCopy};
 use mqtt_store_rows::{counted, flag, id_of, kept, phase_of, qos, value_at};
 use sqlite::Row;

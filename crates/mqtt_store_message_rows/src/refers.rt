@@ -11,7 +11,7 @@ ghost use Rattle.mqtt_store_message_rows.specs.Joins.{Stands};
 
 use crate::messages::Messages;
 use crate::taken::take_rows;
-use mqtt_records::KeepError;
+use mqtt_records_keep::KeepError;
 use mqtt_records_message::Content;
 use mqtt_records_rows::{Boxed, Row, Rows, newest_comes_last};
 use std::alloc::Global;

@@ -1,7 +1,7 @@
 //! Changes of sound rows after which they say no records, and others after which they do.
 
 use super::database::{after, database};
-use mqtt_records::KeepError;
+use mqtt_records_keep::KeepError;
 use std::test::Fail;
 
 /// Changes of a number, a session or what it has beside its queue.

@@ -1,7 +1,8 @@
 //! What a database keeps behind a migration, and what is left of it when one fails.
 
 use crate::databases::{ENDED, FIRST, SECOND, database, first_wrong};
-use mqtt_records::{Change, KeepError};
+use mqtt_records::Change;
+use mqtt_records_keep::KeepError;
 use mqtt_store_message_commit::commit_changes;
 use mqtt_store_migration::migrate;
 use mqtt_store_read::records_in;

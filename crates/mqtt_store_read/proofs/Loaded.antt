@@ -7,8 +7,8 @@ use Rattle.sqlite_trees.specs.Tree.{Trees}
 use Rattle.mqtt_records_contents.proofs.Nothing.{nothing_shared}
 use Rattle.mqtt_records_lawful.specs.Lawful.{IsLawful}
 use Rattle.mqtt_records.specs.declared.records.Records.{Records}
-use Rattle.mqtt_records.specs.declared.keep.KeepError.{KeepError}
-use Rattle.mqtt_records.specs.declared.keep.KeepError.TheVariants.{Memory, Disk, Corrupt}
+use Rattle.mqtt_records_keep.specs.declared.keep.KeepError.{KeepError}
+use Rattle.mqtt_records_keep.specs.declared.keep.KeepError.TheVariants.{Memory, Disk, Corrupt}
 use Rattle.mqtt_records.specs.Records.{nothing}
 use Rattle.mqtt_store_rows.specs.Values.{number}
 use Rattle.mqtt_store_rows.specs.Gives.{Rows, Gives}

@@ -10,7 +10,8 @@ ghost use Rattle.mqtt_store_read.specs.Listing.{IsListing};
 ghost use Rattle.mqtt_store_read.specs.Kept.{ArePartsListed, AreListed, HasRecords};
 
 use crate::reading::rows_of;
-use mqtt_records::{KeepError, Records};
+use mqtt_records::Records;
+use mqtt_records_keep::KeepError;
 use mqtt_store_rows::{Tables, lawful_records_of};
 use mqtt_store_schema::StoreTable;
 use sqlite::{Alter, Connection, Error, ErrorCode, Row};

@@ -8,7 +8,7 @@ ghost use Rattle.mqtt_records_message.specs.PassedOn.{IsPassedOn};
 ghost use Rattle.mqtt_store_rows.specs.Blocks.{IsBlockOf, rises_from, identifiers_in, SaysPassed, SaysSent};
 
 use mqtt_props::{Place, PropList, PropName, PropsRef, look_at};
-use mqtt_records::KeepError;
+use mqtt_records_keep::KeepError;
 use mqtt_records_message::{PassedOn, SubscriptionIdentifiers, number_in};
 use sqlite::types::ValueRef;
 use std::alloc::{AllocError, Global};

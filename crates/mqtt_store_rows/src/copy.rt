@@ -15,7 +15,7 @@ use crate::phase::{id_of, phase_of};
 use crate::stored::Stored;
 use crate::value::{blob, counted, flag, is_short, kept, qos, text, value_at};
 use mqtt_base::Qos;
-use mqtt_records::KeepError;
+use mqtt_records_keep::KeepError;
 use mqtt_records_message::{Content, CopyFault, CopyRow, MessageCopy, SubscriptionIdentifiers};
 use sqlite::Row;
 use std::alloc::Global;

@@ -10,7 +10,7 @@ ghost use Rattle.mqtt_store_rows.specs.Gives.{list_of};
 use crate::stored::Stored;
 use crate::value::{is_number, value_at};
 use crate::will::will_of;
-use mqtt_records::KeepError;
+use mqtt_records_keep::KeepError;
 use mqtt_records_message::Will;
 use mqtt_records_rows::{Rows, newest_comes_last};
 use sqlite::Row;

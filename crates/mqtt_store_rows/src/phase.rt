@@ -10,7 +10,7 @@ ghost use Rattle.mqtt_store_rows.specs.Rows.{SaysCause, SaysId, SaysPhase};
 
 use crate::value::{counted, is_null, is_number, packet_identifier, text, value_at, whole};
 use mqtt_base::{Cause, CopyId, Phase, Qos};
-use mqtt_records::KeepError;
+use mqtt_records_keep::KeepError;
 use sqlite::Row;
 use sqlite::types::ValueRef;
 use std::alloc::Global;

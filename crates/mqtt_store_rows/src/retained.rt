@@ -7,7 +7,7 @@ ghost use Rattle.mqtt_store_rows.specs.Rows.{SaysContent, SaysRetained};
 use crate::block::passed;
 use crate::stored::Stored;
 use crate::value::{blob, counted, is_short, kept, qos, text, value_at};
-use mqtt_records::KeepError;
+use mqtt_records_keep::KeepError;
 use mqtt_records_message::{Content, RetainedMessage};
 use sqlite::Row;
 use std::alloc::Global;

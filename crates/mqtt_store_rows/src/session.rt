@@ -5,7 +5,8 @@ ghost use Rattle.mqtt_store_rows.specs.Rows.{SaysSession};
 
 use crate::value::{counted, moment, seconds, text, value_at};
 use mqtt_base::CLIENT_LIMIT;
-use mqtt_records::{Columns, KeepError};
+use mqtt_records::Columns;
+use mqtt_records_keep::KeepError;
 use sqlite::Row;
 use std::alloc::Global;
 

@@ -2,7 +2,7 @@
 ghost use Rattle.std.specs.Prelude.{◌≡◌, ◌⊎◌, ◌<◌, ℕ, IfOk, IfErr, IsErrOf};
 ghost use Rattle.sqlite_value.specs.Order.{Row as SqlRow};
 
-use mqtt_records::KeepError;
+use mqtt_records_keep::KeepError;
 use mqtt_records_rows::{Boxed, Row};
 use std::alloc::Global;
 

@@ -12,7 +12,7 @@ ghost use Rattle.mqtt_store_rows.specs.Values.{number, number_or_null, flag, IsC
 
 use bytes::Bytes;
 use mqtt_base::{LAST_NUMBER, Qos, ROW_LIMIT, Text};
-use mqtt_records::KeepError;
+use mqtt_records_keep::KeepError;
 use sqlite::Row;
 use sqlite::types::ValueRef;
 use std::alloc::Global;

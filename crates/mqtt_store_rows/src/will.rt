@@ -5,7 +5,7 @@ ghost use Rattle.mqtt_store_rows.specs.Rows.{SaysWill};
 
 use crate::block::will_properties;
 use crate::value::{blob, flag, is_short, qos, seconds, text, value_at};
-use mqtt_records::KeepError;
+use mqtt_records_keep::KeepError;
 use mqtt_records_message::Will;
 use sqlite::Row;
 use std::alloc::Global;

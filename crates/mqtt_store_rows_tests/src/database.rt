@@ -1,6 +1,7 @@
 //! A database in memory with the tables of the store and some rows.
 
-use mqtt_records::{KeepError, Records};
+use mqtt_records::Records;
+use mqtt_records_keep::KeepError;
 use mqtt_store_rows::{Tables, records_of};
 use sqlite::{Alter, Connection, Error, MemStore, params};
 use std::alloc::Global;

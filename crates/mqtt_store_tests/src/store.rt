@@ -5,7 +5,7 @@ ghost use Rattle.mqtt_store.specs.Holding.{IsLoaded};
 
 use crate::changes::{STEPS, add_changes};
 use crate::seen::{Seen, seen};
-use mqtt_records::{Keep, KeepError};
+use mqtt_records_keep::{Keep, KeepError};
 use mqtt_store::SqlKeep;
 use sqlite::{Alter, Connection, MemStore};
 use std::alloc::Global;

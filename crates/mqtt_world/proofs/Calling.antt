@@ -4,7 +4,7 @@ use Rattle.std.specs.Prelude.{Result, Ok, Err, is_some}
 use Rattle.std.specs.List.{AllByRecursion}
 use Rattle.std.proofs.lemmas.List.{append-nil, take-append-drop}
 use Rattle.mqtt_packet.specs.Front.{first_of}
-use Rattle.mqtt_records.specs.declared.keep.Keep.{Ghosts}
+use Rattle.mqtt_records_keep.specs.declared.keep.Keep.{Ghosts}
 use Rattle.mqtt_world_model.specs.Tellings.{Telling, silent}
 use Rattle.mqtt_world_model.specs.World.{Event, Setting, Stranger, World, are_bytes, ask, bytes_held, bytes_name, call_on, calls, calls_if, held_after, is_bad, is_bad_asking, next_line, stranger, stranger_named, with_stranger}
 use Rattle.mqtt_rules.specs.Laws.{AreWithin}

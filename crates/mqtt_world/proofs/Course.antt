@@ -1,7 +1,7 @@
 -- What events come to in a world that runs, one after the other, and that all it keeps is a run of the definitions' world.
 use Rattle.std.proofs.Common.{◌≡◌, List, [], ◌∷◌, ◌++◌, IfErr, IfOk, OnOk, Option, None, Some, append-nil, append_assoc, refl, sym, ap, subst, ◌∙◌}
 use Rattle.std.specs.Prelude.{ℕ, length, Result, Ok, Err}
-use Rattle.mqtt_records.specs.declared.keep.Keep.{Ghosts}
+use Rattle.mqtt_records_keep.specs.declared.keep.Keep.{Ghosts}
 use Rattle.mqtt_world_model.specs.Tellings.{Telling}
 use Rattle.mqtt_world_model.specs.World.{World}
 use Rattle.mqtt_world_peers.specs.declared.told.RunFault.{RunFault}

@@ -1,7 +1,7 @@
 -- A drain on the stage, from what it makes of the scene (MQTT 5.0, 4.3, 4.4, 4.6).
 use Rattle.std.proofs.Common.{◌≡◌, ℕ, List, Option, refl, sym, subst, ◌∙◌}
 use Rattle.std.specs.Prelude.{IfOk, Ok, Err, Result}
-use Rattle.mqtt_records.specs.declared.keep.Keep.{Ghosts}
+use Rattle.mqtt_records_keep.specs.declared.keep.Keep.{Ghosts}
 use Rattle.mqtt_world_model.specs.Tellings.{Telling}
 use Rattle.mqtt_world_model.specs.World.{Stranger}
 use Rattle.mqtt_rules.specs.declared.Limits.{Limits}

@@ -1,7 +1,7 @@
 -- What becomes of a world that stands, by what becomes of its broker and ends (MQTT 5.0, 4.1 to 4.4).
 use Rattle.std.proofs.Common.{◌≡◌, ℕ, false, List, map, Option, Some, None, refl, sym, ap, subst, ◌∙◌}
 use Rattle.std.specs.Prelude.{Err, IfOk, Ok, Result}
-use Rattle.mqtt_records.specs.declared.keep.Keep.{Ghosts}
+use Rattle.mqtt_records_keep.specs.declared.keep.Keep.{Ghosts}
 use Rattle.mqtt_world_model.specs.Tellings.{Telling, silent}
 use Rattle.mqtt_world_model.specs.World.{Asking, Event, Stranger, World, ask, clock, restart, restarts, stop_after, stop_before, unlinked}
 use Rattle.mqtt_broker.specs.Serving.{Serving}

@@ -2,11 +2,12 @@
 use Rattle.std.proofs.Common.{◌≡◌, ℕ, List, [], refl, sym, ap, subst, ◌∙◌}
 use Rattle.std.specs.Prelude.{Ok}
 use Rattle.mqtt_records_lawful.specs.Lawful.{IsLawful}
-use Rattle.mqtt_records.specs.declared.keep.Keep.{Ghosts}
+use Rattle.mqtt_records_keep.specs.declared.keep.Keep.{Ghosts}
 use Rattle.mqtt_records.specs.declared.records.Records.{Records}
 use Rattle.mqtt_world_model.specs.World.{Stranger, World}
 use Rattle.mqtt_script.specs.declared.event.Event.{Event}
-use Rattle.mqtt_rules_granting_laws.specs.Naming.{NamesTopics, StoresPassedOn}
+use Rattle.mqtt_rules_granting_laws.specs.Naming.{NamesTopics}
+use Rattle.mqtt_records.specs.PassedOn.{StoresPassedOn}
 use Rattle.mqtt_rules_granting_laws.proofs.Steps.{opening_named, stored_named}
 use Rattle.mqtt_rules_spelling_laws.specs.Sending.{HaveSentPhases}
 use Rattle.mqtt_rules_spelling_laws.proofs.Steps.{well_begun}

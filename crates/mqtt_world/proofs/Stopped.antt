@@ -1,7 +1,7 @@
 -- A broker that is opened again, by itself and behind what was asked (MQTT 5.0, 4.1).
 use Rattle.std.proofs.Common.{◌≡◌, ℕ, false, List, [], ◌∷◌, ◌++◌, map, refl, sym, ap, subst, ◌∙◌}
 use Rattle.std.proofs.lemmas.List.{map-append}
-use Rattle.mqtt_records.specs.declared.keep.Keep.{Ghosts}
+use Rattle.mqtt_records_keep.specs.declared.keep.Keep.{Ghosts}
 use Rattle.mqtt_world_model.specs.Run.{Turn, run}
 use Rattle.mqtt_world_model.specs.Tellings.{Telling, silent}
 use Rattle.mqtt_world_model.specs.World.{Asking, Event, Stranger, World, ask, break, old_to_broker, pump, restart}

@@ -1,6 +1,6 @@
 -- A world that stands: a broker with its ends, strangers and the moment, and what an event makes of it (MQTT 5.0, 4.1 to 4.4).
 use Rattle.std.specs.Prelude.{◌≡◌, ℕ, List, map, Option, Some, option_map}
-use Rattle.mqtt_records.specs.declared.keep.Keep.{Ghosts}
+use Rattle.mqtt_records_keep.specs.declared.keep.Keep.{Ghosts}
 use Rattle.mqtt_world_model.specs.Tellings.{Telling, silent}
 use Rattle.mqtt_world_model.specs.World.{Event, Stranger, World, unlinked}
 use Rattle.mqtt_rules.specs.Laws.{AreWithin}

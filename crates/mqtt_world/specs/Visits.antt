@@ -1,6 +1,6 @@
 -- The bytes of a stranger, as they come to a broker piece by piece (MQTT 5.0, 2.1, 4.1, 4.13).
 use Rattle.std.specs.Prelude.{◌≡◌, ◌≤◌, ◌<◌, ◌⊎◌, ℕ, Bool, false, true, List, [], length, take, drop, None, is_some, Ok}
-use Rattle.mqtt_records.specs.declared.keep.Keep.{Ghosts}
+use Rattle.mqtt_records_keep.specs.declared.keep.Keep.{Ghosts}
 use Rattle.mqtt_packet.specs.Front.{first_of}
 use Rattle.mqtt_world_model.specs.Tellings.{Telling, silent}
 use Rattle.mqtt_world_model.specs.World.{Event, World, ask, is_bad, stranger}

@@ -4,7 +4,7 @@ ghost use Rattle.std.specs.Prelude.{IfOk};
 ghost use Rattle.mqtt_world.specs.Stages.{IsStanding, PlaysDrain, TellsDrain};
 
 use crate::stage::Stage;
-use mqtt_records::Keep;
+use mqtt_records_keep::Keep;
 use mqtt_world_peers::Told;
 use mqtt_world_scene::Halt;
 

@@ -13,7 +13,7 @@ ghost use Rattle.mqtt_world_scene.specs.declared.over.Over.TheVariants as over;
 use crate::stage::Stage;
 use crate::world::World;
 use mqtt_base::Text;
-use mqtt_records::Keep;
+use mqtt_records_keep::Keep;
 use mqtt_script::Event;
 use mqtt_world_peers::{RunFault, Told};
 use mqtt_world_scene::Halt;

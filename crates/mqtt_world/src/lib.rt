@@ -12,7 +12,7 @@ mod stopping;
 mod visits;
 mod world;
 
-pub use mqtt_records::Keep;
+pub use mqtt_records_keep::Keep;
 pub use mqtt_rules::Limits;
 pub use mqtt_script::{Asking, Event};
 pub use mqtt_world_peers::{RunFault, Told};

@@ -6,7 +6,7 @@ ghost use Rattle.mqtt_world.specs.Worlds.{done_in, handed_in, is_publish_of, pub
 
 use crate::stage::Stage;
 use crate::world::World;
-use mqtt_records::Keep;
+use mqtt_records_keep::Keep;
 use mqtt_script::Event;
 use std::alloc::{AllocError, Global};
 

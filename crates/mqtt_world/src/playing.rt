@@ -8,7 +8,7 @@ ghost use Rattle.mqtt_world.specs.Stages.{IsStanding, Plays};
 ghost use Rattle.mqtt_world.specs.Worlds.{Performs, PlaysIf};
 
 use crate::stage::Stage;
-use mqtt_records::Keep;
+use mqtt_records_keep::Keep;
 use mqtt_script::{Asking, Event};
 use mqtt_world_peers::Told;
 use mqtt_world_scene::Halt;

@@ -5,7 +5,7 @@ ghost use Rattle.mqtt_world_model.specs.World.{clock, restart};
 ghost use Rattle.mqtt_world.specs.Stages.{IsStanding, Plays, Restages};
 
 use mqtt_broker_decisions::later;
-use mqtt_records::Keep;
+use mqtt_records_keep::Keep;
 use mqtt_rules::Limits;
 use mqtt_world_peers::Told;
 use mqtt_world_scene::{Halt, Scene};

@@ -9,7 +9,7 @@ ghost use Rattle.mqtt_world_scene.specs.Stopping.{TakesOff, stop_at};
 ghost use Rattle.mqtt_world.specs.Stages.{IsStanding, Plays};
 
 use crate::stage::Stage;
-use mqtt_records::Keep;
+use mqtt_records_keep::Keep;
 use mqtt_script::Asking;
 use mqtt_world_peers::Told;
 use mqtt_world_scene::Halt;

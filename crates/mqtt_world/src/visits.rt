@@ -14,7 +14,7 @@ ghost use Rattle.mqtt_world.specs.Visits.{MayStopAt, StopsAt, TellsPiece, Welcom
 
 use crate::stage::Stage;
 use mqtt_base::Text;
-use mqtt_records::Keep;
+use mqtt_records_keep::Keep;
 use mqtt_world_clients::Clients;
 use mqtt_world_peers::Told;
 use mqtt_world_scene::Halt;

@@ -14,7 +14,7 @@ ghost use Rattle.mqtt_world_scene.specs.declared.over.Over.TheVariants as over;
 
 use crate::kept::Kept;
 use crate::stage::Stage;
-use mqtt_records::Keep;
+use mqtt_records_keep::Keep;
 use mqtt_rules::Limits;
 use mqtt_script::Event;
 use mqtt_world_peers::{RunFault, Told};

@@ -18,7 +18,7 @@ use crate::lines::Change;
 use crate::{publishers, receivers};
 use mqtt_base::Text;
 use mqtt_broker_engine::{Engine, Outcome};
-use mqtt_records::Keep;
+use mqtt_records_keep::Keep;
 use mqtt_script::{Draft, Wish};
 use mqtt_world_peers::{PublisherEnd, ReceiverEnd};
 use std::alloc::{AllocError, Global};

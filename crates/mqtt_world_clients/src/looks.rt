@@ -13,7 +13,7 @@ use crate::telling::stands;
 use crate::{publishers, receivers};
 use mqtt_broker_engine::Engine;
 use mqtt_codec::Packet;
-use mqtt_records::Keep;
+use mqtt_records_keep::Keep;
 use mqtt_world_peers::Link;
 use std::alloc::{AllocError, Global};
 

@@ -15,7 +15,7 @@ use crate::lines::{Change, change_line, number_on, paired};
 use crate::telling::{stands, tell_line};
 use mqtt_broker_engine::{Engine, Outcome};
 use mqtt_codec::Packet;
-use mqtt_records::Keep;
+use mqtt_records_keep::Keep;
 use mqtt_script::Draft;
 use mqtt_world_peers::{PublisherEnd, Sent};
 use std::alloc::{AllocError, Global};

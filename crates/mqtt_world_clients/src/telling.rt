@@ -17,7 +17,7 @@ use mqtt_base::CopyId;
 use mqtt_broker_engine::{Engine, Outcome};
 use mqtt_codec::{Delivery, Packet, Publish, decode};
 use mqtt_props::{PropName, ValueRef};
-use mqtt_records::Keep;
+use mqtt_records_keep::Keep;
 use mqtt_world_peers::{Down, Line};
 use std::alloc::{AllocError, Global};
 

@@ -4,7 +4,7 @@ use bytes::Bytes;
 use mqtt_base::{Qos, RetainHandling, SubscriptionOptions, Text};
 use mqtt_broker::{Engine, EngineError, Keep, Limits, Outcome, Packet};
 use mqtt_flow::Full;
-use mqtt_records::MemKeep;
+use mqtt_records_keep::MemKeep;
 use mqtt_script::{Content, Draft, Wish};
 use mqtt_world_clients::Clients;
 use mqtt_world_peers::is_input;

@@ -2,7 +2,7 @@
 use Rattle.std.proofs.Common.{◌≡◌, ℕ, min, max, length, Bool, true, false, cond, not, List, [], ◌∷◌, filter, filter_map, suc, IfOk, OnOk, refl, sym, ap, subst, ◌∙◌, arith}
 use Rattle.std.specs.Prelude.{Result, Ok, Err}
 use Rattle.mqtt_base.specs.declared.limits.TheConstants.{LAST_NUMBER}
-use Rattle.mqtt_records.specs.declared.keep.Keep.{Ghosts}
+use Rattle.mqtt_records_keep.specs.declared.keep.Keep.{Ghosts}
 use Rattle.mqtt_world_model.specs.Tellings.{Telling, telling}
 use Rattle.mqtt_broker_engine.specs.Calling.{IsTrulyCalled, Tells}
 use Rattle.mqtt_broker_engine.specs.declared.outcome.Outcome.{Outcome}

@@ -1,7 +1,7 @@
 -- A drain, from what its turns make of the broker and its ends (MQTT 5.0, 4.3, 4.4, 4.6).
 use Rattle.std.proofs.Common.{◌≡◌, ℕ, suc, ◌+◌, Bool, true, false, not, length, List, Option, Some, None, option_map, append-nil, arith, refl, sym, ap, subst, ◌∙◌}
 use Rattle.std.specs.Prelude.{OnOk, Ok, Err, Result, unwrap_or}
-use Rattle.mqtt_records.specs.declared.keep.Keep.{Ghosts}
+use Rattle.mqtt_records_keep.specs.declared.keep.Keep.{Ghosts}
 use Rattle.mqtt_world_model.specs.Ends.{Receiver}
 use Rattle.mqtt_world_model.specs.Lines.{stands}
 use Rattle.mqtt_world_model.specs.Tellings.{Telling, silent}

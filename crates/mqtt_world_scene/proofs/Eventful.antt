@@ -1,7 +1,7 @@
 -- What an event of ends makes of a broker and its ends, from what its calls make of them.
 use Rattle.std.proofs.Common.{◌≡◌, ℕ, Bool, true, false, not, List, Some, None, refl, sym, ap, subst, ◌∙◌, inr, true≢false}
 use Rattle.mqtt_codec.specs.declared.packet.Packet.{Packet}
-use Rattle.mqtt_records.specs.declared.keep.Keep.{Ghosts}
+use Rattle.mqtt_records_keep.specs.declared.keep.Keep.{Ghosts}
 use Rattle.mqtt_world_model.specs.Tellings.{Telling, silent, telling}
 use Rattle.mqtt_world_model.specs.World.{Asking, Event, Setting, Stranger, World, ask, before, call_of, calls, happens, is_bad, is_bad_asking, is_end}
 use Rattle.mqtt_broker.specs.Serving.{Serving}

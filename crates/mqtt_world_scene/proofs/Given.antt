@@ -12,7 +12,7 @@ use Rattle.mqtt_codec_parts.specs.Faults.{answer_to}
 use Rattle.mqtt_codec.specs.Packets.{HasSpelling}
 use Rattle.mqtt_packet.specs.Front.{first_of, size_at}
 use Rattle.mqtt_packet.specs.Stream.{Framing}
-use Rattle.mqtt_records.specs.declared.keep.Keep.{Ghosts}
+use Rattle.mqtt_records_keep.specs.declared.keep.Keep.{Ghosts}
 use Rattle.mqtt_world_model.specs.Tellings.{Telling}
 use Rattle.mqtt_world_model.specs.World.{held_after, held_by}
 use Rattle.mqtt_broker_engine.specs.Calling.{Tells}

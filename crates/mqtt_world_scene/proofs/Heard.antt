@@ -5,7 +5,7 @@ use Rattle.std.proofs.lemmas.Bool.{eqb-true}
 use Rattle.std.proofs.lemmas.List.{append-nil}
 use Rattle.mqtt_codec_parts.specs.Faults.{answer_to}
 use Rattle.mqtt_packet.specs.Front.{first_of}
-use Rattle.mqtt_records.specs.declared.keep.Keep.{Ghosts}
+use Rattle.mqtt_records_keep.specs.declared.keep.Keep.{Ghosts}
 use Rattle.mqtt_broker.specs.Framers.{AreBytes}
 use Rattle.mqtt_broker.proofs.HeldBytes.{first_taken, nothing_asked}
 use Rattle.mqtt_world_model.specs.Tellings.{Telling, silent}

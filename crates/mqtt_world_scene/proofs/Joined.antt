@@ -1,6 +1,6 @@
 -- An end that joins: its CONNECT on a new line, if there is one (MQTT 5.0, 3.1, 4.2).
 use Rattle.std.proofs.Common.{◌≡◌, ℕ, suc, Bool, true, false, cond, List, Option, Some, None, refl, sym, ap, subst, ◌∙◌}
-use Rattle.mqtt_records.specs.declared.keep.Keep.{Ghosts}
+use Rattle.mqtt_records_keep.specs.declared.keep.Keep.{Ghosts}
 use Rattle.mqtt_world_model.specs.Tellings.{Telling, silent}
 use Rattle.mqtt_world_model.specs.World.{Stranger, connect_end, is_bad, links, next_line}
 use Rattle.mqtt_broker.specs.Serving.{Serving}

@@ -1,7 +1,7 @@
 -- A new line: no end is told of it, and nothing is stored for it (MQTT 5.0, 4.2).
 use Rattle.std.proofs.Common.{◌≡◌, ℕ, min, length, Bool, true, false, List, [], ◌∷◌, ◌++◌, map, Option, Some, None, refl, sym, ap, subst, ◌∙◌}
 use Rattle.mqtt_base.specs.declared.limits.TheConstants.{LAST_NUMBER}
-use Rattle.mqtt_records.specs.declared.keep.Keep.{Ghosts}
+use Rattle.mqtt_records_keep.specs.declared.keep.Keep.{Ghosts}
 use Rattle.mqtt_world_model.specs.Ends.{Publisher, Receiver}
 use Rattle.mqtt_world_model.specs.Lines.{Down, Line, told_by}
 use Rattle.mqtt_world_model.specs.Tellings.{silent}

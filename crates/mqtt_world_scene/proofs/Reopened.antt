@@ -2,7 +2,7 @@
 use Rattle.std.proofs.Common.{◌≡◌, ℕ, min, max, List, [], map, IfOk, refl, sym, ap, subst, ◌∙◌}
 use Rattle.std.specs.Prelude.{Err, Ok, Result}
 use Rattle.mqtt_base.specs.declared.limits.TheConstants.{LAST_NUMBER}
-use Rattle.mqtt_records.specs.declared.keep.Keep.{Ghosts}
+use Rattle.mqtt_records_keep.specs.declared.keep.Keep.{Ghosts}
 use Rattle.mqtt_records.specs.declared.records.Records.{Records}
 use Rattle.mqtt_world_model.specs.Ends.{Publisher, Receiver}
 use Rattle.mqtt_world_model.specs.World.{publisher_restarted, receiver_restarted}

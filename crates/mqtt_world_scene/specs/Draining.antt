@@ -1,6 +1,6 @@
 -- What a drain makes of a broker and its ends: rounds until nothing waits for a receiver (MQTT 5.0, 4.3, 4.4, 4.6).
 use Rattle.std.specs.Prelude.{◌≡◌, ℕ, true, List, Option, None, Some}
-use Rattle.mqtt_records.specs.declared.keep.Keep.{Ghosts}
+use Rattle.mqtt_records_keep.specs.declared.keep.Keep.{Ghosts}
 use Rattle.mqtt_world_model.specs.Tellings.{Telling}
 use Rattle.mqtt_world_model.specs.World.{Event, Stranger, World, ask, receiver_named, to_broker, to_end}
 use Rattle.mqtt_world_receiver_laws.specs.Drains.{downs_by, is_bad_drain, is_over, ups_by}

@@ -1,8 +1,8 @@
 -- Why a world that runs is over (MQTT 5.0, 4.1).
 use Rattle.std.specs.Prelude.{◌≢◌, ⊤, ℕ}
-use Rattle.mqtt_records.specs.declared.keep.Keep.{Ghosts}
-use Rattle.mqtt_records.specs.declared.keep.KeepError.{KeepError}
-use Rattle.mqtt_records.specs.declared.keep.KeepError.TheVariants as refusal
+use Rattle.mqtt_records_keep.specs.declared.keep.Keep.{Ghosts}
+use Rattle.mqtt_records_keep.specs.declared.keep.KeepError.{KeepError}
+use Rattle.mqtt_records_keep.specs.declared.keep.KeepError.TheVariants as refusal
 use Rattle.mqtt_world_peers.specs.declared.told.RunFault.{RunFault}
 use Rattle.mqtt_world_peers.specs.declared.told.RunFault.TheVariants as fault
 use Rattle.mqtt_rules.specs.Step.{Call, SpentStep}

@@ -1,6 +1,6 @@
 -- What is asked of a broker, if anything is, and what it tells (MQTT 5.0, 4.1).
 use Rattle.std.specs.Prelude.{◌≡◌, ⊤, ℕ, false, List, Option, Some, None}
-use Rattle.mqtt_records.specs.declared.keep.Keep.{Ghosts}
+use Rattle.mqtt_records_keep.specs.declared.keep.Keep.{Ghosts}
 use Rattle.mqtt_world_model.specs.Run.{read_if, the_deeds}
 use Rattle.mqtt_world_model.specs.Tellings.{Telling, telling}
 use Rattle.mqtt_world_model.specs.World.{Stranger, World, calls_if}

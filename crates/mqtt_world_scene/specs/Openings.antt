@@ -1,11 +1,11 @@
 -- A broker that is opened over a store, and one that is closed and opened again (MQTT 5.0, 4.1).
 use Rattle.std.specs.Prelude.{◌≡◌, ℕ, false, map, []}
 use Rattle.mqtt_records_lawful.specs.Lawful.{IsLawful}
-use Rattle.mqtt_records.specs.declared.keep.Keep.{Ghosts}
+use Rattle.mqtt_records_keep.specs.declared.keep.Keep.{Ghosts}
 use Rattle.mqtt_records.specs.declared.records.Records.{Records}
 use Rattle.mqtt_broker_engine.specs.Opening.{IsLoad}
 use Rattle.mqtt_world_model.specs.World.{publisher_restarted, receiver_restarted}
-use Rattle.mqtt_rules_granting_laws.specs.Naming.{StoresPassedOn}
+use Rattle.mqtt_records.specs.PassedOn.{StoresPassedOn}
 use Rattle.mqtt_rules.specs.State.{MemberChoice}
 use Rattle.mqtt_rules.specs.Step.{is_opening_spent, opened}
 use Rattle.mqtt_rules.specs.declared.Limits.{Limits}

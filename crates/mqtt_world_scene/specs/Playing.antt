@@ -1,6 +1,6 @@
 -- What an event of a script makes of a broker and its ends, in which these alone take part (MQTT 5.0, 4.1 to 4.4).
 use Rattle.std.specs.Prelude.{◌≡◌, ⊤, ℕ, Option, None, Some}
-use Rattle.mqtt_records.specs.declared.keep.Keep.{Ghosts}
+use Rattle.mqtt_records_keep.specs.declared.keep.Keep.{Ghosts}
 use Rattle.mqtt_world_model.specs.Tellings.{Telling}
 use Rattle.mqtt_world_model.specs.World as world
 use Rattle.mqtt_script.specs.declared.event.Event.{Event}

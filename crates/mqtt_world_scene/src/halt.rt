@@ -1,13 +1,13 @@
 //! Why a broker with its ends goes no further, with the cause of it (MQTT 5.0, 4.1).
 
 ghost use Rattle.std.specs.Prelude.{◌≡◌, ◌≢◌};
-ghost use Rattle.mqtt_records.specs.declared.keep.KeepError.TheVariants.{Memory};
+ghost use Rattle.mqtt_records_keep.specs.declared.keep.KeepError.TheVariants.{Memory};
 ghost use Rattle.mqtt_world_scene.specs.Halting.{IsErrorDue, IsFaultDue, IsStoreDue, fault_of, over_for};
 ghost use Rattle.mqtt_world_scene.specs.declared.over.Over.TheVariants as over;
 
 use crate::over::Over;
 use mqtt_broker_step::EngineError;
-use mqtt_records::{Keep, KeepError};
+use mqtt_records_keep::{Keep, KeepError};
 use mqtt_world_peers::RunFault;
 use std::alloc::AllocError;
 use std::marker::{Model, PhantomData};

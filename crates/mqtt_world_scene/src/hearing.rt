@@ -9,7 +9,7 @@ ghost use Rattle.mqtt_world_scene.specs.Scenes.{IsPlayable};
 
 use crate::halt::Halt;
 use crate::scene::Scene;
-use mqtt_records::Keep;
+use mqtt_records_keep::Keep;
 use mqtt_world_peers::Told;
 
 /// What one tells, behind what was told before.

@@ -10,7 +10,7 @@ ghost use Rattle.mqtt_world_scene.specs.Scenes.{IsPlayable};
 use crate::halt::Halt;
 use crate::scene::{Scene, moment};
 use mqtt_broker::Engine;
-use mqtt_records::Keep;
+use mqtt_records_keep::Keep;
 use mqtt_rules::Limits;
 use mqtt_world_clients::Clients;
 use std::alloc::Global;

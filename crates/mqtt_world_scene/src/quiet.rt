@@ -11,7 +11,7 @@ use crate::asks::has_line;
 use crate::halt::Halt;
 use crate::scene::Scene;
 use mqtt_base::{CLIENT_LIMIT, Text};
-use mqtt_records::Keep;
+use mqtt_records_keep::Keep;
 use mqtt_script::{Draft, Wish};
 use mqtt_world_peers::{Told, is_message, is_wish};
 use std::alloc::{AllocError, Global};

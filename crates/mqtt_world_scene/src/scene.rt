@@ -16,7 +16,7 @@ use mqtt_base::LAST_NUMBER;
 use mqtt_broker::Engine;
 use mqtt_broker_engine::Outcome;
 use mqtt_codec::Packet;
-use mqtt_records::Keep;
+use mqtt_records_keep::Keep;
 use mqtt_world_clients::Clients;
 use mqtt_world_peers::Told;
 use std::marker::Model;

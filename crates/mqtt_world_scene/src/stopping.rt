@@ -12,7 +12,7 @@ ghost use Rattle.mqtt_world_scene.specs.Stopping.{TakesOff};
 use crate::asks::has_line;
 use crate::halt::Halt;
 use crate::scene::Scene;
-use mqtt_records::Keep;
+use mqtt_records_keep::Keep;
 use mqtt_script::Asking;
 use mqtt_world_peers::{Told, is_input};
 use std::alloc::{AllocError, Global};

@@ -1,7 +1,7 @@
 //! Scripts whose texts were worked out by hand.
 
 use crate::stage::{Sight, new_world, push_run, sight_of};
-use mqtt_records::MemKeep;
+use mqtt_records_keep::MemKeep;
 use mqtt_world::World;
 use mqtt_world_peers::RunFault;
 use std::alloc::Global;

@@ -1,7 +1,7 @@
 //! A world over a store in memory, and scripts for it.
 
 use mqtt_flow::Full;
-use mqtt_records::MemKeep;
+use mqtt_records_keep::MemKeep;
 use mqtt_replay::push_told;
 use mqtt_script::{Event, event_of};
 use mqtt_world::{Limits, World};

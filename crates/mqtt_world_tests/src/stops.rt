@@ -1,7 +1,7 @@
 //! Wherever the broker stops, a message is handed over once (MQTT 5.0, 4.1, 4.3.3, 4.4).
 
 use crate::stage::{Sight, new_world, run, sight_of};
-use mqtt_records::MemKeep;
+use mqtt_records_keep::MemKeep;
 use mqtt_world::World;
 use mqtt_world_peers::RunFault;
 use std::alloc::Global;

@@ -2,7 +2,7 @@ use Rattle.std.proofs.Common.{ap, sym, subst, inl, inr}
 use Rattle.std.specs.Prelude.{Err}
 use Rattle.mqtt_records_lawful.specs.Lawful.{IsLawful}
 use Rattle.mqtt_records.specs.declared.records.Records.{Records}
-use Rattle.mqtt_rules_granting_laws.specs.Naming.{StoresPassedOn}
+use Rattle.mqtt_records.specs.PassedOn.{StoresPassedOn}
 use Rattle.mqtt_rules.specs.declared.Limits.{Limits}
 use Rattle.mqtt_rules.specs.Laws.{AreWithin}
 use Rattle.mqtt_broker_step.specs.Stepping.{Stepping}

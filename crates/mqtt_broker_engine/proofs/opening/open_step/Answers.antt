@@ -1,5 +1,5 @@
 use Rattle.std.proofs.Common.{refl, inl}
-use Rattle.mqtt_records.specs.declared.keep.KeepError.TheVariants.{Memory}
+use Rattle.mqtt_records_keep.specs.declared.keep.KeepError.TheVariants.{Memory}
 use Rattle.mqtt_broker_index.proofs.Followed.{indexed_lawful}
 use Rattle.mqtt_broker_engine.proofs.Answering.{refused_first}
 use Rattle.mqtt_broker_engine.proofs.opening.open_step.Goals as goal

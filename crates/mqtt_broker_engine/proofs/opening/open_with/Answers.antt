@@ -1,6 +1,6 @@
 use Rattle.std.proofs.Common.{◌≡◌, ap, inl, inr}
 use Rattle.std.specs.Prelude.{Err}
-use Rattle.mqtt_records.specs.declared.keep.KeepError.TheVariants.{Disk}
+use Rattle.mqtt_records_keep.specs.declared.keep.KeepError.TheVariants.{Disk}
 use Rattle.mqtt_broker_engine.proofs.Answering.{opened_sound, refused_store, rest_again}
 use Rattle.mqtt_broker_engine.proofs.Begun.{opened_as}
 use Rattle.mqtt_broker_engine.proofs.opening.open_with.Goals as goal

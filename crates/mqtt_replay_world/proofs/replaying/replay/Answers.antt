@@ -1,6 +1,6 @@
 use Rattle.std.proofs.Common.{ap, refl}
 use Rattle.std.proofs.lemmas.Result.{IfErr-weaker, IfOk-weaker}
-use Rattle.mqtt_records.specs.InMemory.{InMemory}
+use Rattle.mqtt_records_keep.specs.InMemory.{InMemory}
 use Rattle.mqtt_world_headline_laws.proofs.Lives.{start_begins}
 use Rattle.mqtt_replay_world.proofs.Caused.{number_due}
 use Rattle.mqtt_replay_world.proofs.Texted.{any_fault, front_kept, written, written_front}

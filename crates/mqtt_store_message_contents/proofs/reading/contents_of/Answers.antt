@@ -2,7 +2,7 @@ use Rattle.std.proofs.Common.{◌≡◌, ◌+◌, [], ◌∷◌, ◌++◌, List,
 use Rattle.std.specs.Prelude.{Err}
 use Rattle.std.proofs.lemmas.List.{take_all}
 use Rattle.sqlite_value.specs.Order.{Row}
-use Rattle.mqtt_records.specs.declared.keep.KeepError.{KeepError}
+use Rattle.mqtt_records_keep.specs.declared.keep.KeepError.{KeepError}
 use Rattle.mqtt_store_rows.specs.Lists.{AreRows}
 use Rattle.mqtt_store_rows.proofs.ListLemmas.{are_more, are_at, seam}
 use Rattle.mqtt_store_message_contents.specs.Said.{SaysCopyContent}

@@ -1,6 +1,6 @@
 use Rattle.std.proofs.Common.{◌≡◌, ◌+◌, ◌<◌, [], ◌∷◌, ◌++◌, List, take, drop, sym, ap, subst, arith}
 use Rattle.std.specs.Prelude.{Err}
-use Rattle.mqtt_records.specs.declared.keep.KeepError.{KeepError}
+use Rattle.mqtt_records_keep.specs.declared.keep.KeepError.{KeepError}
 use Rattle.std.proofs.lemmas.List.{take_all}
 use Rattle.sqlite_value.specs.Order.{Row}
 use Rattle.mqtt_store_rows.specs.Lists.{AreRows}

@@ -1,7 +1,7 @@
 use Rattle.std.proofs.Common.{◌≡◌, map, sym, ap, ◌∙◌}
 use Rattle.std.specs.Prelude.{Err}
 use Rattle.mqtt_base.specs.declared.limits.TheConstants.{SESSION_LIMIT}
-use Rattle.mqtt_records.specs.declared.keep.KeepError.{KeepError}
+use Rattle.mqtt_records_keep.specs.declared.keep.KeepError.{KeepError}
 use Rattle.mqtt_store_rows.proofs.OneLemmas.{one_sessions}
 use Rattle.mqtt_store_message_rows.specs.Gives.{parts_of, without_queue}
 use Rattle.mqtt_store_message_rows.specs.Tables.{rows_in}

@@ -4,7 +4,7 @@ use Rattle.mqtt_props.specs.Properties.{Prop}
 use Rattle.mqtt_props.specs.declared.table.PropName.TheVariants.{SubscriptionIdentifier}
 use Rattle.mqtt_props.specs.Edits.{without}
 use Rattle.mqtt_records_message.specs.PassedOn.{IsPassedOn}
-use Rattle.mqtt_records.specs.declared.keep.KeepError.{KeepError}
+use Rattle.mqtt_records_keep.specs.declared.keep.KeepError.{KeepError}
 use Rattle.mqtt_store_rows.specs.Blocks.{rises_from}
 use Rattle.mqtt_store_rows.specs.Ones.{one_block}
 use Rattle.mqtt_store_rows.proofs.block.sent.Goals as goal

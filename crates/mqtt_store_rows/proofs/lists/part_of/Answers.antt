@@ -1,7 +1,7 @@
 use Rattle.std.proofs.Common.{◌≡◌, List, take, sym, ap, subst}
 use Rattle.std.specs.Prelude.{Err}
 use Rattle.sqlite_value.specs.Order.{Row}
-use Rattle.mqtt_records.specs.declared.keep.KeepError.{KeepError}
+use Rattle.mqtt_records_keep.specs.declared.keep.KeepError.{KeepError}
 use Rattle.mqtt_store_rows.specs.Lists.{AreRows}
 use Rattle.mqtt_store_rows.proofs.ListLemmas.{same_front}
 use Rattle.mqtt_store_rows.proofs.lists.part_of.Goals as goal

@@ -1,7 +1,7 @@
 use Rattle.std.proofs.Common.{◌≡◌, ap, sym, subst}
 use Rattle.std.specs.Prelude.{Err}
 use Rattle.mqtt_records.specs.Session.{columns_of}
-use Rattle.mqtt_records.specs.declared.keep.KeepError.{KeepError}
+use Rattle.mqtt_records_keep.specs.declared.keep.KeepError.{KeepError}
 use Rattle.mqtt_store_rows.specs.Ones.{one_number}
 use Rattle.mqtt_store_rows.specs.Rows.{SaysWill, SaysSubscription, SaysOpen, SaysCopy}
 use Rattle.mqtt_store_rows.specs.Gives.{Parts, list_of, TakesParts}

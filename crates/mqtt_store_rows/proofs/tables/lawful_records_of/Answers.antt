@@ -1,7 +1,7 @@
 use Rattle.std.proofs.Common.{◌≡◌, ap, subst}
 use Rattle.std.specs.Prelude.{Err}
 use Rattle.mqtt_records_lawful.specs.Lawful.{IsLawful}
-use Rattle.mqtt_records.specs.declared.keep.KeepError.{KeepError}
+use Rattle.mqtt_records_keep.specs.declared.keep.KeepError.{KeepError}
 use Rattle.mqtt_store_rows.specs.Tables.{rows_in}
 use Rattle.mqtt_store_rows.proofs.LawfulLemmas.{lawful_within}
 use Rattle.mqtt_store_rows.proofs.OneLemmas.{one_records}

@@ -1,6 +1,6 @@
 use Rattle.std.proofs.Common.{◌≡◌, suc, ◌+◌, ◌∷◌, arith, drop, drop-cons, length, rules, subst, sym}
 use Rattle.std.specs.Prelude.{Err, IfErr, slice_index}
-use Rattle.mqtt_records.specs.declared.keep.KeepError.TheVariants.{Memory}
+use Rattle.mqtt_records_keep.specs.declared.keep.KeepError.TheVariants.{Memory}
 use Rattle.mqtt_broker_hand.specs.Reading.{HasFailed}
 use Rattle.mqtt_broker_hand.proofs.Reading.{asked_then, fails_then, first_next, wants_memory}
 use Rattle.mqtt_broker_hand.proofs.hand.AllAtHand.fetch.Goals as goal

@@ -1,7 +1,7 @@
 use Rattle.std.proofs.Common.{◌≡◌, ap, rules, subst, sym}
 use Rattle.std.specs.Prelude.{Err, IfErr, Result, Option}
 use Rattle.mqtt_records_message.specs.Content.{CopyContent}
-use Rattle.mqtt_records.specs.declared.keep.KeepError.{KeepError}
+use Rattle.mqtt_records_keep.specs.declared.keep.KeepError.{KeepError}
 use Rattle.mqtt_broker_hand.specs.Hand.{first_at}
 use Rattle.mqtt_broker_hand.specs.Reading.{HasFailed}
 use Rattle.mqtt_broker_hand.proofs.Reading.{one_read, question_answered, question_failed}

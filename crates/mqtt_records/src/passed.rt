@@ -3,9 +3,10 @@
 
 ghost use Rattle.std.specs.List.{AllByRecursion};
 ghost use Rattle.mqtt_records_message.specs.PassedOn.{IsPassedOn};
-ghost use Rattle.mqtt_rules_granting_laws.specs.Naming.{StoresPassedOn};
+ghost use Rattle.mqtt_records.specs.PassedOn.{StoresPassedOn};
 
-use mqtt_records::{Records, Session};
+use crate::records::Records;
+use crate::session::Session;
 use mqtt_records_message::{CopyRow, RetainedMessage};
 use mqtt_records_rows::Boxed;
 
@@ -58,8 +59,9 @@ fn retained_pass_on(retained: &[Boxed<RetainedMessage>])
     }
 }
 
-/// All that is stored. Takes no memory.
-pub(crate) fn records_pass_on(records: &Records)
+/// Copies and retained messages have properties as a publication passes them on: their type gives it, and here it is
+/// told (3.3.2.3). Takes no memory.
+pub fn records_pass_on(records: &Records)
     ensures { StoresPassedOn records.now }
 {
     sessions_pass_on(records.sessions.as_slice());

@@ -2,11 +2,9 @@
 ghost use Rattle.std.specs.Prelude.{◌≡◌, ◌≢◌, IfOk, IsTrue, Some};
 ghost use Rattle.mqtt_records.specs.Records.{nothing};
 
-use crate::change::{Change, clone_all};
 use crate::keep::{Keep, KeepError};
-use crate::records::Records;
-use crate::telling::contents_in;
-use mqtt_records_message::CopyContent;
+use crate::loading::slim_if_lawful;
+use mqtt_records::{Change, CopyContent, Records, clone_all, contents_in};
 use std::alloc::{AllocError, Global};
 use std::marker::Model;
 
@@ -33,7 +31,7 @@ pub struct FaultyKeep {
 }
 
 impl Model for FaultyKeep {
-    ghost use Rattle.mqtt_records.specs.Faulty.{Faulty};
+    ghost use Rattle.mqtt_records_keep.specs.Faulty.{Faulty};
 
     ghost Value = { Faulty };
 
@@ -86,9 +84,10 @@ impl FaultyKeep {
 }
 
 impl Keep for FaultyKeep {
-    ghost use Rattle.std.specs.Prelude.{◌≡◌};
+    ghost use Rattle.std.specs.Prelude.{◌≡◌, ◌⊎◌};
     ghost use Rattle.std.proofs.Common.{◌∙◌, ap};
-    ghost use Rattle.mqtt_records.specs.declared.keep.KeepError.TheVariants.{Memory};
+    ghost use Rattle.mqtt_records_keep.specs.declared.keep.KeepError.TheVariants.{Memory, Corrupt};
+    ghost use Rattle.mqtt_records_lawful.specs.Lawful.{IsLawful};
     ghost use Rattle.mqtt_records.specs.Telling.{told_by, filling_in};
 
     ghost holds = { λ keep r. keep.records ≡ r };
@@ -101,14 +100,15 @@ impl Keep for FaultyKeep {
 
     ghost counted = { λ keep. keep.failures };
 
-    ghost refuses = { λ _ fault. fault ≡ Memory };
+    ghost refuses = { λ keep fault. (fault ≡ Memory)
+        ⊎ ((fault ≡ Corrupt) × (IsLawful keep.records → ⊥)) };
 
     ghost fillings = { λ keep. told_by keep.records };
 
     ghost read_so_far = { λ keep. keep.reads };
 
-    fn load(&mut self, _: Global) -> Result<Records, KeepError> {
-        Ok(self.records.clone()?)
+    fn load(&mut self, alloc: Global) -> Result<Records, KeepError> {
+        slim_if_lawful(alloc, self.records.clone()?)
     }
 
     fn apply(&mut self, changes: &[Change]) -> Result<(), KeepError> {

@@ -1,7 +1,7 @@
 -- A store for tests, whose device fails once.
 use Rattle.std.specs.Prelude.{ℕ, Option}
 use Rattle.mqtt_records.specs.declared.records.Records.{Records}
-use Rattle.mqtt_records.specs.declared.faulty.Failure.{Failure}
+use Rattle.mqtt_records_keep.specs.declared.faulty.Failure.{Failure}
 
 -- what it has, how many calls are made before the one that fails, what that leaves, how many
 -- failures it has counted, and how often it was asked for contents

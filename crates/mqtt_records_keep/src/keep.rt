@@ -2,16 +2,15 @@
 ghost use Rattle.std.specs.Prelude.{◌≡◌, ◌≢◌, ◌⊎◌, ◌+◌, ◌%◌, ◌^◌, ℕ, IfOk, IfErr, OnOk, IsErrOf};
 ghost use Rattle.mqtt_records_message.specs.Filling.{Fillings};
 ghost use Rattle.mqtt_records.specs.declared.records.Records.{Records};
-ghost use Rattle.mqtt_records.specs.declared.keep.KeepError.{KeepError};
-ghost use Rattle.mqtt_records.specs.declared.keep.KeepError.TheVariants.{Memory};
+ghost use Rattle.mqtt_records_keep.specs.declared.keep.KeepError.{KeepError};
+ghost use Rattle.mqtt_records_keep.specs.declared.keep.KeepError.TheVariants.{Memory};
 ghost use Rattle.mqtt_records.specs.Records.{changed_all, FitAll};
 ghost use Rattle.mqtt_records.specs.Saying.{AllSayable};
 ghost use Rattle.mqtt_records.specs.Contents.{FitContents};
 ghost use Rattle.mqtt_records.specs.Telling.{AreTold, contents_from};
+ghost use Rattle.mqtt_records_keep.specs.Loading.{AreRead};
 
-use crate::change::Change;
-use crate::records::Records;
-use mqtt_records_message::CopyContent;
+use mqtt_records::{Change, CopyContent, Records};
 use std::alloc::{AllocError, Global};
 use thiserror::Error;
 
@@ -69,13 +68,13 @@ pub trait Keep: Drop {
     // How often it was asked for contents, modulo 2^64.
     ghost read_so_far: { Self → ℕ };
 
-    /// Reads all records. Changes can be applied once it has answered Ok.
+    /// Reads all rows, slim: of a waiting copy they say nothing but its topic and what rules read. What a copy says is read
+    /// by `contents`. Changes can be applied once it has answered Ok.
     fn load(&mut self, alloc: Global) -> Result<Records, KeepError>
-        // What it answers is what it has.
-        ensures exact { (r : Records) → holds self.old r
-            → IfOk result (λ records. is_sound self.new → records ≡ r) }
-        ensures loaded { IfOk result (λ records. is_loaded self.new × holds self.new records) }
-        ensures found { IfOk result (λ records. is_sound self.new → leaves self.old records) }
+        // Whatever its device returned, they are of whole records that a store may be opened with.
+        ensures read { IfOk result (AreRead (holds self.old) (leaves self.old) (holds self.new)
+            (is_sound self.new)) }
+        ensures loaded { OnOk result (is_loaded self.new) }
 
         // What it has stays, and a crash finds nothing else than before.
         ensures same { (r : Records) → holds self.old r → holds self.new r }

@@ -2,7 +2,7 @@ use Rattle.std.proofs.Common.{drop}
 use Rattle.std.specs.List.{AllByRecursion}
 use Rattle.mqtt_records_message.specs.Queue.{CopyRow}
 use Rattle.mqtt_records_message.specs.PassedOn.{IsPassedOn}
-use Rattle.mqtt_broker_engine.proofs.passed.queue_passes_on.Given as goal
+use Rattle.mqtt_records.proofs.passed.queue_passes_on.Given as goal
 
 -- who has the rest has the whole
 abbrev pub invariant-loop-row : goal.invariant-loop-row

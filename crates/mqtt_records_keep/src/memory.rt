@@ -2,15 +2,14 @@
 ghost use Rattle.std.specs.Prelude.{◌≡◌, IfOk, OnOk, OnErr};
 ghost use Rattle.mqtt_records.specs.Records.{nothing, changed_all};
 
-use crate::change::{Change, clone_all};
 use crate::keep::{Keep, KeepError};
-use crate::records::Records;
-use crate::telling::contents_in;
-use mqtt_records_message::CopyContent;
+use crate::loading::slim_if_lawful;
+use mqtt_records::{Change, CopyContent, Records, clone_all, contents_in};
 use std::alloc::{AllocError, Global};
 use std::marker::Model;
 
-/// A store in memory: it has its records as long as it lives, and refuses for want of memory alone.
+/// A store in memory: it has its records as long as it lives. It refuses for want of memory, and a load of records that
+/// break their rules.
 #[derive(Drop)]
 pub struct MemKeep {
     records: Records,
@@ -20,7 +19,7 @@ pub struct MemKeep {
 }
 
 impl Model for MemKeep {
-    ghost use Rattle.mqtt_records.specs.InMemory.{InMemory};
+    ghost use Rattle.mqtt_records_keep.specs.InMemory.{InMemory};
 
     ghost Value = { InMemory };
 
@@ -60,9 +59,10 @@ impl MemKeep {
 }
 
 impl Keep for MemKeep {
-    ghost use Rattle.std.specs.Prelude.{◌≡◌};
+    ghost use Rattle.std.specs.Prelude.{◌≡◌, ◌⊎◌};
     ghost use Rattle.std.proofs.Common.{◌∙◌, ap};
-    ghost use Rattle.mqtt_records.specs.declared.keep.KeepError.TheVariants.{Memory};
+    ghost use Rattle.mqtt_records_keep.specs.declared.keep.KeepError.TheVariants.{Memory, Corrupt};
+    ghost use Rattle.mqtt_records_lawful.specs.Lawful.{IsLawful};
     ghost use Rattle.mqtt_records.specs.Telling.{told_by, filling_in};
 
     ghost holds = { λ keep r. keep.records ≡ r };
@@ -75,14 +75,15 @@ impl Keep for MemKeep {
 
     ghost counted = { λ _. 0 };
 
-    ghost refuses = { λ _ fault. fault ≡ Memory };
+    ghost refuses = { λ keep fault. (fault ≡ Memory)
+        ⊎ ((fault ≡ Corrupt) × (IsLawful keep.records → ⊥)) };
 
     ghost fillings = { λ keep. told_by keep.records };
 
     ghost read_so_far = { λ keep. keep.reads };
 
-    fn load(&mut self, _: Global) -> Result<Records, KeepError> {
-        Ok(self.records.clone()?)
+    fn load(&mut self, alloc: Global) -> Result<Records, KeepError> {
+        slim_if_lawful(alloc, self.records.clone()?)
     }
 
     fn apply(&mut self, changes: &[Change]) -> Result<(), KeepError> {

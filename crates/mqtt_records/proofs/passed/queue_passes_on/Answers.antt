@@ -2,7 +2,7 @@ use Rattle.std.proofs.Common.{◌≡◌, suc, ◌+◌, ◌∷◌, ◌∙◌, dro
 use Rattle.std.specs.List.{AllByRecursion}
 use Rattle.mqtt_records_message.specs.Queue.{CopyRow}
 use Rattle.mqtt_records_message.specs.PassedOn.{IsPassedOn}
-use Rattle.mqtt_broker_engine.proofs.passed.queue_passes_on.Goals as goal
+use Rattle.mqtt_records.proofs.passed.queue_passes_on.Goals as goal
 
 pub loop-row-preserved : goal.loop-row-preserved
 loop-row-preserved c = λ rest.

@@ -3,7 +3,7 @@ use Rattle.std.specs.List.{AllByRecursion}
 use Rattle.mqtt_records.specs.declared.session.Session.{Session}
 use Rattle.mqtt_records_message.specs.Queue.{CopyRow}
 use Rattle.mqtt_records_message.specs.PassedOn.{IsPassedOn}
-use Rattle.mqtt_broker_engine.proofs.passed.sessions_pass_on.Given as goal
+use Rattle.mqtt_records.proofs.passed.sessions_pass_on.Given as goal
 
 -- who has the rest has the whole
 abbrev pub invariant-loop-session : goal.invariant-loop-session

@@ -2,7 +2,7 @@ use Rattle.std.proofs.Common.{◌≡◌, suc, ◌+◌, ◌∷◌, ◌∙◌, dro
 use Rattle.std.specs.List.{AllByRecursion}
 use Rattle.mqtt_records_message.specs.declared.message.RetainedMessage.{RetainedMessage}
 use Rattle.mqtt_records_message.specs.PassedOn.{IsPassedOn}
-use Rattle.mqtt_broker_engine.proofs.passed.retained_pass_on.Goals as goal
+use Rattle.mqtt_records.proofs.passed.retained_pass_on.Goals as goal
 
 pub loop-kept-preserved : goal.loop-kept-preserved
 loop-kept-preserved c = λ rest.
