@@ -76,19 +76,20 @@ fn subscription(alloc: Global, birth: u64, filter: &str, place: u64) -> Result<C
 }
 
 /// What tells a shared copy from all others.
-fn copy_id(alloc: Global, birth: u64) -> Result<CopyId, AllocError> {
+fn copy_id(alloc: Global, birth: u64, publication: u64) -> Result<CopyId, AllocError> {
     let group = text(alloc, "g/a/b")?;
     Ok(CopyId {
-        publication: 1,
+        publication,
         birth,
         cause: Cause::Share { group },
     })
 }
 
-/// A copy with these identifiers.
+/// A copy of a publication with these identifiers.
 fn message_copy(
     alloc: Global,
     birth: u64,
+    publication: u64,
     identifiers: SubscriptionIdentifiers,
 ) -> Result<MessageCopy, AllocError> {
     let content = match content(alloc) {
@@ -98,7 +99,7 @@ fn message_copy(
             return Err(fault);
         }
     };
-    match copy_id(alloc, birth) {
+    match copy_id(alloc, birth, publication) {
         Ok(id) => Ok(MessageCopy {
             id,
             qos: Qos::ExactlyOnce,
@@ -114,9 +115,10 @@ fn message_copy(
     }
 }
 
+/// A copy waits at the place of its publication's number.
 pub(crate) fn copy(alloc: Global, birth: u64, place: u64) -> Result<Change, AllocError> {
     let identifiers = SubscriptionIdentifiers::from_slice(alloc, &[7])?;
-    let copy = message_copy(alloc, birth, identifiers)?;
+    let copy = message_copy(alloc, birth, place, identifiers)?;
     let Ok(row) = CopyRow::new(alloc, place, Phase::Waiting, copy) else {
         return Err(AllocError);
     };
@@ -172,7 +174,7 @@ fn retained(alloc: Global, place: u64) -> Result<Change, AllocError> {
     })
 }
 
-fn counter(counter: Counter, value: u64) -> Change {
+pub(crate) fn counter(counter: Counter, value: u64) -> Change {
     Change::SetCounter { counter, value }
 }
 
@@ -411,13 +413,16 @@ fn kept_after(keep: &mut MemKeep, alloc: Global, turn: usize) -> Result<Records,
     records
 }
 
-/// A store that has the course.
+/// A store that has the course, and has given the numbers of what `change_at` puts.
 fn started(alloc: Global) -> Result<MemKeep, AllocError> {
     let mut records = Records::new(alloc)?;
     let changed = course(alloc);
     match changed {
         Ok(changes) => {
             records.change_all(changes);
+            records.change(counter(Counter::Births, 3));
+            records.change(counter(Counter::Publications, 2));
+            records.change(counter(Counter::Subscribes, 2));
             Ok(MemKeep::with(alloc, records))
         }
         Err(fault) => {
@@ -438,7 +443,7 @@ fn each_kind_of_change_changes_its_rows(rt: HostRuntime) -> Result<(), Fail> {
     }
     let records = keep.load(alloc)?;
     drop(keep);
-    assert_eq!(rt; numbers(&records), [2, 1, 1, 3, 9], "the numbers");
+    assert_eq!(rt; numbers(&records), [3, 2, 2, 3, 9], "the numbers");
     assert_eq!(rt; closed(&records, 1), Some(6), "its new row");
     assert_eq!(rt;
         phase(&records, 1, 2),
@@ -519,6 +524,41 @@ fn a_failing_device_leaves_all_changes_or_none(rt: HostRuntime) -> Result<(), Fa
         done?;
     }
     drop(changes);
+    Ok(())
+}
+
+#[test]
+fn records_that_break_a_rule_are_refused(rt: HostRuntime) -> Result<(), Fail> {
+    let alloc = rt.alloc();
+    let mut keep = MemKeep::new(alloc)?;
+    keep.apply(&[session(alloc, 1, "r1", None)?])?;
+    assert_eq!(rt;
+        rows_of(&mut keep, alloc),
+        Err(KeepError::Corrupt),
+        "a birth that was not given"
+    );
+    keep.apply(&[counter(Counter::Births, 1)])?;
+    assert_eq!(rt;
+        rows_of(&mut keep, alloc),
+        Ok([1, 0, 0, 0, 0, 0]),
+        "once it was given"
+    );
+    drop(keep);
+    let mut keep = FaultyKeep::new(alloc, 2, Failure::BeforeChanges)?;
+    keep.apply(&[session(alloc, 1, "r1", None)?])?;
+    assert_eq!(rt;
+        rows_of(&mut keep, alloc),
+        Err(KeepError::Corrupt),
+        "so in the other store"
+    );
+    keep.apply(&[counter(Counter::Births, 1)])?;
+    assert_eq!(rt;
+        rows_of(&mut keep, alloc),
+        Ok([1, 0, 0, 0, 0, 0]),
+        "and there"
+    );
+    assert_eq!(rt; keep.failures(), 0, "which is no failure of its device");
+    drop(keep);
     Ok(())
 }
 

@@ -1,8 +1,8 @@
-//! What waiting copies say, asked of stores in memory, and slim copies that say it again (3.3, 4.1).
+//! What a load of stores in memory answers, what they tell of waiting copies, and slim copies that say it again (3.3, 4.1).
 
-use crate::kept::{add, all, copy, course};
+use crate::kept::{add, all, copy, counter, course};
 use bytes::Bytes;
-use mqtt_records::{Change, CopyContent, CopyRow, Records, content_of};
+use mqtt_records::{Change, CopyContent, CopyRow, Counter, Records, content_of};
 use mqtt_records_keep::faulty::{Failure, FaultyKeep};
 use mqtt_records_keep::{Keep, KeepError, MemKeep};
 use std::alloc::{AllocError, Global};
@@ -10,6 +10,7 @@ use std::process::Abort;
 use std::test::Fail;
 
 fn add_copies(changes: &mut Vec<Change>, alloc: Global) -> Result<(), AllocError> {
+    add(changes, Ok(counter(Counter::Publications, 9)))?;
     for place in [9, 2, 5] {
         add(changes, copy(alloc, 1, place))?;
     }
@@ -21,6 +22,21 @@ fn with_copies(alloc: Global) -> Result<Vec<Change>, AllocError> {
     let mut changes = course(alloc)?;
     let made = add_copies(&mut changes, alloc);
     all(changes, made)
+}
+
+/// The records then, whose copies say all that they say.
+fn whole(alloc: Global) -> Result<Records, AllocError> {
+    let mut records = Records::new(alloc)?;
+    match with_copies(alloc) {
+        Ok(changes) => {
+            records.change_all(changes);
+            Ok(records)
+        }
+        Err(fault) => {
+            drop(records);
+            Err(fault)
+        }
+    }
 }
 
 /// A birth, a place, a limit, and the places of the copies that are told.
@@ -156,9 +172,8 @@ fn told_as(
 #[test]
 fn a_slim_copy_says_again_what_is_told(rt: HostRuntime) -> Result<(), Fail> {
     let alloc = rt.alloc();
-    let mut keep = MemKeep::new(alloc)?;
-    keep.apply(&with_copies(alloc)?)?;
-    let mut records = keep.load(alloc)?;
+    let mut keep = MemKeep::with(alloc, whole(alloc)?);
+    let mut records = whole(alloc)?;
     assert_eq!(rt; looks(&records, 5), Some((14, true)));
     records.make_slim(1, 5);
     records.make_slim(1, 6);
@@ -176,9 +191,8 @@ fn a_slim_copy_says_again_what_is_told(rt: HostRuntime) -> Result<(), Fail> {
 #[test]
 fn all_copies_become_slim_and_whole_again(rt: HostRuntime) -> Result<(), Fail> {
     let alloc = rt.alloc();
-    let mut keep = MemKeep::new(alloc)?;
-    keep.apply(&with_copies(alloc)?)?;
-    let mut records = keep.load(alloc)?;
+    let mut keep = MemKeep::with(alloc, whole(alloc)?);
+    let mut records = whole(alloc)?;
     records.make_all_slim();
     for place in [1, 2, 5, 9] {
         assert_eq!(rt; looks(&records, place), Some((14, false)), "{place}");
@@ -195,11 +209,30 @@ fn all_copies_become_slim_and_whole_again(rt: HostRuntime) -> Result<(), Fail> {
 }
 
 #[test]
+fn a_load_answers_slim_rows(rt: HostRuntime) -> Result<(), Fail> {
+    let alloc = rt.alloc();
+    let mut keep = MemKeep::with(alloc, whole(alloc)?);
+    let mut records = keep.load(alloc)?;
+    for place in [1, 2, 5, 9] {
+        assert_eq!(rt; looks(&records, place), Some((14, false)), "{place}");
+    }
+    assert_eq!(rt; keep.reads(), 0, "a load is no question");
+    for content in keep.contents(alloc, 1, 0, 64)? {
+        assert_eq!(rt; content.payload().as_slice(), b"hi".as_slice());
+        assert!(rt; records.fill(1, content), "the store has all that it says");
+    }
+    for place in [1, 2, 5, 9] {
+        assert_eq!(rt; looks(&records, place), Some((14, true)), "{place}");
+    }
+    drop(records);
+    drop(keep);
+    Ok(())
+}
+
+#[test]
 fn what_a_copy_says_is_read_off_its_row(rt: HostRuntime) -> Result<(), Fail> {
     let alloc = rt.alloc();
-    let mut keep = MemKeep::new(alloc)?;
-    keep.apply(&with_copies(alloc)?)?;
-    let mut records = keep.load(alloc)?;
+    let mut records = whole(alloc)?;
     let Some(whole) = row(&records, 5) else {
         panic!(rt; "no copy stands there");
     };
@@ -213,16 +246,14 @@ fn what_a_copy_says_is_read_off_its_row(rt: HostRuntime) -> Result<(), Fail> {
     };
     assert!(rt; content_of(alloc, slim).is_err(), "a slim row hasn't it");
     drop(records);
-    drop(keep);
     Ok(())
 }
 
 #[test]
 fn a_slim_copy_takes_in_nothing_else(rt: HostRuntime) -> Result<(), Fail> {
     let alloc = rt.alloc();
-    let mut keep = MemKeep::new(alloc)?;
-    keep.apply(&with_copies(alloc)?)?;
-    let mut records = keep.load(alloc)?;
+    let mut keep = MemKeep::with(alloc, whole(alloc)?);
+    let mut records = whole(alloc)?;
     records.make_slim(1, 5);
     assert!(rt; !records.fill(2, told(alloc, &mut keep)?), "no such copy");
     let elsewhere = told_as(alloc, &mut keep, 6, b"hi")?;
