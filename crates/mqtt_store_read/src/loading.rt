@@ -3,6 +3,7 @@ ghost use Rattle.std.specs.Prelude.{◌≡◌, ◌⊎◌, ◌↔◌, IfOk, IfErr
 ghost use Rattle.sqlite.specs.Held.{state};
 ghost use Rattle.sqlite.specs.State.{HasCleanDisk};
 ghost use Rattle.mqtt_records.specs.declared.records.Records.{Records};
+ghost use Rattle.mqtt_records_lawful.specs.Lawful.{IsLawful};
 ghost use Rattle.mqtt_store_rows.specs.Tables.{parts_in, rows_in};
 ghost use Rattle.mqtt_store_schema.specs.Settled.{IsSettled, OnlyReads};
 ghost use Rattle.mqtt_store_schema.specs.Tables.{keep_schema};
@@ -76,6 +77,8 @@ pub fn records_in<S: Alter>(alloc: Global, conn: &mut Connection<S>) -> Result<R
         → IfOk result (HasRecords (state S.Store conn.old).now.trees) }
     ensures err { HasCleanDisk (state S.Store conn.new) → (state S.Store conn.old).now.schema ≡ keep_schema → IsSettled (state S.Store conn.old)
         → IsErrOf result KeepError.Corrupt → (r : Records) → HasRecords (state S.Store conn.old).now.trees r → ⊥ }
+    // Whatever the device returned, they keep their rules.
+    ensures lawful { IfOk result (λ records. IsLawful records) }
     ensures fault { IfErr result (λ e. (e ≡ KeepError.Memory) ⊎ ((e ≡ KeepError.Disk) ⊎ (e ≡ KeepError.Corrupt))) }
     ensures is_open { HasCleanDisk (state S.Store conn.new)
         → OnOk result (IsTrue (state S.Store conn.new).is_open)
