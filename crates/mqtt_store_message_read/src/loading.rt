@@ -3,6 +3,7 @@ ghost use Rattle.std.specs.Prelude.{◌≡◌, ◌≢◌, ◌⊎◌, [], false, 
 ghost use Rattle.sqlite.specs.Held.{state};
 ghost use Rattle.sqlite.specs.State.{HasCleanDisk};
 ghost use Rattle.mqtt_records.specs.declared.records.Records.{Records};
+ghost use Rattle.mqtt_records_lawful.specs.Lawful.{IsLawful};
 ghost use Rattle.mqtt_store_schema.specs.Settled.{IsSettled, OnlyReads};
 ghost use Rattle.mqtt_store_schema_two.specs.Tables.{second_schema};
 ghost use Rattle.mqtt_store_schema_two.specs.declared.tables.Making.{Making};
@@ -134,6 +135,7 @@ fn given<S: Alter>(alloc: Global, conn: &mut Connection<S>) -> Result<Records, K
     ensures err { (making : Making) → HasCleanDisk (state S.Store conn.new)
         → (state S.Store conn.old).now.schema ≡ second_schema making → IsSettled (state S.Store conn.old)
         → IsErrOf result KeepError.Corrupt → (r : Records) → HasRecordsTwo making (state S.Store conn.old).now.trees r → ⊥ }
+    ensures lawful { IfOk result (λ records. IsLawful records) }
     ensures fault { IfErr result (λ e. (e ≡ KeepError.Memory) ⊎ ((e ≡ KeepError.Disk) ⊎ (e ≡ KeepError.Corrupt))) }
     ensures is_open { HasCleanDisk (state S.Store conn.new)
         → OnOk result (IsTrue (state S.Store conn.new).is_open)
@@ -167,6 +169,7 @@ fn given_alone<S: Alter>(alloc: Global, conn: &mut Connection<S>) -> Result<Reco
     ensures err { HasCleanDisk (state S.Store conn.new)
         → (state S.Store conn.old).now.schema ≡ second_schema Making.TakenOver → IsSettled (state S.Store conn.old)
         → IsErrOf result KeepError.Corrupt → (r : Records) → HasRecordsTwo Making.TakenOver (state S.Store conn.old).now.trees r → ⊥ }
+    ensures lawful { IfOk result (λ records. IsLawful records) }
     ensures fault { IfErr result (λ e. (e ≡ KeepError.Memory) ⊎ ((e ≡ KeepError.Disk) ⊎ (e ≡ KeepError.Corrupt))) }
     ensures is_open { HasCleanDisk (state S.Store conn.new)
         → OnOk result (IsTrue (state S.Store conn.new).is_open)
@@ -193,6 +196,7 @@ pub fn records_in<S: Alter>(
     ensures err { HasCleanDisk (state S.Store conn.new)
         → (state S.Store conn.old).now.schema ≡ second_schema making → IsSettled (state S.Store conn.old)
         → IsErrOf result KeepError.Corrupt → (r : Records) → HasRecordsTwo making (state S.Store conn.old).now.trees r → ⊥ }
+    ensures lawful { IfOk result (λ records. IsLawful records) }
     ensures fault { IfErr result (λ e. (e ≡ KeepError.Memory) ⊎ ((e ≡ KeepError.Disk) ⊎ (e ≡ KeepError.Corrupt))) }
     ensures is_open { HasCleanDisk (state S.Store conn.new)
         → OnOk result (IsTrue (state S.Store conn.new).is_open)

@@ -3,6 +3,7 @@ ghost use Rattle.std.specs.Prelude.{◌≡◌, ◌≢◌, ◌⊎◌, false, Some
 ghost use Rattle.sqlite.specs.Held.{state};
 ghost use Rattle.sqlite.specs.State.{HasCleanDisk};
 ghost use Rattle.mqtt_records.specs.declared.records.Records.{Records};
+ghost use Rattle.mqtt_records_lawful.specs.Lawful.{IsLawful};
 ghost use Rattle.mqtt_store_schema.specs.Settled.{IsSettled, OnlyReads};
 ghost use Rattle.mqtt_store_schema.specs.Tables.{keep_schema};
 ghost use Rattle.mqtt_store_schema_two.specs.Tables.{second_schema};
@@ -50,6 +51,7 @@ pub fn records_or_refusal<S: Alter>(
 ) -> Result<Records, KeepError>
     ensures ok { HasCleanDisk (state S.Store conn.new) → (state S.Store conn.old).now.schema ≡ second_schema making → IsSettled (state S.Store conn.old)
         → IfOk result (HasRecordsTwo making (state S.Store conn.old).now.trees) }
+    ensures lawful { IfOk result (λ records. IsLawful records) }
     ensures refused { HasCleanDisk (state S.Store conn.new) → (state S.Store conn.old).now.schema ≡ second_schema making
         → (IsTrue (state S.Store conn.old).is_open → IsSettled (state S.Store conn.old)) → IfErr result (RefusesEither S.Store conn.old) }
     ensures is_open { HasCleanDisk (state S.Store conn.new) → OnOk result (IsTrue (state S.Store conn.new).is_open) }
@@ -70,6 +72,7 @@ pub fn first_records_or_refusal<S: Alter>(
 ) -> Result<Records, KeepError>
     ensures ok { HasCleanDisk (state S.Store conn.new) → (state S.Store conn.old).now.schema ≡ keep_schema → IsSettled (state S.Store conn.old)
         → IfOk result (HasRecords (state S.Store conn.old).now.trees) }
+    ensures lawful { IfOk result (λ records. IsLawful records) }
     ensures refused { HasCleanDisk (state S.Store conn.new) → (state S.Store conn.old).now.schema ≡ keep_schema
         → (IsTrue (state S.Store conn.old).is_open → IsSettled (state S.Store conn.old)) → IfErr result (RefusesEither S.Store conn.old) }
     ensures is_open { HasCleanDisk (state S.Store conn.new) → OnOk result (IsTrue (state S.Store conn.new).is_open) }
