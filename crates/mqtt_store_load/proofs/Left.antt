@@ -4,19 +4,17 @@ use Rattle.sqlite_catalog.specs.Listing.{Lists}
 use Rattle.sqlite_schema.specs.declared.schema.Schema.{Schema}
 use Rattle.sqlite_schema.specs.Rules.{Obeys}
 use Rattle.sqlite_trees.specs.Objects.{catalog_tree}
-use Rattle.sqlite_trees.specs.Tree.{Trees}
 use Rattle.sqlite_trees.specs.declared.store.Store.{Ghosts}
 use Rattle.sqlite.specs.Effect.{Database}
 use Rattle.sqlite.specs.Held.{Held, state}
 use Rattle.sqlite.specs.State.{State, HasCleanDisk, Survives, IsLive}
 use Rattle.sqlite.proofs.StateLemmas.{survives_weaker}
 use Rattle.mqtt_records_keep.specs.declared.keep.KeepError.{KeepError}
-use Rattle.mqtt_records_keep.specs.declared.keep.KeepError.TheVariants.{Memory, Disk, Size, Corrupt, Schema as OtherSchema}
+use Rattle.mqtt_records_keep.specs.declared.keep.KeepError.TheVariants.{Memory, Disk}
 use Rattle.mqtt_records.specs.declared.records.Records.{Records}
 use Rattle.mqtt_records.specs.Records.{nothing}
 use Rattle.mqtt_store_schema.specs.Creation.{first}
 use Rattle.mqtt_store_schema.specs.Settled.{IsSettled, OnlyReads, Stays}
-use Rattle.mqtt_store_schema.specs.Tables.{keep_schema}
 use Rattle.mqtt_store_schema_two.specs.Creation.{IsNewSecond}
 use Rattle.mqtt_store_schema_two.specs.Tables.{second_schema}
 use Rattle.mqtt_store_schema_two.specs.declared.tables.Making.{Making}
@@ -28,7 +26,7 @@ use Rattle.mqtt_store_message_laws.specs.Written.{KeepsRowsTwo}
 use Rattle.mqtt_store_message_laws.proofs.New.{new_keeps, new_in_order}
 use Rattle.mqtt_store_message_load_laws.proofs.Found.{found_distinct}
 use Rattle.mqtt_store_message_load_laws.proofs.Kept.{distinct_kept}
-use Rattle.mqtt_store_load.specs.Keeping.{FindsIn, Keeps, Saves, AreOrdered}
+use Rattle.mqtt_store_load.specs.Keeping.{FindsIn, Saves, AreOrdered}
 use Rattle.mqtt_store_load.specs.Loading.{IsTidy, IsOrdered, HasKept, MayCommit, OnlyLoads, Loads}
 use Rattle.mqtt_store_load.proofs.Order.{shaped_in, ordered_in, second_order, all_shaped}
 

@@ -14,7 +14,6 @@ use Rattle.sqlite.specs.Effect.{Database}
 use Rattle.sqlite.specs.Held.{Held, state}
 use Rattle.sqlite.specs.State.{State, HasCleanDisk, Opens, IsLive}
 use Rattle.mqtt_store_write.specs.Content.{IsShapedAt}
-use Rattle.mqtt_store_load.specs.Keeping.{AreOrdered}
 use Rattle.mqtt_store_load.specs.Loading.{IsOrdered}
 
 -- trees that are shaped as tables have their rows in order

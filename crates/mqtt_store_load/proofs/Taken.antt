@@ -1,12 +1,11 @@
 -- What a load leaves that takes a database of schema 1 over.
-use Rattle.std.proofs.Common.{◌≡◌, ◌⊎◌, false, IsTrue, Result, Ok, Err, OnOk, OnErr, refl, sym, ap, subst, ◌∙◌, inl, inr, arith}
+use Rattle.std.proofs.Common.{◌≡◌, ◌⊎◌, false, IsTrue, Ok, Err, refl, sym, ap, subst, ◌∙◌, inl, inr, arith}
 use Rattle.sqlite_schema.specs.declared.schema.Schema.{Schema}
 use Rattle.sqlite_schema.specs.Rules.{Obeys}
 use Rattle.sqlite_trees.specs.declared.store.Store.{Ghosts}
-use Rattle.sqlite.specs.declared.error.Error.{Error}
 use Rattle.sqlite.specs.Effect.{Database}
 use Rattle.sqlite.specs.Held.{Held, state}
-use Rattle.sqlite.specs.State.{State, HasCleanDisk, Survives, IsLive}
+use Rattle.sqlite.specs.State.{HasCleanDisk, Survives, IsLive}
 use Rattle.sqlite.proofs.StateLemmas.{survives_then}
 use Rattle.mqtt_records_keep.specs.declared.keep.KeepError.{KeepError}
 use Rattle.mqtt_records_keep.specs.declared.keep.KeepError.TheVariants.{Memory, Disk}
@@ -24,9 +23,9 @@ use Rattle.mqtt_store_load_laws.proofs.Kept.{distinct_kept}
 use Rattle.mqtt_store_message_commit.specs.Settled.{IsSettled}
 use Rattle.mqtt_store_migration.specs.Migration.{Migrates, MayMigrate, MayCommit as MayMigrateTo}
 use Rattle.mqtt_store_load.specs.Keeping.{FindsIn, Saves, AreOrdered}
-use Rattle.mqtt_store_load.specs.Loading.{IsTidy, IsOrdered, HasKept, MayCommit, OnlyLoads, Loads}
+use Rattle.mqtt_store_load.specs.Loading.{IsTidy, IsOrdered, MayCommit, Loads}
 use Rattle.mqtt_store_load.proofs.Left.{says_nothing}
-use Rattle.mqtt_store_load.proofs.Order.{shaped_in, first_order, laid_out, order_of}
+use Rattle.mqtt_store_load.proofs.Order.{shaped_in, first_order, order_of}
 
 module _ {S : Type 0} (g : Ghosts S) (old mid new : Held S) (r : Records) (tidy : IsTidy (state g old)) (order : IsOrdered (state g old)) (live : IsLive (state g old))
     (schema : HasCleanDisk (state g old) → (state g old).now.schema ≡ keep_schema) (reads : OnlyReads (state g old) (state g mid)) (up : HasCleanDisk (state g mid) → IsTrue (state g mid).is_open)

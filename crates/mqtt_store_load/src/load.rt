@@ -2,6 +2,7 @@
 ghost use Rattle.std.specs.Prelude.{◌≡◌, false, IfOk, IfErr};
 ghost use Rattle.sqlite.specs.Held.{state};
 ghost use Rattle.sqlite.specs.State.{HasCleanDisk};
+ghost use Rattle.mqtt_records_lawful.specs.Lawful.{IsLawful};
 ghost use Rattle.mqtt_store_schema.specs.Creation.{first};
 ghost use Rattle.mqtt_store_schema.specs.Tables.{keep_schema};
 ghost use Rattle.mqtt_store_schema_two.specs.Tables.{second_schema};
@@ -25,6 +26,7 @@ fn load_first<S: Alter>(alloc: Global, conn: &mut Connection<S>) -> Result<Recor
     requires ordered { IsOrdered (state S.Store conn.old) }
     requires schema { HasCleanDisk (state S.Store conn.old) → (state S.Store conn.old).now.schema ≡ keep_schema }
     ensures autocommit { conn.new.in_transaction ≡ false }
+    ensures lawful { IfOk result (λ records. IsLawful records) }
     ensures loads { Loads S.Store conn.old conn.new result }
 {
     // This shows that the rows obey their schema.
@@ -53,6 +55,7 @@ fn load_second<S: Alter>(
     requires ordered { IsOrdered (state S.Store conn.old) }
     requires schema { HasCleanDisk (state S.Store conn.old) → (state S.Store conn.old).now.schema ≡ second_schema making }
     ensures autocommit { conn.new.in_transaction ≡ false }
+    ensures lawful { IfOk result (λ records. IsLawful records) }
     ensures loads { Loads S.Store conn.old conn.new result }
 {
     // This shows that the rows obey their schema.
@@ -67,6 +70,7 @@ fn load_empty<S: Alter>(alloc: Global, conn: &mut Connection<S>) -> Result<Recor
     requires ordered { IsOrdered (state S.Store conn.old) }
     requires schema { HasCleanDisk (state S.Store conn.old) → (state S.Store conn.old).now.schema ≡ first 0 }
     ensures autocommit { conn.new.in_transaction ≡ false }
+    ensures lawful { IfOk result (λ records. IsLawful records) }
     ensures loads { Loads S.Store conn.old conn.new result }
 {
     begin_second(alloc, conn)
@@ -83,6 +87,9 @@ pub fn load_from<S: Alter>(alloc: Global, conn: &mut Connection<S>) -> Result<Re
     // What it answers is what a load finds in the database, and what this keeps from then on.
     ensures ok { HasCleanDisk (state S.Store conn.new) → IfOk result (FindsIn (state S.Store conn.old).now) }
     ensures kept { HasCleanDisk (state S.Store conn.new) → IfOk result (HasKept (state S.Store conn.new)) }
+
+    // Whatever the device returned, they keep their rules.
+    ensures lawful { IfOk result (λ records. IsLawful records) }
 
     // Why it is refused, and only then.
     ensures refused { HasCleanDisk (state S.Store conn.new) → IfErr result (RefusesEither S.Store conn.old) }

@@ -1,5 +1,4 @@
 use Rattle.std.proofs.Common.{◌≡◌, refl, sym, ◌∙◌, inr}
-use Rattle.mqtt_store_schema_two.specs.declared.found.FoundStore.{FoundStore}
 use Rattle.mqtt_store_schema_two.specs.declared.found.FoundStore.TheVariants.{First, Second, Broken, Other}
 use Rattle.mqtt_store_load.proofs.load.load_from.Goals as goal
 
