@@ -1,10 +1,14 @@
 -- What a load leaves, and what it answers.
-use Rattle.std.proofs.Common.{◌≡◌, Result, Ok, Err, IfOk, IfErr, IsTrue, inr, arith}
+use Rattle.std.proofs.Common.{◌≡◌, Result, Ok, Err, IfOk, IfErr, IsTrue, sym, subst, inr, arith}
 use Rattle.sqlite_trees.specs.Tree.{Trees}
 use Rattle.sqlite_trees.specs.declared.store.Store.{Ghosts}
-use Rattle.sqlite.specs.Held.{Held}
+use Rattle.sqlite.specs.Held.{Held, state}
 use Rattle.sqlite.specs.State.{State, HasCleanDisk}
+use Rattle.mqtt_records.specs.PassedOn.{StoresPassedOn}
+use Rattle.mqtt_records.specs.Slim.{all_slim}
 use Rattle.mqtt_records.specs.declared.records.Records.{Records}
+use Rattle.mqtt_records_keep.specs.Loading.{AreRead}
+use Rattle.mqtt_records_lawful.specs.Lawful.{IsLawful}
 use Rattle.mqtt_records_keep.specs.declared.keep.KeepError.{KeepError}
 use Rattle.mqtt_store_load.specs.Keeping.{FindsIn}
 use Rattle.mqtt_store_load.specs.Loading.{HasKept, OnlyLoads}
@@ -42,7 +46,26 @@ refused g h Clean (Err e) why = why
 ready : (s : State) (r : Records) → HasKept s r → IsReady s
 ready s r h = record { is_open = h.is_open; settled = h.settled; making = h.making; schema = h.schema }
 
--- what was loaded can be changed, and is what the store has
-pub loaded : (s : State) (res : Result Records KeepError) → (IsTrue s.is_open → (db : Trees) → s.may_leave db → db ≡ s.committed.trees) → IfOk res (λ q. HasCleanDisk s → HasKept s q) → IfOk res (λ q. IsLoaded s × Holds s q)
-loaded s (Ok q) only has = (λ clean. ready s q (has clean), λ clean. has_now s q only (has clean) clean)
-loaded s (Err e) only has = tt
+-- what was loaded can be changed
+pub loaded_slim : (s : State) (q : Records) → (HasCleanDisk s → HasKept s q) → IsLoaded s
+loaded_slim s q has = λ clean. ready s q (has clean)
+
+-- lawful records that a load found and has kept, made slim, are what it answers
+pub read_slim : (old new : State) → (IsTrue new.is_open → (db : Trees) → new.may_leave db → db ≡ new.committed.trees) → (q slim : Records) → slim ≡ all_slim q → IsLawful q → StoresPassedOn q
+    → ((r : Records) → Holds old r → HasCleanDisk new → q ≡ r) → (HasCleanDisk new → HasKept new q) → (HasCleanDisk new → Leaves old q) → AreRead (Holds old) (Leaves old) (Holds new) (HasCleanDisk new) slim
+read_slim old new only q slim is lawful passed exact kept found = record {
+  whole = q;
+  slim_is = is;
+  lawful = lawful;
+  passed = passed;
+  exact = λ clean r holds. exact r holds clean;
+  found = found;
+  stands = λ clean. has_now new q only (kept clean) clean;
+}
+
+-- so they are of the same connection
+pub read_on : {S : Type 0} (g : Ghosts S) (old mid new : Held S) (res : Result Records KeepError) → new ≡ mid
+    → IfOk res (AreRead (Holds (state g old)) (Leaves (state g old)) (Holds (state g mid)) (HasCleanDisk (state g mid)))
+    → IfOk res (AreRead (Holds (state g old)) (Leaves (state g old)) (Holds (state g new)) (HasCleanDisk (state g new)))
+read_on {S} g old mid new res same read =
+    subst (λ (h : Held S). IfOk res (AreRead (Holds (state g old)) (Leaves (state g old)) (Holds (state g h)) (HasCleanDisk (state g h)))) (sym same) read

@@ -11,7 +11,7 @@ ghost use Rattle.mqtt_store.specs.Props.{ordered_prop};
 
 use crate::apply::apply_all;
 use crate::contents::read_contents;
-use crate::load::load_records;
+use crate::load::load_slim;
 use crate::opening::reopen;
 use mqtt_records::{Change, CopyContent, Records, all_pass_on};
 use mqtt_records_keep::{Keep, KeepError};
@@ -122,7 +122,7 @@ impl<S: Alter + Drop> Keep for SqlKeep<S> {
     ghost read_so_far = { λ keep. keep.reads };
 
     fn load(&mut self, alloc: Global) -> Result<Records, KeepError> {
-        let answer = load_records(alloc, &mut self.conn);
+        let answer = load_slim(alloc, &mut self.conn);
         self.note(&answer);
         answer
     }

@@ -1,13 +1,15 @@
-//! A load of the store's records, and what it leaves (4.1).
-ghost use Rattle.std.specs.Prelude.{◌≡◌, false, IfOk, IfErr};
+//! A load of the store's records, slim, and what it leaves (3.3, 4.1).
+ghost use Rattle.std.specs.Prelude.{◌≡◌, false, IfOk, IfErr, OnOk};
 ghost use Rattle.sqlite.specs.Held.{state};
 ghost use Rattle.sqlite.specs.State.{HasCleanDisk};
+ghost use Rattle.mqtt_records_lawful.specs.Lawful.{IsLawful};
 ghost use Rattle.mqtt_records.specs.declared.records.Records.{Records as Kept};
+ghost use Rattle.mqtt_records_keep.specs.Loading.{AreRead};
 ghost use Rattle.mqtt_store_message_read.specs.Refusals.{RefusesEither};
 ghost use Rattle.mqtt_store_load.specs.Loading.{HasKept, IsOrdered};
-ghost use Rattle.mqtt_store.specs.Holding.{Holds, Leaves};
+ghost use Rattle.mqtt_store.specs.Holding.{Holds, IsLoaded, Leaves};
 
-use mqtt_records::Records;
+use mqtt_records::{Records, records_pass_on};
 use mqtt_records_keep::KeepError;
 use mqtt_store_load::load_from;
 use sqlite::{Alter, Connection};
@@ -15,10 +17,7 @@ use std::alloc::Global;
 
 /// Reads all records of a database. If it is empty, makes the tables of a new store; if it has schema 1,
 /// takes it over.
-pub(crate) fn load_records<S: Alter>(
-    alloc: Global,
-    conn: &mut Connection<S>,
-) -> Result<Records, KeepError>
+fn load_records<S: Alter>(alloc: Global, conn: &mut Connection<S>) -> Result<Records, KeepError>
     requires autocommit { conn.old.in_transaction ≡ false }
     requires ordered { IsOrdered (state S.Store conn.old) }
     ensures autocommit { conn.new.in_transaction ≡ false }
@@ -32,6 +31,9 @@ pub(crate) fn load_records<S: Alter>(
     ensures found { IfOk result (λ records. HasCleanDisk (state S.Store conn.new)
         → Leaves (state S.Store conn.old) records) }
 
+    // Whatever the device returned, they keep their rules.
+    ensures lawful { IfOk result (λ records. IsLawful records) }
+
     // What the database has stays, and a crash finds nothing else than before.
     ensures same { (r : Kept) → Holds (state S.Store conn.old) r → Holds (state S.Store conn.new) r }
     ensures crash { (r : Kept) → Leaves (state S.Store conn.new) r → Leaves (state S.Store conn.old) r }
@@ -40,4 +42,35 @@ pub(crate) fn load_records<S: Alter>(
         → RefusesEither S.Store conn.old fault) }
 {
     load_from(alloc, conn)
+}
+
+/// Reads the rows of a database, slim: of a waiting copy they say nothing but its topic and what rules read. If it is
+/// empty, makes the tables of a new store; if it has schema 1, takes it over.
+pub(crate) fn load_slim<S: Alter>(
+    alloc: Global,
+    conn: &mut Connection<S>,
+) -> Result<Records, KeepError>
+    requires autocommit { conn.old.in_transaction ≡ false }
+    requires ordered { IsOrdered (state S.Store conn.old) }
+    ensures autocommit { conn.new.in_transaction ≡ false }
+    ensures ordered { IsOrdered (state S.Store conn.new) }
+    ensures read { IfOk result (AreRead (Holds (state S.Store conn.old)) (Leaves (state S.Store conn.old))
+        (Holds (state S.Store conn.new)) (HasCleanDisk (state S.Store conn.new))) }
+    ensures loaded { OnOk result (IsLoaded (state S.Store conn.new)) }
+
+    // What the database has stays, and a crash finds nothing else than before.
+    ensures same { (r : Kept) → Holds (state S.Store conn.old) r → Holds (state S.Store conn.new) r }
+    ensures crash { (r : Kept) → Leaves (state S.Store conn.new) r → Leaves (state S.Store conn.old) r }
+    ensures sound { HasCleanDisk (state S.Store conn.new) → HasCleanDisk (state S.Store conn.old) }
+    ensures refused { IfErr result (λ fault. HasCleanDisk (state S.Store conn.new)
+        → RefusesEither S.Store conn.old fault) }
+{
+    match load_records(alloc, conn) {
+        Ok(mut records) => {
+            records_pass_on(&records);
+            records.make_all_slim();
+            Ok(records)
+        }
+        Err(fault) => Err(fault),
+    }
 }
