@@ -1,4 +1,5 @@
--- A broker that is alike to one that is ready is ready: readiness asks nothing of what waiting copies say.
+-- A broker that is alike to one that is ready is ready, and records that are alike to such as can be opened can be opened: neither asks
+-- anything of what waiting copies say.
 use Rattle.std.proofs.Common.{◌≡◌, ◌≤◌, ℕ, suc, List, [], ◌∷◌, Option, Some, None, refl, sym, ap, subst, ◌∙◌}
 use Rattle.std.specs.Prelude.{option_map}
 use Rattle.std.specs.List.{AllByRecursion}
@@ -15,13 +16,13 @@ use Rattle.mqtt_rules.specs.Flight.{IsFlight, identifier_in}
 use Rattle.mqtt_rules.specs.Laws.{HasTables, IsCoherent, IsCoherentSession}
 use Rattle.mqtt_rules.specs.Numbers.{HasCopiesUpTo}
 use Rattle.mqtt_rules.specs.State.{Broker, queue_on, session_at}
-use Rattle.mqtt_rules_alike_laws.specs.Alike.{Each, AlikeRows, AlikeSessions, AlikeBrokers, with_queue, with_sessions}
+use Rattle.mqtt_rules_alike_laws.specs.Alike.{Each, AlikeRows, AlikeSessions, AlikeRecords, AlikeBrokers, with_queue, with_sessions}
 use Rattle.mqtt_rules_alike_laws.proofs.Pairs.{Both, both_at, each_length}
 use Rattle.mqtt_rules_alike_laws.proofs.Queues.{queue_same}
-use Rattle.mqtt_rules_alike_laws.proofs.States.{birth_same, by_broker, by_queue, like, place_same, session_found}
+use Rattle.mqtt_rules_alike_laws.proofs.States.{birth_same, by_broker, by_queue, by_sessions, like, place_same, session_found}
 use Rattle.mqtt_rules_filling_laws.proofs.Equivalence.{broker_back}
 use Rattle.mqtt_broker_step.specs.Subscribing.{HasEachFilterOnce}
-use Rattle.mqtt_broker_calls.specs.Ready.{HasLawfulSources, IsReady}
+use Rattle.mqtt_broker_calls.specs.Ready.{AreSourcesStored, HasLawfulSources, IsReady}
 
 -- ---- lists that are alike one by one
 
@@ -123,6 +124,12 @@ module _ (r : Records) (ss : List Session) (h : Each AlikeSessions r.sessions ss
     counters = record { moment = c.counters.moment; births = c.counters.births; publications = c.counters.publications; subscribes = c.counters.subscribes; autos = c.counters.autos };
   }
 
+  sources_alike : AreSourcesStored r → AreSourcesStored other
+  sources_alike its = record {
+    sessions = sessions_alike HasLawfulSources (λ s q i k. record { will = k.will; subscriptions = k.subscriptions; table = k.table }) r.sessions ss h its.sessions;
+    retained = its.retained;
+  }
+
 module _ (limits : Limits) (b : Broker) (ready : IsReady limits b) (ss : List Session) (h : Each AlikeSessions b.records.sessions ss) where
   abbrev r : Records
   r = b.records
@@ -145,10 +152,7 @@ module _ (limits : Limits) (b : Broker) (ready : IsReady limits b) (ss : List Se
       connected = λ birth is. ready.lines.connected birth (field_at r ss h (λ s. s.closed) (λ s q. refl) birth ∙ is);
     };
     sources = record {
-      stored = record {
-        sessions = sessions_alike HasLawfulSources (λ s q i k. record { will = k.will; subscriptions = k.subscriptions; table = k.table }) r.sessions ss h ready.sources.stored.sessions;
-        retained = ready.sources.stored.retained;
-      };
+      stored = sources_alike r ss h ready.sources.stored;
       lines = ready.sources.lines;
     };
   }
@@ -157,3 +161,19 @@ module _ (limits : Limits) (b : Broker) (ready : IsReady limits b) (ss : List Se
 pub ready_alike : (limits : Limits) (some whole : Broker) → AlikeBrokers some whole → IsReady limits whole → IsReady limits some
 ready_alike limits some whole h ready =
     by_broker (λ (x : Broker). IsReady limits x) whole (λ ss k. ready_like limits whole ready ss k) some (broker_back some whole h)
+
+-- ---- records alone
+
+abbrev bare : Records → Broker
+bare r = record { records = r; lines = []; given = 0; now = 0; tellings = [] }
+
+records_back : (some whole : Records) → AlikeRecords some whole → AlikeRecords whole some
+records_back some whole h = (broker_back (bare some) (bare whole) (record { rest = refl; records = h })).records
+
+-- what is alike to coherent records is coherent
+pub records_coherent : (some whole : Records) → AlikeRecords some whole → IsCoherent whole → IsCoherent some
+records_coherent some whole h coherent = by_sessions IsCoherent whole (λ ss k. coherent_alike whole ss k coherent) some (records_back some whole h)
+
+-- and has what messages are made from
+pub records_sourced : (some whole : Records) → AlikeRecords some whole → AreSourcesStored whole → AreSourcesStored some
+records_sourced some whole h its = by_sessions AreSourcesStored whole (λ ss k. sources_alike whole ss k its) some (records_back some whole h)

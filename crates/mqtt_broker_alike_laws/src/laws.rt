@@ -1,8 +1,10 @@
 //! Laws of brokers that are alike but for what their waiting copies say (4.1).
+ghost use Rattle.mqtt_records.specs.declared.records.Records.{Records};
+ghost use Rattle.mqtt_rules.specs.Laws.{IsCoherent};
 ghost use Rattle.mqtt_rules.specs.State.{Broker};
 ghost use Rattle.mqtt_rules.specs.declared.Limits.{Limits};
-ghost use Rattle.mqtt_rules_alike_laws.specs.Alike.{AlikeBrokers};
-ghost use Rattle.mqtt_broker_calls.specs.Ready.{IsReady};
+ghost use Rattle.mqtt_rules_alike_laws.specs.Alike.{AlikeBrokers, AlikeRecords};
+ghost use Rattle.mqtt_broker_calls.specs.Ready.{AreSourcesStored, IsReady};
 ghost use Rattle.mqtt_broker_calls.specs.Sound.{IsSound};
 
 /// A broker that is alike to one that can do its calls can do them too, whatever its waiting copies say: so an engine
@@ -12,4 +14,12 @@ pub fn alike_brokers_are_ready()
         → IsReady limits some }
     ensures sound { (limits : Limits) (some whole : Broker) → AlikeBrokers some whole → IsSound limits whole
         → IsReady limits some }
+{}
+
+/// Records that are alike to coherent ones are coherent, and have the same that messages are made from, whatever their waiting
+/// copies say: so a broker may be opened on rows that say their topics alone (4.1).
+pub fn alike_records_can_be_opened()
+    ensures coherent { (some whole : Records) → AlikeRecords some whole → IsCoherent whole → IsCoherent some }
+    ensures sources { (some whole : Records) → AlikeRecords some whole → AreSourcesStored whole
+        → AreSourcesStored some }
 {}

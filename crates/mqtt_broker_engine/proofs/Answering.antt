@@ -1,18 +1,13 @@
 -- What is answered if a broker is opened, and if it isn't.
 use Rattle.std.proofs.Common.{◌≡◌, ◌≢◌, ◌⊎◌, ℕ, refl, ap, sym, subst, ◌∙◌, inl, inr}
 use Rattle.std.specs.Prelude.{Result, Ok, Err, OnOk, OnErr}
-use Rattle.mqtt_records_lawful.specs.Lawful.{IsLawful}
 use Rattle.mqtt_records_keep.specs.declared.keep.Keep.{Ghosts}
 use Rattle.mqtt_records_keep.specs.declared.keep.KeepError.{KeepError}
 use Rattle.mqtt_records_keep.specs.declared.keep.KeepError.TheVariants.{Memory, Disk, Size, Corrupt, Schema}
 use Rattle.mqtt_records.specs.declared.records.Records.{Records}
 use Rattle.mqtt_rules.specs.declared.Limits.{Limits}
-use Rattle.mqtt_rules.specs.Laws.{AreWithin}
-use Rattle.mqtt_rules.specs.State.{Broker}
-use Rattle.mqtt_rules.specs.Step.{BrokerOpening, SpentOpening}
+use Rattle.mqtt_rules.specs.Step.{SpentOpening}
 use Rattle.mqtt_broker_step.specs.Stepping.{Stepping, at_rest}
-use Rattle.mqtt_broker_calls.specs.Sound.{IsSound}
-use Rattle.mqtt_broker_calls.proofs.SoundLaw.{opening_sound}
 use Rattle.mqtt_broker_engine.specs.Closing.{IsStoredAfter, resting}
 use Rattle.mqtt_broker_engine.specs.Opening.{IsBegun, IsDue, IsRefused, Opened}
 
@@ -48,12 +43,6 @@ rest_of limits s new same is =
 pub rest_again : (limits : Limits) (new : Stepping) → new ≡ at_rest limits new.broker → new ≡ at_rest new.limits new.broker
 rest_again limits new is = is ∙ ap (λ (l : Limits). at_rest l new.broker) (sym (ap (λ (t : Stepping). t.limits) is))
 
--- a broker that was opened on lawful records is sound
-pub opened_sound : (limits : Limits) (now : ℕ) (r : Records) (new : Stepping) → AreWithin limits → IsLawful r → BrokerOpening limits r now new.broker → new ≡ at_rest limits new.broker → IsSound new.limits new.broker
-opened_sound limits now r new within lawful h is =
-    subst (λ (l : Limits). IsSound l new.broker) (sym (ap (λ (t : Stepping). t.limits) is))
-    (subst (λ (b : Broker). IsSound limits b) (sym h.new_is) (opening_sound limits h.choice now r within lawful h.unspent))
-
 -- ---- answers
 
 module _ {K : Type 0} (g : Ghosts K) (limits : Limits) (now : ℕ) (first : K) where
@@ -78,21 +67,10 @@ module _ {K : Type 0} (g : Ghosts K) (limits : Limits) (now : ℕ) (first : K) w
     crash = λ after may sound. inl (crash after may);
   })
 
-  -- what was loaded can't be opened, or there is no memory for it
-  unfit_due : (r : Records) (left : K) (error : KeepError) → IsBegun g first r left → (error ≡ Memory) ⊎ (error ≡ Corrupt) → (error ≡ Corrupt → IsLawful r → ⊥) → IsDue g limits now first error left
-  unfit_due r left Memory begun which unlawful = tt
-  unfit_due r left Disk begun (inl e) unlawful = absurd cc
-  unfit_due r left Disk begun (inr e) unlawful = absurd cc
-  unfit_due r left Size begun (inl e) unlawful = absurd cc
-  unfit_due r left Size begun (inr e) unlawful = absurd cc
-  unfit_due r left Corrupt begun which unlawful = inr (record { loaded = left; records = r; load = begun.load; why = inl (unlawful refl) })
-  unfit_due r left Schema begun (inl e) unlawful = absurd cc
-  unfit_due r left Schema begun (inr e) unlawful = absurd cc
-
-  -- what was loaded is refused before the store is told
-  pub refused_first : (r : Records) (left : K) (error : KeepError) → IsBegun g first r left → (error ≡ Memory) ⊎ (error ≡ Corrupt) → (error ≡ Corrupt → IsLawful r → ⊥) → Opened g limits now first (Err (left, error))
-  refused_first r left error begun which unlawful = opened_err error left (record {
-    due = unfit_due r left error begun which unlawful;
+  -- there is no memory for what was loaded
+  pub refused_first : (r : Records) (left : K) → IsBegun g first r left → Opened g limits now first (Err (left, Memory))
+  refused_first r left begun = opened_err Memory left (record {
+    due = tt;
     same = λ fine h held sound. begun.same h held;
     crash = λ after may sound. inl (begun.crash after may);
   })
@@ -103,7 +81,7 @@ module _ {K : Type 0} (g : Ghosts K) (limits : Limits) (now : ℕ) (first : K) w
   store_due r loaded left Memory begun spent schema cause = tt
   store_due r loaded left Disk begun spent schema cause = inr (record { loaded = loaded; records = r; load = begun.load; counted = cause (inl refl) })
   store_due r loaded left Size begun spent schema cause = inr (record { loaded = loaded; records = r; load = begun.load; counted = cause (inr refl) })
-  store_due r loaded left Corrupt begun spent schema cause = inr (record { loaded = loaded; records = r; load = begun.load; why = inr (spent refl) })
+  store_due r loaded left Corrupt begun spent schema cause = inr (record { loaded = loaded; records = r; load = begun.load; spent = spent refl })
   store_due r loaded left Schema begun spent schema cause = absurd (schema refl)
 
   -- or the store refuses the opening

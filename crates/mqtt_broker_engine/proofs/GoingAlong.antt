@@ -1,6 +1,6 @@
 -- What goes along with a broker, its index and the moment before which nothing is due, goes along with an alike one: neither asks for anything
 -- of what waiting copies say.
-use Rattle.std.proofs.Common.{◌≡◌, ℕ, List, [], ◌∷◌, sym, ap, ◌∙◌}
+use Rattle.std.proofs.Common.{◌≡◌, ℕ, List, [], ◌∷◌, refl, sym, ap, ◌∙◌}
 use Rattle.std.specs.Prelude.{◌-◌, ◌/◌}
 use Rattle.std.specs.List.{AllByRecursion}
 use Rattle.mqtt_flow.specs.Outbound.{is_past, is_waiting}
@@ -9,10 +9,22 @@ use Rattle.mqtt_records_message.specs.Queue.{CopyRow}
 use Rattle.mqtt_records.specs.declared.records.Records.{Records}
 use Rattle.mqtt_records.specs.declared.session.Session.{Session}
 use Rattle.mqtt_rules.specs.Routing.{subscriber_of, subscribers}
+use Rattle.mqtt_rules.specs.State.{Broker}
+use Rattle.mqtt_rules.proofs.contents.LawfulContents.{lawful_contents}
+use Rattle.mqtt_rules.proofs.fit.LawfulRecords.{lawful_coherent}
+use Rattle.mqtt_rules.proofs.numbers.Copies.{each_more}
 use Rattle.mqtt_rules_alike_laws.specs.Alike.{Each, AlikeRows, AlikeSessions, AlikeRecords, with_queue, with_sessions}
 use Rattle.mqtt_rules_alike_laws.proofs.Pairs.{map_same}
 use Rattle.mqtt_rules_alike_laws.proofs.States.{by_queue, by_sessions}
+use Rattle.mqtt_rules_filling_laws.proofs.Equivalence.{broker_back}
+use Rattle.mqtt_broker_step.specs.Subscribing.{HasEachFilterOnce}
 use Rattle.mqtt_broker_clock.specs.Quiet.{AreQuiet, AreQuietBefore, IsFresh, IsQuiet}
+use Rattle.mqtt_broker_calls.specs.Ready.{HasLawfulSources}
+use Rattle.mqtt_broker_calls.proofs.Sources.{stored_sources}
+use Rattle.mqtt_broker_index.specs.Following.{CanBeIndexed, HasAsked}
+use Rattle.mqtt_broker_index.proofs.Followed.{indexed_lawful}
+use Rattle.mqtt_broker_alike_laws.proofs.Ready.{records_coherent, records_sourced}
+use Rattle.mqtt_broker_engine.specs.Over.{AreOfLawful}
 
 -- ---- lists that are alike one by one
 
@@ -49,3 +61,21 @@ quiet_alike_at now r ss h q = record {
 pub quiet_alike : (limit : ℕ) (r o : Records) → AlikeRecords r o → AreQuietBefore limit r → AreQuietBefore limit o
 quiet_alike limit r o h quiet = λ now before.
     by_sessions (λ (x : Records). AreQuiet now x) r (λ ss i. quiet_alike_at now r ss i (quiet now before)) o h
+
+-- ---- what can be indexed
+
+abbrev bare : Records → Broker
+bare r = record { records = r; lines = []; given = 0; now = 0; tellings = [] }
+
+back : (some whole : Records) → AlikeRecords some whole → Each AlikeSessions whole.sessions some.sessions
+back some whole h = (broker_back (bare some) (bare whole) (record { rest = refl; records = h })).records.sessions
+
+-- records that are alike to lawful ones can be indexed
+pub indexed_alike : (some : Records) → AreOfLawful some → CanBeIndexed some
+indexed_alike some h =
+    let sourced = records_sourced some h.whole h.alike (stored_sources h.whole (lawful_contents h.whole h.lawful)) in
+    record {
+      ordered = (records_coherent some h.whole h.alike (lawful_coherent h.whole h.lawful)).ordered;
+      filters = sessions_alike HasEachFilterOnce (λ s q i k. record { differ = k.differ }) h.whole.sessions some.sessions (back some h.whole h.alike) (indexed_lawful h.whole h.lawful).filters;
+      asked = each_more HasLawfulSources HasAsked (λ s its. its.subscriptions) some.sessions sourced.sessions;
+    }

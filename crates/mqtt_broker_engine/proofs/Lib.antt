@@ -8,7 +8,6 @@ pub mod Joined
 pub mod Opened
 pub mod Going
 pub mod Stamped
-pub mod Storing
 pub mod Linked
 pub mod GoingAlong
 pub mod Telling
@@ -22,5 +21,6 @@ pub mod Reading
 pub mod Resting
 pub mod Pumps
 pub mod Answering
+pub mod Over
 pub mod Begun
 pub mod Holders

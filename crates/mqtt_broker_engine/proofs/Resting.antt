@@ -17,7 +17,7 @@ use Rattle.mqtt_rules_alike_laws.specs.Alike.{AlikeBrokers, with_records, with_s
 use Rattle.mqtt_rules_alike_laws.specs.Slim.{slim_broker, slim_session}
 use Rattle.mqtt_rules_alike_laws.proofs.Steps.{step_alike}
 use Rattle.mqtt_rules_filling_laws.specs.Filling.{filled}
-use Rattle.mqtt_rules_filling_laws.proofs.Equivalence.{broker_itself, slim_through}
+use Rattle.mqtt_rules_filling_laws.proofs.Equivalence.{slim_through}
 use Rattle.mqtt_rules_filling_laws.proofs.SlimAgain.{broker_once}
 use Rattle.mqtt_rules_filling_laws.proofs.Steps.{moment_alike}
 use Rattle.mqtt_broker_hand.specs.Hand.{Hand, SayWhatIsStored, at_hand_of}
@@ -34,7 +34,7 @@ use Rattle.mqtt_broker_engine.specs.Calling.{Called, IsAnswered, IsOn, Tells}
 use Rattle.mqtt_broker_engine.specs.Running.{Running}
 use Rattle.mqtt_broker_engine.proofs.Called.{answered_for_lines}
 use Rattle.mqtt_broker_engine.proofs.Linked.{first_members, link_records, link_unspent, linked_step, passed_over}
-use Rattle.mqtt_broker_engine.specs.Finishing.{GoesAlong, HasWhole, IsAtRest}
+use Rattle.mqtt_broker_engine.specs.Finishing.{GoesAlong, HasWhole, HoldsWhole, IsAtRest}
 use Rattle.mqtt_broker_engine.specs.Viewing.{viewed}
 use Rattle.mqtt_broker_engine.specs.declared.parts.EngineParts.{EngineParts}
 use Rattle.mqtt_broker_engine.proofs.Finished.{goes_slim, view_is}
@@ -239,15 +239,15 @@ nothing_says hand r empty birth place content is =
     absurd cc
 
 -- it is at rest
-pub over_rest : {K : Type 0} (g : Ghosts K) (p : EngineParts K) (limits : Limits) (b : Broker) → IsSound limits b → g.is_loaded p.keep → g.holds p.keep b.records → Serves p.index.sessions (subscribers b.records) → p.quiet ≡ 0
+pub over_rest : {K : Type 0} (g : Ghosts K) (p : EngineParts K) (limits : Limits) (b whole : Broker) → HoldsWhole g p.keep limits b whole → Serves p.index.sessions (subscribers b.records) → p.quiet ≡ 0
     → ((birth : ℕ) → at_hand_of birth p.hand ≡ nothing_waits) → p.step ≡ at_rest limits (slim_broker b) → IsAtRest g p
-over_rest g p limits b sound is_loaded holds serves zero empty is =
-    let alike = slim_through b b (broker_itself b) in
+over_rest g p limits b whole h serves zero empty is =
+    let alike = slim_through b whole h.alike in
     let goes = goes_slim b p (record { serves = λ fresh. serves; quiet = λ now before. absurd (omega (arith, before, zero)) }) in
     subst (λ (t : Stepping). IsAtRest g (record p { step = t })) (sym is) (record {
       rest = refl;
       slim = broker_once b;
-      sound = record { whole = b; alike = alike; sound = sound };
-      its = λ runs. record { whole = b; its = record { alike = alike; sound = sound; loaded = is_loaded; holds = holds }; at_hand = λ device. nothing_says p.hand b.records empty };
+      sound = record { whole = whole; alike = alike; sound = h.sound };
+      its = λ runs. record { whole = whole; its = record { alike = alike; sound = h.sound; loaded = h.loaded; holds = h.holds }; at_hand = λ device. nothing_says p.hand whole.records empty };
       goes = record { serves = goes.serves; quiet = goes.quiet };
     })

@@ -3,7 +3,7 @@ use Rattle.std.proofs.Common.{◌≡◌, ℕ, false, ◌⊎◌, List, [], ◌∷
 use Rattle.mqtt_records_lawful.specs.Lawful.{IsLawful}
 use Rattle.mqtt_records.specs.declared.change.Change.{Change}
 use Rattle.mqtt_records.specs.declared.records.Records.{Records}
-use Rattle.mqtt_records.specs.Records.{FitAll}
+use Rattle.mqtt_records.specs.Records.{FitAll, changed_all}
 use Rattle.mqtt_records.specs.Contents.{FitContents}
 use Rattle.mqtt_records.specs.Saying.{AllSayable}
 use Rattle.mqtt_routes.specs.Subscriptions.{Subscriber}
@@ -18,13 +18,18 @@ use Rattle.mqtt_rules.proofs.contents.LawfulContents.{lawful_contents}
 use Rattle.mqtt_rules.proofs.fit.LawfulRecords.{lawful_coherent, lawful_accepted}
 use Rattle.mqtt_rules.proofs.fit.RowsFit.{opening_fits}
 use Rattle.mqtt_rules_sharing_laws.proofs.Steps as sharing
+use Rattle.mqtt_rules_alike_laws.specs.Alike.{AlikeBrokers, AlikeRecords}
+use Rattle.mqtt_rules_alike_laws.proofs.Steps.{opened_alike}
+use Rattle.mqtt_rules_filling_laws.proofs.Steps.{opening_stored, opening_written}
 use Rattle.mqtt_rules.proofs.contents.SayableRows.{opening_said}
 use Rattle.mqtt_rules.proofs.contents.SpelledContents.{rows_are as row_sizes}
 use Rattle.mqtt_rules.proofs.numbers.Counters.{moment_stays, now_stays}
 use Rattle.mqtt_broker_step.specs.declared.fault.StepFault.{StepFault}
 use Rattle.mqtt_broker_step.specs.declared.fault.StepFault.TheVariants.{Memory, Spent}
-use Rattle.mqtt_broker_step.specs.Stepping.{CanStore, Stepping, at_rest, did, env_in, with_stamp}
+use Rattle.mqtt_broker_step.specs.Stepping.{CanStore, Stepping, did, env_in, with_stamp}
+use Rattle.mqtt_broker_calls.specs.Sound.{IsSound}
 use Rattle.mqtt_broker_calls.proofs.CallActs.{spent_stamped}
+use Rattle.mqtt_broker_calls.proofs.SoundLaw.{opening_sound}
 use Rattle.mqtt_broker_index.specs.Indexing.{Serves}
 use Rattle.mqtt_broker_engine.specs.Closing.{DidOpen, DidSome, IsLeftOpen, IsStoredAfter, LeftSome, resting}
 
@@ -69,64 +74,57 @@ module _ (limits : Limits) (now : ℕ) (r : Records) (old : Stepping) (begun : o
     spent = λ e. let no : Memory ≡ Spent = sym memory ∙ e in absurd cc;
   }
 
--- ---- what the store is told
+-- ---- what the store is told, which has records that are alike
 
-module _ (limits : Limits) (now : ℕ) (r : Records) (s : Stepping) (h : DidOpen limits now r s) where
+module _ (limits : Limits) (now : ℕ) (some whole : Records) (alike : AlikeRecords some whole) (s : Stepping) (h : DidOpen limits now some s) where
   abbrev its : List Deed
-  its = opening_deeds limits h.choice now r
+  its = opening_deeds limits h.choice now some
 
-  rows_are : s.rows ≡ rows_written its (unopened now r)
+  -- the whole broker after its opening
+  abbrev pub whole_after : Broker
+  whole_after = opened limits h.choice now whole
+
+  rows_are : s.rows ≡ rows_written its (unopened now some)
   rows_are =
-      let before = unopened now r in
+      let before = unopened now some in
       ap (λ (t : Stepping). t.rows) h.is
-      ∙ ap (λ n. stamped n (after_all its before).records.moment (rows_of_all its r)) (now_stays its before)
-      ∙ ap (λ m. stamped before.now m (rows_of_all its r)) (moment_stays its before)
+      ∙ ap (λ n. stamped n (after_all its before).records.moment (rows_of_all its some)) (now_stays its before)
+      ∙ ap (λ m. stamped before.now m (rows_of_all its some)) (moment_stays its before)
 
-  broker_is : s.broker ≡ opened limits h.choice now r
-  broker_is = ap (λ (t : Stepping). t.broker) h.is
+  rows_whole : s.rows ≡ rows_written (opening_deeds limits h.choice now whole) (unopened now whole)
+  rows_whole = rows_are ∙ opening_written limits h.choice now some whole alike
 
-  start_is : s.start ≡ unopened now r
-  start_is = ap (λ (t : Stepping). t.start) h.is
+  unspent_is : is_spent s.rows ≡ false → is_opening_spent limits h.choice now whole ≡ false
+  unspent_is e = ap is_spent (sym rows_whole) ∙ e
 
-  unspent_is : is_spent s.rows ≡ false → is_opening_spent limits h.choice now r ≡ false
-  unspent_is e = ap is_spent (sym rows_are) ∙ e
-
-  -- its rows fit what was stored
-  open_fits : AreWithin limits → IsLawful r → is_spent s.rows ≡ false → FitAll s.rows s.start.records
-  open_fits within lawful e =
-      subst (λ (b : Broker). FitAll s.rows b.records) (sym start_is)
-      (subst (λ (rows : List Change). FitAll rows r) (sym rows_are) (opening_fits limits h.choice now r within (lawful_coherent r lawful) (unspent_is e)))
-
-  -- and can be said in a table
-  open_sayable : IsLawful r → AllSayable s.rows
-  open_sayable lawful = subst AllSayable (sym rows_are) (opening_said of_rows row_sizes limits h.choice now r (lawful_contents r lawful))
-
-  -- and say what is said under a publication's number
-  open_contents : IsLawful r → FitContents s.rows s.start.records
-  open_contents lawful =
-      subst (λ (b : Broker). FitContents s.rows b.records) (sym start_is)
-      (subst (λ (rows : List Change). FitContents rows r) (sym rows_are) (sharing.opening_fits limits h.choice now r lawful.shared (lawful_accepted r lawful)))
-
-  -- so they can be stored over what stood when it began
-  pub open_can_store : AreWithin limits → IsLawful r → is_spent s.rows ≡ false → CanStore s.rows s.start.records
-  open_can_store within lawful e = record { fit = open_fits within lawful e; sayable = open_sayable lawful; contents = open_contents lawful }
-
-  -- once it is stored it is an opening of the broker
-  pub open_is : (new : Stepping) → is_spent s.rows ≡ false → new ≡ at_rest s.limits s.broker → BrokerOpening limits r now new.broker
-  open_is new e is = record {
-    choice = h.choice;
-    unspent = unspent_is e;
-    new_is = ap (λ (t : Stepping). t.broker) is ∙ broker_is;
+  -- its rows can be stored over what the store has
+  pub open_can_store : AreWithin limits → IsLawful whole → is_spent s.rows ≡ false → CanStore s.rows whole
+  open_can_store within lawful e = record {
+    fit = subst (λ (rows : List Change). FitAll rows whole) (sym rows_whole) (opening_fits limits h.choice now whole within (lawful_coherent whole lawful) (unspent_is e));
+    sayable = subst AllSayable (sym rows_whole) (opening_said of_rows row_sizes limits h.choice now whole (lawful_contents whole lawful));
+    contents = subst (λ (rows : List Change). FitContents rows whole) (sym rows_whole) (sharing.opening_fits limits h.choice now whole lawful.shared (lawful_accepted whole lawful));
   }
 
-  -- a crash leaves what was there before, or what is stored after it
-  pub open_left : (after : Records) → is_spent s.rows ≡ false → (after ≡ s.start.records) ⊎ (after ≡ s.broker.records) → (after ≡ r) ⊎ IsStoredAfter limits now r after
-  open_left after e (inl same) = inl (same ∙ ap (λ (b : Broker). b.records) start_is)
-  open_left after e (inr more) = inr (record { choice = h.choice; unspent = unspent_is e; is = more ∙ ap (λ (b : Broker). b.records) broker_is })
+  -- and make of it what the opening of the whole records leaves
+  pub open_makes : changed_all s.rows whole ≡ whole_after.records
+  open_makes = ap (λ (rows : List Change). changed_all rows whole) rows_are ∙ opening_stored limits h.choice now some whole alike
 
-  -- it began with these records
-  pub open_start : s.start.records ≡ r
-  open_start = ap (λ (b : Broker). b.records) start_is
+  -- that is an opening
+  pub open_is : is_spent s.rows ≡ false → BrokerOpening limits whole now whole_after
+  open_is e = record { choice = h.choice; unspent = unspent_is e; new_is = refl }
+
+  -- which is sound
+  pub open_sound : AreWithin limits → IsLawful whole → is_spent s.rows ≡ false → IsSound limits whole_after
+  open_sound within lawful e = opening_sound limits h.choice now whole within lawful (unspent_is e)
+
+  -- and alike to what the step left
+  pub open_alike : AlikeBrokers s.broker whole_after
+  open_alike = subst (λ (b : Broker). AlikeBrokers b whole_after) (sym (ap (λ (t : Stepping). t.broker) h.is)) (opened_alike limits h.choice now some whole alike)
+
+  -- a crash leaves what was there before, or what is stored after it
+  pub open_left : (after : Records) → is_spent s.rows ≡ false → (after ≡ whole) ⊎ (after ≡ changed_all s.rows whole) → (after ≡ whole) ⊎ IsStoredAfter limits now whole after
+  open_left after e (inl same) = inl same
+  open_left after e (inr more) = inr (record { choice = h.choice; unspent = unspent_is e; is = more ∙ open_makes })
 
   -- under these limits
   pub open_limits : s.limits ≡ limits

@@ -5,4 +5,5 @@ pub mod Finishing
 pub mod Pumping
 pub mod Sessions
 pub mod Closing
+pub mod Over
 pub mod Opening

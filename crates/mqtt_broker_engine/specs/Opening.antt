@@ -13,8 +13,8 @@ use Rattle.mqtt_broker_engine.specs.Calling.{KeepsLines}
 use Rattle.mqtt_broker_engine.specs.Running.{Running}
 use Rattle.mqtt_broker_engine.specs.Closing.{IsStoredAfter}
 
--- what a load answered, and how it left the store: while the device is sound it answers what the store has; and a device that is
--- sound after it was sound before
+-- the records that a load answered slim, and how it left the store: while the device is sound they are what the store has; and a
+-- device that is sound after it was sound before
 pub record IsLoad {K : Type 0} (g : Ghosts K) (keep : K) (r : Records) (loaded : K) : Type 0 where
   pub exact : (h : Records) → g.holds keep h → g.is_sound loaded → r ≡ h
   pub found : g.is_sound loaded → g.leaves keep r
@@ -48,12 +48,12 @@ pub record IsOpened {K : Type 0} (g : Ghosts K) (limits : Limits) (now : ℕ) (k
 
 -- ---- a refusal
 
--- records that no opening can begin with: they break their rules, or a number of their opening is spent
+-- what was loaded has an opening that spends a number
 pub record IsUnfit {K : Type 0} (g : Ghosts K) (limits : Limits) (now : ℕ) (keep : K) : Type 0 where
   pub loaded : K
   pub records : Records
   pub load : IsLoad g keep records loaded
-  pub why : (IsLawful records → ⊥) ⊎ SpentOpening limits records now
+  pub spent : SpentOpening limits records now
 
 -- the store counted a failure after it was loaded
 pub record HasFailedSince {K : Type 0} (g : Ghosts K) (keep left : K) : Type 0 where

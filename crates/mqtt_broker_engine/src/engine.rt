@@ -1,15 +1,15 @@
 //! The engine: a broker over a store that has what its waiting copies say, one call after the other (MQTT 5.0, 3.3, 4.1).
 ghost use Rattle.std.specs.Prelude.{◌≡◌, None, false, is_some, option_copied};
 ghost use Rattle.mqtt_rules.specs.Routing.{subscribers};
-ghost use Rattle.mqtt_rules.specs.State.{line_at};
+ghost use Rattle.mqtt_rules.specs.State.{Broker, line_at};
 ghost use Rattle.mqtt_rules.specs.Step.{BrokerStep, Call, NewLine, at_moment, copy_of, nothing_told};
 ghost use Rattle.mqtt_rules_alike_laws.specs.Slim.{slim_broker};
 ghost use Rattle.mqtt_rules_filling_laws.specs.Filling.{filled};
 ghost use Rattle.mqtt_broker_step.specs.Doing.{next_line};
 ghost use Rattle.mqtt_broker_step.specs.Stepping.{at_rest};
 ghost use Rattle.mqtt_broker_index.specs.Indexing.{Serves};
-ghost use Rattle.mqtt_broker_calls.specs.Sound.{IsSound};
 ghost use Rattle.mqtt_broker_engine.specs.Calling.{Called, IsOn, Tells};
+ghost use Rattle.mqtt_broker_engine.specs.Finishing.{HoldsWhole};
 
 use crate::holding::copy_of;
 use crate::outcome::{Outcome, nothing};
@@ -45,8 +45,8 @@ impl<K: Keep> Model for Engine<K> {
 }
 
 impl<K: Keep> Engine<K> {
-    /// An engine whose store holds what is stored, with no step under way, and with the index of the subscriptions
-    /// that stand. Rows are made slim: what waiting copies say is the store's. Takes no memory.
+    /// An engine whose store holds a whole broker that is alike to the step's, with no step under way, and with the index
+    /// of the subscriptions that stand. Rows are made slim: what waiting copies say is the store's. Takes no memory.
     pub(crate) fn over(
         alloc: Global,
         hasher: RandomState,
@@ -55,9 +55,7 @@ impl<K: Keep> Engine<K> {
         index: Index,
     ) -> Engine<K>
         requires rest { step ≡ at_rest step.limits step.broker }
-        requires sound { IsSound step.limits step.broker }
-        requires loaded { K.is_loaded keep }
-        requires holds { K.holds keep step.broker.records }
+        requires whole { (whole : Broker) × HoldsWhole K.Keep keep step.limits step.broker whole }
         requires serves { Serves index.sessions (subscribers step.broker.records) }
         ensures { result ≡ record {
           keep = keep;

@@ -1,16 +1,14 @@
-//! A broker is opened over what a store holds, and its rows become slim (MQTT 5.0, 3.3, 4.1).
-ghost use Rattle.std.specs.Prelude.{◌≡◌, ◌≢◌, ◌⊎◌, ℕ, IfOk, IfErr, OnOk, OnErr, IsErrOf};
-ghost use Rattle.mqtt_records_lawful.specs.Lawful.{IsLawful};
+//! A broker is opened over what a store holds, on slim rows (MQTT 5.0, 3.3, 4.1).
+ghost use Rattle.std.specs.Prelude.{◌≡◌, ℕ, IfOk, IfErr, OnOk};
+ghost use Rattle.mqtt_records.specs.PassedOn.{StoresPassedOn};
 ghost use Rattle.mqtt_records.specs.declared.records.Records.{Records as TheRecords};
 ghost use Rattle.mqtt_rules.specs.Laws.{AreWithin};
 ghost use Rattle.mqtt_rules.specs.Routing.{subscribers};
-ghost use Rattle.mqtt_rules.specs.Step.{BrokerOpening, SpentOpening};
 ghost use Rattle.mqtt_rules.specs.declared.Limits.{Limits as TheLimits};
-ghost use Rattle.mqtt_records.specs.PassedOn.{StoresPassedOn};
 ghost use Rattle.mqtt_broker_step.specs.Stepping.{at_rest};
-ghost use Rattle.mqtt_broker_calls.specs.Sound.{IsSound};
 ghost use Rattle.mqtt_broker_index.specs.Indexing.{Serves};
-ghost use Rattle.mqtt_broker_engine.specs.Closing.{DidOpen, IsLeftOpen, IsStoredAfter, resting};
+ghost use Rattle.mqtt_broker_engine.specs.Closing.{DidOpen, IsLeftOpen, resting};
+ghost use Rattle.mqtt_broker_engine.specs.Over.{AreOfLawful, HasOpened, IsOpeningTold, IsUnopened};
 ghost use Rattle.mqtt_broker_engine.specs.Opening.{IsBegun, Opened};
 
 use crate::closing::close_all;
@@ -18,45 +16,28 @@ use crate::engine::Engine;
 use mqtt_base::LAST_NUMBER;
 use mqtt_broker_index::Index;
 use mqtt_broker_step::{Step, StepFault, commit_kept};
-use mqtt_records::{Records, records_pass_on};
+use mqtt_records::Records;
 use mqtt_records_keep::{Keep, KeepError};
-use mqtt_records_lawful::is_lawful;
 use mqtt_rules::Limits;
 use std::alloc::Global;
 use std::hash::RandomState;
 
-/// A broker at rest over records that keep their rules, at the greatest of their moment and the one handed in.
-/// `Memory` (1), and `Corrupt` (4) if they don't.
+/// A broker at rest over what a store was loaded with, at the greatest of its moment and the one handed in. `Memory` (1)
+/// alone refuses.
 fn unopened(alloc: Global, records: Records, now: u64, limits: Limits) -> Result<Step, KeepError>
     ensures step { IfOk result (λ step. step ≡ resting limits now records) }
-    ensures lawful { OnOk result (IsLawful records) }
-    ensures passed { OnOk result (StoresPassedOn records) }
-    ensures corrupt { IsErrOf result KeepError.Corrupt → IsLawful records → ⊥ }
-    ensures refused { IfErr result (λ error. (error ≡ KeepError.Memory) ⊎ (error ≡ KeepError.Corrupt)) }
+    ensures refused { IfErr result (λ error. error ≡ KeepError.Memory) }
 {
-    match is_lawful(alloc, &records) {
-        Ok(true) => {
-            records_pass_on(&records);
-            let moment = records.moment.min(LAST_NUMBER).max(now.min(LAST_NUMBER));
-            match Step::new(alloc, limits, records, moment) {
-                Ok(step) => Ok(step),
-                Err(_) => Err(KeepError::Memory),
-            }
-        }
-        Ok(false) => {
-            drop(records);
-            Err(KeepError::Corrupt)
-        }
-        Err(_) => {
-            drop(records);
-            Err(KeepError::Memory)
-        }
+    let moment = records.moment.min(LAST_NUMBER).max(now.min(LAST_NUMBER));
+    match Step::new(alloc, limits, records, moment) {
+        Ok(step) => Ok(step),
+        Err(_) => Err(KeepError::Memory),
     }
 }
 
 /// The opening of a broker at rest is done, with its moment.
 fn open_stamped(alloc: Global, index: &mut Index, step: &mut Step) -> Result<(), StepFault>
-    requires lawful { IsLawful step.old.broker.records }
+    requires lawful { AreOfLawful step.old.broker.records }
     requires serves { Serves index.old.sessions (subscribers step.old.broker.records) }
     ensures ok { (limits : TheLimits) (now : ℕ) (r : TheRecords) → step.old ≡ resting limits now r
         → OnOk result (DidOpen limits now r step.new) }
@@ -68,24 +49,14 @@ fn open_stamped(alloc: Global, index: &mut Index, step: &mut Step) -> Result<(),
     step.stamp()
 }
 
-/// The store is told of an opening that was done.
+/// The store is told of an opening that was done on rows that may say less than it has.
 fn tell<K: Keep>(keep: &mut K, step: &mut Step) -> Result<(), KeepError>
-    requires loaded { K.is_loaded keep.old }
-    requires holds { K.holds keep.old step.old.start.records }
-    requires opened { (limits : TheLimits) × (now : ℕ) × (r : TheRecords) × AreWithin limits × IsLawful r
-        × DidOpen limits now r step.old }
-    ensures opened { (limits : TheLimits) (now : ℕ) (r : TheRecords) → DidOpen limits now r step.old
-        → OnOk result (BrokerOpening limits r now step.new.broker) }
+    requires opened { (limits : TheLimits) × (now : ℕ) × (whole : TheRecords)
+        × HasOpened K.Keep limits now whole keep.old step.old }
+    ensures told { (limits : TheLimits) (now : ℕ) (whole : TheRecords)
+        → HasOpened K.Keep limits now whole keep.old step.old
+        → IsOpeningTold K.Keep limits now whole keep.old result keep.new step.new }
     ensures rest { OnOk result (step.new ≡ at_rest step.old.limits step.old.broker) }
-    ensures stored { OnOk result (K.is_loaded keep.new × K.holds keep.new step.old.broker.records) }
-    ensures same { (IsErrOf result KeepError.Disk → ⊥) → OnErr result (K.holds keep.new step.old.start.records) }
-    ensures refused { (IsErrOf result KeepError.Corrupt → ⊥)
-        × (IsErrOf result KeepError.Schema → ⊥) }
-    ensures cause { IsErrOf result KeepError.Disk ⊎ IsErrOf result KeepError.Size
-        → K.counted keep.new ≢ K.counted keep.old }
-    ensures crash { (limits : TheLimits) (now : ℕ) (r : TheRecords) → DidOpen limits now r step.old
-        → (after : TheRecords) → K.leaves keep.new after → (after ≡ r) ⊎ IsStoredAfter limits now r after }
-    ensures sound { K.is_sound keep.new → K.is_sound keep.old }
 {
     match commit_kept(keep, step) {
         Ok(told) => {
@@ -103,29 +74,13 @@ fn store<K: Keep>(
     index: &mut Index,
     step: &mut Step,
 ) -> Result<(), KeepError>
-    requires loaded { K.is_loaded keep.old }
-    requires holds { K.holds keep.old step.old.broker.records }
-    requires begun { (now : ℕ) × (step.old ≡ resting step.old.limits now step.old.broker.records) }
-    requires within { AreWithin step.old.limits }
-    requires lawful { IsLawful step.old.broker.records }
+    requires begun { (limits : TheLimits) × (now : ℕ) × (whole : TheRecords)
+        × IsUnopened K.Keep limits now whole keep.old step.old }
     requires serves { Serves index.old.sessions (subscribers step.old.broker.records) }
-    ensures opened { (now : ℕ) → step.old ≡ resting step.old.limits now step.old.broker.records
-        → OnOk result (BrokerOpening step.old.limits step.old.broker.records now step.new.broker) }
-    ensures rest { OnOk result (step.new ≡ at_rest step.old.limits step.new.broker) }
-    ensures stored { OnOk result (K.is_loaded keep.new × K.holds keep.new step.new.broker.records) }
+    ensures told { (limits : TheLimits) (now : ℕ) (whole : TheRecords)
+        → IsUnopened K.Keep limits now whole keep.old step.old
+        → IsOpeningTold K.Keep limits now whole keep.old result keep.new step.new }
     ensures serves { OnOk result (Serves index.new.sessions (subscribers step.new.broker.records)) }
-    ensures same { (IsErrOf result KeepError.Disk → ⊥)
-        → OnErr result (K.holds keep.new step.old.broker.records) }
-    ensures corrupt { (now : ℕ) → step.old ≡ resting step.old.limits now step.old.broker.records
-        → IsErrOf result KeepError.Corrupt
-        → SpentOpening step.old.limits step.old.broker.records now }
-    ensures schema { IsErrOf result KeepError.Schema → ⊥ }
-    ensures cause { IsErrOf result KeepError.Disk ⊎ IsErrOf result KeepError.Size
-        → K.counted keep.new ≢ K.counted keep.old }
-    ensures crash { (now : ℕ) → step.old ≡ resting step.old.limits now step.old.broker.records
-        → (after : TheRecords) → K.leaves keep.new after → (after ≡ step.old.broker.records)
-        ⊎ IsStoredAfter step.old.limits now step.old.broker.records after }
-    ensures sound { K.is_sound keep.new → K.is_sound keep.old }
 {
     match open_stamped(alloc, index, step) {
         Ok(()) => tell(keep, step),
@@ -142,16 +97,12 @@ fn open_with<K: Keep>(
     mut index: Index,
     hasher: RandomState,
 ) -> Result<Engine<K>, (K, KeepError)>
-    requires loaded { K.is_loaded keep }
-    requires holds { K.holds keep step.broker.records }
-    requires begun { (now : ℕ) × (step ≡ resting step.limits now step.broker.records) }
-    requires within { AreWithin step.limits }
-    requires lawful { IsLawful step.broker.records }
-    requires passed { StoresPassedOn step.broker.records }
+    requires begun { (limits : TheLimits) × (now : ℕ) × (whole : TheRecords)
+        × IsUnopened K.Keep limits now whole keep step }
     requires serves { Serves index.sessions (subscribers step.broker.records) }
-    ensures { (first : K) (now : ℕ) → step ≡ resting step.limits now step.broker.records
-        → IsBegun K.Keep first step.broker.records keep
-        → Opened K.Keep step.limits now first result }
+    ensures { (first : K) (limits : TheLimits) (now : ℕ) (whole : TheRecords)
+        → IsUnopened K.Keep limits now whole keep step → StoresPassedOn whole
+        → IsBegun K.Keep first whole keep → Opened K.Keep limits now first result }
 {
     match store(alloc, &mut keep, &mut index, &mut step) {
         Ok(()) => Ok(Engine::over(alloc, hasher, keep, step, index)),
@@ -170,15 +121,11 @@ fn open_step<K: Keep>(
     step: Step,
     hasher: RandomState,
 ) -> Result<Engine<K>, (K, KeepError)>
-    requires loaded { K.is_loaded keep }
-    requires holds { K.holds keep step.broker.records }
-    requires begun { (now : ℕ) × (step ≡ resting step.limits now step.broker.records) }
-    requires within { AreWithin step.limits }
-    requires lawful { IsLawful step.broker.records }
-    requires passed { StoresPassedOn step.broker.records }
-    ensures { (first : K) (now : ℕ) → step ≡ resting step.limits now step.broker.records
-        → IsBegun K.Keep first step.broker.records keep
-        → Opened K.Keep step.limits now first result }
+    requires begun { (limits : TheLimits) × (now : ℕ) × (whole : TheRecords)
+        × IsUnopened K.Keep limits now whole keep step }
+    ensures { (first : K) (limits : TheLimits) (now : ℕ) (whole : TheRecords)
+        → IsUnopened K.Keep limits now whole keep step → StoresPassedOn whole
+        → IsBegun K.Keep first whole keep → Opened K.Keep limits now first result }
 {
     match Index::over(alloc, hasher, &step) {
         Ok(index) => open_with(alloc, keep, step, index, hasher),
@@ -191,9 +138,9 @@ fn open_step<K: Keep>(
 
 /// Opens a broker over what a store holds (4.1). No session is connected from then on: each that the records show as
 /// connected is closed at the moment, in the order of births; a Will that is due is published, and a session whose end
-/// is due ends (3.1.2.11.2, 3.1.3.2.2). That is stored before it is answered. A refusal gives the store back, which has
-/// what it had, but if its device failed: `Memory` (1), `Disk` (2), `Size` (3), `Schema` (5), and `Corrupt` (4)
-/// if the records break their rules or a number would be above `LAST_NUMBER` (ours).
+/// is due ends (3.1.2.11.2, 3.1.3.2.2). That is stored before it is answered. What waiting copies say stays in the store.
+/// A refusal gives the store back, which has what it had, but if its device failed: `Memory` (1), `Disk` (2), `Size` (3),
+/// `Schema` (5), and `Corrupt` (4) if the records break their rules or a number would be above `LAST_NUMBER` (ours).
 pub fn open<K: Keep>(
     alloc: Global,
     mut keep: K,

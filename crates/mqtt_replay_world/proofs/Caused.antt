@@ -11,7 +11,7 @@ use Rattle.mqtt_records.specs.declared.records.Records.{Records}
 use Rattle.mqtt_rules.specs.State.{MemberChoice}
 use Rattle.mqtt_rules.specs.Step.{SpentOpening, is_opening_spent}
 use Rattle.mqtt_rules.specs.declared.Limits.{Limits}
-use Rattle.mqtt_broker_engine.specs.Opening.{HasFailed, IsUnfit}
+use Rattle.mqtt_broker_engine.specs.Opening.{HasFailed}
 use Rattle.mqtt_broker_engine.specs.Opening as opening
 use Rattle.mqtt_script.specs.declared.replay_fault.ReplayFault.{ReplayFault}
 use Rattle.mqtt_script.specs.declared.replay_fault.ReplayFault.TheVariants.{Read, Write, Memory, Store}
@@ -48,7 +48,7 @@ module _ {K : Type 0} (g : Ghosts K) where
     due_in w starts Memory due = tt
     due_in w starts Store due = in_its_run w starts due
 
--- ---- over a store that has nothing, counts no failure and refuses a load for want of memory alone
+-- ---- over a store that has nothing, counts no failure, and refuses a load for want of memory or of records that break their rules
 
 nothing_lawful : IsLawful nothing
 nothing_lawful = record {
@@ -68,21 +68,42 @@ nothing_fits : (limits : Limits) → (IsLawful nothing → ⊥) ⊎ SpentOpening
 nothing_fits limits (inl unlawful) = unlawful nothing_lawful
 nothing_fits limits (inr spent) = nothing_unspent limits spent
 
+-- what a store has breaks its rules, or has an opening that spends a number
+record HasUnfit {K : Type 0} (g : Ghosts K) (limits : Limits) (now : ℕ) (keep : K) : Type 0 where
+  records : Records
+  is : (h : Records) → g.holds keep h → records ≡ h
+  why : (IsLawful records → ⊥) ⊎ SpentOpening limits records now
+
+-- what it has breaks its rules
+pub record HasUnlawful {K : Type 0} (g : Ghosts K) (keep : K) : Type 0 where
+  pub records : Records
+  pub is : (h : Records) → g.holds keep h → records ≡ h
+  pub unlawful : IsLawful records → ⊥
+
 module _ {K : Type 0} (g : Ghosts K) (counts : (a b : K) → g.counted a ≡ g.counted b) (sound : (k : K) → g.is_sound k)
-    (refuses : (k : K) (e : KeepError) → g.refuses k e → e ≡ refusal.Memory) where
+    (refuses : (k : K) (e : KeepError) → g.refuses k e → (e ≡ refusal.Memory) ⊎ ((e ≡ refusal.Corrupt) × HasUnlawful g k)) where
   never_failed : (keep left : K) → HasFailed g keep left → ⊥
   never_failed keep left (inl other) = other (counts left keep)
   never_failed keep left (inr since) = since.counted (counts left since.loaded)
 
-  unfit_by : (limits : Limits) (now : ℕ) (keep left : K) (e : KeepError) → opening.IsDue g limits now keep e left → e ≢ refusal.Memory → IsUnfit g limits now keep
+  unfit_here : (limits : Limits) (now : ℕ) (keep : K) → (refusal.Corrupt ≡ refusal.Memory) ⊎ ((refusal.Corrupt ≡ refusal.Corrupt) × HasUnlawful g keep) → HasUnfit g limits now keep
+  unfit_here limits now keep (inl is) = absurd cc
+  unfit_here limits now keep (inr h) = record { records = h.1.records; is = h.1.is; why = inl h.1.unlawful }
+
+  no_schema : (keep : K) → (refusal.Schema ≡ refusal.Memory) ⊎ ((refusal.Schema ≡ refusal.Corrupt) × HasUnlawful g keep) → ⊥
+  no_schema keep (inl is) = absurd cc
+  no_schema keep (inr h) = let is = h.0 in absurd cc
+
+  unfit_by : (limits : Limits) (now : ℕ) (keep left : K) (e : KeepError) → opening.IsDue g limits now keep e left → e ≢ refusal.Memory → HasUnfit g limits now keep
   unfit_by limits now keep left refusal.Memory due other = absurd (other refl)
   unfit_by limits now keep left refusal.Disk due other = absurd (never_failed keep left due)
   unfit_by limits now keep left refusal.Size due other = absurd (never_failed keep left due)
-  unfit_by limits now keep left refusal.Corrupt (inl refused) other = absurd (other (refuses keep refusal.Corrupt (refused (sound left))))
-  unfit_by limits now keep left refusal.Corrupt (inr unfit) other = unfit
-  unfit_by limits now keep left refusal.Schema refused other = absurd (other (refuses keep refusal.Schema (refused (sound left))))
+  unfit_by limits now keep left refusal.Corrupt (inl refused) other = unfit_here limits now keep (refuses keep refusal.Corrupt (refused (sound left)))
+  unfit_by limits now keep left refusal.Corrupt (inr unfit) other =
+      record { records = unfit.records; is = λ h holds. unfit.load.exact h holds (sound unfit.loaded); why = inr unfit.spent }
+  unfit_by limits now keep left refusal.Schema refused other = absurd (no_schema keep (refuses keep refusal.Schema (refused (sound left))))
 
-  unfit_of : (limits : Limits) (now : ℕ) (keep : K) → IsUnopened g limits now keep → IsUnfit g limits now keep
+  unfit_of : (limits : Limits) (now : ℕ) (keep : K) → IsUnopened g limits now keep → HasUnfit g limits now keep
   unfit_of limits now keep u = unfit_by limits now keep u.left u.error u.refused.due u.not_memory
 
   in_a_run : IsStoreDue g → HasNumberCause
@@ -98,8 +119,7 @@ module _ {K : Type 0} (g : Ghosts K) (counts : (a b : K) → g.counted a ≡ g.c
     begins : IsUnopened g limits 0 keep → ⊥
     begins u =
         let unfit = unfit_of limits 0 keep u in
-        let none : unfit.records ≡ nothing = unfit.load.exact nothing empty (sound unfit.loaded) in
-        nothing_fits limits (subst (λ (r : Records). (IsLawful r → ⊥) ⊎ SpentOpening limits r 0) none unfit.why)
+        nothing_fits limits (subst (λ (r : Records). (IsLawful r → ⊥) ⊎ SpentOpening limits r 0) (unfit.is nothing empty) unfit.why)
 
     by_number : HasStoreCause g limits keep → HasNumberCause
     by_number (not_begun u) = absurd (begins u)

@@ -4,20 +4,25 @@ use Rattle.mqtt_rules.proofs.contents.LawfulContents.{lawful_contents}
 use Rattle.mqtt_rules.proofs.fit.LawfulRecords.{lawful_coherent}
 use Rattle.mqtt_broker_step.specs.declared.fault.StepFault.{StepFault}
 use Rattle.mqtt_broker_step.proofs.Doing.{if_err_too, on_ok}
-use Rattle.mqtt_broker_index.proofs.Followed.{indexed_lawful}
+use Rattle.mqtt_broker_alike_laws.proofs.Ready.{records_coherent, records_sourced}
 use Rattle.mqtt_broker_calls.proofs.Sources.{stored_sources}
 use Rattle.mqtt_broker_engine.specs.Closing.{IsLeftOpen}
+use Rattle.mqtt_broker_engine.proofs.GoingAlong.{indexed_alike}
 use Rattle.mqtt_broker_engine.proofs.Stamped.{left_of, left_stamp, opened_of, stamped_serves}
 use Rattle.mqtt_broker_engine.proofs.opening.open_stamped.Goals as goal
 
 pub close_all-requires-clause-coherent : goal.close_all-requires-clause-coherent
-close_all-requires-clause-coherent c = lawful_coherent c.args.step.now.broker.records c.requires.lawful
+close_all-requires-clause-coherent c =
+    let h = c.requires.lawful in
+    records_coherent c.args.step.now.broker.records h.whole h.alike (lawful_coherent h.whole h.lawful)
 
 pub close_all-requires-clause-sources : goal.close_all-requires-clause-sources
-close_all-requires-clause-sources c = stored_sources c.args.step.now.broker.records (lawful_contents c.args.step.now.broker.records c.requires.lawful)
+close_all-requires-clause-sources c =
+    let h = c.requires.lawful in
+    records_sourced c.args.step.now.broker.records h.whole h.alike (stored_sources h.whole (lawful_contents h.whole h.lawful))
 
 pub close_all-requires-clause-indexed : goal.close_all-requires-clause-indexed
-close_all-requires-clause-indexed c = indexed_lawful c.args.step.now.broker.records c.requires.lawful
+close_all-requires-clause-indexed c = indexed_alike c.args.step.now.broker.records c.requires.lawful
 
 pub returns-clause-ok : goal.returns-clause-ok
 returns-clause-ok c = λ limits now r begun.

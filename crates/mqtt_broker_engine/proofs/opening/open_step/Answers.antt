@@ -1,12 +1,12 @@
-use Rattle.std.proofs.Common.{refl, inl}
-use Rattle.mqtt_records_keep.specs.declared.keep.KeepError.TheVariants.{Memory}
-use Rattle.mqtt_broker_index.proofs.Followed.{indexed_lawful}
 use Rattle.mqtt_broker_engine.proofs.Answering.{refused_first}
+use Rattle.mqtt_broker_engine.proofs.GoingAlong.{indexed_alike}
+use Rattle.mqtt_broker_engine.proofs.Over.{begun_lawful}
 use Rattle.mqtt_broker_engine.proofs.opening.open_step.Goals as goal
 
 pub over-requires : goal.over-requires
-over-requires g c = indexed_lawful c.args.step.broker.records c.requires.lawful
+over-requires g c =
+    let h = c.requires.begun in
+    indexed_alike c.args.step.broker.records (begun_lawful g.K.Keep h.0 h.1 h.2 c.args.keep c.args.step h.3)
 
 pub returns-in-Err : goal.returns-in-Err
-returns-in-Err g c = λ first now begun load.
-    refused_first g.K.Keep c.args.step.limits now first c.args.step.broker.records c.args.keep Memory load (inl refl) (λ e. absurd cc)
+returns-in-Err g c = λ first limits now whole u passed begun. refused_first g.K.Keep limits now first whole c.args.keep begun

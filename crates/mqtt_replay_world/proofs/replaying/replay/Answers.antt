@@ -1,4 +1,4 @@
-use Rattle.std.proofs.Common.{ap, refl}
+use Rattle.std.proofs.Common.{ap, refl, inl, inr}
 use Rattle.std.proofs.lemmas.Result.{IfErr-weaker, IfOk-weaker}
 use Rattle.mqtt_records_keep.specs.InMemory.{InMemory}
 use Rattle.mqtt_world_headline_laws.proofs.Lives.{start_begins}
@@ -21,7 +21,7 @@ returns-clause-err g c =
 pub returns-clause-cause : goal.returns-clause-cause
 returns-clause-cause g c =
     IfErr-weaker c.replay_over.result _ _
-    (λ fault due. number_due _ (λ a b. refl) (λ keep. tt) (λ keep e is. is) c.args.limits _ (ap (λ (k : InMemory). k.records) c.in_ok-keep.ensures) fault due)
+    (λ fault due. number_due _ (λ a b. refl) (λ keep. tt) (λ keep e is. elim is [ inl memory ↦ inl memory | inr corrupt ↦ inr (corrupt.0, record { records = keep.records; is = λ h holds. holds; unlawful = corrupt.1 }) ]) c.args.limits _ (ap (λ (k : InMemory). k.records) c.in_ok-keep.ensures) fault due)
     c.replay_over.ensures.cause
 
 pub returns-in_err-keep-clause-err : goal.returns-in_err-keep-clause-err
