@@ -4,7 +4,7 @@ ghost use Rattle.std.specs.Prelude.{OnOk};
 use crate::broken::{Base, database_of};
 use crate::changes::{LONG, STEPS};
 use crate::seen::Seen;
-use crate::store::{Deed, Told, database, found, load, make, told_over};
+use crate::store::{Deed, Told, database, found, load_whole, make, told_over};
 use mqtt_records_keep::{Keep, KeepError};
 use mqtt_store::SqlKeep;
 use sqlite::Connection;
@@ -88,8 +88,8 @@ fn a_taking_over_that_is_interrupted_keeps_all(rt: HostRuntime) -> Result<(), Fa
 fn load_in_the_end<K: Keep>(keep: &mut K, alloc: Global) -> Result<Seen, KeepError>
     ensures { OnOk result (K.Keep.is_loaded keep.new) }
 {
-    match load(keep, alloc) {
-        Err(KeepError::Memory) => load(keep, alloc),
+    match load_whole(keep, alloc) {
+        Err(KeepError::Memory) => load_whole(keep, alloc),
         answer => answer,
     }
 }

@@ -3,7 +3,7 @@
 use crate::broken::{Base, database_of};
 use crate::changes::{LONG, SENT, STEPS};
 use crate::seen::Seen;
-use crate::store::{LOAD, act_over, database, found, load, make};
+use crate::store::{LOAD, act_over, database, found, load_whole, make};
 use mqtt_records_keep::{Keep, KeepError, MemKeep};
 use sqlite::{Alter, Connection, Error};
 use std::alloc::Global;
@@ -160,9 +160,9 @@ fn a_database_of_schema_1_is_taken_over(rt: HostRuntime) -> Result<(), Fail> {
 
 /// Loads, makes so many steps, and loads again.
 fn played<K: Keep>(keep: &mut K, alloc: Global, steps: usize) -> Result<Seen, KeepError> {
-    let _nothing = load(keep, alloc)?;
+    let _nothing = load_whole(keep, alloc)?;
     make(keep, alloc, 0, steps)?;
-    load(keep, alloc)
+    load_whole(keep, alloc)
 }
 
 /// What a store in memory finds after so many steps, and how many failures it counted.

@@ -68,12 +68,11 @@ fn with_copy(sum: u64, row: &CopyRow) -> u64 {
     let id = row.id();
     let mut sum = with(with_phase(sum, row.phase()), row.place());
     sum = with_cause(with(sum, id.publication), &id.cause);
-    sum = with(sum, row.qos() as u64);
-    // Of a slim row the rest isn't in memory.
-    match row.whole() {
-        Some(copy) => with_content(with(sum, u64::from(copy.retain)), &copy.content),
-        None => with(sum, 2),
-    }
+    sum = with(with(sum, row.qos() as u64), u64::from(row.retain()));
+    // Of a slim row the rest isn't in memory: the store is asked for it.
+    sum = with_bytes(sum, row.topic().as_str().as_bytes());
+    sum = with(sum, u64::from(row.whole().is_some()));
+    with(with(sum, row.payload_len() as u64), row.arrived())
 }
 
 fn with_session(sum: u64, session: &Session) -> u64 {

@@ -4,7 +4,8 @@ ghost use Rattle.sqlite.specs.Held.{state};
 ghost use Rattle.mqtt_store.specs.Holding.{IsLoaded};
 
 use crate::changes::{STEPS, add_changes};
-use crate::seen::{Seen, seen};
+use crate::seen::{Seen, seen, with};
+use crate::told::ask_all;
 use mqtt_records_keep::{Keep, KeepError};
 use mqtt_store::SqlKeep;
 use sqlite::{Alter, Connection, MemStore};
@@ -43,13 +44,26 @@ const SHUT: Told = Told {
     failures: 0,
 };
 
-/// Loads.
+/// Loads: what the slim rows say.
 pub(crate) fn load<K: Keep>(keep: &mut K, alloc: Global) -> Result<Seen, KeepError>
     ensures { OnOk result (K.Keep.is_loaded keep.new) }
 {
     let records = keep.load(alloc)?;
     let seen = seen(&records);
     drop(records);
+    Ok(seen)
+}
+
+/// All copies of the sessions of the course: a birth, a place and a limit.
+const ALL: [(u64, u64, u32); 2] = [(1, 0, u32::MAX), (2, 0, u32::MAX)];
+
+/// Loads, and asks what the copies say.
+pub(crate) fn load_whole<K: Keep>(keep: &mut K, alloc: Global) -> Result<Seen, KeepError>
+    ensures { OnOk result (K.Keep.is_loaded keep.new) }
+{
+    let mut seen = load(keep, alloc)?;
+    let told = ask_all(keep, alloc, &ALL)?;
+    seen[11] = with(seen[11], told);
     Ok(seen)
 }
 
@@ -99,7 +113,7 @@ fn make_within<S: Alter + Drop>(
     deed: Deed,
 ) -> (Result<Seen, KeepError>, Result<(), KeepError>) {
     keep.set_step_limit(None);
-    match load(keep, alloc) {
+    match load_whole(keep, alloc) {
         Ok(before) => {
             limit_loaded(keep, deed.limit);
             (Ok(before), make(keep, alloc, deed.from, deed.to))
@@ -110,10 +124,10 @@ fn make_within<S: Alter + Drop>(
 
 fn act<S: Alter + Drop>(keep: &mut SqlKeep<S>, alloc: Global, deed: Deed) -> Told {
     keep.set_step_limit(deed.limit);
-    let limited = load(keep, alloc);
+    let limited = load_whole(keep, alloc);
     let (before, made) = make_within(keep, alloc, deed);
     keep.set_step_limit(None);
-    let after = load(keep, alloc);
+    let after = load_whole(keep, alloc);
     Told {
         limited,
         before,

@@ -57,7 +57,7 @@ fn ask<K: Keep>(
 }
 
 /// A sum over what is told when a store is asked for all of these.
-fn ask_all<K: Keep>(
+pub(crate) fn ask_all<K: Keep>(
     keep: &mut K,
     alloc: Global,
     asked: &[(u64, u64, u32)],
