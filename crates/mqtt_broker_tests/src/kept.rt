@@ -2,7 +2,9 @@
 
 use crate::telling::Telling;
 use mqtt_base::Phase;
-use mqtt_records::{ContentRef, CopyRow, Records, RetainedMessage, Session, Subscription, Will};
+use mqtt_records::{
+    ContentRef, CopyContent, CopyRow, Records, RetainedMessage, Session, Subscription, Will,
+};
 
 fn tell_content(told: &mut Telling, content: &ContentRef<'_>) {
     told.word(content.topic.as_str());
@@ -47,12 +49,32 @@ fn tell_row(told: &mut Telling, row: &CopyRow) {
     tell_phase(told, row.phase());
     told.pair(" of ", row.id().publication);
     told.pair(" ", row.qos() as u64);
-    if let Some(copy) = row.whole() {
-        told.pair(" ", u64::from(copy.retain));
-        tell_content(told, &copy.content);
+    told.pair(" ", u64::from(row.retain()));
+    told.word(row.topic().as_str());
+    told.pair("@", row.arrived());
+    told.word(if row.whole().is_some() {
+        " whole"
     } else {
-        told.word(" slim ");
-        told.word(row.topic().as_str());
+        " slim"
+    });
+}
+
+/// What a waiting copy says.
+fn tell_told(told: &mut Telling, content: &CopyContent) {
+    told.pair("\nsays ", content.place());
+    for identifier in content.identifiers().as_slice() {
+        told.pair(" ", u64::from(*identifier));
+    }
+    told.word(" ");
+    told.word(content.topic().as_str());
+    told.word(" ");
+    told.hex(content.payload().as_slice());
+}
+
+/// What waiting copies say.
+pub(crate) fn tell_contents(told: &mut Telling, contents: &[CopyContent]) {
+    for content in contents {
+        tell_told(told, content);
     }
 }
 

@@ -1,6 +1,6 @@
 //! A script is played by a broker that is opened over a store, and what the store has then is told.
 
-use crate::kept::tell_records;
+use crate::kept::{tell_contents, tell_records};
 use crate::play::{Play, Stop};
 use crate::telling::Telling;
 use mqtt_broker::{Engine, Keep, KeepError, Limits};
@@ -133,19 +133,39 @@ fn play_all<K: Keep>(
     (keep, false)
 }
 
-/// What a store has; asked once more if that fails.
-fn loaded<K: Keep>(alloc: Global, keep: &mut K) -> Result<Records, KeepError> {
-    match keep.load(alloc) {
-        Err(_) => keep.load(alloc),
-        answer => answer,
+/// Tells what the waiting copies of a loaded store say.
+fn tell_waiting<K: Keep>(
+    alloc: Global,
+    told: &mut Telling,
+    keep: &mut K,
+    records: &Records,
+) -> Result<(), KeepError>
+    requires { K.Keep.is_loaded keep.old }
+{
+    for session in records.sessions.as_slice() {
+        let contents = keep.contents(alloc, session.get().birth, 0, u32::MAX)?;
+        tell_contents(told, &contents);
+        drop(contents);
     }
+    Ok(())
 }
 
-/// Tells what a store has.
+/// Tells the rows of a store, and what its waiting copies say.
+fn tell_once<K: Keep>(alloc: Global, told: &mut Telling, keep: &mut K) -> Result<(), KeepError> {
+    let records = keep.load(alloc)?;
+    tell_records(told, &records);
+    let answer = tell_waiting(alloc, told, keep, &records);
+    drop(records);
+    answer
+}
+
+/// Tells what a store has; it is asked once more if that fails.
 pub fn tell_kept<K: Keep>(alloc: Global, told: &mut Telling, keep: &mut K) {
-    match loaded(alloc, keep) {
-        Ok(records) => tell_records(told, &records),
-        Err(fault) => tell_fault(told, fault),
+    if tell_once(alloc, told, keep).is_err() {
+        told.clear();
+        if let Err(fault) = tell_once(alloc, told, keep) {
+            tell_fault(told, fault);
+        }
     }
 }
 
