@@ -1,0 +1,2 @@
+-- Payloads of waiting copies, and others in their place.
+pub mod Payloads
