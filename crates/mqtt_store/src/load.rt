@@ -2,47 +2,17 @@
 ghost use Rattle.std.specs.Prelude.{◌≡◌, false, IfOk, IfErr, OnOk};
 ghost use Rattle.sqlite.specs.Held.{state};
 ghost use Rattle.sqlite.specs.State.{HasCleanDisk};
-ghost use Rattle.mqtt_records_lawful.specs.Lawful.{IsLawful};
 ghost use Rattle.mqtt_records.specs.declared.records.Records.{Records as Kept};
 ghost use Rattle.mqtt_records_keep.specs.Loading.{AreRead};
 ghost use Rattle.mqtt_store_message_read.specs.Refusals.{RefusesEither};
-ghost use Rattle.mqtt_store_load.specs.Loading.{HasKept, IsOrdered};
+ghost use Rattle.mqtt_store_load.specs.Loading.{IsOrdered};
 ghost use Rattle.mqtt_store.specs.Holding.{Holds, IsLoaded, Leaves};
 
-use mqtt_records::{Records, records_pass_on};
+use mqtt_records::Records;
 use mqtt_records_keep::KeepError;
 use mqtt_store_load::load_from;
 use sqlite::{Alter, Connection};
 use std::alloc::Global;
-
-/// Reads all records of a database. If it is empty, makes the tables of a new store; if it has schema 1,
-/// takes it over.
-fn load_records<S: Alter>(alloc: Global, conn: &mut Connection<S>) -> Result<Records, KeepError>
-    requires autocommit { conn.old.in_transaction ≡ false }
-    requires ordered { IsOrdered (state S.Store conn.old) }
-    ensures autocommit { conn.new.in_transaction ≡ false }
-    ensures ordered { IsOrdered (state S.Store conn.new) }
-
-    // What it answers is what the database has.
-    ensures exact { (r : Kept) → Holds (state S.Store conn.old) r
-        → IfOk result (λ records. HasCleanDisk (state S.Store conn.new) → records ≡ r) }
-    ensures kept { IfOk result (λ records. HasCleanDisk (state S.Store conn.new)
-        → HasKept (state S.Store conn.new) records) }
-    ensures found { IfOk result (λ records. HasCleanDisk (state S.Store conn.new)
-        → Leaves (state S.Store conn.old) records) }
-
-    // Whatever the device returned, they keep their rules.
-    ensures lawful { IfOk result (λ records. IsLawful records) }
-
-    // What the database has stays, and a crash finds nothing else than before.
-    ensures same { (r : Kept) → Holds (state S.Store conn.old) r → Holds (state S.Store conn.new) r }
-    ensures crash { (r : Kept) → Leaves (state S.Store conn.new) r → Leaves (state S.Store conn.old) r }
-    ensures sound { HasCleanDisk (state S.Store conn.new) → HasCleanDisk (state S.Store conn.old) }
-    ensures refused { IfErr result (λ fault. HasCleanDisk (state S.Store conn.new)
-        → RefusesEither S.Store conn.old fault) }
-{
-    load_from(alloc, conn)
-}
 
 /// Reads the rows of a database, slim: of a waiting copy they say nothing but its topic and what rules read. If it is
 /// empty, makes the tables of a new store; if it has schema 1, takes it over.
@@ -65,12 +35,5 @@ pub(crate) fn load_slim<S: Alter>(
     ensures refused { IfErr result (λ fault. HasCleanDisk (state S.Store conn.new)
         → RefusesEither S.Store conn.old fault) }
 {
-    match load_records(alloc, conn) {
-        Ok(mut records) => {
-            records_pass_on(&records);
-            records.make_all_slim();
-            Ok(records)
-        }
-        Err(fault) => Err(fault),
-    }
+    load_from(alloc, conn)
 }

@@ -19,6 +19,7 @@ use Rattle.mqtt_store_schema_two.specs.Creation.{IsNewSecond}
 use Rattle.mqtt_store_schema_two.specs.Tables.{second_schema}
 use Rattle.mqtt_store_schema_two.specs.declared.tables.Making.{Making}
 use Rattle.mqtt_store_schema_two.specs.declared.tables.Making.TheVariants.{New}
+use Rattle.mqtt_store_read.proofs.Loaded.{nothing_lawful}
 use Rattle.mqtt_store_message_read.specs.Kept.{HasRecordsTwo}
 use Rattle.mqtt_store_message_read.specs.Opening.{HasNowTwo, BeginsSecond}
 use Rattle.mqtt_store_message_read.specs.Refusals.{RefusesEither}
@@ -27,6 +28,7 @@ use Rattle.mqtt_store_message_laws.proofs.New.{new_keeps, new_in_order}
 use Rattle.mqtt_store_message_load_laws.proofs.Found.{found_distinct}
 use Rattle.mqtt_store_message_load_laws.proofs.Kept.{distinct_kept}
 use Rattle.mqtt_store_load.specs.Keeping.{FindsIn, Saves, AreOrdered}
+use Rattle.mqtt_store_message_stream.specs.Slim.{IsSlimOf}
 use Rattle.mqtt_store_load.specs.Loading.{IsTidy, IsOrdered, HasKept, MayCommit, OnlyLoads, Loads}
 use Rattle.mqtt_store_load.proofs.Order.{shaped_in, ordered_in, second_order, all_shaped}
 
@@ -56,8 +58,7 @@ pub refused_load : {S : Type 0} (g : Ghosts S) (old new : Held S) (fault : KeepE
     → (HasCleanDisk (state g new) → RefusesEither g old fault) → Loads g old new (Err fault)
 refused_load g old new fault tidy order reads why = record {
   ordered = reads_order (state g old) (state g new) tidy reads order;
-  found = λ clean. tt;
-  kept = λ clean. tt;
+  read = tt;
   refused = why;
   loads = reads_load (state g old) (state g new) tidy reads;
 }
@@ -89,19 +90,24 @@ module _ {S : Type 0} (g : Ghosts S) (old new : Held S) (making : Making) (tidy 
         keeps = subst (λ (d : Database). KeepsRowsTwo making d.trees r) (sym stays.0) rows;
       }
 
-  -- a load of a database of schema 2 answers what its rows give
+  -- a load of a database of schema 2 answers what its rows give, slim
   pub second_load : (result : Result Records KeepError) → (HasCleanDisk (state g new) → OnOk result (IsTrue (state g new).is_open))
-      → (HasCleanDisk (state g new) → (state g old).now.schema ≡ second_schema making → IsSettled (state g old) → IfOk result (HasRecordsTwo making (state g old).now.trees))
+      → IfOk result (IsSlimOf (λ whole. HasCleanDisk (state g new) → (state g old).now.schema ≡ second_schema making → IsSettled (state g old) → HasRecordsTwo making (state g old).now.trees whole))
       → (HasCleanDisk (state g new) → (state g old).now.schema ≡ second_schema making → IsTidy (state g old) → IfErr result (RefusesEither g old)) → Loads g old new result
-  second_load (Ok r) up ok why =
-      let gives = λ (clean : HasCleanDisk (state g new)). ok clean (schema (before clean)) (tidy ((reads.stays clean).was_open (up clean))) in
-      record {
-        ordered = reads_order (state g old) (state g new) tidy reads order;
-        found = λ clean. inr (inl (making, schema (before clean), gives clean));
-        kept = λ clean. second_kept r clean (up clean) (gives clean);
-        refused = λ clean. tt;
-        loads = reads_load (state g old) (state g new) tidy reads;
-      }
+  second_load (Ok slim) up ok why = record {
+    ordered = reads_order (state g old) (state g new) tidy reads order;
+    read = record {
+      whole = ok.whole;
+      slim_is = ok.slim_is;
+      has = λ clean.
+          let gives = ok.has clean (schema (before clean)) (tidy ((reads.stays clean).was_open (up clean))) in
+          (inr (inl (making, schema (before clean), gives)), second_kept ok.whole clean (up clean) gives);
+      lawful = ok.lawful;
+      passed = ok.passed;
+    };
+    refused = λ clean. tt;
+    loads = reads_load (state g old) (state g new) tidy reads;
+  }
   second_load (Err fault) up ok why = refused_load g old new fault tidy order reads (λ clean. why clean (schema (before clean)) tidy)
 
 -- ---- an empty database
@@ -134,34 +140,38 @@ module _ {S : Type 0} (g : Ghosts S) (old new : Held S) (tidy : IsTidy (state g 
       let kept = λ (clean : HasCleanDisk (state g new)).
       let it = begun clean (schema (earlier clean)) in
       let now = made clean (schema (earlier clean)) in
-      let h : HasKept (state g new) r = record {
+      let h : HasKept (state g new) nothing = record {
         is_open = now.is_open;
         settled = now.settled;
         making = New;
         schema = it.schema;
         lists = it.lists;
-        keeps = subst (KeepsRowsTwo New (state g new).now.trees) (sym ok) (new_keeps (state g new).now it);
+        keeps = new_keeps (state g new).now it;
       } in
       h in
-      let has = λ (clean : HasCleanDisk (state g new)). let h : FindsIn (state g old).now r = inr (inr (schema (earlier clean), ok)) in h in
+      let has = λ (clean : HasCleanDisk (state g new)). let h : FindsIn (state g old).now nothing = inr (inr (schema (earlier clean), refl)) in h in
       record {
         ordered = λ clean up.
             let it = begun clean (schema (earlier clean)) in
             ordered_in (second_schema New) (state g new).now (sym it.schema) (all_shaped New (state g new).now.trees (new_in_order (state g new).now it) tt);
-        found = has;
-        kept = kept;
+        read = record {
+          whole = nothing;
+          slim_is = ok;
+          has = λ clean. (has clean, kept clean);
+          lawful = nothing_lawful;
+          passed = record { sessions = tt; retained = tt };
+        };
         refused = λ clean. tt;
         loads = record {
           survives = begins;
-          left = λ clean up. let k = kept clean in (was_open clean up, inr (r, has clean, inr (inl (k.making, k.schema, k.keeps))));
+          left = λ clean up. let k = kept clean in (was_open clean up, inr (nothing, has clean, inr (inl (k.making, k.schema, k.keeps))));
         };
       }
   empty_load (Err e) ok made begun err fault =
       let same = λ (clean : HasCleanDisk (state g new)) (up : IsTrue (state g new).is_open). ((err clean (schema (earlier clean))).same up (tidy (was_open clean up))).0 in
       record {
         ordered = λ clean up. subst AreOrdered (sym (same clean up)) (order (earlier clean) (was_open clean up));
-        found = λ clean. tt;
-        kept = λ clean. tt;
+        read = tt;
         refused = λ clean. says_nothing g old e fault;
         loads = record { survives = begins; left = λ clean up. (was_open clean up, inl (same clean up)) };
       }

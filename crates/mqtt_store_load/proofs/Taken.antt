@@ -10,6 +10,9 @@ use Rattle.sqlite.proofs.StateLemmas.{survives_then}
 use Rattle.mqtt_records_keep.specs.declared.keep.KeepError.{KeepError}
 use Rattle.mqtt_records_keep.specs.declared.keep.KeepError.TheVariants.{Memory, Disk}
 use Rattle.mqtt_records.specs.declared.records.Records.{Records}
+use Rattle.mqtt_records.specs.PassedOn.{StoresPassedOn}
+use Rattle.mqtt_records.specs.Slim.{all_slim}
+use Rattle.mqtt_records_lawful.specs.Lawful.{IsLawful}
 use Rattle.mqtt_store_schema.specs.Settled.{OnlyReads}
 use Rattle.mqtt_store_schema.specs.Tables.{keep_schema}
 use Rattle.mqtt_store_schema_two.specs.declared.tables.Making.TheVariants.{TakenOver}
@@ -80,15 +83,22 @@ module _ {S : Type 0} (g : Ghosts S) (old mid new : Held S) (r : Records) (tidy 
         let saves : Saves db r = record { schema = second_schema TakenOver; lists = m.lists; keeps = inr (inl (TakenOver, refl, m.keeps)) } in
         (was_open before, r, found before, saves)) reads.survives it
 
-    -- a database of schema 1 that was taken over keeps what was found in it
-    pub taken : (HasCleanDisk (state g new) → MayMigrate r (state g mid) → Migrates r (state g mid).now (state g new).now) → (HasCleanDisk (state g new) → MayMigrate r (state g mid) → IsSettled TakenOver (state g new)) → Loads g old new (Ok r)
-    taken made settled = record {
+    -- a database of schema 1 that was taken over keeps what was found in it, and slim rows of this are answered
+    pub taken : (slim : Records) → slim ≡ all_slim r → IsLawful r → StoresPassedOn r
+        → (HasCleanDisk (state g new) → MayMigrate r (state g mid) → Migrates r (state g mid).now (state g new).now)
+        → (HasCleanDisk (state g new) → MayMigrate r (state g mid) → IsSettled TakenOver (state g new)) → Loads g old new (Ok slim)
+    taken slim is lawful passed made settled = record {
       ordered = λ clean up. order_of TakenOver (state g new) (settled clean (may (clean_mid clean)));
-      found = λ clean. found (clean_mid clean);
-      kept = λ clean.
-          let m = made clean (may (clean_mid clean)) in
-          let s = settled clean (may (clean_mid clean)) in
-          record { is_open = s.is_open; settled = record { committed = s.same; autocommit = autocommit }; making = TakenOver; schema = m.second; lists = m.lists; keeps = m.keeps };
+      read = record {
+        whole = r;
+        slim_is = is;
+        has = λ clean.
+            let m = made clean (may (clean_mid clean)) in
+            let s = settled clean (may (clean_mid clean)) in
+            (found (clean_mid clean), record { is_open = s.is_open; settled = record { committed = s.same; autocommit = autocommit }; making = TakenOver; schema = m.second; lists = m.lists; keeps = m.keeps });
+        lawful = lawful;
+        passed = passed;
+      };
       refused = λ clean. tt;
       loads = record {
         survives = takes;
@@ -103,8 +113,7 @@ module _ {S : Type 0} (g : Ghosts S) (old mid new : Held S) (r : Records) (tidy 
         let back = λ (clean : HasCleanDisk (state g new)) (up : IsTrue (state g new).is_open). stays clean (may (clean_mid clean)).settled up ∙ same (clean_mid clean) in
         record {
           ordered = λ clean up. subst AreOrdered (sym (back clean up)) (order (clean_old (clean_mid clean)) (was_open (clean_mid clean)));
-          found = λ clean. tt;
-          kept = λ clean. tt;
+          read = tt;
           refused = λ clean. says_nothing g old fault which;
           loads = record { survives = takes; left = λ clean up. (was_open (clean_mid clean), inl (back clean up)) };
         }

@@ -15,6 +15,7 @@ use Rattle.mqtt_store_schema_two.specs.declared.tables.Making.{Making}
 use Rattle.mqtt_store_message_laws.specs.Written.{KeepsRowsTwo}
 use Rattle.mqtt_store_message_read.specs.Refusals.{RefusesEither}
 use Rattle.mqtt_store_load.specs.Keeping.{FindsIn, Keeps, Saves, AreOrdered}
+use Rattle.mqtt_store_message_stream.specs.Slim.{IsSlimOf}
 
 -- if it is open, nothing is written that isn't committed
 abbrev pub IsTidy : State → Type 0
@@ -46,11 +47,10 @@ pub record OnlyLoads (old new : State) : Type 0 where
   pub survives : Survives old new (MayCommit old)
   pub left : HasCleanDisk new → IsTrue new.is_open → IsTrue old.is_open × IsLeft old.now new.now
 
--- a load of a database that has these records answers them, and the database keeps them from then on; else it says why it
--- is refused
+-- a load answers slim rows of what the database has, which it keeps whole from then on; else it says why it is refused
 pub record Loads {S : Type 0} (g : Ghosts S) (old new : Held S) (result : Result Records KeepError) : Type 0 where
   pub ordered : IsOrdered (state g new)
-  pub found : HasCleanDisk (state g new) → IfOk result (FindsIn (state g old).now)
-  pub kept : HasCleanDisk (state g new) → IfOk result (HasKept (state g new))
+  pub read : IfOk result (IsSlimOf (λ whole. HasCleanDisk (state g new)
+      → FindsIn (state g old).now whole × HasKept (state g new) whole))
   pub refused : HasCleanDisk (state g new) → IfErr result (RefusesEither g old)
   pub loads : OnlyLoads (state g old) (state g new)

@@ -1,16 +1,17 @@
-//! A load of a database of the store, which has schema 2 from then on (4.1).
+//! A load of a database of the store, which has schema 2 from then on (4.1). It answers slim rows: of waiting copies they say
+//! nothing but their topics and what rules read (3.3).
 ghost use Rattle.std.specs.Prelude.{◌≡◌, false, IfOk, IfErr};
 ghost use Rattle.sqlite.specs.Held.{state};
 ghost use Rattle.sqlite.specs.State.{HasCleanDisk};
-ghost use Rattle.mqtt_records_lawful.specs.Lawful.{IsLawful};
 ghost use Rattle.mqtt_store_schema.specs.Creation.{first};
 ghost use Rattle.mqtt_store_schema.specs.Tables.{keep_schema};
 ghost use Rattle.mqtt_store_schema_two.specs.Tables.{second_schema};
 ghost use Rattle.mqtt_store_message_read.specs.Refusals.{RefusesEither};
 ghost use Rattle.mqtt_store_load.specs.Keeping.{FindsIn};
+ghost use Rattle.mqtt_store_message_stream.specs.Slim.{IsSlimOf};
 ghost use Rattle.mqtt_store_load.specs.Loading.{IsTidy, IsOrdered, HasKept, OnlyLoads, Loads};
 
-use mqtt_records::Records;
+use mqtt_records::{Records, records_pass_on};
 use mqtt_records_keep::KeepError;
 use mqtt_store_message_read::{begin_second, first_records_or_refusal, records_or_refusal};
 use mqtt_store_migration::migrate;
@@ -19,24 +20,27 @@ use mqtt_store_schema_two::{FoundStore, Making, found_store};
 use sqlite::{Alter, Connection};
 use std::alloc::Global;
 
-/// The records of a database of schema 1, which schema 2 takes over.
+/// The records of a database of schema 1, slim, which schema 2 takes over whole.
 fn load_first<S: Alter>(alloc: Global, conn: &mut Connection<S>) -> Result<Records, KeepError>
     requires autocommit { conn.old.in_transaction ≡ false }
     requires tidy { IsTidy (state S.Store conn.old) }
     requires ordered { IsOrdered (state S.Store conn.old) }
     requires schema { HasCleanDisk (state S.Store conn.old) → (state S.Store conn.old).now.schema ≡ keep_schema }
     ensures autocommit { conn.new.in_transaction ≡ false }
-    ensures lawful { IfOk result (λ records. IsLawful records) }
     ensures loads { Loads S.Store conn.old conn.new result }
 {
     // This shows that the rows obey their schema.
     let _schema = conn.schema();
-    let records = match first_records_or_refusal(alloc, conn) {
+    let mut records = match first_records_or_refusal(alloc, conn) {
         Ok(records) => records,
         Err(fault) => return Err(fault),
     };
     match migrate(alloc, conn, &records) {
-        Ok(()) => Ok(records),
+        Ok(()) => {
+            records_pass_on(&records);
+            records.make_all_slim();
+            Ok(records)
+        }
         Err(error) => {
             drop(records);
             Err(fault_of(&error))
@@ -44,7 +48,7 @@ fn load_first<S: Alter>(alloc: Global, conn: &mut Connection<S>) -> Result<Recor
     }
 }
 
-/// The records of a database of schema 2, made so.
+/// The records of a database of schema 2, made so, in slim rows.
 fn load_second<S: Alter>(
     alloc: Global,
     conn: &mut Connection<S>,
@@ -55,7 +59,6 @@ fn load_second<S: Alter>(
     requires ordered { IsOrdered (state S.Store conn.old) }
     requires schema { HasCleanDisk (state S.Store conn.old) → (state S.Store conn.old).now.schema ≡ second_schema making }
     ensures autocommit { conn.new.in_transaction ≡ false }
-    ensures lawful { IfOk result (λ records. IsLawful records) }
     ensures loads { Loads S.Store conn.old conn.new result }
 {
     // This shows that the rows obey their schema.
@@ -70,26 +73,23 @@ fn load_empty<S: Alter>(alloc: Global, conn: &mut Connection<S>) -> Result<Recor
     requires ordered { IsOrdered (state S.Store conn.old) }
     requires schema { HasCleanDisk (state S.Store conn.old) → (state S.Store conn.old).now.schema ≡ first 0 }
     ensures autocommit { conn.new.in_transaction ≡ false }
-    ensures lawful { IfOk result (λ records. IsLawful records) }
     ensures loads { Loads S.Store conn.old conn.new result }
 {
     begin_second(alloc, conn)
 }
 
-/// The records that a database has. If it is empty, the tables of a new store are made; if it has
-/// schema 1, it is taken over.
+/// The records that a database has, in slim rows: of waiting copies they say nothing but their topics and what rules read.
+/// If it is empty, the tables of a new store are made; if it has schema 1, it is taken over.
 pub fn load_from<S: Alter>(alloc: Global, conn: &mut Connection<S>) -> Result<Records, KeepError>
     requires autocommit { conn.old.in_transaction ≡ false }
     requires ordered { IsOrdered (state S.Store conn.old) }
     ensures autocommit { conn.new.in_transaction ≡ false }
     ensures ordered { IsOrdered (state S.Store conn.new) }
 
-    // What it answers is what a load finds in the database, and what this keeps from then on.
-    ensures ok { HasCleanDisk (state S.Store conn.new) → IfOk result (FindsIn (state S.Store conn.old).now) }
-    ensures kept { HasCleanDisk (state S.Store conn.new) → IfOk result (HasKept (state S.Store conn.new)) }
-
-    // Whatever the device returned, they keep their rules.
-    ensures lawful { IfOk result (λ records. IsLawful records) }
+    // What it answers are slim rows of what a load finds in the database, and what this keeps whole from then on. Whatever
+    // the device returned, a store may be opened with these.
+    ensures read { IfOk result (IsSlimOf (λ whole. HasCleanDisk (state S.Store conn.new)
+        → FindsIn (state S.Store conn.old).now whole × HasKept (state S.Store conn.new) whole)) }
 
     // Why it is refused, and only then.
     ensures refused { HasCleanDisk (state S.Store conn.new) → IfErr result (RefusesEither S.Store conn.old) }

@@ -1,4 +1,5 @@
 pub mod Selects
+pub mod Streaming
 pub mod Rising
 pub mod Unique
 pub mod Loaded

@@ -1,9 +1,9 @@
 //! The records of a database of schema 2, through a connection (4.1).
-ghost use Rattle.std.specs.Prelude.{◌≡◌, ◌≢◌, ◌⊎◌, [], false, IfOk, IfErr, OnOk, IsErrOf, IsTrue, MatchBool};
+ghost use Rattle.std.specs.Prelude.{◌≡◌, ◌≢◌, ◌⊎◌, List, [], IfOk, IfErr, OnOk, IsErrOf, IsTrue, MatchBool};
+ghost use Rattle.sqlite_value.specs.Order.{Row as SqlRow};
 ghost use Rattle.sqlite.specs.Held.{state};
 ghost use Rattle.sqlite.specs.State.{HasCleanDisk};
 ghost use Rattle.mqtt_records.specs.declared.records.Records.{Records};
-ghost use Rattle.mqtt_records_lawful.specs.Lawful.{IsLawful};
 ghost use Rattle.mqtt_store_schema.specs.Settled.{IsSettled, OnlyReads};
 ghost use Rattle.mqtt_store_schema_two.specs.Tables.{second_schema};
 ghost use Rattle.mqtt_store_schema_two.specs.declared.tables.Making.{Making};
@@ -11,12 +11,17 @@ ghost use Rattle.mqtt_store_read.specs.Listing.{tree_of, IsInSecond, IsListing};
 ghost use Rattle.mqtt_store_message_rows.specs.Tables.{rows_in};
 ghost use Rattle.mqtt_store_message_laws.specs.Written.{HasNoOldRows};
 ghost use Rattle.mqtt_store_message_read.specs.Listing.{IsAddedListing};
-ghost use Rattle.mqtt_store_message_read.specs.Kept.{AreSharedListed, AreAddedListed, HasRecordsTwo};
+ghost use Rattle.mqtt_store_message_stream.specs.Thin.{AreCovered};
+ghost use Rattle.mqtt_store_message_stream.specs.Gathered.{HasTaken};
+ghost use Rattle.mqtt_store_message_stream.specs.Slim.{IsSlimOf};
+ghost use Rattle.mqtt_store_message_read.specs.declared.reading.AddedTable.TheVariants as AddedTable;
+ghost use Rattle.mqtt_store_message_read.specs.Kept.{AreSharedListed, AreOthersListed, HasRecordsTwo};
 
-use crate::reading::{AddedTable, rows_of_added};
+use crate::reading::{AddedTable, read_into, rows_of_added};
 use mqtt_records::Records;
 use mqtt_records_keep::KeepError;
-use mqtt_store_message_rows::{Tables, lawful_records_of};
+use mqtt_store_message_rows::Tables;
+use mqtt_store_message_stream::{GatheredMessages, slim_records_of};
 use mqtt_store_read::{fault_of, rows_of};
 use mqtt_store_schema::StoreTable;
 use mqtt_store_schema_two::Making;
@@ -97,28 +102,27 @@ fn read_all_shared<S: Alter>(conn: &mut Connection<S>, tables: &mut Tables) -> R
     read_shared(conn, StoreTable::Inbound, &mut tables.inbound)
 }
 
-/// Reads the rows of the tables that schema 2 adds.
+/// Reads the rows of the tables that schema 2 adds but `message`.
 fn read_all_added<S: Alter>(conn: &mut Connection<S>, tables: &mut Tables) -> Result<(), Error>
     ensures rows { (making : Making) → HasCleanDisk (state S.Store conn.new)
         → (state S.Store conn.old).now.schema ≡ second_schema making → IsSettled (state S.Store conn.old)
-        → OnOk result (AreAddedListed making (state S.Store conn.old).now.trees (rows_in tables.new)) }
-    ensures same { tables.new ≡ record tables.old { messages = tables.new.messages; queued = tables.new.queued; kept = tables.new.kept } }
+        → OnOk result (AreOthersListed making (state S.Store conn.old).now.trees (rows_in tables.new)) }
+    ensures same { tables.new ≡ record tables.old { queued = tables.new.queued; kept = tables.new.kept } }
     ensures is_open { HasCleanDisk (state S.Store conn.new) → OnOk result (IsTrue (state S.Store conn.new).is_open) }
     ensures reads { OnlyReads (state S.Store conn.old) (state S.Store conn.new) }
 {
-    read_added(conn, AddedTable::Message, &mut tables.messages)?;
     read_added(conn, AddedTable::Queued, &mut tables.queued)?;
     read_added(conn, AddedTable::Kept, &mut tables.kept)
 }
 
-/// Reads the rows of all tables.
+/// Reads the rows of all tables but `message`.
 fn read_all<S: Alter>(conn: &mut Connection<S>, tables: &mut Tables) -> Result<(), Error>
     ensures shared { (making : Making) → HasCleanDisk (state S.Store conn.new)
         → (state S.Store conn.old).now.schema ≡ second_schema making → IsSettled (state S.Store conn.old)
         → OnOk result (AreSharedListed (state S.Store conn.old).now.trees (rows_in tables.new)) }
     ensures added { (making : Making) → HasCleanDisk (state S.Store conn.new)
         → (state S.Store conn.old).now.schema ≡ second_schema making → IsSettled (state S.Store conn.old)
-        → OnOk result (AreAddedListed making (state S.Store conn.old).now.trees (rows_in tables.new)) }
+        → OnOk result (AreOthersListed making (state S.Store conn.old).now.trees (rows_in tables.new)) }
     ensures is_open { HasCleanDisk (state S.Store conn.new) → OnOk result (IsTrue (state S.Store conn.new).is_open) }
     ensures reads { OnlyReads (state S.Store conn.old) (state S.Store conn.new) }
 {
@@ -126,16 +130,74 @@ fn read_all<S: Alter>(conn: &mut Connection<S>, tables: &mut Tables) -> Result<(
     read_all_added(conn, tables)
 }
 
-/// The lawful records that the rows give. `Corrupt` if they give none.
+/// Gathers the messages. What the rows of `kept` refer to is whole.
+fn messages_in<S: Alter>(
+    alloc: Global,
+    conn: &mut Connection<S>,
+    kept: &[Row],
+) -> Result<GatheredMessages, KeepError>
+    ensures taken { IfOk result (λ g. (rows : List SqlRow) × HasTaken g rows
+        × ((making : Making) → HasCleanDisk (state S.Store conn.new) → (state S.Store conn.old).now.schema ≡ second_schema making
+        → IsAddedListing making AddedTable.Message (state S.Store conn.old).now.trees rows)) }
+    ensures covered { IfOk result (λ g. AreCovered g.whole kept.now) }
+    ensures fault { IfErr result (λ e. (e ≡ KeepError.Memory) ⊎ (e ≡ KeepError.Disk)) }
+    ensures is_open { HasCleanDisk (state S.Store conn.new) → OnOk result (IsTrue (state S.Store conn.new).is_open) }
+    ensures reads { OnlyReads (state S.Store conn.old) (state S.Store conn.new) }
+{
+    let mut gathered = match GatheredMessages::new(alloc, kept) {
+        Ok(gathered) => gathered,
+        Err(_) => return Err(KeepError::Memory),
+    };
+    match read_into(conn, AddedTable::Message, &mut gathered) {
+        Ok(()) => Ok(gathered),
+        Err(fault) => {
+            drop(gathered);
+            Err(fault)
+        }
+    }
+}
+
+/// The lawful records that the rows give, slim, with these of all tables but `message`. `Corrupt` if they give none.
+fn given_with<S: Alter>(
+    alloc: Global,
+    conn: &mut Connection<S>,
+    tables: Tables,
+) -> Result<Records, KeepError>
+    ensures ok { IfOk result (IsSlimOf (λ whole. (making : Making) → HasCleanDisk (state S.Store conn.new)
+        → (state S.Store conn.old).now.schema ≡ second_schema making
+        → AreSharedListed (state S.Store conn.old).now.trees (rows_in tables)
+        → AreOthersListed making (state S.Store conn.old).now.trees (rows_in tables)
+        → HasNoOldRows making (state S.Store conn.old).now.trees
+        → HasRecordsTwo making (state S.Store conn.old).now.trees whole)) }
+    ensures err { (making : Making) → HasCleanDisk (state S.Store conn.new)
+        → (state S.Store conn.old).now.schema ≡ second_schema making
+        → AreSharedListed (state S.Store conn.old).now.trees (rows_in tables)
+        → AreOthersListed making (state S.Store conn.old).now.trees (rows_in tables)
+        → IsErrOf result KeepError.Corrupt → (r : Records) → HasRecordsTwo making (state S.Store conn.old).now.trees r → ⊥ }
+    ensures fault { IfErr result (λ e. (e ≡ KeepError.Memory) ⊎ ((e ≡ KeepError.Disk) ⊎ (e ≡ KeepError.Corrupt))) }
+    ensures is_open { HasCleanDisk (state S.Store conn.new)
+        → OnOk result (IsTrue (state S.Store conn.new).is_open)
+        × (IsErrOf result KeepError.Corrupt → IsTrue (state S.Store conn.new).is_open) }
+    ensures reads { OnlyReads (state S.Store conn.old) (state S.Store conn.new) }
+{
+    match messages_in(alloc, conn, &tables.kept) {
+        Ok(gathered) => slim_records_of(alloc, gathered, tables),
+        Err(fault) => {
+            drop(tables);
+            Err(fault)
+        }
+    }
+}
+
+/// The lawful records that the rows give, slim. `Corrupt` if they give none.
 fn given<S: Alter>(alloc: Global, conn: &mut Connection<S>) -> Result<Records, KeepError>
-    ensures ok { (making : Making) → HasCleanDisk (state S.Store conn.new)
+    ensures ok { IfOk result (IsSlimOf (λ whole. (making : Making) → HasCleanDisk (state S.Store conn.new)
         → (state S.Store conn.old).now.schema ≡ second_schema making → IsSettled (state S.Store conn.old)
         → HasNoOldRows making (state S.Store conn.old).now.trees
-        → IfOk result (HasRecordsTwo making (state S.Store conn.old).now.trees) }
+        → HasRecordsTwo making (state S.Store conn.old).now.trees whole)) }
     ensures err { (making : Making) → HasCleanDisk (state S.Store conn.new)
         → (state S.Store conn.old).now.schema ≡ second_schema making → IsSettled (state S.Store conn.old)
         → IsErrOf result KeepError.Corrupt → (r : Records) → HasRecordsTwo making (state S.Store conn.old).now.trees r → ⊥ }
-    ensures lawful { IfOk result (λ records. IsLawful records) }
     ensures fault { IfErr result (λ e. (e ≡ KeepError.Memory) ⊎ ((e ≡ KeepError.Disk) ⊎ (e ≡ KeepError.Corrupt))) }
     ensures is_open { HasCleanDisk (state S.Store conn.new)
         → OnOk result (IsTrue (state S.Store conn.new).is_open)
@@ -148,12 +210,11 @@ fn given<S: Alter>(alloc: Global, conn: &mut Connection<S>) -> Result<Records, K
         wills: Vec::new(alloc),
         subscriptions: Vec::new(alloc),
         inbound: Vec::new(alloc),
-        messages: Vec::new(alloc),
         queued: Vec::new(alloc),
         kept: Vec::new(alloc),
     };
     match read_all(conn, &mut tables) {
-        Ok(()) => lawful_records_of(alloc, tables),
+        Ok(()) => given_with(alloc, conn, tables),
         Err(error) => {
             drop(tables);
             Err(fault_of(&error))
@@ -161,15 +222,14 @@ fn given<S: Alter>(alloc: Global, conn: &mut Connection<S>) -> Result<Records, K
     }
 }
 
-/// The records of a database that had schema 1. `Corrupt` if its tables of schema 1 have rows.
+/// The records of a database that had schema 1, slim. `Corrupt` if its tables of schema 1 have rows.
 fn given_alone<S: Alter>(alloc: Global, conn: &mut Connection<S>) -> Result<Records, KeepError>
-    ensures ok { HasCleanDisk (state S.Store conn.new)
+    ensures ok { IfOk result (IsSlimOf (λ whole. HasCleanDisk (state S.Store conn.new)
         → (state S.Store conn.old).now.schema ≡ second_schema Making.TakenOver → IsSettled (state S.Store conn.old)
-        → IfOk result (HasRecordsTwo Making.TakenOver (state S.Store conn.old).now.trees) }
+        → HasRecordsTwo Making.TakenOver (state S.Store conn.old).now.trees whole)) }
     ensures err { HasCleanDisk (state S.Store conn.new)
         → (state S.Store conn.old).now.schema ≡ second_schema Making.TakenOver → IsSettled (state S.Store conn.old)
         → IsErrOf result KeepError.Corrupt → (r : Records) → HasRecordsTwo Making.TakenOver (state S.Store conn.old).now.trees r → ⊥ }
-    ensures lawful { IfOk result (λ records. IsLawful records) }
     ensures fault { IfErr result (λ e. (e ≡ KeepError.Memory) ⊎ ((e ≡ KeepError.Disk) ⊎ (e ≡ KeepError.Corrupt))) }
     ensures is_open { HasCleanDisk (state S.Store conn.new)
         → OnOk result (IsTrue (state S.Store conn.new).is_open)
@@ -183,20 +243,19 @@ fn given_alone<S: Alter>(alloc: Global, conn: &mut Connection<S>) -> Result<Reco
     }
 }
 
-/// The records of a database that has the tables of schema 2, made so. `Corrupt` if its rows give
-/// none.
+/// The records of a database that has the tables of schema 2, made so: slim rows, which say of waiting copies nothing but
+/// what rules read and their topics. `Corrupt` if its rows give none.
 pub fn records_in<S: Alter>(
     alloc: Global,
     conn: &mut Connection<S>,
     making: Making,
 ) -> Result<Records, KeepError>
-    ensures ok { HasCleanDisk (state S.Store conn.new)
+    ensures ok { IfOk result (IsSlimOf (λ whole. HasCleanDisk (state S.Store conn.new)
         → (state S.Store conn.old).now.schema ≡ second_schema making → IsSettled (state S.Store conn.old)
-        → IfOk result (HasRecordsTwo making (state S.Store conn.old).now.trees) }
+        → HasRecordsTwo making (state S.Store conn.old).now.trees whole)) }
     ensures err { HasCleanDisk (state S.Store conn.new)
         → (state S.Store conn.old).now.schema ≡ second_schema making → IsSettled (state S.Store conn.old)
         → IsErrOf result KeepError.Corrupt → (r : Records) → HasRecordsTwo making (state S.Store conn.old).now.trees r → ⊥ }
-    ensures lawful { IfOk result (λ records. IsLawful records) }
     ensures fault { IfErr result (λ e. (e ≡ KeepError.Memory) ⊎ ((e ≡ KeepError.Disk) ⊎ (e ≡ KeepError.Corrupt))) }
     ensures is_open { HasCleanDisk (state S.Store conn.new)
         → OnOk result (IsTrue (state S.Store conn.new).is_open)

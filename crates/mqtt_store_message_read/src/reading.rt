@@ -1,5 +1,6 @@
 //! The rows of the tables that schema 2 adds, through a connection.
-ghost use Rattle.std.specs.Prelude.{◌≡◌, IfOk, OnOk, IsTrue};
+ghost use Rattle.std.specs.Prelude.{◌≡◌, ◌⊎◌, [], List, IfOk, IfErr, OnOk, IsTrue};
+ghost use Rattle.sqlite_value.specs.Order.{Row as SqlRow};
 ghost use Rattle.sqlite.specs.Held.{state};
 ghost use Rattle.sqlite.specs.State.{HasCleanDisk};
 ghost use Rattle.mqtt_store_schema.specs.Settled.{OnlyReads};
@@ -7,6 +8,9 @@ ghost use Rattle.mqtt_store_schema_two.specs.Tables.{second_schema};
 ghost use Rattle.mqtt_store_schema_two.specs.declared.tables.Making.{Making};
 ghost use Rattle.mqtt_store_message_read.specs.Listing.{added_text, IsAddedListing};
 
+use mqtt_records_keep::KeepError;
+use mqtt_store_message_stream::Gather;
+use mqtt_store_read::fault_of;
 use sqlite::{Alter, Connection, Error, Row};
 
 /// A table that schema 2 adds.
@@ -45,4 +49,36 @@ pub fn rows_of_added<S: Alter>(
     ensures reads { OnlyReads (state S.Store conn.old) (state S.Store conn.new) }
 {
     conn.query_all(select_of(table), &[])
+}
+
+/// Has all rows of a table that schema 2 adds taken in one after the other, in the order of its key. Writes nothing.
+pub(crate) fn read_into<S: Alter, G: Gather>(
+    conn: &mut Connection<S>,
+    table: AddedTable,
+    gather: &mut G,
+) -> Result<(), KeepError>
+    requires begun { G.has_taken gather.old [] }
+    ensures taken { OnOk result ((rows : List SqlRow) × G.has_taken gather.new rows
+        × ((making : Making) → HasCleanDisk (state S.Store conn.new) → (state S.Store conn.old).now.schema ≡ second_schema making
+        → IsAddedListing making table (state S.Store conn.old).now.trees rows)) }
+    ensures goes_on { G.goes_on gather.old gather.new }
+    ensures fault { IfErr result (λ e. (e ≡ KeepError.Memory) ⊎ (e ≡ KeepError.Disk)) }
+    ensures is_open { HasCleanDisk (state S.Store conn.new) → OnOk result (IsTrue (state S.Store conn.new).is_open) }
+    ensures reads { OnlyReads (state S.Store conn.old) (state S.Store conn.new) }
+{
+    let mut rows = match conn.query(select_of(table), &[]) {
+        Ok(rows) => rows,
+        Err(error) => return Err(fault_of(&error)),
+    };
+    'rows: for _ in 0..u64::MAX {
+        match rows.advance() {
+            Ok(()) => {}
+            Err(error) => return Err(fault_of(&error)),
+        }
+        let Some(row) = rows.get() else {
+            return Ok(());
+        };
+        gather.take_in(row)?;
+    }
+    Err(KeepError::Memory)
 }

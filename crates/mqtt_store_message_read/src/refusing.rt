@@ -9,6 +9,7 @@ ghost use Rattle.mqtt_store_schema.specs.Tables.{keep_schema};
 ghost use Rattle.mqtt_store_schema_two.specs.Tables.{second_schema};
 ghost use Rattle.mqtt_store_schema_two.specs.Finding.{SaysKnown, SaysUnknown};
 ghost use Rattle.mqtt_store_read.specs.Kept.{HasRecords};
+ghost use Rattle.mqtt_store_message_stream.specs.Slim.{IsSlimOf};
 ghost use Rattle.mqtt_store_message_read.specs.Kept.{HasRecordsTwo};
 ghost use Rattle.mqtt_store_message_read.specs.Refusals.{RefusesEither};
 
@@ -42,16 +43,16 @@ fn refusal_of<S: Alter>(conn: &mut Connection<S>) -> KeepError
     }
 }
 
-/// The records of a database that has the tables of schema 2, made so. If its rows give none it is
-/// `Corrupt`, or of another schema.
+/// The records of a database that has the tables of schema 2, made so: slim rows. If its rows give none it is `Corrupt`, or
+/// of another schema.
 pub fn records_or_refusal<S: Alter>(
     alloc: Global,
     conn: &mut Connection<S>,
     making: Making,
 ) -> Result<Records, KeepError>
-    ensures ok { HasCleanDisk (state S.Store conn.new) → (state S.Store conn.old).now.schema ≡ second_schema making → IsSettled (state S.Store conn.old)
-        → IfOk result (HasRecordsTwo making (state S.Store conn.old).now.trees) }
-    ensures lawful { IfOk result (λ records. IsLawful records) }
+    ensures ok { IfOk result (IsSlimOf (λ whole. HasCleanDisk (state S.Store conn.new)
+        → (state S.Store conn.old).now.schema ≡ second_schema making → IsSettled (state S.Store conn.old)
+        → HasRecordsTwo making (state S.Store conn.old).now.trees whole)) }
     ensures refused { HasCleanDisk (state S.Store conn.new) → (state S.Store conn.old).now.schema ≡ second_schema making
         → (IsTrue (state S.Store conn.old).is_open → IsSettled (state S.Store conn.old)) → IfErr result (RefusesEither S.Store conn.old) }
     ensures is_open { HasCleanDisk (state S.Store conn.new) → OnOk result (IsTrue (state S.Store conn.new).is_open) }

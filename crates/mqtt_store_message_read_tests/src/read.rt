@@ -43,7 +43,7 @@ fn numbers_and_sessions_are_read(rt: HostRuntime) -> Result<(), Fail> {
 }
 
 #[test]
-fn copies_are_read_with_their_messages(rt: HostRuntime) -> Result<(), Fail> {
+fn copies_are_read_slim(rt: HostRuntime) -> Result<(), Fail> {
     for making in [Making::New, Making::TakenOver] {
         let records = filled(rt.alloc(), making)?;
         let Some(subscriber) = records.sessions.get(1) else {
@@ -54,21 +54,22 @@ fn copies_are_read_with_their_messages(rt: HostRuntime) -> Result<(), Fail> {
         };
         let row = row.get();
         assert_eq!(rt; row.phase(), Phase::Sent { identifier: 1 });
-        let Some(copy) = row.whole() else {
-            panic!(rt; "a copy that isn't whole");
-        };
-        assert!(rt; copy.id.cause == Cause::Direct && copy.qos == Qos::ExactlyOnce);
-        assert_eq!(rt; copy.identifiers.as_slice(), [1, 200].as_slice());
-        assert_eq!(rt; copy.content.topic.as_str(), "a/b");
-        assert_eq!(rt; copy.content.payload.as_slice(), b"hi".as_slice());
-        assert_eq!(rt; copy.content.arrived, 8);
+        assert!(rt; row.whole().is_none(), "a slim row");
+        assert!(rt; row.id().cause == Cause::Direct && row.qos() == Qos::ExactlyOnce);
+        assert_eq!(rt; (row.id().birth, row.id().publication), (1, 2));
+        assert_eq!(rt; row.topic().as_str(), "a/b");
+        assert_eq!(rt; (row.arrived(), row.expiry()), (8, Some(1)));
+        // 02 00000001, 26 0001 k 0001 v, 0b 01, 0b c8 01 (2.2.2.2)
+        assert_eq!(rt; (row.pairs(), row.payload_len()), (17, 2));
+        // 34 1b 0003 a/b 0001 11 .. hi (3.3)
+        assert_eq!(rt; row.size(), 29);
         drop(records);
     }
     Ok(())
 }
 
 #[test]
-fn a_payload_is_read_once(rt: HostRuntime) -> Result<(), Fail> {
+fn retained_messages_are_read_whole(rt: HostRuntime) -> Result<(), Fail> {
     for making in [Making::New, Making::TakenOver] {
         let records = filled(rt.alloc(), making)?;
         let Some(kept) = records.retained.get(3) else {
@@ -80,7 +81,28 @@ fn a_payload_is_read_once(rt: HostRuntime) -> Result<(), Fail> {
             (kept.sender.as_str(), kept.content.topic.as_str()),
             ("p1", "a/b")
         );
-        assert!(rt; !kept.content.payload.is_unique());
+        assert_eq!(rt; kept.content.payload.as_slice(), b"hi".as_slice());
+        assert_eq!(rt; kept.content.properties.lend().len(), 2);
+        drop(records);
+    }
+    Ok(())
+}
+
+#[test]
+fn payloads_that_nothing_retains_stay_in_the_store(rt: HostRuntime) -> Result<(), Fail> {
+    for making in [Making::New, Making::TakenOver] {
+        let records = filled(rt.alloc(), making)?;
+        let Some(subscriber) = records.sessions.get(1) else {
+            panic!(rt; "no subscriber");
+        };
+        let Some(row) = subscriber.get().queue.get(1) else {
+            panic!(rt; "no copy");
+        };
+        let row = row.get();
+        assert!(rt; row.whole().is_none(), "a slim row");
+        assert_eq!(rt; (row.topic().as_str(), row.payload_len()), ("a/c", 1));
+        // 32 09 0003 a/c 0001 00 a (3.3)
+        assert_eq!(rt; row.size(), 11);
         drop(records);
     }
     Ok(())

@@ -1,4 +1,5 @@
--- The rows that the tables of schema 2 have, as lists.
+-- The rows that the tables of schema 2 have, as lists; those of `message` are read one by one.
+use Rattle.std.specs.Prelude.{[]}
 use Rattle.mqtt_store_message_rows.specs.Gives.{Rows}
 use Rattle.mqtt_store_message_rows.specs.declared.tables.Tables.{Tables}
 
@@ -9,7 +10,7 @@ rows_in tables = record {
   wills = tables.wills.items;
   subscriptions = tables.subscriptions.items;
   inbound = tables.inbound.items;
-  messages = tables.messages.items;
+  messages = [];
   queued = tables.queued.items;
   kept = tables.kept.items;
 }

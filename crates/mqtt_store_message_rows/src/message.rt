@@ -1,5 +1,5 @@
 //! What copies and retained messages of one publication share, and its row (3.3).
-ghost use Rattle.std.specs.Prelude.{◌≡◌, ◌⊎◌, IfOk, IfErr, IsErrOf};
+ghost use Rattle.std.specs.Prelude.{◌≡◌, ◌⊎◌, length, IfOk, IfErr, IsErrOf};
 ghost use Rattle.mqtt_records.specs.Contents.{StoredMessage};
 ghost use Rattle.mqtt_store_message_rows.specs.Rows.{SaysMessage};
 
@@ -55,6 +55,20 @@ impl Message {
             payload: self.payload.clone()?,
             arrived,
         })
+    }
+
+    /// Bytes of its payload. Takes no memory.
+    pub fn payload_len(&self) -> usize
+        ensures { result ≡ length self.now.payload }
+    {
+        self.payload.len()
+    }
+
+    /// Has it say other bytes as payload.
+    pub fn set_payload(&mut self, payload: Bytes)
+        ensures { self.new ≡ record self.old { payload = payload } }
+    {
+        self.payload = payload;
     }
 }
 

@@ -1,15 +1,12 @@
 //! The messages of a store, in the order of their numbers (4.1).
-ghost use Rattle.std.specs.Prelude.{◌≡◌, ◌⊎◌, List, option_copied, IfOk, IfErr, IsErrOf};
-ghost use Rattle.mqtt_records.specs.Contents.{StoredMessage};
+ghost use Rattle.std.specs.Prelude.{◌≡◌, ◌↔◌, Ok, true, false, [], ◌∷◌, ◌++◌, option_copied, IsTrue};
 ghost use Rattle.mqtt_records_rows.specs.Order.{IsAscending, IsTable, front_len, row_at};
-ghost use Rattle.mqtt_store_rows.specs.Lists.{AreRows};
-ghost use Rattle.mqtt_store_message_rows.specs.Rows.{SaysMessage};
+ghost use Rattle.mqtt_store_message_rows.specs.declared.message.TheConstants.{MESSAGE_LIMIT};
 ghost use Rattle.mqtt_store_message_rows.specs.Joins.{publication_of};
 
-use crate::message::{MESSAGE_LIMIT, Message, message_of};
-use mqtt_records_keep::KeepError;
+use crate::message::{MESSAGE_LIMIT, Message};
 use mqtt_records_rows::Row;
-use std::alloc::Global;
+use std::alloc::{AllocError, Global};
 use std::marker::Model;
 
 /// How many messages have a lower number.
@@ -35,6 +32,20 @@ fn find(messages: &[Message], publication: u64) -> Option<&Message>
     }
 }
 
+/// Whether a message may follow these: its number is above all of theirs, and there may be one more.
+fn may_follow(messages: &[Message], message: &Message) -> bool
+    requires { IsAscending publication_of messages.now }
+    ensures { IsTrue result ↔ IsTable publication_of MESSAGE_LIMIT (messages.now ++ message.now ∷ []) }
+{
+    if messages.len() >= MESSAGE_LIMIT {
+        return false;
+    }
+    match messages.last() {
+        Some(last) => last.key() < message.key(),
+        None => true,
+    }
+}
+
 /// The messages of a store, in the order of their numbers. Memory is taken for those that there
 /// are, not for all that there may be.
 #[derive(Drop)]
@@ -56,6 +67,29 @@ impl Model for Messages {
 }
 
 impl Messages {
+    /// No messages.
+    pub fn new(alloc: Global) -> Messages
+        ensures { result ≡ [] }
+    {
+        Messages {
+            messages: Vec::new(alloc),
+        }
+    }
+
+    /// Adds a message behind all others. `false` if its number is not above all of theirs, or if there may be no more.
+    pub fn push(&mut self, message: Message) -> Result<bool, AllocError>
+        ensures ok { result ≡ Ok true → self.new ≡ self.old ++ message ∷ [] }
+        ensures table { result ≡ Ok true → IsTable publication_of MESSAGE_LIMIT self.new }
+        ensures no { result ≡ Ok false → IsTable publication_of MESSAGE_LIMIT (self.old ++ message ∷ []) → ⊥ }
+    {
+        if !may_follow(&self.messages, &message) {
+            drop(message);
+            return Ok(false);
+        }
+        self.messages.push(message)?;
+        Ok(true)
+    }
+
     /// The messages in order. Takes no memory.
     pub fn as_slice(&self) -> &[Message]
         ensures { result.now ≡ self.now }
@@ -69,34 +103,4 @@ impl Messages {
     {
         find(&self.messages, publication)
     }
-}
-
-/// The messages that rows say, whose numbers ascend. `Corrupt` if no such list has the rows.
-pub fn messages_of(alloc: Global, rows: &[sqlite::Row]) -> Result<Messages, KeepError>
-    ensures ok { IfOk result (λ all. AreRows SaysMessage rows.now all) }
-    ensures within { IfOk result (λ all. IsTable publication_of MESSAGE_LIMIT all) }
-    ensures err { IsErrOf result KeepError.Corrupt → (all : List StoredMessage)
-        → AreRows SaysMessage rows.now all → IsTable publication_of MESSAGE_LIMIT all → ⊥ }
-    ensures fault { IfErr result (λ e. (e ≡ KeepError.Memory) ⊎ (e ≡ KeepError.Corrupt)) }
-{
-    if rows.len() > MESSAGE_LIMIT {
-        return Err(KeepError::Corrupt);
-    }
-    let mut messages = Vec::with_capacity(alloc, rows.len())?;
-    let mut last = 0;
-    for row in rows {
-        let message = match message_of(alloc, row) {
-            Ok(message) => message,
-            Err(fault) => return Err(fault),
-        };
-        let key = message.key();
-        if key <= last {
-            return Err(KeepError::Corrupt);
-        }
-        match messages.push(message) {
-            Ok(()) => last = key,
-            Err(_) => return Err(KeepError::Memory),
-        }
-    }
-    Ok(Messages { messages })
 }

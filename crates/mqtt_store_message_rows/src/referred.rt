@@ -75,8 +75,8 @@ fn numbers_in(alloc: Global, records: &Records) -> Result<Vec<u64>, AllocError>
     }
 }
 
-/// Whether a number is among others that don't fall.
-fn is_among(numbers: &[u64], number: u64) -> bool
+/// Whether a number is among others that don't fall. Takes no memory.
+pub fn is_among(numbers: &[u64], number: u64) -> bool
     requires { IsNonDecreasing numbers.now }
     ensures { result ≡ is_among number numbers.now }
 {

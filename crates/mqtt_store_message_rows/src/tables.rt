@@ -8,10 +8,10 @@ ghost use Rattle.mqtt_records.specs.declared.session.Session.{Session};
 ghost use Rattle.mqtt_records.specs.Session.{birth_of};
 ghost use Rattle.mqtt_records_rows.specs.Order.{IsTable};
 ghost use Rattle.mqtt_store_rows.specs.Gives.{AreSessions, IsWithin, AreWithin};
-ghost use Rattle.mqtt_store_message_rows.specs.Gives.{parts_of, without_queue, AreSessionsWith, GivesBy, IsReferred, Gives};
+ghost use Rattle.mqtt_store_message_rows.specs.Gives.{parts_of, without_queue, AreSessionsWith, GivesBy, IsReferred};
 ghost use Rattle.mqtt_store_message_rows.specs.Tables.{rows_in};
 
-use crate::messages::{Messages, messages_of};
+use crate::messages::Messages;
 use crate::meta::counters_of;
 use crate::queues::{Sessions, put_queues};
 use crate::referred::are_referred;
@@ -26,7 +26,7 @@ use mqtt_store_rows::{PartRows, sessions_of};
 use sqlite::Row;
 use std::alloc::Global;
 
-/// The rows of all tables of schema 2.
+/// The rows of all tables of schema 2 but `message`.
 #[derive(Debug, Drop)]
 pub struct Tables {
     /// Of `meta`, by name.
@@ -39,8 +39,6 @@ pub struct Tables {
     pub subscriptions: Vec<Row>,
     /// Of `inbound`, by birth and identifier.
     pub inbound: Vec<Row>,
-    /// Of `message`, by number.
-    pub messages: Vec<Row>,
     /// Of `queued`, by birth and place.
     pub queued: Vec<Row>,
     /// Of `kept`, by place.
@@ -144,8 +142,14 @@ fn joined(alloc: Global, messages: &Messages, tables: Tables) -> Result<Records,
     }
 }
 
-/// The records that the rows give with these messages, each of which is referred to.
-fn records_with(alloc: Global, messages: &Messages, tables: Tables) -> Result<Records, KeepError>
+/// The records that the rows give with these messages, each of which is referred to. `Corrupt` if
+/// they give none whose lists are in order and within their limits. The rows of a queue are let go
+/// once it is made: so copies do not stand in memory twice.
+pub fn records_with(
+    alloc: Global,
+    messages: &Messages,
+    tables: Tables,
+) -> Result<Records, KeepError>
     ensures ok { IfOk result (GivesBy messages.now (rows_in tables)) }
     ensures referred { IfOk result (λ r. AllByRecursion (IsReferred r) messages.now) }
     ensures within { IfOk result (λ r. AreWithin r) }
@@ -171,35 +175,22 @@ fn records_with(alloc: Global, messages: &Messages, tables: Tables) -> Result<Re
     }
 }
 
-/// The records that the rows give. `Corrupt` if they give none whose lists are in order and
-/// within their limits. The rows of a queue are let go once it is made: so copies do not stand in
-/// memory twice.
-pub fn records_of(alloc: Global, tables: Tables) -> Result<Records, KeepError>
-    ensures ok { IfOk result (λ r. Gives (rows_in tables) r) }
-    ensures within { IfOk result (λ r. AreWithin r) }
-    ensures err { IsErrOf result KeepError.Corrupt
-        → (r : Records) → Gives (rows_in tables) r → AreWithin r → ⊥ }
-    ensures fault { IfErr result (λ e. (e ≡ KeepError.Memory) ⊎ (e ≡ KeepError.Corrupt)) }
-{
-    let messages = match messages_of(alloc, &tables.messages) {
-        Ok(messages) => messages,
-        Err(fault) => return Err(fault),
-    };
-    let records = records_with(alloc, &messages, tables);
-    drop(messages);
-    records
-}
-
-/// The lawful records that the rows give. `Corrupt` if they give none. The rows of a queue are let
-/// go once it is made.
-pub fn lawful_records_of(alloc: Global, tables: Tables) -> Result<Records, KeepError>
-    ensures ok { IfOk result (λ r. Gives (rows_in tables) r) }
+/// The lawful records that the rows give with these messages, each of which is referred to.
+/// `Corrupt` if they give none. The rows of a queue are let go once it is made.
+pub fn lawful_records_with(
+    alloc: Global,
+    messages: &Messages,
+    tables: Tables,
+) -> Result<Records, KeepError>
+    ensures ok { IfOk result (GivesBy messages.now (rows_in tables)) }
+    ensures referred { IfOk result (λ r. AllByRecursion (IsReferred r) messages.now) }
     ensures lawful { IfOk result (λ r. IsLawful r) }
-    ensures err { IsErrOf result KeepError.Corrupt
-        → (r : Records) → Gives (rows_in tables) r → IsLawful r → ⊥ }
+    ensures err { IsErrOf result KeepError.Corrupt → (r : Records)
+        → GivesBy messages.now (rows_in tables) r
+        → AllByRecursion (IsReferred r) messages.now → IsLawful r → ⊥ }
     ensures fault { IfErr result (λ e. (e ≡ KeepError.Memory) ⊎ (e ≡ KeepError.Corrupt)) }
 {
-    let records = match records_of(alloc, tables) {
+    let records = match records_with(alloc, messages, tables) {
         Ok(records) => records,
         Err(fault) => return Err(fault),
     };

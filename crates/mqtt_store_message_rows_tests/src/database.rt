@@ -2,8 +2,8 @@
 
 use mqtt_records::Records;
 use mqtt_records_keep::KeepError;
-use mqtt_store_message_rows::{Tables, records_of};
-use sqlite::{Alter, Connection, Error, MemStore, params};
+use mqtt_store_message_rows::{Messages, Tables, message_of, records_with};
+use sqlite::{Alter, Connection, Error, MemStore, Row, params};
 use std::alloc::Global;
 
 /// The tables of schema 2, without references between them: so that rows can be broken that the
@@ -51,7 +51,24 @@ pub(crate) fn database(alloc: Global) -> Result<Connection<MemStore>, Error> {
     Ok(conn)
 }
 
-/// The rows that it has.
+/// The rows of `message` that it has.
+pub(crate) fn message_rows<S: Alter>(conn: &mut Connection<S>) -> Result<Vec<Row>, Error> {
+    conn.query_all("SELECT * FROM message ORDER BY pub", &[])
+}
+
+/// The messages that rows say. `Corrupt` if one says none, or if its number is not above all before it.
+pub(crate) fn messages_of(alloc: Global, rows: &[Row]) -> Result<Messages, KeepError> {
+    let mut messages = Messages::new(alloc);
+    for row in rows {
+        let message = message_of(alloc, row)?;
+        if !messages.push(message)? {
+            return Err(KeepError::Corrupt);
+        }
+    }
+    Ok(messages)
+}
+
+/// The rows of all other tables.
 pub(crate) fn tables<S: Alter>(conn: &mut Connection<S>) -> Result<Tables, Error> {
     Ok(Tables {
         meta: conn.query_all("SELECT name, n FROM meta ORDER BY name", &[])?,
@@ -59,7 +76,6 @@ pub(crate) fn tables<S: Alter>(conn: &mut Connection<S>) -> Result<Tables, Error
         wills: conn.query_all("SELECT * FROM will ORDER BY birth", &[])?,
         subscriptions: conn.query_all("SELECT * FROM sub ORDER BY birth, place", &[])?,
         inbound: conn.query_all("SELECT * FROM inbound ORDER BY birth, ident", &[])?,
-        messages: conn.query_all("SELECT * FROM message ORDER BY pub", &[])?,
         queued: conn.query_all("SELECT * FROM queued ORDER BY birth, place", &[])?,
         kept: conn.query_all("SELECT * FROM kept ORDER BY place", &[])?,
     })
@@ -79,6 +95,20 @@ fn fill<S: Alter>(
     Ok(())
 }
 
+/// What the rows of `message` and of all other tables say.
+fn records_of(alloc: Global, rows: &[Row], tables: Tables) -> Result<Records, KeepError> {
+    let messages = match messages_of(alloc, rows) {
+        Ok(messages) => messages,
+        Err(fault) => {
+            drop(tables);
+            return Err(fault);
+        }
+    };
+    let records = records_with(alloc, &messages, tables);
+    drop(messages);
+    records
+}
+
 /// What the rows say after a change with so many zero bytes for `?1`, which is taken back.
 pub(crate) fn after<S: Alter>(
     conn: &mut Connection<S>,
@@ -91,7 +121,8 @@ pub(crate) fn after<S: Alter>(
         None => conn.execute_batch(change)?,
         Some(count) => fill(conn, alloc, change, count)?,
     }
+    let rows = message_rows(conn)?;
     let tables = tables(conn)?;
     conn.execute_batch("ROLLBACK")?;
-    Ok(records_of(alloc, tables))
+    Ok(records_of(alloc, &rows, tables))
 }

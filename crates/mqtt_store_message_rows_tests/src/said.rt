@@ -1,15 +1,33 @@
 //! What sound rows say.
 
-use super::database::{database, tables};
+use super::database::{database, message_rows, messages_of, tables};
+use bytes::Bytes;
 use mqtt_base::{Cause, Phase, Qos};
-use mqtt_store_message_rows::{lawful_records_of, records_of};
+use mqtt_records::Records;
+use mqtt_store_message_rows::{is_among, lawful_records_with, message_of, records_with};
+use std::alloc::Global;
 use std::test::Fail;
+
+/// The records that the sound rows say.
+fn said(alloc: Global) -> Result<Records, Fail> {
+    let mut conn = database(alloc)?;
+    let rows = message_rows(&mut conn)?;
+    let tables = tables(&mut conn)?;
+    drop(conn);
+    let messages = messages_of(alloc, &rows)?;
+    let records = records_with(alloc, &messages, tables);
+    drop(messages);
+    Ok(records?)
+}
 
 #[test]
 fn rows_say_numbers_and_sessions(rt: HostRuntime) -> Result<(), Fail> {
     let mut conn = database(rt.alloc())?;
+    let rows = message_rows(&mut conn)?;
     let tables = tables(&mut conn)?;
-    let records = lawful_records_of(rt.alloc(), tables)?;
+    let messages = messages_of(rt.alloc(), &rows)?;
+    let records = lawful_records_with(rt.alloc(), &messages, tables)?;
+    drop(messages);
     assert_eq!(rt;
         (records.births, records.publications, records.subscribes),
         (2, 2, 2)
@@ -33,9 +51,7 @@ fn rows_say_numbers_and_sessions(rt: HostRuntime) -> Result<(), Fail> {
 
 #[test]
 fn copies_say_what_their_messages_say(rt: HostRuntime) -> Result<(), Fail> {
-    let mut conn = database(rt.alloc())?;
-    let tables = tables(&mut conn)?;
-    let records = records_of(rt.alloc(), tables)?;
+    let records = said(rt.alloc())?;
     let Some(subscriber) = records.sessions.get(1) else {
         panic!(rt; "no subscriber");
     };
@@ -72,15 +88,12 @@ fn copies_say_what_their_messages_say(rt: HostRuntime) -> Result<(), Fail> {
         (8, false)
     );
     drop(records);
-    drop(conn);
     Ok(())
 }
 
 #[test]
 fn what_is_said_once_is_said_to_all(rt: HostRuntime) -> Result<(), Fail> {
-    let mut conn = database(rt.alloc())?;
-    let tables = tables(&mut conn)?;
-    let records = records_of(rt.alloc(), tables)?;
+    let records = said(rt.alloc())?;
     let Some(subscriber) = records.sessions.get(2) else {
         panic!(rt; "no subscriber");
     };
@@ -108,6 +121,53 @@ fn what_is_said_once_is_said_to_all(rt: HostRuntime) -> Result<(), Fail> {
     assert_eq!(rt; (kept.content.payload.len(), kept.content.arrived), (2, 8));
     assert!(rt; !kept.content.payload.is_unique() && !copy.content.payload.is_unique());
     drop(records);
+    Ok(())
+}
+
+#[test]
+fn messages_stand_by_their_numbers(rt: HostRuntime) -> Result<(), Fail> {
+    let alloc = rt.alloc();
+    let mut conn = database(alloc)?;
+    let rows = message_rows(&mut conn)?;
     drop(conn);
+    let mut messages = messages_of(alloc, &rows)?;
+    assert_eq!(rt; messages.as_slice().len(), 2);
+    assert!(rt; messages.get(1).is_some() && messages.get(3).is_none());
+    for row in &rows {
+        let message = message_of(alloc, row)?;
+        let is_added = messages.push(message)?;
+        assert!(rt; !is_added, "a number that is not above all others");
+    }
+    assert_eq!(rt; messages.as_slice().len(), 2);
+    drop(messages);
+    Ok(())
+}
+
+#[test]
+fn a_message_says_another_payload(rt: HostRuntime) -> Result<(), Fail> {
+    let alloc = rt.alloc();
+    let mut conn = database(alloc)?;
+    let rows = message_rows(&mut conn)?;
+    drop(conn);
+    let Some(row) = rows.get(1) else {
+        panic!(rt; "no row");
+    };
+    let mut message = message_of(alloc, row)?;
+    assert_eq!(rt; message.payload_len(), 2);
+    message.set_payload(Bytes::copy_from_slice(alloc, b"hello")?);
+    assert_eq!(rt; message.payload_len(), 5);
+    let content = message.content(7)?;
+    drop(message);
+    assert_eq!(rt; content.payload.as_slice(), b"hello".as_slice());
+    assert_eq!(rt; (content.topic.as_str(), content.arrived), ("a/b", 7));
+    drop(content);
+    Ok(())
+}
+
+#[test]
+fn numbers_are_found_among_others(rt: HostRuntime) -> Result<(), Fail> {
+    let numbers = [2, 4, 4, 9];
+    assert!(rt; is_among(&numbers, 2) && is_among(&numbers, 4) && is_among(&numbers, 9));
+    assert!(rt; !is_among(&numbers, 1) && !is_among(&numbers, 5) && !is_among(&[], 5));
     Ok(())
 }

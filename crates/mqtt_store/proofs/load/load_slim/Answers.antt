@@ -1,13 +1,28 @@
 use Rattle.sqlite.specs.Held.{state}
-use Rattle.mqtt_store.proofs.Loads.{loaded_slim, read_slim}
+use Rattle.sqlite.specs.State.{HasCleanDisk}
+use Rattle.mqtt_store.proofs.Held.{load_holds, load_leaves}
+use Rattle.mqtt_store.proofs.Loads.{clean_old, read, loaded, refused}
 use Rattle.mqtt_store.proofs.load.load_slim.Goals as goal
 
-pub returns-in-Ok-clause-read : goal.returns-in-Ok-clause-read
-returns-in-Ok-clause-read g c =
-    let e = c.in-Ok.ensures in
-    let new = c.load_records.new.conn in
-    read_slim (state g.S.Store c.args.conn.now) (state g.S.Store new) (λ up db. g.met.S.Store.settled new.store db up) c.in-Ok.records c.make_all_slim.new.self c.make_all_slim.ensures e.lawful c.records_pass_on.ensures
-    e.exact e.kept e.found
+pub returns-clause-read : goal.returns-clause-read
+returns-clause-read g c =
+    let new = c.load_from.new.conn in
+    let e = c.load_from.ensures in
+    read (state g.S.Store c.args.conn.now) (state g.S.Store new) e.loads (λ up db. g.met.S.Store.settled new.store db up) c.load_from.result e.read
 
-pub returns-in-Ok-clause-loaded : goal.returns-in-Ok-clause-loaded
-returns-in-Ok-clause-loaded g c = loaded_slim (state g.S.Store c.load_records.new.conn) c.in-Ok.records c.in-Ok.ensures.kept
+pub returns-clause-loaded : goal.returns-clause-loaded
+returns-clause-loaded g c =
+    let e = c.load_from.ensures in
+    loaded (state g.S.Store c.args.conn.now) (state g.S.Store c.load_from.new.conn) e.loads c.load_from.result e.read
+
+pub returns-clause-same : goal.returns-clause-same
+returns-clause-same g c = λ r. load_holds (state g.S.Store c.args.conn.now) (state g.S.Store c.load_from.new.conn) r c.load_from.ensures.loads
+
+pub returns-clause-crash : goal.returns-clause-crash
+returns-clause-crash g c = λ r. load_leaves (state g.S.Store c.args.conn.now) (state g.S.Store c.load_from.new.conn) r c.load_from.ensures.loads
+
+pub returns-clause-sound : goal.returns-clause-sound
+returns-clause-sound g c = clean_old (state g.S.Store c.args.conn.now) (state g.S.Store c.load_from.new.conn) c.load_from.ensures.loads
+
+pub returns-clause-refused : goal.returns-clause-refused
+returns-clause-refused g c = refused g.S.Store c.args.conn.now (HasCleanDisk (state g.S.Store c.load_from.new.conn)) c.load_from.result c.load_from.ensures.refused

@@ -1,7 +1,3 @@
-use Rattle.std.proofs.Common.{sym, subst}
-use Rattle.std.proofs.lemmas.Result.{IfOk-weaker}
-use Rattle.mqtt_records_lawful.specs.Lawful.{IsLawful}
-use Rattle.mqtt_store_read.proofs.Loaded.{nothing_lawful}
 use Rattle.mqtt_store_load.proofs.Left.{empty_load}
 use Rattle.mqtt_store_load.proofs.load.load_empty.Goals as goal
 
@@ -9,6 +5,3 @@ pub returns-clause-loads : goal.returns-clause-loads
 returns-clause-loads g c =
     let e = c.begin_second.ensures in
     empty_load g.S.Store c.args.conn.now c.begin_second.new.conn c.requires.tidy c.requires.ordered c.requires.schema e.crash e.was_open c.begin_second.result e.ok e.made e.begun e.err e.fault
-
-pub returns-clause-lawful : goal.returns-clause-lawful
-returns-clause-lawful g c = IfOk-weaker c.begin_second.result _ _ (λ r is. subst IsLawful (sym is) nothing_lawful) c.begin_second.ensures.ok

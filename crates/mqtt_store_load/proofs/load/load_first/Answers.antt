@@ -22,7 +22,8 @@ returns-in-Ok-migrate-clause-loads g c =
     let before = λ (clean : HasCleanDisk (state g.S.Store mid)). let k : HasCleanDisk (state g.S.Store old) = omega (arith, less, clean) in k in
     taken g.S.Store old mid new c.in-Ok.records c.requires.tidy c.requires.ordered c.schema-schema.ensures.live c.requires.schema e.reads c.in-Ok.ensures.is_open
     (λ clean. c.in-Ok.ensures.ok clean (c.requires.schema (before clean)) (c.requires.tidy ((e.reads.stays clean).was_open (c.in-Ok.ensures.is_open clean))))
-    c.migrate.ensures.crash c.migrate.ensures.autocommit c.in-Ok-migrate.ensures.ok c.in-Ok-migrate.ensures.settled
+    c.migrate.ensures.crash c.migrate.ensures.autocommit c.make_all_slim.new.self c.make_all_slim.ensures c.in-Ok.ensures.lawful c.records_pass_on.ensures
+    c.in-Ok-migrate.ensures.ok c.in-Ok-migrate.ensures.settled
 
 pub returns-in-Err-migrate-clause-loads : goal.returns-in-Err-migrate-clause-loads
 returns-in-Err-migrate-clause-loads g c =

@@ -1,5 +1,5 @@
 use Rattle.std.proofs.Common.{◌≡◌, refl, sym, ◌∙◌, inr}
-use Rattle.mqtt_store_schema_two.specs.declared.found.FoundStore.TheVariants.{First, Second, Broken, Other}
+use Rattle.mqtt_store_schema_two.specs.declared.found.FoundStore.TheVariants.{First, Second, Empty, Broken, Other}
 use Rattle.mqtt_store_load.proofs.load.load_from.Goals as goal
 
 pub returns-in-Ok-First-clause-refused : goal.returns-in-Ok-First-clause-refused
@@ -13,6 +13,12 @@ returns-in-Ok-Second-clause-refused g c clean =
     let is = c.in-Ok-Second.field-0-is in
     let same = c.in-Ok-Second.ensures.untouched (λ e. let k : Second c.in-Ok-Second.making ≡ Broken = sym is ∙ e in cc) (λ e. let k : Second c.in-Ok-Second.making ≡ Other = sym is ∙ e in cc) in
     rw same at (c.load_second.ensures.loads.refused clean)
+
+pub returns-in-Ok-Empty-clause-read : goal.returns-in-Ok-Empty-clause-read
+returns-in-Ok-Empty-clause-read g c =
+    let is = c.in-Ok-Empty.field-0-is in
+    let same = c.in-Ok-Empty.ensures.untouched (λ e. let k : Empty ≡ Broken = sym is ∙ e in cc) (λ e. let k : Empty ≡ Other = sym is ∙ e in cc) in
+    rw same at c.load_empty.ensures.loads.read
 
 pub returns-in-Ok-Broken-clause-refused : goal.returns-in-Ok-Broken-clause-refused
 returns-in-Ok-Broken-clause-refused g c clean =

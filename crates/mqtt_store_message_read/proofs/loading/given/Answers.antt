@@ -1,10 +1,38 @@
+use Rattle.std.proofs.Common.{sym, ap, subst, ◌∙◌, arith}
+use Rattle.sqlite.specs.Effect.{Database}
 use Rattle.sqlite.specs.Held.{state}
+use Rattle.sqlite.specs.State.{HasCleanDisk}
 use Rattle.mqtt_store_message_rows.specs.Tables.{rows_in}
-use Rattle.mqtt_store_message_read.proofs.Loaded.{gives_none}
+use Rattle.mqtt_store_message_read.specs.Kept.{AreSharedListed, AreOthersListed, HasRecordsTwo}
+use Rattle.mqtt_store_message_laws.specs.Written.{HasNoOldRows}
+use Rattle.mqtt_store_message_read.proofs.Vacant.{still}
+use Rattle.mqtt_store_message_read.proofs.Loaded.{slim_so}
 use Rattle.mqtt_store_message_read.proofs.loading.given.Goals as goal
+
+pub returns-in-Ok-clause-ok : goal.returns-in-Ok-clause-ok
+returns-in-Ok-clause-ok g c =
+    let old = state g.S.Store c.args.conn.now in
+    let mid = state g.S.Store c.read_all.new.conn in
+    let less = c.given_with.ensures.reads.survives.clean in
+    let one = c.in-Ok.ensures in
+    slim_so _ _
+    (λ r lawful has making clean schema settled none.
+    let tidy : HasCleanDisk mid = omega (arith, less, clean) in
+    let same = (still old mid one.reads tidy (one.is_open tidy) settled).0 in
+    let rows = rows_in c.read_all.new.tables in
+    subst (λ (d : Database). HasRecordsTwo making d.trees r) same
+    (has making clean (ap (λ (d : Database). d.schema) same ∙ schema) (subst (λ (d : Database). AreSharedListed d.trees rows) (sym same) (one.shared making tidy schema settled))
+    (subst (λ (d : Database). AreOthersListed making d.trees rows) (sym same) (one.added making tidy schema settled)) (subst (λ (d : Database). HasNoOldRows making d.trees) (sym same) none)))
+    c.given_with.result c.given_with.ensures.ok
 
 pub returns-in-Ok-clause-err : goal.returns-in-Ok-clause-err
 returns-in-Ok-clause-err g c making clean schema settled is r has =
-    gives_none making (state g.S.Store c.args.conn.now).now.trees (rows_in c.read_all.new.tables)
-    (record { shared = c.in-Ok.ensures.shared making clean schema settled; added = c.in-Ok.ensures.added making clean schema settled; old = has.listed.old })
-    (c.lawful_records_of.ensures.err is) r has
+    let old = state g.S.Store c.args.conn.now in
+    let mid = state g.S.Store c.read_all.new.conn in
+    let less = c.given_with.ensures.reads.survives.clean in
+    let one = c.in-Ok.ensures in
+    let tidy : HasCleanDisk mid = omega (arith, less, clean) in
+    let same = (still old mid one.reads tidy (one.is_open tidy) settled).0 in
+    let rows = rows_in c.read_all.new.tables in
+    c.given_with.ensures.err making clean (ap (λ (d : Database). d.schema) same ∙ schema) (subst (λ (d : Database). AreSharedListed d.trees rows) (sym same) (one.shared making tidy schema settled))
+    (subst (λ (d : Database). AreOthersListed making d.trees rows) (sym same) (one.added making tidy schema settled)) is r (subst (λ (d : Database). HasRecordsTwo making d.trees r) (sym same) has)

@@ -1,0 +1,4 @@
+pub mod Alike
+pub mod CoverLemmas
+pub mod RowsLemmas
+pub mod TakenLemmas
