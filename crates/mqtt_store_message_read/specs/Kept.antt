@@ -18,11 +18,6 @@ pub record AreSharedListed (db : Trees) (rows : Rows) : Type 0 where
   pub subscriptions : IsListing Subscription db rows.subscriptions
   pub inbound : IsListing Inbound db rows.inbound
 
--- the rows of the tables that schema 2 adds but `message`
-pub record AreOthersListed (making : Making) (db : Trees) (rows : Rows) : Type 0 where
-  pub queued : IsAddedListing making Queued db rows.queued
-  pub kept : IsAddedListing making Kept db rows.kept
-
 -- the rows of the tables that schema 2 adds
 pub record AreAddedListed (making : Making) (db : Trees) (rows : Rows) : Type 0 where
   pub messages : IsAddedListing making Message db rows.messages

@@ -3,7 +3,7 @@ ghost use Rattle.std.specs.Prelude.{◌≡◌, ◌≢◌, ◌⊎◌, List, [], I
 ghost use Rattle.sqlite_value.specs.Order.{Row as SqlRow};
 ghost use Rattle.sqlite.specs.Held.{state};
 ghost use Rattle.sqlite.specs.State.{HasCleanDisk};
-ghost use Rattle.mqtt_records.specs.declared.records.Records.{Records};
+ghost use Rattle.mqtt_records.specs.declared.records.Records.{Records, Records as Kept};
 ghost use Rattle.mqtt_store_schema.specs.Settled.{IsSettled, OnlyReads};
 ghost use Rattle.mqtt_store_schema_two.specs.Tables.{second_schema};
 ghost use Rattle.mqtt_store_schema_two.specs.declared.tables.Making.{Making};
@@ -13,15 +13,16 @@ ghost use Rattle.mqtt_store_message_laws.specs.Written.{HasNoOldRows};
 ghost use Rattle.mqtt_store_message_read.specs.Listing.{IsAddedListing};
 ghost use Rattle.mqtt_store_message_stream.specs.Thin.{AreCovered};
 ghost use Rattle.mqtt_store_message_stream.specs.Gathered.{HasTaken};
+ghost use Rattle.mqtt_store_message_stream.specs.Queues.{HasTakenQueues, HaveQueues, AreSlimOf};
 ghost use Rattle.mqtt_store_message_stream.specs.Slim.{IsSlimOf};
 ghost use Rattle.mqtt_store_message_read.specs.declared.reading.AddedTable.TheVariants as AddedTable;
-ghost use Rattle.mqtt_store_message_read.specs.Kept.{AreSharedListed, AreOthersListed, HasRecordsTwo};
+ghost use Rattle.mqtt_store_message_read.specs.Kept.{AreSharedListed, HasRecordsTwo};
 
 use crate::reading::{AddedTable, read_into, rows_of_added};
 use mqtt_records::Records;
 use mqtt_records_keep::KeepError;
 use mqtt_store_message_rows::Tables;
-use mqtt_store_message_stream::{GatheredMessages, slim_records_of};
+use mqtt_store_message_stream::{GatheredMessages, GatheredQueues};
 use mqtt_store_read::{fault_of, rows_of};
 use mqtt_store_schema::StoreTable;
 use mqtt_store_schema_two::Making;
@@ -71,22 +72,6 @@ fn read_shared<S: Alter>(
     Ok(())
 }
 
-/// Reads the rows of a table that schema 2 adds into a list.
-fn read_added<S: Alter>(
-    conn: &mut Connection<S>,
-    table: AddedTable,
-    rows: &mut Vec<Row>,
-) -> Result<(), Error>
-    ensures rows { (making : Making) → HasCleanDisk (state S.Store conn.new)
-        → (state S.Store conn.old).now.schema ≡ second_schema making
-        → OnOk result (IsAddedListing making table (state S.Store conn.old).now.trees rows.new.items) }
-    ensures is_open { HasCleanDisk (state S.Store conn.new) → OnOk result (IsTrue (state S.Store conn.new).is_open) }
-    ensures reads { OnlyReads (state S.Store conn.old) (state S.Store conn.new) }
-{
-    *rows = rows_of_added(conn, table)?;
-    Ok(())
-}
-
 /// Reads the rows of the tables that both schemas have.
 fn read_all_shared<S: Alter>(conn: &mut Connection<S>, tables: &mut Tables) -> Result<(), Error>
     ensures rows { (making : Making) → HasCleanDisk (state S.Store conn.new)
@@ -102,32 +87,31 @@ fn read_all_shared<S: Alter>(conn: &mut Connection<S>, tables: &mut Tables) -> R
     read_shared(conn, StoreTable::Inbound, &mut tables.inbound)
 }
 
-/// Reads the rows of the tables that schema 2 adds but `message`.
-fn read_all_added<S: Alter>(conn: &mut Connection<S>, tables: &mut Tables) -> Result<(), Error>
+/// Reads the rows of `kept` into a list.
+fn read_kept<S: Alter>(conn: &mut Connection<S>, rows: &mut Vec<Row>) -> Result<(), Error>
     ensures rows { (making : Making) → HasCleanDisk (state S.Store conn.new)
-        → (state S.Store conn.old).now.schema ≡ second_schema making → IsSettled (state S.Store conn.old)
-        → OnOk result (AreOthersListed making (state S.Store conn.old).now.trees (rows_in tables.new)) }
-    ensures same { tables.new ≡ record tables.old { queued = tables.new.queued; kept = tables.new.kept } }
+        → (state S.Store conn.old).now.schema ≡ second_schema making
+        → OnOk result (IsAddedListing making AddedTable.Kept (state S.Store conn.old).now.trees rows.new.items) }
     ensures is_open { HasCleanDisk (state S.Store conn.new) → OnOk result (IsTrue (state S.Store conn.new).is_open) }
     ensures reads { OnlyReads (state S.Store conn.old) (state S.Store conn.new) }
 {
-    read_added(conn, AddedTable::Queued, &mut tables.queued)?;
-    read_added(conn, AddedTable::Kept, &mut tables.kept)
+    *rows = rows_of_added(conn, AddedTable::Kept)?;
+    Ok(())
 }
 
-/// Reads the rows of all tables but `message`.
+/// Reads the rows of all tables but `message` and `queued`.
 fn read_all<S: Alter>(conn: &mut Connection<S>, tables: &mut Tables) -> Result<(), Error>
     ensures shared { (making : Making) → HasCleanDisk (state S.Store conn.new)
         → (state S.Store conn.old).now.schema ≡ second_schema making → IsSettled (state S.Store conn.old)
         → OnOk result (AreSharedListed (state S.Store conn.old).now.trees (rows_in tables.new)) }
-    ensures added { (making : Making) → HasCleanDisk (state S.Store conn.new)
+    ensures kept { (making : Making) → HasCleanDisk (state S.Store conn.new)
         → (state S.Store conn.old).now.schema ≡ second_schema making → IsSettled (state S.Store conn.old)
-        → OnOk result (AreOthersListed making (state S.Store conn.old).now.trees (rows_in tables.new)) }
+        → OnOk result (IsAddedListing making AddedTable.Kept (state S.Store conn.old).now.trees (rows_in tables.new).kept) }
     ensures is_open { HasCleanDisk (state S.Store conn.new) → OnOk result (IsTrue (state S.Store conn.new).is_open) }
     ensures reads { OnlyReads (state S.Store conn.old) (state S.Store conn.new) }
 {
     read_all_shared(conn, tables)?;
-    read_all_added(conn, tables)
+    read_kept(conn, &mut tables.kept)
 }
 
 /// Gathers the messages. What the rows of `kept` refer to is whole.
@@ -157,35 +141,64 @@ fn messages_in<S: Alter>(
     }
 }
 
-/// The lawful records that the rows give, slim, with these of all tables but `message`. `Corrupt` if they give none.
-fn given_with<S: Alter>(
-    alloc: Global,
+/// Gathers the queues, and answers the records with them, slim. `Corrupt` if the rows say none with which these are lawful.
+fn queues_in<S: Alter>(
     conn: &mut Connection<S>,
-    tables: Tables,
+    mut queues: GatheredQueues,
 ) -> Result<Records, KeepError>
-    ensures ok { IfOk result (IsSlimOf (λ whole. (making : Making) → HasCleanDisk (state S.Store conn.new)
-        → (state S.Store conn.old).now.schema ≡ second_schema making
-        → AreSharedListed (state S.Store conn.old).now.trees (rows_in tables)
-        → AreOthersListed making (state S.Store conn.old).now.trees (rows_in tables)
-        → HasNoOldRows making (state S.Store conn.old).now.trees
-        → HasRecordsTwo making (state S.Store conn.old).now.trees whole)) }
-    ensures err { (making : Making) → HasCleanDisk (state S.Store conn.new)
-        → (state S.Store conn.old).now.schema ≡ second_schema making
-        → AreSharedListed (state S.Store conn.old).now.trees (rows_in tables)
-        → AreOthersListed making (state S.Store conn.old).now.trees (rows_in tables)
-        → IsErrOf result KeepError.Corrupt → (r : Records) → HasRecordsTwo making (state S.Store conn.old).now.trees r → ⊥ }
+    requires begun { HasTakenQueues queues [] }
+    ensures ok { IfOk result (λ slim. (rows : List SqlRow) × AreSlimOf queues rows slim
+        × ((making : Making) → HasCleanDisk (state S.Store conn.new) → (state S.Store conn.old).now.schema ≡ second_schema making
+        → IsAddedListing making AddedTable.Queued (state S.Store conn.old).now.trees rows)) }
+    ensures err { IsErrOf result KeepError.Corrupt → (rows : List SqlRow) × ((r : Kept) → HaveQueues queues rows r → ⊥)
+        × ((making : Making) → HasCleanDisk (state S.Store conn.new) → (state S.Store conn.old).now.schema ≡ second_schema making
+        → IsAddedListing making AddedTable.Queued (state S.Store conn.old).now.trees rows) }
     ensures fault { IfErr result (λ e. (e ≡ KeepError.Memory) ⊎ ((e ≡ KeepError.Disk) ⊎ (e ≡ KeepError.Corrupt))) }
     ensures is_open { HasCleanDisk (state S.Store conn.new)
         → OnOk result (IsTrue (state S.Store conn.new).is_open)
         × (IsErrOf result KeepError.Corrupt → IsTrue (state S.Store conn.new).is_open) }
     ensures reads { OnlyReads (state S.Store conn.old) (state S.Store conn.new) }
 {
-    match messages_in(alloc, conn, &tables.kept) {
-        Ok(gathered) => slim_records_of(alloc, gathered, tables),
+    match read_into(conn, AddedTable::Queued, &mut queues) {
+        Ok(()) => queues.finish(),
         Err(fault) => {
-            drop(tables);
+            drop(queues);
             Err(fault)
         }
+    }
+}
+
+/// The lawful records that the rows give, slim, with these of all tables but `message` and `queued`. `Corrupt` if they give
+/// none.
+fn given_with<S: Alter>(
+    alloc: Global,
+    conn: &mut Connection<S>,
+    tables: &Tables,
+) -> Result<Records, KeepError>
+    ensures ok { IfOk result (IsSlimOf (λ whole. (making : Making) → HasCleanDisk (state S.Store conn.new)
+        → (state S.Store conn.old).now.schema ≡ second_schema making → IsSettled (state S.Store conn.old)
+        → AreSharedListed (state S.Store conn.old).now.trees (rows_in tables.now)
+        → IsAddedListing making AddedTable.Kept (state S.Store conn.old).now.trees (rows_in tables.now).kept
+        → HasNoOldRows making (state S.Store conn.old).now.trees
+        → HasRecordsTwo making (state S.Store conn.old).now.trees whole)) }
+    ensures err { (making : Making) → HasCleanDisk (state S.Store conn.new)
+        → (state S.Store conn.old).now.schema ≡ second_schema making → IsSettled (state S.Store conn.old)
+        → AreSharedListed (state S.Store conn.old).now.trees (rows_in tables.now)
+        → IsAddedListing making AddedTable.Kept (state S.Store conn.old).now.trees (rows_in tables.now).kept
+        → IsErrOf result KeepError.Corrupt → (r : Kept) → HasRecordsTwo making (state S.Store conn.old).now.trees r → ⊥ }
+    ensures fault { IfErr result (λ e. (e ≡ KeepError.Memory) ⊎ ((e ≡ KeepError.Disk) ⊎ (e ≡ KeepError.Corrupt))) }
+    ensures is_open { HasCleanDisk (state S.Store conn.new)
+        → OnOk result (IsTrue (state S.Store conn.new).is_open)
+        × (IsErrOf result KeepError.Corrupt → IsTrue (state S.Store conn.new).is_open) }
+    ensures reads { OnlyReads (state S.Store conn.old) (state S.Store conn.new) }
+{
+    let gathered = match messages_in(alloc, conn, &tables.kept) {
+        Ok(gathered) => gathered,
+        Err(fault) => return Err(fault),
+    };
+    match GatheredQueues::new(alloc, gathered, tables) {
+        Ok(queues) => queues_in(conn, queues),
+        Err(fault) => Err(fault),
     }
 }
 
@@ -210,11 +223,14 @@ fn given<S: Alter>(alloc: Global, conn: &mut Connection<S>) -> Result<Records, K
         wills: Vec::new(alloc),
         subscriptions: Vec::new(alloc),
         inbound: Vec::new(alloc),
-        queued: Vec::new(alloc),
         kept: Vec::new(alloc),
     };
     match read_all(conn, &mut tables) {
-        Ok(()) => given_with(alloc, conn, tables),
+        Ok(()) => {
+            let records = given_with(alloc, conn, &tables);
+            drop(tables);
+            records
+        }
         Err(error) => {
             drop(tables);
             Err(fault_of(&error))

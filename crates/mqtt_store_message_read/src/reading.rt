@@ -61,7 +61,7 @@ pub(crate) fn read_into<S: Alter, G: Gather>(
     ensures taken { OnOk result ((rows : List SqlRow) × G.has_taken gather.new rows
         × ((making : Making) → HasCleanDisk (state S.Store conn.new) → (state S.Store conn.old).now.schema ≡ second_schema making
         → IsAddedListing making table (state S.Store conn.old).now.trees rows)) }
-    ensures goes_on { G.goes_on gather.old gather.new }
+    ensures goes_on { OnOk result (G.goes_on gather.old gather.new) }
     ensures fault { IfErr result (λ e. (e ≡ KeepError.Memory) ⊎ (e ≡ KeepError.Disk)) }
     ensures is_open { HasCleanDisk (state S.Store conn.new) → OnOk result (IsTrue (state S.Store conn.new).is_open) }
     ensures reads { OnlyReads (state S.Store conn.old) (state S.Store conn.new) }

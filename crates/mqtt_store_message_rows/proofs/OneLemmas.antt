@@ -14,7 +14,7 @@ use Rattle.mqtt_store_rows.proofs.OneLemmas.{same_rows, one_sessions}
 use Rattle.mqtt_store_message_rows.specs.Rows.{SaysNumbers, SaysMessage}
 use Rattle.mqtt_store_message_rows.specs.Joins.{SaysRetained}
 use Rattle.mqtt_store_message_rows.specs.Ones.{one_message, one_retained}
-use Rattle.mqtt_store_message_rows.specs.Gives.{Rows, parts_of, without_queue, AreSessionsWith, GivesBy, Gives}
+use Rattle.mqtt_store_message_rows.specs.Gives.{Rows, parts_of, without_queue, AreSessionsWith, GivesBy, AreHeads, Gives}
 use Rattle.mqtt_store_message_rows.proofs.QueueLemmas.{same_order, without_twice, one_queues}
 
 -- ---- meta
@@ -69,6 +69,13 @@ one_by messages rows r s gives within others as_well =
     same_records (counters_of r) (counters_of s) r.sessions s.sessions r.retained s.retained (one_numbers (counters_of r) (counters_of s) rows.meta gives.numbers others.numbers)
     (one_list messages rows r.sessions s.sessions gives.sessions within.sessions.ascending others.sessions as_well.sessions.ascending)
     (same_rows (SaysRetained messages) (one_retained messages) rows.kept r.retained s.retained gives.retained others.retained)
+
+-- and one records of sessions without queues
+pub one_heads : (messages : List StoredMessage) (rows : Rows) (r s : Records) → AreHeads messages rows r → AreWithin r → AreHeads messages rows s → AreWithin s → r ≡ s
+one_heads messages rows r s heads within others as_well =
+    same_records (counters_of r) (counters_of s) r.sessions s.sessions r.retained s.retained (one_numbers (counters_of r) (counters_of s) rows.meta heads.numbers others.numbers)
+    (one_sessions rows.sessions (parts_of rows) r.sessions s.sessions heads.sessions others.sessions within.sessions.ascending as_well.sessions.ascending)
+    (same_rows (SaysRetained messages) (one_retained messages) rows.kept r.retained s.retained heads.retained others.retained)
 
 -- rows give one records and no other
 pub one_records : (rows : Rows) (r s : Records) → Gives rows r → AreWithin r → Gives rows s → AreWithin s → r ≡ s

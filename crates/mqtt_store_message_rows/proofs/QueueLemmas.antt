@@ -7,10 +7,10 @@ use Rattle.mqtt_records.specs.declared.session.Session.{Session}
 use Rattle.mqtt_records.specs.Session.{birth_of}
 use Rattle.mqtt_records_rows.specs.Order.{IsAbove, IsBelow, IsAscending, IsTable}
 use Rattle.mqtt_records.specs.Contents.{StoredMessage}
-use Rattle.mqtt_store_rows.specs.Lists.{AreRows, BeginsOther, Takes, TakesAll}
+use Rattle.mqtt_store_rows.specs.Lists.{AreRows, BeginsOther}
 use Rattle.mqtt_store_rows.specs.Rows.{SaysCopy as SaysWholeCopy}
 use Rattle.mqtt_store_rows.specs.Gives.{Parts, AreSessions, IsWithin}
-use Rattle.mqtt_store_rows.proofs.PartLemmas.{first_other, same_parts, moved}
+use Rattle.mqtt_store_rows.proofs.PartLemmas.{first_other, same_parts}
 use Rattle.mqtt_store_rows.proofs.OneLemmas.{same_part}
 use Rattle.mqtt_store_message_rows.specs.Joins.{SaysCopy}
 use Rattle.mqtt_store_message_rows.specs.Ones.{one_copy}
@@ -118,61 +118,6 @@ module _ (messages : List StoredMessage) where
   pub ends_queues : (n : ℕ) (rows : List Row) (ss : List Session) → AreQueues messages rows ss → IsAbove birth_of n ss → BeginsOther n rows
   ends_queues n rows [] are up = subst (BeginsOther n) (sym are) tt
   ends_queues n rows (s ∷ ss) are up = first_other (SaysCopy messages) n s.birth s.queue rows are.0 are.1 up.0 (ends_queues n are.0 ss are.2 up.1)
-
-  -- what is left to be said of sessions whose queues are not read
-  pub record Left (rows : List Row) (bare : List Session) : Type 0 where
-    pub those : List Session
-    pub are : AreQueues messages rows those
-    pub same : map without_queue those ≡ map without_queue bare
-    pub all : AllByRecursion IsWithin those
-
-  -- the first of them
-  pub record First (rows : List Row) (s : Session) (bare : List Session) : Type 0 where
-    pub one : Session
-    pub birth : one.birth ≡ s.birth
-    pub more : List Row
-    pub takes : Takes (SaysCopy messages) one.birth one.queue rows more
-    pub ends : BeginsOther one.birth more
-    pub within : IsWithin one
-    pub others : Left more bare
-
-  -- the first session that is left takes its rows
-  pub first_of_left : (rows : List Row) (s : Session) (bare : List Session) → IsAscending birth_of (s ∷ bare) → Left rows (s ∷ bare) → First rows s bare
-  first_of_left rows s bare up h = go h.those h.are h.same h.all
-    where
-      go : (ds : List Session) → AreQueues messages rows ds → map without_queue ds ≡ map without_queue (s ∷ bare) → AllByRecursion IsWithin ds → First rows s bare
-      go [] are same all = absurd cc
-      go (d ∷ ds) are same all =
-          let first : without_queue d ≡ without_queue s = cc in
-          let behind : map without_queue ds ≡ map without_queue bare = cc in
-          let birth : d.birth ≡ s.birth = same_birth d s first in
-          record {
-            one = d;
-            birth = birth;
-            more = are.0;
-            takes = are.1;
-            ends = ends_queues d.birth are.0 ds are.2 (subst (λ (n : ℕ). IsAbove birth_of n ds) (sym birth) (same_above s.birth ds bare behind up.0));
-            within = all.0;
-            others = record { those = ds; are = are.2; same = behind; all = all.1 };
-          }
-
-  -- all rows of the first session are its queue
-  pub first_takes : (rows : List Row) (s : Session) (bare : List Session) → (f : First rows s bare) → TakesAll (SaysCopy messages) s.birth f.one.queue rows f.more
-  first_takes rows s bare f = moved (SaysCopy messages) f.one.birth s.birth f.one.queue rows f.more f.birth f.takes f.ends
-
-  -- behind the rows of the first session stand those of the others
-  pub left_more : (rows rest : List Row) (s : Session) (bare : List Session) (queue : List CopyRow) → First rows s bare → TakesAll (SaysCopy messages) s.birth queue rows rest → Left rest bare
-  left_more rows rest s bare queue f taken =
-      let behind : f.more ≡ rest = (same_parts (SaysCopy messages) f.one.birth s.birth f.one.queue queue rows f.more rest f.birth f.takes f.ends taken.takes taken.ends).1 in
-      subst (λ (l : List Row). Left l bare) behind f.others
-
-  -- behind the last session no rows are left
-  pub left_none : (rows : List Row) → Left rows [] → rows ≡ []
-  left_none rows h = go h.those h.are h.same
-    where
-      go : (ds : List Session) → AreQueues messages rows ds → map without_queue ds ≡ [] → rows ≡ []
-      go [] are same = are
-      go (d ∷ ds) are same = absurd cc
 
   -- rows say one list of queues
   pub one_queues : (rows : List Row) (ss ts : List Session) → map without_queue ss ≡ map without_queue ts → IsAscending birth_of ts → AreQueues messages rows ss → AreQueues messages rows ts → ss ≡ ts

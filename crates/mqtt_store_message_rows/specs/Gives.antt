@@ -53,6 +53,13 @@ pub record GivesBy (messages : List StoredMessage) (rows : Rows) (r : Records) :
   pub sessions : AreSessionsWith messages rows r.sessions
   pub retained : AreRows (SaysRetained messages) rows.kept r.retained
 
+-- the same of all tables but `queued`: no session has a queue
+pub record AreHeads (messages : List StoredMessage) (rows : Rows) (r : Records) : Type 0 where
+  pub numbers : SaysNumbers (counters_of r) rows.meta
+  pub sessions : AreSessions rows.sessions (parts_of rows) r.sessions
+  pub bare : map without_queue r.sessions ≡ r.sessions
+  pub retained : AreRows (SaysRetained messages) rows.kept r.retained
+
 -- the number to which a copy refers, those to which the copies of a session's queue do, and that of a retained message
 abbrev pub copy_number : CopyRow → ℕ
 copy_number x = x.copy.id.publication

@@ -1,4 +1,4 @@
--- The rows that the tables of schema 2 have, as lists; those of `message` are read one by one.
+-- The rows that the tables of schema 2 have, as lists; those of `message` and `queued` are read one by one.
 use Rattle.std.specs.Prelude.{[]}
 use Rattle.mqtt_store_message_rows.specs.Gives.{Rows}
 use Rattle.mqtt_store_message_rows.specs.declared.tables.Tables.{Tables}
@@ -11,6 +11,6 @@ rows_in tables = record {
   subscriptions = tables.subscriptions.items;
   inbound = tables.inbound.items;
   messages = [];
-  queued = tables.queued.items;
+  queued = [];
   kept = tables.kept.items;
 }

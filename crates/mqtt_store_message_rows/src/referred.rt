@@ -99,7 +99,7 @@ fn are_among(numbers: &[u64], messages: &[Message]) -> bool
 }
 
 /// Whether something refers to each message.
-pub(crate) fn are_referred(
+pub fn are_referred(
     alloc: Global,
     messages: &Messages,
     records: &Records,

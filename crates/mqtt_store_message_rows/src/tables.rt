@@ -2,31 +2,27 @@
 ghost use Rattle.std.specs.Prelude.{◌≡◌, ◌⊎◌, List, map, IfOk, IfErr, IsErrOf};
 ghost use Rattle.std.specs.List.{AllByRecursion};
 ghost use Rattle.mqtt_base.specs.declared.limits.TheConstants.{SESSION_LIMIT};
-ghost use Rattle.mqtt_records_lawful.specs.Lawful.{IsLawful};
 ghost use Rattle.mqtt_records.specs.declared.records.Records.{Records};
 ghost use Rattle.mqtt_records.specs.declared.session.Session.{Session};
 ghost use Rattle.mqtt_records.specs.Session.{birth_of};
 ghost use Rattle.mqtt_records_rows.specs.Order.{IsTable};
 ghost use Rattle.mqtt_store_rows.specs.Gives.{AreSessions, IsWithin, AreWithin};
-ghost use Rattle.mqtt_store_message_rows.specs.Gives.{parts_of, without_queue, AreSessionsWith, GivesBy, IsReferred};
+ghost use Rattle.mqtt_store_message_rows.specs.Gives.{parts_of, without_queue, AreHeads};
 ghost use Rattle.mqtt_store_message_rows.specs.Tables.{rows_in};
 
 use crate::messages::Messages;
 use crate::meta::counters_of;
-use crate::queues::{Sessions, put_queues};
-use crate::referred::are_referred;
 use crate::refers::all_with;
-use mqtt_base::RETAINED_LIMIT;
-use mqtt_records::Records;
+use mqtt_base::{RETAINED_LIMIT, SESSION_LIMIT};
+use mqtt_records::{Records, Session};
 use mqtt_records_keep::KeepError;
-use mqtt_records_lawful::is_lawful;
 use mqtt_records_message::RetainedMessage;
 use mqtt_records_rows::{Boxed, Rows};
 use mqtt_store_rows::{PartRows, sessions_of};
 use sqlite::Row;
 use std::alloc::Global;
 
-/// The rows of all tables of schema 2 but `message`.
+/// The rows of all tables of schema 2 but `message` and `queued`, which are read one by one.
 #[derive(Debug, Drop)]
 pub struct Tables {
     /// Of `meta`, by name.
@@ -39,8 +35,6 @@ pub struct Tables {
     pub subscriptions: Vec<Row>,
     /// Of `inbound`, by birth and identifier.
     pub inbound: Vec<Row>,
-    /// Of `queued`, by birth and place.
-    pub queued: Vec<Row>,
     /// Of `kept`, by place.
     pub kept: Vec<Row>,
 }
@@ -60,7 +54,10 @@ impl Tables {
 }
 
 /// The sessions without queues that the rows say.
-fn bare_sessions(alloc: Global, tables: &Tables) -> Result<Sessions, KeepError>
+fn bare_sessions(
+    alloc: Global,
+    tables: &Tables,
+) -> Result<Rows<Boxed<Session>, SESSION_LIMIT>, KeepError>
     ensures ok { IfOk result (AreSessions (rows_in tables.now).sessions (parts_of (rows_in tables.now))) }
     ensures bare { IfOk result (λ all. map without_queue all ≡ all) }
     ensures within { IfOk result (λ all. IsTable birth_of SESSION_LIMIT all × AllByRecursion IsWithin all) }
@@ -75,43 +72,13 @@ fn bare_sessions(alloc: Global, tables: &Tables) -> Result<Sessions, KeepError>
     }
 }
 
-/// The sessions that the rows say with these messages.
-fn sessions_with(alloc: Global, messages: &Messages, tables: Tables) -> Result<Sessions, KeepError>
-    ensures ok { IfOk result (AreSessionsWith messages.now (rows_in tables)) }
-    ensures within { IfOk result (λ all. IsTable birth_of SESSION_LIMIT all × AllByRecursion IsWithin all) }
-    ensures err { IsErrOf result KeepError.Corrupt → (all : List Session)
-        → AreSessionsWith messages.now (rows_in tables) all
-        → IsTable birth_of SESSION_LIMIT all → AllByRecursion IsWithin all → ⊥ }
-    ensures fault { IfErr result (λ e. (e ≡ KeepError.Memory) ⊎ (e ≡ KeepError.Corrupt)) }
-{
-    let mut bare = match bare_sessions(alloc, &tables) {
-        Ok(bare) => bare,
-        Err(fault) => return Err(fault),
-    };
-    let mut all = match Rows::new(alloc) {
-        Ok(all) => all,
-        Err(_) => {
-            drop(bare);
-            return Err(KeepError::Memory);
-        }
-    };
-    let put = put_queues(alloc, messages, tables.queued, &mut bare, &mut all);
-    drop(bare);
-    match put {
-        Ok(()) => Ok(all),
-        Err(fault) => {
-            drop(all);
-            Err(fault)
-        }
-    }
-}
-
-/// The records that the rows give with these messages, be these referred to or not.
-fn joined(alloc: Global, messages: &Messages, tables: Tables) -> Result<Records, KeepError>
-    ensures ok { IfOk result (GivesBy messages.now (rows_in tables)) }
+/// The records that the rows give with these messages, of sessions without queues. `Corrupt` if they give none whose lists
+/// are in order and within their limits.
+pub fn heads_of(alloc: Global, messages: &Messages, tables: &Tables) -> Result<Records, KeepError>
+    ensures ok { IfOk result (AreHeads messages.now (rows_in tables.now)) }
     ensures within { IfOk result (λ r. AreWithin r) }
     ensures err { IsErrOf result KeepError.Corrupt → (r : Records)
-        → GivesBy messages.now (rows_in tables) r → AreWithin r → ⊥ }
+        → AreHeads messages.now (rows_in tables.now) r → AreWithin r → ⊥ }
     ensures fault { IfErr result (λ e. (e ≡ KeepError.Memory) ⊎ (e ≡ KeepError.Corrupt)) }
 {
     let Some(numbers) = counters_of(&tables.meta) else {
@@ -125,7 +92,7 @@ fn joined(alloc: Global, messages: &Messages, tables: Tables) -> Result<Records,
         Ok(retained) => retained,
         Err(fault) => return Err(fault),
     };
-    match sessions_with(alloc, messages, tables) {
+    match bare_sessions(alloc, tables) {
         Ok(sessions) => Ok(Records {
             births: numbers.births,
             publications: numbers.publications,
@@ -138,71 +105,6 @@ fn joined(alloc: Global, messages: &Messages, tables: Tables) -> Result<Records,
         Err(fault) => {
             drop(retained);
             Err(fault)
-        }
-    }
-}
-
-/// The records that the rows give with these messages, each of which is referred to. `Corrupt` if
-/// they give none whose lists are in order and within their limits. The rows of a queue are let go
-/// once it is made: so copies do not stand in memory twice.
-pub fn records_with(
-    alloc: Global,
-    messages: &Messages,
-    tables: Tables,
-) -> Result<Records, KeepError>
-    ensures ok { IfOk result (GivesBy messages.now (rows_in tables)) }
-    ensures referred { IfOk result (λ r. AllByRecursion (IsReferred r) messages.now) }
-    ensures within { IfOk result (λ r. AreWithin r) }
-    ensures err { IsErrOf result KeepError.Corrupt → (r : Records)
-        → GivesBy messages.now (rows_in tables) r
-        → AllByRecursion (IsReferred r) messages.now → AreWithin r → ⊥ }
-    ensures fault { IfErr result (λ e. (e ≡ KeepError.Memory) ⊎ (e ≡ KeepError.Corrupt)) }
-{
-    let records = match joined(alloc, messages, tables) {
-        Ok(records) => records,
-        Err(fault) => return Err(fault),
-    };
-    match are_referred(alloc, messages, &records) {
-        Ok(true) => Ok(records),
-        Ok(false) => {
-            drop(records);
-            Err(KeepError::Corrupt)
-        }
-        Err(_) => {
-            drop(records);
-            Err(KeepError::Memory)
-        }
-    }
-}
-
-/// The lawful records that the rows give with these messages, each of which is referred to.
-/// `Corrupt` if they give none. The rows of a queue are let go once it is made.
-pub fn lawful_records_with(
-    alloc: Global,
-    messages: &Messages,
-    tables: Tables,
-) -> Result<Records, KeepError>
-    ensures ok { IfOk result (GivesBy messages.now (rows_in tables)) }
-    ensures referred { IfOk result (λ r. AllByRecursion (IsReferred r) messages.now) }
-    ensures lawful { IfOk result (λ r. IsLawful r) }
-    ensures err { IsErrOf result KeepError.Corrupt → (r : Records)
-        → GivesBy messages.now (rows_in tables) r
-        → AllByRecursion (IsReferred r) messages.now → IsLawful r → ⊥ }
-    ensures fault { IfErr result (λ e. (e ≡ KeepError.Memory) ⊎ (e ≡ KeepError.Corrupt)) }
-{
-    let records = match records_with(alloc, messages, tables) {
-        Ok(records) => records,
-        Err(fault) => return Err(fault),
-    };
-    match is_lawful(alloc, &records) {
-        Ok(true) => Ok(records),
-        Ok(false) => {
-            drop(records);
-            Err(KeepError::Corrupt)
-        }
-        Err(_) => {
-            drop(records);
-            Err(KeepError::Memory)
         }
     }
 }

@@ -1,10 +1,11 @@
-//! A database in memory with the tables of schema 2 and some rows.
+//! A database in memory with the tables of schema 2 and some rows, and what they say.
 
-use mqtt_records::Records;
+use mqtt_records::{Boxed, Records};
 use mqtt_records_keep::KeepError;
-use mqtt_store_message_rows::{Messages, Tables, message_of, records_with};
+use mqtt_store_message_rows::{Messages, Tables, are_referred, heads_of, message_of, part_with};
 use sqlite::{Alter, Connection, Error, MemStore, Row, params};
-use std::alloc::Global;
+use std::alloc::{AllocError, Global};
+use std::collections::VecDeque;
 
 /// The tables of schema 2, without references between them: so that rows can be broken that the
 /// schema would refuse.
@@ -51,7 +52,7 @@ pub(crate) fn database(alloc: Global) -> Result<Connection<MemStore>, Error> {
     Ok(conn)
 }
 
-/// The rows of `message` that it has.
+/// The rows of `message`.
 pub(crate) fn message_rows<S: Alter>(conn: &mut Connection<S>) -> Result<Vec<Row>, Error> {
     conn.query_all("SELECT * FROM message ORDER BY pub", &[])
 }
@@ -68,7 +69,7 @@ pub(crate) fn messages_of(alloc: Global, rows: &[Row]) -> Result<Messages, KeepE
     Ok(messages)
 }
 
-/// The rows of all other tables.
+/// The rows of all tables but `message` and `queued`.
 pub(crate) fn tables<S: Alter>(conn: &mut Connection<S>) -> Result<Tables, Error> {
     Ok(Tables {
         meta: conn.query_all("SELECT name, n FROM meta ORDER BY name", &[])?,
@@ -76,9 +77,93 @@ pub(crate) fn tables<S: Alter>(conn: &mut Connection<S>) -> Result<Tables, Error
         wills: conn.query_all("SELECT * FROM will ORDER BY birth", &[])?,
         subscriptions: conn.query_all("SELECT * FROM sub ORDER BY birth, place", &[])?,
         inbound: conn.query_all("SELECT * FROM inbound ORDER BY birth, ident", &[])?,
-        queued: conn.query_all("SELECT * FROM queued ORDER BY birth, place", &[])?,
         kept: conn.query_all("SELECT * FROM kept ORDER BY place", &[])?,
     })
+}
+
+/// The rows of `queued`.
+pub(crate) fn queued_rows<S: Alter>(conn: &mut Connection<S>) -> Result<VecDeque<Row>, Error> {
+    let rows = conn.query_all("SELECT * FROM queued ORDER BY birth, place", &[])?;
+    Ok(VecDeque::from_vec(rows))
+}
+
+/// Rows of all tables.
+#[derive(Drop)]
+pub(crate) struct All {
+    pub(crate) messages: Vec<Row>,
+    pub(crate) others: Tables,
+    pub(crate) queued: VecDeque<Row>,
+}
+
+/// Those that a database has.
+fn all_rows<S: Alter>(conn: &mut Connection<S>) -> Result<All, Error> {
+    let messages = message_rows(conn)?;
+    let others = tables(conn)?;
+    let queued = queued_rows(conn)?;
+    Ok(All {
+        messages,
+        others,
+        queued,
+    })
+}
+
+/// Which rows were refused, and why.
+#[derive(Debug, Clone, Copy, PartialEq, Eq)]
+pub(crate) enum Refused {
+    /// Of `message`.
+    Messages(KeepError),
+    /// Of sessions without queues, retained messages or numbers.
+    Heads(KeepError),
+    /// Of the queue of a session.
+    Queue(KeepError),
+    /// A copy of no session.
+    LeftOver,
+    /// A message to which nothing refers.
+    Unreferred,
+}
+
+/// Gives a session the queue that the rows at the front say.
+pub(crate) fn put_queue(
+    alloc: Global,
+    messages: &Messages,
+    queued: &mut VecDeque<Row>,
+    records: &mut Records,
+    birth: u64,
+) -> Result<(), KeepError> {
+    let Some(session) = records.sessions.take(birth) else {
+        return Ok(());
+    };
+    let mut session = session.into_row();
+    session.queue = part_with(alloc, messages, birth, queued)?;
+    records.sessions.put(Boxed::new(alloc, session)?);
+    Ok(())
+}
+
+/// What rows say, read one table after the other: the messages, the sessions without their queues,
+/// and the queues of both sessions.
+pub(crate) fn records_of(alloc: Global, rows: All) -> Result<Records, Refused> {
+    let mut queued = rows.queued;
+    let messages = match messages_of(alloc, &rows.messages) {
+        Ok(messages) => messages,
+        Err(fault) => return Err(Refused::Messages(fault)),
+    };
+    let mut records = match heads_of(alloc, &messages, &rows.others) {
+        Ok(records) => records,
+        Err(fault) => return Err(Refused::Heads(fault)),
+    };
+    for birth in [1, 2] {
+        if let Err(fault) = put_queue(alloc, &messages, &mut queued, &mut records, birth) {
+            return Err(Refused::Queue(fault));
+        }
+    }
+    if !queued.is_empty() {
+        return Err(Refused::LeftOver);
+    }
+    match are_referred(alloc, &messages, &records) {
+        Ok(true) => Ok(records),
+        Ok(false) => Err(Refused::Unreferred),
+        Err(AllocError) => Err(Refused::Heads(KeepError::Memory)),
+    }
 }
 
 /// Makes a change with so many zero bytes.
@@ -95,34 +180,19 @@ fn fill<S: Alter>(
     Ok(())
 }
 
-/// What the rows of `message` and of all other tables say.
-fn records_of(alloc: Global, rows: &[Row], tables: Tables) -> Result<Records, KeepError> {
-    let messages = match messages_of(alloc, rows) {
-        Ok(messages) => messages,
-        Err(fault) => {
-            drop(tables);
-            return Err(fault);
-        }
-    };
-    let records = records_with(alloc, &messages, tables);
-    drop(messages);
-    records
-}
-
-/// What the rows say after a change with so many zero bytes for `?1`, which is taken back.
+/// The rows after a change with so many zero bytes for `?1`, which is taken back.
 pub(crate) fn after<S: Alter>(
     conn: &mut Connection<S>,
     alloc: Global,
     change: &str,
     zeros: Option<usize>,
-) -> Result<Result<Records, KeepError>, Error> {
+) -> Result<All, Error> {
     conn.execute_batch("BEGIN")?;
     match zeros {
         None => conn.execute_batch(change)?,
         Some(count) => fill(conn, alloc, change, count)?,
     }
-    let rows = message_rows(conn)?;
-    let tables = tables(conn)?;
+    let rows = all_rows(conn)?;
     conn.execute_batch("ROLLBACK")?;
-    Ok(records_of(alloc, &rows, tables))
+    Ok(rows)
 }

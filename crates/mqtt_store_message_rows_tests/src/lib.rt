@@ -4,6 +4,10 @@
 #[cfg(test)]
 mod database;
 #[cfg(test)]
+mod queues;
+#[cfg(test)]
+mod referred;
+#[cfg(test)]
 mod refused;
 #[cfg(test)]
 mod said;

@@ -1,7 +1,9 @@
 //! Changes of sound rows after which they say no records, and others after which they do.
 
-use super::database::{after, database};
+use super::database::{Refused, after, database, records_of};
 use mqtt_records_keep::KeepError;
+use std::alloc::Global;
+use std::process::Abort;
 use std::test::Fail;
 
 /// Changes of a number, a session or what it has beside its queue.
@@ -91,18 +93,36 @@ fn broken_retained() -> &'static [&'static str] {
     ]
 }
 
-/// Changes after which a row refers to no message, or nothing refers to one.
-fn broken_references() -> &'static [&'static str] {
+/// Changes after which a copy refers to no message.
+fn copies_of_nothing() -> &'static [&'static str] {
     &[
         "DELETE FROM message WHERE pub = 1",
-        "DELETE FROM message WHERE pub = 2",
         "UPDATE queued SET pub = 3 WHERE birth = 2",
+    ]
+}
+
+/// Changes after which a retained message refers to none, or to one of another topic.
+fn retained_of_nothing() -> &'static [&'static str] {
+    &[
+        "DELETE FROM message WHERE pub = 2",
         "UPDATE kept SET pub = 3",
         "UPDATE kept SET topic = 'a/c'",
         "UPDATE kept SET pub = 1",
+    ]
+}
+
+/// Changes after which nothing refers to a message.
+fn unreferred() -> &'static [&'static str] {
+    &[
         "DELETE FROM queued WHERE pub = 1",
         "UPDATE queued SET pub = 2 WHERE pub = 1",
         "INSERT INTO message VALUES (3, 'a/b', x'00', x'')",
+    ]
+}
+
+/// Changes after which a row is of no session, behind all others or before them.
+fn left_over() -> &'static [&'static str] {
+    &[
         "INSERT INTO queued VALUES (3, 1, 1, 0, '', 0, NULL, 0, NULL, 1, 0, x'', 7)",
         "INSERT INTO queued VALUES (0, 1, 1, 0, '', 0, NULL, 0, NULL, 1, 0, x'', 7)",
     ]
@@ -128,63 +148,62 @@ fn sound() -> &'static [&'static str] {
     ]
 }
 
-#[test]
-fn no_sessions_have_broken_rows(rt: HostRuntime) -> Result<(), Fail> {
-    let mut conn = database(rt.alloc())?;
-    for change in broken_sessions() {
-        let found = after(&mut conn, rt.alloc(), change, None)?;
-        assert_eq!(rt; found.err(), Some(KeepError::Corrupt), "{change}");
+/// Tries each change, after which these rows are refused.
+fn refuse(rt: &impl Abort, alloc: Global, changes: &[&str], wanted: Refused) -> Result<(), Fail> {
+    let mut conn = database(alloc)?;
+    for change in changes {
+        let rows = after(&mut conn, alloc, change, None)?;
+        let found = records_of(alloc, rows);
+        assert_eq!(rt; found.err(), Some(wanted), "{change}");
     }
     drop(conn);
     Ok(())
+}
+
+#[test]
+fn no_heads_have_broken_rows(rt: HostRuntime) -> Result<(), Fail> {
+    let wanted = Refused::Heads(KeepError::Corrupt);
+    refuse(&rt, rt.alloc(), broken_sessions(), wanted)?;
+    refuse(&rt, rt.alloc(), broken_retained(), wanted)
 }
 
 #[test]
 fn no_messages_have_broken_rows(rt: HostRuntime) -> Result<(), Fail> {
-    let mut conn = database(rt.alloc())?;
-    for change in broken_messages() {
-        let found = after(&mut conn, rt.alloc(), change, None)?;
-        assert_eq!(rt; found.err(), Some(KeepError::Corrupt), "{change}");
-    }
-    for change in broken_retained() {
-        let found = after(&mut conn, rt.alloc(), change, None)?;
-        assert_eq!(rt; found.err(), Some(KeepError::Corrupt), "{change}");
-    }
-    drop(conn);
-    Ok(())
+    let wanted = Refused::Messages(KeepError::Corrupt);
+    refuse(&rt, rt.alloc(), broken_messages(), wanted)
 }
 
 #[test]
-fn no_copies_have_broken_rows(rt: HostRuntime) -> Result<(), Fail> {
-    let mut conn = database(rt.alloc())?;
-    for change in broken_copies() {
-        let found = after(&mut conn, rt.alloc(), change, None)?;
-        assert_eq!(rt; found.err(), Some(KeepError::Corrupt), "{change}");
-    }
-    for change in broken_identifiers() {
-        let found = after(&mut conn, rt.alloc(), change, None)?;
-        assert_eq!(rt; found.err(), Some(KeepError::Corrupt), "{change}");
-    }
-    drop(conn);
-    Ok(())
+fn no_queues_have_broken_rows(rt: HostRuntime) -> Result<(), Fail> {
+    let wanted = Refused::Queue(KeepError::Corrupt);
+    refuse(&rt, rt.alloc(), broken_copies(), wanted)?;
+    refuse(&rt, rt.alloc(), broken_identifiers(), wanted)
 }
 
 #[test]
 fn rows_refer_to_messages(rt: HostRuntime) -> Result<(), Fail> {
-    let mut conn = database(rt.alloc())?;
-    for change in broken_references() {
-        let found = after(&mut conn, rt.alloc(), change, None)?;
-        assert_eq!(rt; found.err(), Some(KeepError::Corrupt), "{change}");
-    }
-    drop(conn);
-    Ok(())
+    let wanted = Refused::Queue(KeepError::Corrupt);
+    refuse(&rt, rt.alloc(), copies_of_nothing(), wanted)?;
+    let wanted = Refused::Heads(KeepError::Corrupt);
+    refuse(&rt, rt.alloc(), retained_of_nothing(), wanted)
+}
+
+#[test]
+fn messages_are_referred_to(rt: HostRuntime) -> Result<(), Fail> {
+    refuse(&rt, rt.alloc(), unreferred(), Refused::Unreferred)
+}
+
+#[test]
+fn rows_of_no_session_are_left(rt: HostRuntime) -> Result<(), Fail> {
+    refuse(&rt, rt.alloc(), left_over(), Refused::LeftOver)
 }
 
 #[test]
 fn rows_at_the_edge_are_sound(rt: HostRuntime) -> Result<(), Fail> {
     let mut conn = database(rt.alloc())?;
     for change in sound() {
-        let found = after(&mut conn, rt.alloc(), change, None)?;
+        let rows = after(&mut conn, rt.alloc(), change, None)?;
+        let found = records_of(rt.alloc(), rows);
         assert_eq!(rt; found.err(), None, "{change}");
     }
     drop(conn);
@@ -193,12 +212,15 @@ fn rows_at_the_edge_are_sound(rt: HostRuntime) -> Result<(), Fail> {
 
 #[test]
 fn a_message_has_so_many_bytes(rt: HostRuntime) -> Result<(), Fail> {
+    let wanted = Refused::Messages(KeepError::Corrupt);
     let mut conn = database(rt.alloc())?;
     let change = "UPDATE message SET payload = ?1 WHERE pub = 1";
-    let found = after(&mut conn, rt.alloc(), change, Some(199_996))?;
+    let rows = after(&mut conn, rt.alloc(), change, Some(199_996))?;
+    let found = records_of(rt.alloc(), rows);
     assert_eq!(rt; found.err(), None);
-    let found = after(&mut conn, rt.alloc(), change, Some(199_997))?;
-    assert_eq!(rt; found.err(), Some(KeepError::Corrupt));
+    let rows = after(&mut conn, rt.alloc(), change, Some(199_997))?;
+    let found = records_of(rt.alloc(), rows);
+    assert_eq!(rt; found.err(), Some(wanted));
     drop(conn);
     Ok(())
 }

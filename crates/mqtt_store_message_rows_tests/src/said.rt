@@ -1,33 +1,39 @@
 //! What sound rows say.
 
-use super::database::{database, message_rows, messages_of, tables};
+use super::database::{Refused, after, database, message_rows, messages_of, records_of, tables};
 use bytes::Bytes;
 use mqtt_base::{Cause, Phase, Qos};
 use mqtt_records::Records;
-use mqtt_store_message_rows::{is_among, lawful_records_with, message_of, records_with};
+use mqtt_records_keep::KeepError;
+use mqtt_store_message_rows::{content_at, heads_of, message_of};
 use std::alloc::Global;
 use std::test::Fail;
 
 /// The records that the sound rows say.
-fn said(alloc: Global) -> Result<Records, Fail> {
+fn said(alloc: Global) -> Result<Result<Records, Refused>, Fail> {
     let mut conn = database(alloc)?;
+    let rows = after(&mut conn, alloc, "", None)?;
+    drop(conn);
+    Ok(records_of(alloc, rows))
+}
+
+/// The sessions without queues that rows say after a change.
+fn heads(alloc: Global, change: &str) -> Result<Records, Fail> {
+    let mut conn = database(alloc)?;
+    conn.execute_batch(change)?;
     let rows = message_rows(&mut conn)?;
     let tables = tables(&mut conn)?;
     drop(conn);
     let messages = messages_of(alloc, &rows)?;
-    let records = records_with(alloc, &messages, tables);
+    let records = heads_of(alloc, &messages, &tables);
     drop(messages);
+    drop(tables);
     Ok(records?)
 }
 
 #[test]
-fn rows_say_numbers_and_sessions(rt: HostRuntime) -> Result<(), Fail> {
-    let mut conn = database(rt.alloc())?;
-    let rows = message_rows(&mut conn)?;
-    let tables = tables(&mut conn)?;
-    let messages = messages_of(rt.alloc(), &rows)?;
-    let records = lawful_records_with(rt.alloc(), &messages, tables)?;
-    drop(messages);
+fn heads_say_numbers_and_sessions(rt: HostRuntime) -> Result<(), Fail> {
+    let records = heads(rt.alloc(), "")?;
     assert_eq!(rt;
         (records.births, records.publications, records.subscribes),
         (2, 2, 2)
@@ -40,18 +46,61 @@ fn rows_say_numbers_and_sessions(rt: HostRuntime) -> Result<(), Fail> {
     let subscriber = subscriber.get();
     assert_eq!(rt; subscriber.client.as_str(), "r2");
     assert_eq!(rt; (subscriber.expiry, subscriber.closed), (60, Some(7)));
+    assert!(rt; subscriber.will.is_none());
     assert_eq!(rt;
         (subscriber.subscriptions.len(), subscriber.queue.len()),
-        (1, 1)
+        (1, 0)
     );
     drop(records);
-    drop(conn);
+    Ok(())
+}
+
+#[test]
+fn heads_say_wills_and_open_identifiers(rt: HostRuntime) -> Result<(), Fail> {
+    let records = heads(
+        rt.alloc(),
+        "INSERT INTO will VALUES (1, 10, 'gone', 1, 1, x'00', x'77'); INSERT INTO inbound VALUES (1, 3), (1, 10)",
+    )?;
+    let Some(subscriber) = records.sessions.get(1) else {
+        panic!(rt; "no subscriber");
+    };
+    let subscriber = subscriber.get();
+    let Some(will) = &subscriber.will else {
+        panic!(rt; "no Will");
+    };
+    assert_eq!(rt; (will.delay, will.topic.as_str()), (10, "gone"));
+    assert!(rt; will.retain && will.qos == Qos::AtLeastOnce);
+    assert_eq!(rt; will.payload.as_slice(), b"w".as_slice());
+    assert_eq!(rt; subscriber.inbound.as_slice(), [3, 10].as_slice());
+    assert_eq!(rt; subscriber.queue.len(), 0);
+    drop(records);
+    Ok(())
+}
+
+#[test]
+fn heads_say_what_is_retained(rt: HostRuntime) -> Result<(), Fail> {
+    // (neither copies nor messages of copies are asked for)
+    let records = heads(rt.alloc(), "DELETE FROM message WHERE pub = 1")?;
+    let Some(kept) = records.retained.get(3) else {
+        panic!(rt; "no retained message");
+    };
+    let kept = kept.get();
+    assert_eq!(rt; (kept.publication, kept.qos), (2, Qos::ExactlyOnce));
+    assert_eq!(rt;
+        (kept.sender.as_str(), kept.content.topic.as_str()),
+        ("p1", "a/b")
+    );
+    assert_eq!(rt; kept.content.payload.as_slice(), b"hi".as_slice());
+    assert_eq!(rt; kept.content.properties.lend().len(), 2);
+    drop(records);
     Ok(())
 }
 
 #[test]
 fn copies_say_what_their_messages_say(rt: HostRuntime) -> Result<(), Fail> {
-    let records = said(rt.alloc())?;
+    let Ok(records) = said(rt.alloc())? else {
+        panic!(rt; "no records");
+    };
     let Some(subscriber) = records.sessions.get(1) else {
         panic!(rt; "no subscriber");
     };
@@ -93,7 +142,9 @@ fn copies_say_what_their_messages_say(rt: HostRuntime) -> Result<(), Fail> {
 
 #[test]
 fn what_is_said_once_is_said_to_all(rt: HostRuntime) -> Result<(), Fail> {
-    let records = said(rt.alloc())?;
+    let Ok(records) = said(rt.alloc())? else {
+        panic!(rt; "no records");
+    };
     let Some(subscriber) = records.sessions.get(2) else {
         panic!(rt; "no subscriber");
     };
@@ -165,9 +216,20 @@ fn a_message_says_another_payload(rt: HostRuntime) -> Result<(), Fail> {
 }
 
 #[test]
-fn numbers_are_found_among_others(rt: HostRuntime) -> Result<(), Fail> {
-    let numbers = [2, 4, 4, 9];
-    assert!(rt; is_among(&numbers, 2) && is_among(&numbers, 4) && is_among(&numbers, 9));
-    assert!(rt; !is_among(&numbers, 1) && !is_among(&numbers, 5) && !is_among(&[], 5));
+fn a_content_is_found_by_its_number(rt: HostRuntime) -> Result<(), Fail> {
+    let alloc = rt.alloc();
+    let mut conn = database(alloc)?;
+    let rows = message_rows(&mut conn)?;
+    drop(conn);
+    let messages = messages_of(alloc, &rows)?;
+    let content = content_at(&messages, 2, 5)?;
+    assert_eq!(rt; (content.topic.as_str(), content.arrived), ("a/b", 5));
+    assert!(rt; !content.payload.is_unique(), "bytes of its own");
+    drop(content);
+    for number in [0, 3] {
+        let found = content_at(&messages, number, 5);
+        assert_eq!(rt; found.err(), Some(KeepError::Corrupt));
+    }
+    drop(messages);
     Ok(())
 }

@@ -1,4 +1,7 @@
 pub mod Alike
+pub mod AloneLemmas
 pub mod CoverLemmas
-pub mod RowsLemmas
+pub mod GivenLemmas
+pub mod QueuesLemmas
+pub mod ReadingLemmas
 pub mod TakenLemmas

@@ -13,6 +13,11 @@ use Rattle.mqtt_store_message_stream.specs.Thin.{IsAlike, AreAlike}
 use Rattle.mqtt_store_message_stream.specs.Gathered.{Gathered, AreMessages, SayNoMessages, HasTaken, HasAdded, MayNotFollow}
 use Rattle.mqtt_store_message_stream.proofs.Alike.{alike_back, table_alike}
 
+-- what is so anyhow is so if a call was not refused
+pub whatever : {E P : Type 0} (result : Result (Unit {0}) E) → P → OnOk result P
+whatever (Ok x) p = p
+whatever (Err e) p = tt
+
 -- ---- lists
 
 module _ {X : Type 0} (key : X → ℕ) where

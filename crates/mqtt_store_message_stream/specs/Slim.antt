@@ -15,6 +15,6 @@ pub record IsSlimOf (Has : Records → Type 0) (slim : Records) : Type 0 where
   pub lawful : IsLawful whole
   pub passed : StoresPassedOn whole
 
--- the rows of all tables, with these of `message`
-abbrev pub with_messages : List Row → Rows → Rows
-with_messages messages rows = record rows { messages = messages }
+-- the rows of all tables, with these of `message` and of `queued`
+abbrev pub with_read : List Row → List Row → Rows → Rows
+with_read messages queued rows = record rows { messages = messages; queued = queued }

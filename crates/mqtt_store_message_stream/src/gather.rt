@@ -17,7 +17,7 @@ pub trait Gather {
     fn take_in(&mut self, row: &Row) -> Result<(), AllocError>
         ensures taken { (rows : List SqlRow) → has_taken self.old rows
             → OnOk result (has_taken self.new (rows ++ row.now ∷ [])) }
-        ensures goes_on { goes_on self.old self.new };
+        ensures goes_on { OnOk result (goes_on self.old self.new) };
 
     ghost stays: { (gather : Self) → goes_on gather gather };
 

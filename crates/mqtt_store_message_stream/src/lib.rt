@@ -1,10 +1,12 @@
 //! What a load makes of the rows of schema 2 of the SQL store as they come, without what waiting copies say (MQTT 5.0, 3.3, 4.1). Private.
 #![tactic(auto)]
 
+mod alone;
 mod gather;
 mod messages;
-mod slim;
+mod queues;
+mod reading;
 
 pub use gather::Gather;
 pub use messages::GatheredMessages;
-pub use slim::slim_records_of;
+pub use queues::GatheredQueues;

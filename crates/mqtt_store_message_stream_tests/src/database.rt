@@ -1,10 +1,9 @@
 //! A database in memory with the tables of schema 2 and some rows.
-ghost use Rattle.std.specs.Prelude.{◌≡◌};
 
 use mqtt_records::Records;
 use mqtt_records_keep::KeepError;
 use mqtt_store_message_rows::Tables;
-use mqtt_store_message_stream::{Gather, GatheredMessages, slim_records_of};
+use mqtt_store_message_stream::{Gather, GatheredMessages, GatheredQueues};
 use sqlite::{Alter, Connection, Error, MemStore, Row, params};
 use std::alloc::{AllocError, Global};
 
@@ -75,6 +74,11 @@ pub(crate) fn message_rows<S: Alter>(conn: &mut Connection<S>) -> Result<Vec<Row
     conn.query_all("SELECT * FROM message ORDER BY pub", &[])
 }
 
+/// The rows of `queued`.
+pub(crate) fn queued_rows<S: Alter>(conn: &mut Connection<S>) -> Result<Vec<Row>, Error> {
+    conn.query_all("SELECT * FROM queued ORDER BY birth, place", &[])
+}
+
 /// The rows of all other tables.
 pub(crate) fn tables<S: Alter>(conn: &mut Connection<S>) -> Result<Tables, Error> {
     Ok(Tables {
@@ -83,26 +87,42 @@ pub(crate) fn tables<S: Alter>(conn: &mut Connection<S>) -> Result<Tables, Error
         wills: conn.query_all("SELECT * FROM will ORDER BY birth", &[])?,
         subscriptions: conn.query_all("SELECT * FROM sub ORDER BY birth, place", &[])?,
         inbound: conn.query_all("SELECT * FROM inbound ORDER BY birth, ident", &[])?,
-        queued: conn.query_all("SELECT * FROM queued ORDER BY birth, place", &[])?,
         kept: conn.query_all("SELECT * FROM kept ORDER BY place", &[])?,
     })
 }
 
 /// Has rows taken in, one after the other.
-pub(crate) fn take_all(gathered: &mut GatheredMessages, rows: &[Row]) -> Result<(), AllocError>
-    ensures { gathered.old.whole ≡ gathered.new.whole }
-{
+pub(crate) fn take_all<G: Gather>(gather: &mut G, rows: &[Row]) -> Result<(), AllocError> {
     for row in rows {
-        gathered.take_in(row)?;
+        gather.take_in(row)?;
     }
     Ok(())
 }
 
-/// The slim records that the rows say.
-pub(crate) fn slim_of(alloc: Global, rows: &[Row], tables: Tables) -> Result<Records, KeepError> {
+/// No queues so far, with the messages that these rows say.
+pub(crate) fn begun(
+    alloc: Global,
+    rows: &[Row],
+    tables: &Tables,
+) -> Result<GatheredQueues, KeepError> {
     let mut gathered = GatheredMessages::new(alloc, &tables.kept)?;
     take_all(&mut gathered, rows)?;
-    slim_records_of(alloc, gathered, tables)
+    GatheredQueues::new(alloc, gathered, tables)
+}
+
+/// The slim records that the rows of messages, of queues and of all other tables say.
+pub(crate) fn slim_of(
+    alloc: Global,
+    rows: &[Row],
+    queued: &[Row],
+    tables: &Tables,
+) -> Result<Records, KeepError> {
+    let mut queues = match begun(alloc, rows, tables) {
+        Ok(queues) => queues,
+        Err(fault) => return Err(fault),
+    };
+    take_all(&mut queues, queued)?;
+    queues.finish()
 }
 
 /// The slim records that a database has.
@@ -111,6 +131,7 @@ pub(crate) fn slim_in<S: Alter>(
     conn: &mut Connection<S>,
 ) -> Result<Result<Records, KeepError>, Error> {
     let rows = message_rows(conn)?;
+    let queued = queued_rows(conn)?;
     let tables = tables(conn)?;
-    Ok(slim_of(alloc, &rows, tables))
+    Ok(slim_of(alloc, &rows, &queued, &tables))
 }

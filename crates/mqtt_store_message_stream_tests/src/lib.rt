@@ -6,4 +6,6 @@ mod database;
 #[cfg(test)]
 mod gathered;
 #[cfg(test)]
+mod queues;
+#[cfg(test)]
 mod refused;

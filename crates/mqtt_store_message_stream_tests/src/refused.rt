@@ -1,6 +1,6 @@
 //! Rows that say no messages by their numbers, or no records.
 
-use super::database::{database, message_rows, slim_in, slim_of, tables, take_all};
+use super::database::{database, message_rows, queued_rows, slim_in, slim_of, tables, take_all};
 use mqtt_records_keep::KeepError;
 use mqtt_store_message_stream::GatheredMessages;
 use sqlite::Row;
@@ -76,11 +76,12 @@ fn numbers_rise(rt: HostRuntime) -> Result<(), Fail> {
     let mut conn = database(alloc, "")?;
     let rows = message_rows(&mut conn)?;
     let falling = conn.query_all("SELECT * FROM message ORDER BY pub DESC", &[])?;
-    let found = tables(&mut conn)?;
+    let queued = queued_rows(&mut conn)?;
+    let tables = tables(&mut conn)?;
     drop(conn);
     assert!(rt; say_messages(alloc, &rows)?);
     assert!(rt; !say_messages(alloc, &falling)?, "a number falls");
-    let found = slim_of(alloc, &falling, found);
+    let found = slim_of(alloc, &falling, &queued, &tables);
     assert_eq!(rt; found.err(), Some(KeepError::Corrupt));
     Ok(())
 }

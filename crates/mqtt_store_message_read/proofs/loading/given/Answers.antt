@@ -3,7 +3,9 @@ use Rattle.sqlite.specs.Effect.{Database}
 use Rattle.sqlite.specs.Held.{state}
 use Rattle.sqlite.specs.State.{HasCleanDisk}
 use Rattle.mqtt_store_message_rows.specs.Tables.{rows_in}
-use Rattle.mqtt_store_message_read.specs.Kept.{AreSharedListed, AreOthersListed, HasRecordsTwo}
+use Rattle.mqtt_store_message_read.specs.declared.reading.AddedTable.TheVariants.{Kept}
+use Rattle.mqtt_store_message_read.specs.Kept.{AreSharedListed, HasRecordsTwo}
+use Rattle.mqtt_store_message_read.specs.Listing.{IsAddedListing}
 use Rattle.mqtt_store_message_laws.specs.Written.{HasNoOldRows}
 use Rattle.mqtt_store_message_read.proofs.Vacant.{still}
 use Rattle.mqtt_store_message_read.proofs.Loaded.{slim_so}
@@ -13,26 +15,28 @@ pub returns-in-Ok-clause-ok : goal.returns-in-Ok-clause-ok
 returns-in-Ok-clause-ok g c =
     let old = state g.S.Store c.args.conn.now in
     let mid = state g.S.Store c.read_all.new.conn in
-    let less = c.given_with.ensures.reads.survives.clean in
+    let less = c.given_with-records.ensures.reads.survives.clean in
     let one = c.in-Ok.ensures in
     slim_so _ _
     (λ r lawful has making clean schema settled none.
     let tidy : HasCleanDisk mid = omega (arith, less, clean) in
-    let same = (still old mid one.reads tidy (one.is_open tidy) settled).0 in
+    let stays = still old mid one.reads tidy (one.is_open tidy) settled in
+    let same = stays.0 in
     let rows = rows_in c.read_all.new.tables in
     subst (λ (d : Database). HasRecordsTwo making d.trees r) same
-    (has making clean (ap (λ (d : Database). d.schema) same ∙ schema) (subst (λ (d : Database). AreSharedListed d.trees rows) (sym same) (one.shared making tidy schema settled))
-    (subst (λ (d : Database). AreOthersListed making d.trees rows) (sym same) (one.added making tidy schema settled)) (subst (λ (d : Database). HasNoOldRows making d.trees) (sym same) none)))
-    c.given_with.result c.given_with.ensures.ok
+    (has making clean (ap (λ (d : Database). d.schema) same ∙ schema) stays.1 (subst (λ (d : Database). AreSharedListed d.trees rows) (sym same) (one.shared making tidy schema settled))
+    (subst (λ (d : Database). IsAddedListing making Kept d.trees rows.kept) (sym same) (one.kept making tidy schema settled)) (subst (λ (d : Database). HasNoOldRows making d.trees) (sym same) none)))
+    c.given_with-records.result c.given_with-records.ensures.ok
 
 pub returns-in-Ok-clause-err : goal.returns-in-Ok-clause-err
 returns-in-Ok-clause-err g c making clean schema settled is r has =
     let old = state g.S.Store c.args.conn.now in
     let mid = state g.S.Store c.read_all.new.conn in
-    let less = c.given_with.ensures.reads.survives.clean in
+    let less = c.given_with-records.ensures.reads.survives.clean in
     let one = c.in-Ok.ensures in
     let tidy : HasCleanDisk mid = omega (arith, less, clean) in
-    let same = (still old mid one.reads tidy (one.is_open tidy) settled).0 in
+    let stays = still old mid one.reads tidy (one.is_open tidy) settled in
+    let same = stays.0 in
     let rows = rows_in c.read_all.new.tables in
-    c.given_with.ensures.err making clean (ap (λ (d : Database). d.schema) same ∙ schema) (subst (λ (d : Database). AreSharedListed d.trees rows) (sym same) (one.shared making tidy schema settled))
-    (subst (λ (d : Database). AreOthersListed making d.trees rows) (sym same) (one.added making tidy schema settled)) is r (subst (λ (d : Database). HasRecordsTwo making d.trees r) (sym same) has)
+    c.given_with-records.ensures.err making clean (ap (λ (d : Database). d.schema) same ∙ schema) stays.1 (subst (λ (d : Database). AreSharedListed d.trees rows) (sym same) (one.shared making tidy schema settled))
+    (subst (λ (d : Database). IsAddedListing making Kept d.trees rows.kept) (sym same) (one.kept making tidy schema settled)) is r (subst (λ (d : Database). HasRecordsTwo making d.trees r) (sym same) has)

@@ -1,6 +1,6 @@
 use Rattle.std.proofs.Common.{◌≡◌, false, Err, refl, sym, ap, ◌∙◌}
 use Rattle.mqtt_store_message_stream.specs.Gathered.{Gathered}
-use Rattle.mqtt_store_message_stream.proofs.TakenLemmas.{taken_on, says_none}
+use Rattle.mqtt_store_message_stream.proofs.TakenLemmas.{taken_on, says_none, whatever}
 use Rattle.mqtt_store_message_stream.proofs.messages.GatheredMessagesGather.take_in.Goals as goal
 
 pub returns-in-Ok-clause-taken : goal.returns-in-Ok-clause-taken
@@ -11,7 +11,7 @@ returns-in-Ok-clause-taken c rows has =
     taken_on g rows c.args.row.now sound has c.add.result c.in-Ok.message c.in-Ok.ensures.ok c.add.new.self e.whole e.added e.no
 
 pub returns-in-Ok-clause-goes_on : goal.returns-in-Ok-clause-goes_on
-returns-in-Ok-clause-goes_on c = sym c.add.ensures.whole
+returns-in-Ok-clause-goes_on c = whatever c.add.result (sym c.add.ensures.whole)
 
 pub returns-in-Err-Corrupt : goal.returns-in-Err-Corrupt
 returns-in-Err-Corrupt c =
