@@ -1,7 +1,9 @@
 //! Lists of properties made from others (2.2.2).
 
 use crate::rows::PUBLISH;
-use mqtt_props::{Place, PropFault, PropList, PropName, PropRef, ValueRef, look_at, read};
+use mqtt_props::{
+    Place, PropFault, PropList, PropName, PropRef, PropsRef, ValueRef, look_at, read,
+};
 use std::alloc::Global;
 use std::process::Abort;
 
@@ -87,6 +89,26 @@ fn a_clone_stays_as_it_is(rt: HostRuntime) {
     drop(before);
     assert!(rt; pushed.is_ok());
     assert!(rt; now == 5 && then == 4);
+}
+
+#[test]
+fn a_list_is_the_same_as_one_with_its_properties(rt: HostRuntime) {
+    let list = publish_list(&rt, rt.alloc());
+    let (props, _) = look_at(&PUBLISH, Place::Publish).expect(&rt, "it is read");
+    let (is, is_turned) = (
+        list.lend().is_same_as(&props),
+        props.is_same_as(&list.lend()),
+    );
+    drop(list);
+    assert!(rt; is && is_turned);
+}
+
+#[test]
+fn a_list_is_not_the_same_as_one_of_as_many_bytes(rt: HostRuntime) {
+    let (seven, _) = look_at(&[2, 0x0b, 7], Place::Publish).expect(&rt, "it is read");
+    let (eight, _) = look_at(&[2, 0x0b, 8], Place::Publish).expect(&rt, "it is read");
+    assert!(rt; !seven.is_same_as(&eight) && seven.is_same_as(&seven));
+    assert!(rt; !seven.is_same_as(&PropsRef::empty()), "nor as none");
 }
 
 /// Whether a property has no spelling, and is not added to an empty list.
