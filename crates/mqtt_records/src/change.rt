@@ -6,7 +6,7 @@ use crate::session::{Columns, SessionRow};
 use crate::subscription::Subscription;
 use mqtt_base::{Phase, Text};
 use mqtt_records_message::{CopyRow, RetainedMessage, Will};
-use mqtt_records_rows::Boxed;
+use mqtt_records_rows::{Boxed, Shareable};
 use std::alloc::{AllocError, Global};
 
 /// A number that is kept.
@@ -162,13 +162,28 @@ impl Clone for Change {
     }
 }
 
-/// Clones of changes, in order.
+/// Has what a copy that is put says where an earlier change has it, if that puts a copy that says the same. Takes no memory.
+fn share(change: &mut Change, earlier: &Change)
+    ensures { change.new ≡ change.old }
+{
+    if let Change::PutCopy { row, .. } = change
+        && let Change::PutCopy { row: there, .. } = earlier
+    {
+        row.share(there);
+    }
+}
+
+/// Clones of changes, in order. What copies of one message say stands in memory once, if they are put one behind the other.
 pub fn clone_all(alloc: Global, changes: &[Change]) -> Result<Vec<Change>, AllocError>
     ensures { IfOk result (λ clones. clones.items ≡ changes.now) }
 {
     let mut clones = Vec::with_capacity(alloc, changes.len())?;
     for change in changes {
-        clones.push(change.clone()?)?;
+        let mut again = change.clone()?;
+        if let Some(earlier) = clones.last() {
+            share(&mut again, earlier);
+        }
+        clones.push(again)?;
     }
     Ok(clones)
 }

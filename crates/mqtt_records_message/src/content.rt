@@ -9,14 +9,15 @@ use bytes::Bytes;
 use mqtt_base::Text;
 use std::alloc::{AllocError, Global};
 use std::marker::Model;
+use std::sync::Arc;
 
-/// What a copy in a session's queue says, and its place there. What it says beside its topic comes in the box in which a
-/// row keeps that, so that the row takes it in without memory.
+/// What a copy in a session's queue says, and its place there. What it says beside its topic comes in the place in which
+/// a row keeps that, so that the row takes it in without memory.
 #[derive(Drop)]
 pub struct CopyContent {
     place: u64,
     topic: Text,
-    said: Box<Said>,
+    said: Arc<Said>,
 }
 
 impl Model for CopyContent {
@@ -57,7 +58,7 @@ impl CopyContent {
             properties,
             payload,
         };
-        match Box::new(alloc, said) {
+        match Arc::new(alloc, said) {
             Ok(said) => Ok(CopyContent { place, topic, said }),
             Err(_) => {
                 drop(topic);
@@ -102,7 +103,7 @@ impl CopyContent {
     }
 
     /// What the copy says beside its topic. Takes no memory.
-    pub(crate) fn into_said(self) -> Box<Said>
+    pub(crate) fn into_said(self) -> Arc<Said>
         ensures { result.value ≡ said_by self }
     {
         let CopyContent {

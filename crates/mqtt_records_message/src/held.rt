@@ -1,5 +1,5 @@
 //! What is in memory of a copy in a queue (3.3, 4.1).
-ghost use Rattle.std.specs.Prelude.{◌≡◌, IfOk};
+ghost use Rattle.std.specs.Prelude.{◌≡◌, ◌↔◌, IfOk, IsTrue};
 ghost use Rattle.mqtt_records_message.specs.Filling.{filling_of};
 ghost use Rattle.mqtt_records_message.specs.Held.{rest_in, IsSame};
 
@@ -9,6 +9,7 @@ use bytes::Bytes;
 use mqtt_base::{CopyId, Qos, Text};
 use std::alloc::AllocError;
 use std::marker::Model;
+use std::sync::Arc;
 
 /// What rules read of a copy, and its topic: what each row has of it.
 #[derive(Drop)]
@@ -43,8 +44,8 @@ impl Model for Said {
 /// What is in memory of what a copy says beside its topic.
 #[derive(Drop)]
 pub(crate) enum Held {
-    /// All of it, in a box of its own.
-    Whole(Box<Said>),
+    /// All of it. Copies that say the same may have it in one place.
+    Whole(Arc<Said>),
     /// Nothing.
     Slim,
 }
@@ -96,20 +97,31 @@ impl Clone for Rest {
     }
 }
 
-impl Clone for Said {
-    ghost is_clone = { λ value copy. copy ≡ value };
+/// Whether both say the same. Takes no memory.
+fn are_alike(said: &Said, other: &Said) -> bool
+    ensures { IsTrue result ↔ (said.now ≡ other.now) }
+{
+    said.identifiers.as_slice() == other.identifiers.as_slice()
+        && said.properties.lend().is_same_as(&other.properties.lend())
+        && said.payload == other.payload
+}
 
-    /// Another owner of the same bytes.
-    fn clone(&self) -> Result<Said, AllocError> {
-        Ok(Said {
-            identifiers: self.identifiers.clone()?,
-            properties: self.properties.clone()?,
-            payload: self.payload.clone()?,
-        })
+/// Has what is said where the other has it, if both say the same. Takes no memory.
+pub(crate) fn share(held: &mut Held, other: &Held)
+    ensures { IsSame held.old held.new }
+{
+    let (Held::Whole(said), Held::Whole(there)) = (&*held, other) else {
+        return;
+    };
+    if !are_alike(said, there) {
+        return;
+    }
+    if let Ok(again) = there.clone() {
+        *held = Held::Whole(again);
     }
 }
 
-/// The same once more; the bytes are shared.
+/// The same once more, in the same place.
 pub(crate) fn clone_of(held: &Held) -> Result<Held, AllocError>
     ensures { IfOk result (IsSame held.now) }
 {

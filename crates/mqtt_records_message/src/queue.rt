@@ -10,16 +10,17 @@ ghost use Rattle.mqtt_records_message.specs.Slim.{slim};
 
 use crate::content::CopyContent;
 use crate::fault::CopyFault;
-use crate::held::{Held, Rest, clone_of, parted};
+use crate::held::{Held, Rest, clone_of, parted, share};
 use crate::lent::{ContentRef, CopyRef};
 use crate::message::MessageCopy;
 use crate::parts::CopyPart;
 use crate::sizes::{expiry_in, pairs_len, sent_len};
 use mqtt_base::{CopyId, Phase, Qos, Text, VARINT_LIMIT, varint_len};
 use mqtt_props::PropFault;
-use mqtt_records_rows::{CloneRow, Editable, Row};
+use mqtt_records_rows::{CloneRow, Editable, Row, Shareable};
 use std::alloc::{AllocError, Global};
 use std::marker::Model;
+use std::sync::Arc;
 
 /// A copy in a session's queue (4.3, 4.6): its place, from 1, in the order in which copies are sent,
 /// how far it has come, and what is sent. Its PUBLISH has a spelling, of a size that is remembered; so are
@@ -136,7 +137,7 @@ impl CopyRow {
         let payload = copy.content.payload.len() as u32;
         let expiry = expiry_in(&copy.content.properties.lend());
         let (rest, said) = parted(copy);
-        match Box::new(alloc, said) {
+        match Arc::new(alloc, said) {
             Ok(said) => Ok(CopyRow {
                 place,
                 phase,
@@ -332,6 +333,12 @@ impl Editable for CopyRow {
     }
 
     ghost key_kept = { place_of-row_changed };
+}
+
+impl Shareable for CopyRow {
+    fn share(&mut self, other: &CopyRow) {
+        share(&mut self.held, &other.held);
+    }
 }
 
 impl Clone for CopyRow {

@@ -9,5 +9,5 @@ mod rows;
 
 pub use distinct::{all_differ, are_distinct, are_named_apart};
 pub use laws::{newest_comes_last, rows_are_determined, rows_are_found};
-pub use row::{Boxed, CloneRow, Editable, Fillable, Named, Parted, Row, Slimmable};
+pub use row::{Boxed, CloneRow, Editable, Fillable, Named, Parted, Row, Shareable, Slimmable};
 pub use rows::Rows;

@@ -88,6 +88,14 @@ pub trait Slimmable: Row {
     ghost slimmed_key: { (row : Self) → Self.key_of (slimmed row) ≡ Self.key_of row };
 }
 
+/// A row that says something which stands in memory beside it.
+pub trait Shareable: Row {
+    /// Has what it says where the other row has it, if both say the same; so it stands in memory once. Changes nothing, and takes
+    /// no memory.
+    fn share(&mut self, other: &Self)
+        ensures { self.new ≡ self.old };
+}
+
 /// A row that has a name besides its key.
 pub trait Named: Row {
     ghost name_of: { Self → List ℕ };
@@ -218,6 +226,12 @@ impl<R: Slimmable> Slimmable for Boxed<R> {
     }
 
     ghost slimmed_key = { λ row. R.slimmed_key row };
+}
+
+impl<R: Shareable> Shareable for Boxed<R> {
+    fn share(&mut self, other: &Self) {
+        self.row.share(&other.row);
+    }
 }
 
 impl<R: Named> Named for Boxed<R> {

@@ -102,6 +102,28 @@ fn a_copy_is_told_with_what_it_says(rt: HostRuntime) -> Result<(), Fail> {
     Ok(())
 }
 
+#[test]
+fn a_copy_that_is_removed_takes_nothing_from_others_that_say_the_same(
+    rt: HostRuntime,
+) -> Result<(), Fail> {
+    let alloc = rt.alloc();
+    let mut keep = MemKeep::new(alloc)?;
+    keep.apply(&with_copies(alloc)?)?;
+    for place in [9, 2] {
+        let changes = [Change::RemoveCopy { birth: 1, place }];
+        let made = keep.apply(&changes);
+        drop(changes);
+        made?;
+    }
+    let contents = keep.contents(alloc, 1, 0, 64)?;
+    assert!(rt; have_places(&contents, &[1, 5]));
+    for content in contents {
+        assert_eq!(rt; content.payload().as_slice(), b"hi".as_slice());
+    }
+    drop(keep);
+    Ok(())
+}
+
 /// What a store tells after a call of `apply` that failed.
 fn told_after(
     rt: &impl Abort,
