@@ -1,4 +1,5 @@
-//! Makes changes one at a time in the store in memory, and tells the time; for bench/store/run.
+//! Makes changes one at a time in the store in memory, and tells the time; or has copies wait in it. For bench/store/run. Words: how
+//! many changes of each kind; or `waiting`, how many sessions, how many copies in each, and the bytes of a message.
 #![tactic(auto)]
 
 use anyhow::Context;
@@ -28,6 +29,14 @@ const SIZES: [(u64, u64); 6] = [
     (1_000, 100),
     (1_000, 1_000),
 ];
+
+/// How many sessions, how many copies in each, and the bytes of a message.
+#[derive(Clone, Copy)]
+struct Waiting {
+    sessions: u64,
+    copies: u64,
+    bytes: u64,
+}
 
 fn text(alloc: Global, text: &str) -> anyhow::Result<Text> {
     anyhow::ensure!(Text::may_hold(text), "no text");
@@ -123,6 +132,73 @@ fn stock_of(
             Err(fault)
         }
     }
+}
+
+/// A new session for each birth.
+fn all_come(keep: &mut MemKeep, alloc: Global, sessions: u64, client: &Text) -> anyhow::Result<()> {
+    for birth in 1..=sessions {
+        make(keep, put_session(alloc, birth, client)?)?;
+    }
+    Ok(())
+}
+
+/// A message enters the queue of each session, all at once, as by the broker.
+fn enter_all(
+    keep: &mut MemKeep,
+    alloc: Global,
+    sessions: u64,
+    place: u64,
+    content: &Content,
+) -> anyhow::Result<()> {
+    let mut changes = Vec::new(alloc);
+    for birth in 1..=sessions {
+        changes.push(put_copy(alloc, birth, place, content)?)?;
+    }
+    let made = keep.apply(changes.as_slice());
+    drop(changes);
+    Ok(made?)
+}
+
+/// Puts so many sessions, and so many messages of so many bytes, each of which waits in all of them.
+fn fill_all(keep: &mut MemKeep, alloc: Global, waiting: Waiting) -> anyhow::Result<()> {
+    let topic = text(alloc, "q")?;
+    all_come(keep, alloc, waiting.sessions, &topic)?;
+    for place in 1..=waiting.copies {
+        let content = message_of(alloc, &topic, waiting.bytes)?;
+        enter_all(keep, alloc, waiting.sessions, place, &content)?;
+        drop(content);
+    }
+    drop(topic);
+    Ok(())
+}
+
+/// A message of so many bytes.
+fn message_of(alloc: Global, topic: &Text, bytes: u64) -> anyhow::Result<Content> {
+    let mut payload = Vec::new(alloc);
+    for _ in 0..bytes {
+        payload.push(0x2a)?;
+    }
+    let shared = Bytes::copy_from_slice(alloc, payload.as_slice())?;
+    drop(payload);
+    Ok(Content {
+        topic: topic.clone()?,
+        properties: PassedOn::new(),
+        payload: shared,
+        arrived: 0,
+    })
+}
+
+/// Has copies wait in a store, and says how many on standard output.
+fn wait(rt: &impl Print, alloc: Global, waiting: Waiting) -> anyhow::Result<()> {
+    let mut keep = MemKeep::new(alloc)?;
+    let filled = fill_all(&mut keep, alloc, waiting);
+    drop(keep);
+    filled?;
+    println!(rt;
+        "waiting sessions={} copies={} bytes={}",
+        waiting.sessions, waiting.copies, waiting.bytes
+    )?;
+    Ok(())
 }
 
 /// Makes one change.
@@ -272,15 +348,24 @@ fn measure_all(
     Ok(())
 }
 
-/// How many changes the command line asks for.
-fn changes_asked(rt: &HostRuntime) -> anyhow::Result<u64> {
-    let words: Vec<String> = env::args(rt)?.collect(rt.alloc())?;
-    let changes = match words.get(1) {
-        Some(word) => word.parse::<u64>().context("the number of changes"),
-        None => Ok(DEFAULT_CHANGES),
-    };
-    drop(words);
-    changes
+/// The number that a word says, or this one if there is no word.
+fn number(word: Option<&String>, other: u64) -> anyhow::Result<u64> {
+    match word {
+        Some(word) => word.parse::<u64>().context("a number"),
+        None => Ok(other),
+    }
+}
+
+/// What the command line asks for behind `waiting`.
+fn waiting_of(words: &[String]) -> anyhow::Result<Waiting> {
+    let sessions = number(words.get(2), 3)?;
+    let copies = number(words.get(3), 40)?;
+    let bytes = number(words.get(4), 200)?;
+    Ok(Waiting {
+        sessions,
+        copies,
+        bytes,
+    })
 }
 
 fn content_of(alloc: Global) -> anyhow::Result<Content> {
@@ -294,11 +379,30 @@ fn content_of(alloc: Global) -> anyhow::Result<Content> {
     })
 }
 
-fn main(rt: HostRuntime) -> anyhow::Result<()> {
-    let alloc = rt.alloc();
-    let changes = changes_asked(&rt)?;
-    let content = content_of(alloc)?;
-    let measured = measure_all(&rt, alloc, changes, &content);
+/// Makes changes of each kind in stores of all sizes.
+fn run_changes(rt: &HostRuntime, words: &[String]) -> anyhow::Result<()> {
+    let changes = number(words.get(1), DEFAULT_CHANGES)?;
+    let content = content_of(rt.alloc())?;
+    let measured = measure_all(rt, rt.alloc(), changes, &content);
     drop(content);
     measured
+}
+
+/// Does what the command line asks for; a little of both if it has no word.
+fn run_words(rt: &HostRuntime, words: &[String]) -> anyhow::Result<()> {
+    match words.get(1).map_or("", |word| word.as_str()) {
+        "waiting" => wait(rt, rt.alloc(), waiting_of(words)?),
+        "" => {
+            run_changes(rt, words)?;
+            wait(rt, rt.alloc(), waiting_of(words)?)
+        }
+        _ => run_changes(rt, words),
+    }
+}
+
+fn main(rt: HostRuntime) -> anyhow::Result<()> {
+    let words: Vec<String> = env::args(&rt)?.collect(rt.alloc())?;
+    let ran = run_words(&rt, words.as_slice());
+    drop(words);
+    ran
 }
