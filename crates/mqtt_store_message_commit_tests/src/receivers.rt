@@ -12,30 +12,32 @@ use std::test::Fail;
 /// A copy that is put for a session; sessions differ in all else that their copies say.
 #[derive(Clone, Copy)]
 struct Coming {
-    birth: u64,
-    publication: u64,
+    birth: u8,
+    publication: u8,
     identified: bool,
 }
 
 /// Why it came: each fourth for a subscribe.
-fn cause_of(birth: u64) -> Cause {
+fn cause_of(birth: u8) -> Cause {
     if birth % 4 == 0 {
-        Cause::Retained { subscribe: birth }
+        Cause::Retained {
+            subscribe: u64::from(birth),
+        }
     } else {
         Cause::Direct
     }
 }
 
 /// How far it has come: each third was sent, each fifth released.
-fn phase_of(birth: u64) -> Phase {
+fn phase_of(birth: u8) -> Phase {
     if birth % 5 == 0 {
         Phase::Released {
-            identifier: birth as u16,
-            order: 2 * birth,
+            identifier: u16::from(birth),
+            order: 2 * u64::from(birth),
         }
     } else if birth % 3 == 0 {
         Phase::Sent {
-            identifier: birth as u16,
+            identifier: u16::from(birth),
         }
     } else {
         Phase::Waiting
@@ -48,8 +50,8 @@ fn message_copy(alloc: Global, coming: Coming) -> Result<MessageCopy, AllocError
     match SubscriptionIdentifiers::from_slice(alloc, numbers) {
         Ok(identifiers) => Ok(MessageCopy {
             id: CopyId {
-                publication: coming.publication,
-                birth: coming.birth,
+                publication: u64::from(coming.publication),
+                birth: u64::from(coming.birth),
                 cause: cause_of(coming.birth),
             },
             qos: if coming.birth % 2 == 0 {
@@ -71,21 +73,21 @@ fn message_copy(alloc: Global, coming: Coming) -> Result<MessageCopy, AllocError
 /// The change that puts it, ten places behind its session's birth.
 fn copy(alloc: Global, coming: Coming) -> Result<Change, AllocError> {
     let copy = message_copy(alloc, coming)?;
-    let place = coming.birth + 10;
-    let Ok(row) = CopyRow::new(alloc, place, phase_of(coming.birth), copy) else {
+    let birth = u64::from(coming.birth);
+    let Ok(row) = CopyRow::new(alloc, birth + 10, phase_of(coming.birth), copy) else {
         return Err(AllocError);
     };
     Ok(Change::PutCopy {
-        birth: coming.birth,
+        birth,
         row: Boxed::new(alloc, row)?,
     })
 }
 
 /// Sessions 1 to a last one come.
-fn come(alloc: Global, conn: &mut Connection<MemStore>, last: u64) -> Result<(), Fail> {
+fn come(alloc: Global, conn: &mut Connection<MemStore>, last: u8) -> Result<(), Fail> {
     let mut changes = Vec::new(alloc);
     for birth in 1..=last {
-        changes.push(session(alloc, birth)?)?;
+        changes.push(session(alloc, u64::from(birth))?)?;
     }
     Ok(commit(alloc, conn, changes)?)
 }
@@ -116,12 +118,12 @@ fn put(alloc: Global, conn: &mut Connection<MemStore>, copies: &[Coming]) -> Res
 
 /// What the columns of a copy's row say, as numbers; no number is -1.
 fn wanted(coming: Coming) -> [i64; 12] {
-    let birth = coming.birth as i64;
+    let birth = i64::from(coming.birth);
     let released = birth % 5 == 0;
     let sent = !released && birth % 3 == 0;
     [
         birth + 10,
-        coming.publication as i64,
+        i64::from(coming.publication),
         if birth % 4 == 0 { 2 } else { 0 },
         if birth % 4 == 0 { birth } else { 0 },
         if released || sent { birth } else { -1 },
@@ -142,10 +144,10 @@ fn wanted(coming: Coming) -> [i64; 12] {
 }
 
 /// What stands in the row of a session's copy.
-fn stands<S: Alter>(conn: &mut Connection<S>, birth: u64) -> Result<[i64; 12], Error> {
+fn stands<S: Alter>(conn: &mut Connection<S>, birth: u8) -> Result<[i64; 12], Error> {
     let row = conn.query_row(
         "SELECT place, pub, cause, cause_n, coalesce(pid, -1), phase, coalesce(rel, -1), qos, retain, length(idents), arrived, length(cause_text) FROM queued WHERE birth = ?1",
-        params![birth as i64],
+        params![i64::from(birth)],
     )?;
     let mut all = [0; 12];
     for at in 0..12 {
@@ -155,7 +157,7 @@ fn stands<S: Alter>(conn: &mut Connection<S>, birth: u64) -> Result<[i64; 12], E
 }
 
 /// The first session whose copy doesn't stand as it was put, or 0 if none; then the numbers of copies and messages.
-fn seen<S: Alter>(conn: &mut Connection<S>, copies: &[Coming]) -> Result<(u64, i64, i64), Error> {
+fn seen<S: Alter>(conn: &mut Connection<S>, copies: &[Coming]) -> Result<(u8, i64, i64), Error> {
     let mut wrong = 0;
     for coming in copies {
         if wrong == 0 && stands(conn, coming.birth)? != wanted(*coming) {
@@ -174,9 +176,9 @@ fn seen<S: Alter>(conn: &mut Connection<S>, copies: &[Coming]) -> Result<(u64, i
 fn seen_after(
     alloc: Global,
     is_new: bool,
-    last: u64,
+    last: u8,
     copies: &[Coming],
-) -> Result<(u64, i64, i64), Fail> {
+) -> Result<(u8, i64, i64), Fail> {
     let mut conn = database(alloc, is_new)?;
     come(alloc, &mut conn, last)?;
     put(alloc, &mut conn, copies)?;
@@ -184,13 +186,26 @@ fn seen_after(
 }
 
 /// Copies of publication 7 for sessions from 1 to a last one.
-fn copies(alloc: Global, last: u64) -> Result<Vec<Coming>, AllocError> {
+fn copies(alloc: Global, last: u8) -> Result<Vec<Coming>, AllocError> {
     let mut all = Vec::new(alloc);
     for birth in 1..=last {
         all.push(Coming {
             birth,
             publication: 7,
             identified: false,
+        })?;
+    }
+    Ok(all)
+}
+
+/// Copies for sessions 1 to 30: one with a Subscription Identifier among the first four behind the first, then another publication.
+fn copies_that_differ(alloc: Global) -> Result<Vec<Coming>, AllocError> {
+    let mut all = Vec::new(alloc);
+    for birth in 1..=30 {
+        all.push(Coming {
+            birth,
+            publication: if 15 <= birth && birth <= 20 { 8 } else { 7 },
+            identified: birth == 4,
         })?;
     }
     Ok(all)
@@ -213,7 +228,7 @@ fn each_of_many_receivers_has_its_copy(rt: HostRuntime) -> Result<(), Fail> {
         let seen = seen_after(rt.alloc(), is_new, last, &copies)?;
         assert_eq!(rt;
             seen,
-            (0, last as i64, 1),
+            (0, i64::from(last), 1),
             "to {last}, in a new database: {is_new}"
         );
     }
@@ -222,13 +237,7 @@ fn each_of_many_receivers_has_its_copy(rt: HostRuntime) -> Result<(), Fail> {
 
 #[test]
 fn copies_that_differ_more_stand_beside_others(rt: HostRuntime) -> Result<(), Fail> {
-    let mut copies = copies(rt.alloc(), 30)?;
-
-    // One with a Subscription Identifier among the first four behind the first, then another publication.
-    copies[3].identified = true;
-    for at in 14..20 {
-        copies[at].publication = 8;
-    }
+    let copies = copies_that_differ(rt.alloc())?;
     for is_new in [true, false] {
         let seen = seen_after(rt.alloc(), is_new, 30, &copies)?;
         assert_eq!(rt; seen, (0, 30, 2), "in a new database: {is_new}");
