@@ -3,7 +3,7 @@
 #![tactic(auto)]
 
 use anyhow::Context;
-use mqtt_codec::{Fault, Packet, decode, encode, lawful, look_at};
+use mqtt_packet::{Fault, Packet, decode, encode, lawful, look_at};
 use std::alloc::Global;
 use std::env;
 use std::time::{CpuClock, Duration};

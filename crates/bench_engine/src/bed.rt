@@ -6,7 +6,7 @@ use crate::packets::{
 };
 use anyhow::Context;
 use mqtt_broker::{Engine, EngineError, Outcome};
-use mqtt_records_keep::MemKeep;
+use mqtt_keep::MemKeep;
 
 /// How many publications go before their answers: a turn of sending has as many (4.9).
 const BATCH: u8 = 16;

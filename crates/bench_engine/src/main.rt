@@ -13,7 +13,7 @@ use crate::bed::{Crowd, Lines, Step, Tally, fill, gather, make};
 use crate::waiting::{Waiting, run_waiting};
 use mqtt_broker::{Engine, KeepError, Limits};
 use mqtt_flow::Full;
-use mqtt_records_keep::MemKeep;
+use mqtt_keep::MemKeep;
 use std::alloc::Global;
 use std::env;
 use std::hash::RandomState;

@@ -6,7 +6,7 @@ use crate::packets::{SUBSCRIBE_QUEUED, connect};
 use anyhow::Context;
 use mqtt_broker::{Engine, Keep, KeepError, Limits};
 use mqtt_flow::Full;
-use mqtt_serve_database::make_database;
+use mqtt_serve::make_database;
 use mqtt_store::SqlKeep;
 use sqlite::{Alter, Connection};
 use std::alloc::Global;

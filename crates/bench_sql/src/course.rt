@@ -3,8 +3,8 @@ ghost use Rattle.std.specs.Prelude.{OnOk};
 
 use crate::changes::Maker;
 use mqtt_base::Phase;
+use mqtt_keep::{Keep, KeepError};
 use mqtt_records::{Change, Counter};
-use mqtt_records_keep::{Keep, KeepError};
 use std::alloc::Global;
 use std::time::{Clock, Duration};
 

@@ -7,8 +7,8 @@ mod course;
 
 use crate::changes::Maker;
 use crate::course::{commits, counts, fill, messages};
-use mqtt_records_keep::{Keep, KeepError};
-use mqtt_serve_database::make_database;
+use mqtt_keep::{Keep, KeepError};
+use mqtt_serve::make_database;
 use mqtt_store::SqlKeep;
 use sqlite::{Alter, Connection};
 use std::alloc::Global;

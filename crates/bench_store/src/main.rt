@@ -5,11 +5,11 @@
 use anyhow::Context;
 use bytes::Bytes;
 use mqtt_base::{Cause, CopyId, Phase, Qos, Text};
+use mqtt_keep::{Keep, KeepError, MemKeep};
 use mqtt_records::{
     Boxed, Change, Columns, Content, CopyRow, MessageCopy, PassedOn, Records, SessionRow,
     SubscriptionIdentifiers,
 };
-use mqtt_records_keep::{Keep, KeepError, MemKeep};
 use std::alloc::{AllocError, Global};
 use std::env;
 use std::time::{CpuClock, Duration};

@@ -2,7 +2,7 @@
 #![tactic(auto)]
 
 use mqtt_cli::{ending, run};
-use mqtt_replay_world::replay_at;
+use mqtt_replay::replay_at;
 use mqtt_serve::{Unknown, serve};
 use std::io;
 use std::net::SocketAddr;

@@ -1,12 +1,4 @@
-pub mod Unlinked
-pub mod Left
-pub mod Linking
-pub mod Framings
-pub mod Cuts
-pub mod Serving
-pub mod Pieced
-pub mod Opened
-pub mod FirstPackets
-pub mod HeldBytes
-pub mod Lent
-pub mod Looked
+pub mod alike_lemmas
+pub mod reopening_lemmas
+pub mod stored_lemmas
+pub mod engine_lemmas

@@ -1,6 +1,3 @@
-pub mod Serving
-pub mod Piece
-pub mod Asking
-pub mod Cut
-pub mod Opening
-pub mod Framers
+pub mod reopening
+pub mod stored
+pub mod engine

@@ -1,11 +1,3 @@
-pub mod Turned
-pub mod Taking
-pub mod Asked
-pub mod Pumped
-pub mod RoomLeft
-pub mod Stayings
-pub mod Entered
-pub mod Sending
-pub mod Forms
-pub mod Listed
-pub mod SendingAhead
+pub mod queues_lemmas
+pub mod publications_lemmas
+pub mod subscribers_lemmas

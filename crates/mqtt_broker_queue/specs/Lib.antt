@@ -1,5 +1,3 @@
-pub mod Queues
-pub mod Turning
-pub mod Fitting
-pub mod Answering
-pub mod Entering
+pub mod queues
+pub mod publications
+pub mod subscribers

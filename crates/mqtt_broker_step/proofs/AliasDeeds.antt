@@ -3,12 +3,12 @@ use Rattle.std.proofs.Common.{◌≡◌, ◌≢◌, ℕ, ◌≤◌, Bool, true, 
 use Rattle.std.proofs.lemmas.Bool.{cases_Bool}
 use Rattle.std.specs.Prelude.{Option, Some}
 use Rattle.mqtt_base.specs.declared.limits.TheConstants.{LINE_LIMIT}
-use Rattle.mqtt_topic.specs.Aliases.{AliasTable, after_resolve, topic_of, with_topics}
-use Rattle.mqtt_topic.specs.Names.{IsTopicName}
-use Rattle.mqtt_topic.proofs.AliasLemmas.{restored-with_topic, topic_of-with_topic}
-use Rattle.mqtt_records_rows.specs.Order.{IsAscending, row_at, put_row, remove_row, change_row}
-use Rattle.mqtt_records_rows.proofs.OrderLemmas.{change-ascending, change-length}
-use Rattle.mqtt_rules.specs.State.{Line}
+use Rattle.mqtt_topic.specs.names.Aliases.{AliasTable, after_resolve, topic_of, with_topics}
+use Rattle.mqtt_topic.specs.names.Names.{IsTopicName}
+use Rattle.mqtt_topic.proofs.names_lemmas.AliasLemmas.{restored-with_topic, topic_of-with_topic}
+use Rattle.mqtt_records.specs.lists.Order.{IsAscending, row_at, put_row, remove_row, change_row}
+use Rattle.mqtt_records.proofs.lists_lemmas.OrderLemmas.{change-ascending, change-length}
+use Rattle.mqtt_rules.specs.step.State.{Line}
 use Rattle.mqtt_broker_step.specs.declared.line.LineChange.TheVariants.{RestoreAlias}
 use Rattle.mqtt_broker_step.specs.Lines.{alias_restored, line_changed, line_number, with_alias}
 use Rattle.mqtt_broker_step.specs.Backs.{TakesLineBack}

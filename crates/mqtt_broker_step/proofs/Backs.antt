@@ -4,18 +4,18 @@ use Rattle.std.specs.Prelude.{Option, Some, None, is_some, option_and_then}
 use Rattle.std.proofs.lemmas.Bool.{cases_Bool, eqb-true}
 use Rattle.mqtt_base.specs.declared.session.Phase.{Phase}
 use Rattle.mqtt_base.specs.declared.limits.TheConstants.{OPEN_LIMIT, QUEUE_LIMIT}
-use Rattle.mqtt_records_message.specs.Queue.{CopyRow}
-use Rattle.mqtt_records_rows.specs.Order.{row_at, has_row}
-use Rattle.mqtt_records.specs.declared.records.Records.{Records}
-use Rattle.mqtt_records.specs.declared.session.Session.{Session}
-use Rattle.mqtt_records.specs.declared.session.Columns.{Columns}
-use Rattle.mqtt_records_message.specs.declared.message.Will.{Will}
-use Rattle.mqtt_records.specs.Records.{changed, in_session, copy_at}
-use Rattle.mqtt_records.specs.Session.{birth_of, number_of, copy_place, with_open, without_open, with_copy, without_copy, with_phase, in_phase, columns_of, with_columns, with_will}
-use Rattle.mqtt_rules.specs.State.{session_at}
-use Rattle.mqtt_rules.specs.Deeds.{will_row}
-use Rattle.mqtt_records_rows.proofs.OrderLemmas.{remove-none, change-none}
-use Rattle.mqtt_rules.specs.Laws.{HasTables}
+use Rattle.mqtt_records.specs.messages.Queue.{CopyRow}
+use Rattle.mqtt_records.specs.lists.Order.{row_at, has_row}
+use Rattle.mqtt_records.specs.declared.state.records.Records.{Records}
+use Rattle.mqtt_records.specs.declared.state.session.Session.{Session}
+use Rattle.mqtt_records.specs.declared.state.session.Columns.{Columns}
+use Rattle.mqtt_records.specs.declared.messages.message.Will.{Will}
+use Rattle.mqtt_records.specs.state.Records.{changed, in_session, copy_at}
+use Rattle.mqtt_records.specs.state.Session.{birth_of, number_of, copy_place, with_open, without_open, with_copy, without_copy, with_phase, in_phase, columns_of, with_columns, with_will}
+use Rattle.mqtt_rules.specs.step.State.{session_at}
+use Rattle.mqtt_rules.specs.step.Deeds.{will_row}
+use Rattle.mqtt_records.proofs.lists_lemmas.OrderLemmas.{remove-none, change-none}
+use Rattle.mqtt_rules.specs.step.Laws.{HasTables}
 use Rattle.mqtt_broker_step.proofs.Inverse.{change_back, change_same, put_back, put_same, removed_back}
 
 -- a session changed, and changed back

@@ -2,15 +2,15 @@
 use Rattle.std.proofs.Common.{◌≡◌, ℕ, Bool, cond, List, [], ◌∷◌, refl, ap, ◌∙◌, arith}
 use Rattle.std.specs.Prelude.{None, is_some}
 use Rattle.mqtt_base.specs.declared.limits.TheConstants.{SESSION_LIMIT}
-use Rattle.mqtt_records_rows.specs.Order.{IsAscending, IsBelow, row_at, put_row, change_row, remove_row}
-use Rattle.mqtt_records_rows.proofs.OrderLemmas.{apart}
-use Rattle.mqtt_records.specs.declared.session.Session.{Session}
-use Rattle.mqtt_records.specs.declared.session.Columns.{Columns}
-use Rattle.mqtt_records.specs.declared.records.Records.{Records}
-use Rattle.mqtt_records.specs.declared.change.Change.TheVariants.{PutSession, RemoveSession}
-use Rattle.mqtt_records.specs.Records.{changed}
-use Rattle.mqtt_records.specs.Session.{birth_of, fresh, with_columns}
-use Rattle.mqtt_rules.specs.State.{session_at}
+use Rattle.mqtt_records.specs.lists.Order.{IsAscending, IsBelow, row_at, put_row, change_row, remove_row}
+use Rattle.mqtt_records.proofs.lists_lemmas.OrderLemmas.{apart}
+use Rattle.mqtt_records.specs.declared.state.session.Session.{Session}
+use Rattle.mqtt_records.specs.declared.state.session.Columns.{Columns}
+use Rattle.mqtt_records.specs.declared.state.records.Records.{Records}
+use Rattle.mqtt_records.specs.declared.state.change.Change.TheVariants.{PutSession, RemoveSession}
+use Rattle.mqtt_records.specs.state.Records.{changed}
+use Rattle.mqtt_records.specs.state.Session.{birth_of, fresh, with_columns}
+use Rattle.mqtt_rules.specs.step.State.{session_at}
 use Rattle.mqtt_broker_step.proofs.Inverse.{put_back}
 
 -- if each birth is below a number no session is found by it

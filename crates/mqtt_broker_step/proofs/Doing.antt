@@ -3,18 +3,18 @@ use Rattle.std.proofs.Common.{◌≡◌, ℕ, Bool, ◌||◌, cond, List, [], �
 use Rattle.std.specs.Prelude.{filter_map, map, Option, Some, None, Result, Ok, Err, IfErr, IfOk, OnErr, OnOk}
 use Rattle.std.proofs.lemmas.List.Elements.{filter_map-append}
 use Rattle.std.proofs.lemmas.Bool.{cases_Bool, eqb-true}
-use Rattle.mqtt_codec.specs.declared.packet.Packet.{Packet}
-use Rattle.mqtt_records.specs.declared.change.Change.{Change}
-use Rattle.mqtt_records.specs.declared.records.Records.{Records}
-use Rattle.mqtt_records.specs.declared.session.Session.{Session}
-use Rattle.mqtt_records.specs.Records.{changed_all}
-use Rattle.mqtt_records.specs.Session.{birth_of}
-use Rattle.mqtt_records_rows.specs.Order.{row_at}
-use Rattle.mqtt_rules.specs.declared.Report.{Report}
-use Rattle.mqtt_rules.specs.State.{Line, Telling, Broker, session_at}
-use Rattle.mqtt_rules.specs.Deeds.{Deed, Part, At, Act, whose, after, after_all, rows_of, rows_of_all, stored_after, lines_after, given_after, tellings_after, part_rows, part_rows_of, lines_at, part_report, with_session, always, series, wire, wires, closing, report}
-use Rattle.mqtt_rules.specs.Step.{is_spent}
-use Rattle.mqtt_rules.proofs.acts.Goods.{after_append}
+use Rattle.mqtt_packet.specs.declared.codec.packet.Packet.{Packet}
+use Rattle.mqtt_records.specs.declared.state.change.Change.{Change}
+use Rattle.mqtt_records.specs.declared.state.records.Records.{Records}
+use Rattle.mqtt_records.specs.declared.state.session.Session.{Session}
+use Rattle.mqtt_records.specs.state.Records.{changed_all}
+use Rattle.mqtt_records.specs.state.Session.{birth_of}
+use Rattle.mqtt_records.specs.lists.Order.{row_at}
+use Rattle.mqtt_rules.specs.declared.step.Report.{Report}
+use Rattle.mqtt_rules.specs.step.State.{Line, Telling, Broker, session_at}
+use Rattle.mqtt_rules.specs.step.Deeds.{Deed, Part, At, Act, whose, after, after_all, rows_of, rows_of_all, stored_after, lines_after, given_after, tellings_after, part_rows, part_rows_of, lines_at, part_report, with_session, always, series, wire, wires, closing, report}
+use Rattle.mqtt_rules.specs.step.Step.{is_spent}
+use Rattle.mqtt_rules.proofs.step_lemmas.acts.Goods.{after_append}
 use Rattle.mqtt_broker_step.specs.declared.fault.StepFault.{StepFault}
 use Rattle.mqtt_broker_step.specs.declared.fault.StepFault.TheVariants.{Memory, Spent}
 use Rattle.mqtt_broker_step.specs.Undoing.{with_change}

@@ -1,13 +1,13 @@
 -- What takes back that a subscription is put or removed, as changes of records.
 use Rattle.std.proofs.Common.{◌≡◌, ℕ, List, Some, None, refl, ap, sym, ◌∙◌}
 use Rattle.std.specs.Prelude.{find}
-use Rattle.mqtt_records_rows.specs.Order.{row_at}
-use Rattle.mqtt_records.specs.declared.change.Change.TheVariants.{PutSubscription, RemoveSubscription}
-use Rattle.mqtt_records.specs.declared.session.Session.{Session}
-use Rattle.mqtt_records.specs.declared.subscription.Subscription.{Subscription}
-use Rattle.mqtt_records.specs.Session.{place_of, with_subscription, without_subscription}
-use Rattle.mqtt_rules.specs.Laws.{HasTables}
-use Rattle.mqtt_rules.specs.Subscribe.{is_to, place_of as place_by}
+use Rattle.mqtt_records.specs.lists.Order.{row_at}
+use Rattle.mqtt_records.specs.declared.state.change.Change.TheVariants.{PutSubscription, RemoveSubscription}
+use Rattle.mqtt_records.specs.declared.state.session.Session.{Session}
+use Rattle.mqtt_records.specs.declared.state.subscription.Subscription.{Subscription}
+use Rattle.mqtt_records.specs.state.Session.{place_of, with_subscription, without_subscription}
+use Rattle.mqtt_rules.specs.step.Laws.{HasTables}
+use Rattle.mqtt_rules.specs.step.Subscribe.{is_to, place_of as place_by}
 use Rattle.mqtt_broker_step.specs.Backs.{TakesBack}
 use Rattle.mqtt_broker_step.specs.Subscribing.{HasEachFilterOnce, MaySubscribe}
 use Rattle.mqtt_broker_step.proofs.Backs.{session_back}

@@ -5,15 +5,15 @@ use Rattle.std.specs.List.{AllByRecursion}
 use Rattle.std.proofs.lemmas.Bool.{cases_Bool, eqb-true, eq-eqb, le-ltb}
 use Rattle.std.proofs.lemmas.Slice.Eq.{bytes_eq-Decides}
 use Rattle.mqtt_base.specs.declared.limits.TheConstants.{SUBSCRIPTION_LIMIT}
-use Rattle.mqtt_records_rows.specs.Distinct.{AllDiffer}
-use Rattle.mqtt_records_rows.specs.Order.{IsAscending, row_at, has_row, insert_row, put_row, remove_row}
-use Rattle.mqtt_records_rows.proofs.OrderLemmas.{apart, above_none, remove-none}
-use Rattle.mqtt_records_rows.proofs.LookUps.{row_at-here, row_at-remove_row}
-use Rattle.mqtt_records.specs.declared.subscription.Subscription.{Subscription}
-use Rattle.mqtt_records.specs.Session.{place_of, without_filter, put_subscription}
-use Rattle.mqtt_records_rows.specs.Order.{IsTable}
-use Rattle.mqtt_rules.specs.Subscribe.{is_to}
-use Rattle.mqtt_rules.proofs.flight.FlightRows.{above_found, found_behind}
+use Rattle.mqtt_records.specs.lists.Distinct.{AllDiffer}
+use Rattle.mqtt_records.specs.lists.Order.{IsAscending, row_at, has_row, insert_row, put_row, remove_row}
+use Rattle.mqtt_records.proofs.lists_lemmas.OrderLemmas.{apart, above_none, remove-none}
+use Rattle.mqtt_records.proofs.lists_lemmas.LookUps.{row_at-here, row_at-remove_row}
+use Rattle.mqtt_records.specs.declared.state.subscription.Subscription.{Subscription}
+use Rattle.mqtt_records.specs.state.Session.{place_of, without_filter, put_subscription}
+use Rattle.mqtt_records.specs.lists.Order.{IsTable}
+use Rattle.mqtt_rules.specs.step.Subscribe.{is_to}
+use Rattle.mqtt_rules.proofs.step_lemmas.flight.FlightRows.{above_found, found_behind}
 use Rattle.mqtt_broker_step.specs.Subscribing.{filter_of}
 use Rattle.mqtt_broker_step.proofs.Inverse.{removed_back, put_over}
 

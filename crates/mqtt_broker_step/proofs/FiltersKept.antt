@@ -4,21 +4,21 @@ use Rattle.std.specs.Prelude.{◌≢◌, find, filter, map}
 use Rattle.std.specs.List.{AllByRecursion}
 use Rattle.std.proofs.lemmas.Bool.{cases_Bool}
 use Rattle.mqtt_base.specs.declared.limits.TheConstants.{SUBSCRIPTION_LIMIT, SESSION_LIMIT}
-use Rattle.mqtt_records_rows.specs.Distinct.{AllDiffer}
-use Rattle.mqtt_records_rows.specs.Order.{has_row, insert_row, put_row, change_row}
-use Rattle.mqtt_records.specs.declared.change.Change.{Change}
-use Rattle.mqtt_records.specs.declared.change.Change.TheVariants.{SetCounter, PutSession, SetSession, RemoveSession, PutWill, RemoveWill, PutSubscription, RemoveSubscription, PutInbound, RemoveInbound, PutCopy, SetCopy, RemoveCopy, PutRetained, RemoveRetained}
-use Rattle.mqtt_records.specs.declared.change.Counter.{Counter}
-use Rattle.mqtt_records.specs.declared.change.Counter.TheVariants.{Births, Publications, Subscribes, Autos, Moment}
-use Rattle.mqtt_records.specs.declared.records.Records.{Records}
-use Rattle.mqtt_records.specs.declared.session.Columns.{Columns}
-use Rattle.mqtt_records.specs.declared.session.Session.{Session}
-use Rattle.mqtt_records.specs.declared.subscription.Subscription.{Subscription}
-use Rattle.mqtt_records.specs.Session.{birth_of, place_of, fresh, without_filter, with_columns, with_will, with_subscription, without_subscription, with_open, without_open, with_copy, with_phase, without_copy}
-use Rattle.mqtt_records.specs.Records.{changed, changed_all, put_session, with_counter}
-use Rattle.mqtt_rules.specs.Subscribe.{Wish, is_to, place_of as place_by, subscription}
-use Rattle.mqtt_rules.proofs.numbers.Copies.{each_filter}
-use Rattle.mqtt_rules.proofs.flight.FlightRows.{all_put, all_changed}
+use Rattle.mqtt_records.specs.lists.Distinct.{AllDiffer}
+use Rattle.mqtt_records.specs.lists.Order.{has_row, insert_row, put_row, change_row}
+use Rattle.mqtt_records.specs.declared.state.change.Change.{Change}
+use Rattle.mqtt_records.specs.declared.state.change.Change.TheVariants.{SetCounter, PutSession, SetSession, RemoveSession, PutWill, RemoveWill, PutSubscription, RemoveSubscription, PutInbound, RemoveInbound, PutCopy, SetCopy, RemoveCopy, PutRetained, RemoveRetained}
+use Rattle.mqtt_records.specs.declared.state.change.Counter.{Counter}
+use Rattle.mqtt_records.specs.declared.state.change.Counter.TheVariants.{Births, Publications, Subscribes, Autos, Moment}
+use Rattle.mqtt_records.specs.declared.state.records.Records.{Records}
+use Rattle.mqtt_records.specs.declared.state.session.Columns.{Columns}
+use Rattle.mqtt_records.specs.declared.state.session.Session.{Session}
+use Rattle.mqtt_records.specs.declared.state.subscription.Subscription.{Subscription}
+use Rattle.mqtt_records.specs.state.Session.{birth_of, place_of, fresh, without_filter, with_columns, with_will, with_subscription, without_subscription, with_open, without_open, with_copy, with_phase, without_copy}
+use Rattle.mqtt_records.specs.state.Records.{changed, changed_all, put_session, with_counter}
+use Rattle.mqtt_rules.specs.step.Subscribe.{Wish, is_to, place_of as place_by, subscription}
+use Rattle.mqtt_rules.proofs.step_lemmas.numbers.Copies.{each_filter}
+use Rattle.mqtt_rules.proofs.step_lemmas.flight.FlightRows.{all_put, all_changed}
 use Rattle.mqtt_broker_step.specs.Subscribing.{filter_of, HasEachFilterOnce, HaveFiltersOnce, MaySubscribe}
 use Rattle.mqtt_broker_step.proofs.Filters.{text_same}
 

@@ -2,10 +2,10 @@
 use Rattle.std.proofs.Common.{◌≡◌, ℕ, ◌<◌, ◌≤◌, Bool, true, false, cond, ◌||◌, List, [], ◌∷◌, length, map, nat_eq, nat_lt, refl, ap, sym, subst, ◌∙◌, arith, inl, inr}
 use Rattle.std.specs.Prelude.{Option, Some, None, is_some}
 use Rattle.std.proofs.lemmas.Bool.{eqb-true, eq-eqb, cases_Bool, lt-ltb}
-use Rattle.mqtt_routes.specs.Intended.{greatest}
-use Rattle.mqtt_records_rows.specs.Order.{IsAscending, row_at, has_row, insert_row, put_row, remove_row, change_row, last_row}
-use Rattle.mqtt_records_rows.proofs.OrderLemmas.{apart, change-none, remove-length, remove-none, remove-ascending, insert-ascending}
-use Rattle.mqtt_records_rows.proofs.LookUps.{row_at-insert_row, row_at-remove_row, same_rows}
+use Rattle.mqtt_routes.specs.routing.Intended.{greatest}
+use Rattle.mqtt_records.specs.lists.Order.{IsAscending, row_at, has_row, insert_row, put_row, remove_row, change_row, last_row}
+use Rattle.mqtt_records.proofs.lists_lemmas.OrderLemmas.{apart, change-none, remove-length, remove-none, remove-ascending, insert-ascending}
+use Rattle.mqtt_records.proofs.lists_lemmas.LookUps.{row_at-insert_row, row_at-remove_row, same_rows}
 
 module _ {X : Type 0} (key : X → ℕ) where
   -- a row put where its key was not, and removed

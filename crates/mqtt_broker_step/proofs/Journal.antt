@@ -1,6 +1,6 @@
 -- One change more: it is taken back first.
 use Rattle.std.proofs.Common.{◌≡◌, List, [], ◌∷◌, ◌++◌, refl, ap, sym, ◌∙◌}
-use Rattle.mqtt_rules.specs.State.{Broker}
+use Rattle.mqtt_rules.specs.step.State.{Broker}
 use Rattle.mqtt_broker_step.specs.declared.undo.Undo.{Undo}
 use Rattle.mqtt_broker_step.specs.Undoing.{Changing, undone, taken_back, changing, become}
 

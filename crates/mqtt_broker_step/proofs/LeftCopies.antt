@@ -2,17 +2,17 @@
 use Rattle.std.proofs.Common.{◌≡◌, ℕ, [], ◌∷◌, ◌++◌, map, refl, ap, sym, ◌∙◌, append-nil}
 use Rattle.std.specs.Prelude.{Option, Some}
 use Rattle.mqtt_base.specs.declared.session.Ending.{Ending}
-use Rattle.mqtt_records_message.specs.Queue.{CopyRow}
-use Rattle.mqtt_records_rows.specs.Order.{row_at}
-use Rattle.mqtt_records.specs.declared.session.Session.{Session}
-use Rattle.mqtt_records.specs.declared.change.Change.TheVariants.{RemoveCopy}
-use Rattle.mqtt_records.specs.Records.{changed_all}
-use Rattle.mqtt_records.specs.Session.{copy_place}
-use Rattle.mqtt_rules.specs.declared.Report.{Report}
-use Rattle.mqtt_rules.specs.declared.Report.TheVariants.{Ended}
-use Rattle.mqtt_rules.specs.State.{session_at}
-use Rattle.mqtt_rules.specs.Deeds.{At, Leave, whose, without_place, part_rows_of, with_session, always}
-use Rattle.mqtt_rules.specs.Outbound.{at_place, of_entry}
+use Rattle.mqtt_records.specs.messages.Queue.{CopyRow}
+use Rattle.mqtt_records.specs.lists.Order.{row_at}
+use Rattle.mqtt_records.specs.declared.state.session.Session.{Session}
+use Rattle.mqtt_records.specs.declared.state.change.Change.TheVariants.{RemoveCopy}
+use Rattle.mqtt_records.specs.state.Records.{changed_all}
+use Rattle.mqtt_records.specs.state.Session.{copy_place}
+use Rattle.mqtt_rules.specs.declared.step.Report.{Report}
+use Rattle.mqtt_rules.specs.declared.step.Report.TheVariants.{Ended}
+use Rattle.mqtt_rules.specs.step.State.{session_at}
+use Rattle.mqtt_rules.specs.step.Deeds.{At, Leave, whose, without_place, part_rows_of, with_session, always}
+use Rattle.mqtt_rules.specs.step.Outbound.{at_place, of_entry}
 use Rattle.mqtt_broker_step.specs.Undoing.{with_lines, with_records}
 use Rattle.mqtt_broker_step.specs.Doing.{leaves}
 use Rattle.mqtt_broker_step.specs.Stepping.{Stepping, did, Did, written, told, with_broker}

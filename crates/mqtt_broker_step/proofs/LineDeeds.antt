@@ -2,9 +2,9 @@
 use Rattle.std.proofs.Common.{◌≡◌, ℕ, Bool, cond, List, [], ◌∷◌, nat_eq, refl, ap, ap₂, sym, ◌∙◌, append-nil, inl, inr}
 use Rattle.std.specs.Prelude.{Some, None}
 use Rattle.std.proofs.lemmas.Bool.{cases_Bool}
-use Rattle.mqtt_records_rows.specs.Order.{row_at, change_row, remove_row}
-use Rattle.mqtt_rules.specs.State.{Line, Telling, Broker, told_line}
-use Rattle.mqtt_rules.specs.Deeds.{LinePart, Gone, Greet, On, always, greeted, on_line, line_after, told_part}
+use Rattle.mqtt_records.specs.lists.Order.{row_at, change_row, remove_row}
+use Rattle.mqtt_rules.specs.step.State.{Line, Telling, Broker, told_line}
+use Rattle.mqtt_rules.specs.step.Deeds.{LinePart, Gone, Greet, On, always, greeted, on_line, line_after, told_part}
 use Rattle.mqtt_broker_step.specs.declared.line.LineChange.{LineChange}
 use Rattle.mqtt_broker_step.specs.Lines.{line_changed, line_number}
 use Rattle.mqtt_broker_step.specs.Undoing.{Changing, become, with_lines, with_line_changed, with_tellings}

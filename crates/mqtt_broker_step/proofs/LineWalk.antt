@@ -2,10 +2,10 @@
 use Rattle.std.proofs.Common.{◌≡◌, ℕ, ◌<◌, ◌≤◌, Bool, true, false, cond, zero, suc, List, [], ◌∷◌, length, map, nat_eq, refl, ap, sym, ◌∙◌, arith}
 use Rattle.std.specs.Prelude.{Some, None, slice_get}
 use Rattle.std.proofs.lemmas.Bool.{eq-eqb}
-use Rattle.mqtt_records_rows.specs.Order.{IsAbove, IsAscending, change_row}
-use Rattle.mqtt_records_rows.proofs.OrderLemmas.{apart}
-use Rattle.mqtt_rules.specs.State.{Line, is_of}
-use Rattle.mqtt_rules.specs.Deeds.{without_place}
+use Rattle.mqtt_records.specs.lists.Order.{IsAbove, IsAscending, change_row}
+use Rattle.mqtt_records.proofs.lists_lemmas.OrderLemmas.{apart}
+use Rattle.mqtt_rules.specs.step.State.{Line, is_of}
+use Rattle.mqtt_rules.specs.step.Deeds.{without_place}
 use Rattle.mqtt_broker_step.specs.Lines.{line_number, without_went, nth_changed, changed_from}
 
 -- a line of the copy's own session loses the copy's place

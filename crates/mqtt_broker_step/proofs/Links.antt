@@ -3,11 +3,11 @@ use Rattle.std.proofs.Common.{◌≡◌, ℕ, ◌<◌, Bool, true, false, cond, 
 use Rattle.std.specs.Prelude.{Some, None}
 use Rattle.std.proofs.lemmas.Bool.{ltb-true}
 use Rattle.mqtt_base.specs.declared.limits.TheConstants.{LINE_LIMIT, LAST_NUMBER}
-use Rattle.mqtt_records_rows.specs.Order.{IsBelow}
-use Rattle.mqtt_records_rows.proofs.LookUps.{put_row-last}
-use Rattle.mqtt_rules.specs.State.{Line, Broker}
-use Rattle.mqtt_rules.specs.Deeds.{Deed, Link, fresh_line, after_all}
-use Rattle.mqtt_rules.specs.Step.{can_link}
+use Rattle.mqtt_records.specs.lists.Order.{IsBelow}
+use Rattle.mqtt_records.proofs.lists_lemmas.LookUps.{put_row-last}
+use Rattle.mqtt_rules.specs.step.State.{Line, Broker}
+use Rattle.mqtt_rules.specs.step.Deeds.{Deed, Link, fresh_line, after_all}
+use Rattle.mqtt_rules.specs.step.Step.{can_link}
 use Rattle.mqtt_broker_step.specs.Lines.{line_number}
 use Rattle.mqtt_broker_step.specs.Undoing.{with_linked}
 use Rattle.mqtt_broker_step.specs.Doing.{links, next_line, after_act}

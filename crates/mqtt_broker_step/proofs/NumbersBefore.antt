@@ -1,8 +1,8 @@
 -- Numbers before a step, by what takes its changes back.
 use Rattle.std.proofs.Common.{◌≡◌, List, [], ◌∷◌, refl, ap, ◌∙◌}
-use Rattle.mqtt_records.specs.declared.change.Change.TheVariants.{SetCounter, PutSession as PutColumns, SetSession, RemoveSession, PutWill, RemoveWill, PutSubscription, RemoveSubscription, PutInbound, RemoveInbound, PutCopy, SetCopy, RemoveCopy, PutRetained, RemoveRetained}
-use Rattle.mqtt_records.specs.declared.change.Counter.TheVariants.{Births, Publications, Subscribes, Autos, Moment}
-use Rattle.mqtt_rules.specs.State.{Broker}
+use Rattle.mqtt_records.specs.declared.state.change.Change.TheVariants.{SetCounter, PutSession as PutColumns, SetSession, RemoveSession, PutWill, RemoveWill, PutSubscription, RemoveSubscription, PutInbound, RemoveInbound, PutCopy, SetCopy, RemoveCopy, PutRetained, RemoveRetained}
+use Rattle.mqtt_records.specs.declared.state.change.Counter.TheVariants.{Births, Publications, Subscribes, Autos, Moment}
+use Rattle.mqtt_rules.specs.step.State.{Broker}
 use Rattle.mqtt_broker_step.specs.declared.undo.Undo.{Undo}
 use Rattle.mqtt_broker_step.specs.declared.undo.Undo.TheVariants.{Make, PutSession, PutLine, RemoveLine, EditLine, PutTelling, RemoveTelling, CutTelling, SetMoment}
 use Rattle.mqtt_broker_step.specs.Undoing.{publications_before, publications_set, subscribes_before, subscribes_set, set_or, taken_back, undone}

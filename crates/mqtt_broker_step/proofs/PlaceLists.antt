@@ -10,10 +10,10 @@ use Rattle.std.proofs.lemmas.Bool.Decides.{nat_tests}
 use Rattle.std.proofs.lemmas.List.{take_at, length_push, length-take}
 use Rattle.std.proofs.lemmas.List.Edits.{length-remove}
 use Rattle.std.proofs.lemmas.List.Sorted.{searched}
-use Rattle.mqtt_flow_inbound.specs.Identifiers.{is_among, ids_without}
-use Rattle.mqtt_flow_inbound.proofs.inbound.Places.{OfPlace, placed}
-use Rattle.mqtt_records_rows.specs.Order.{IsAbove, last_row}
-use Rattle.mqtt_records_rows.proofs.OrderLemmas.{above_less, ascending_rises, filter-ascending, last-read, remove-length}
+use Rattle.mqtt_flow.specs.inbound.Identifiers.{is_among, ids_without}
+use Rattle.mqtt_flow.proofs.inbound_lemmas.inbound.Places.{OfPlace, placed}
+use Rattle.mqtt_records.specs.lists.Order.{IsAbove, last_row}
+use Rattle.mqtt_records.proofs.lists_lemmas.OrderLemmas.{above_less, ascending_rises, filter-ascending, last-read, remove-length}
 use Rattle.mqtt_broker_step.specs.Places.{AreAscending, IsIndexOf, IsKept, room_for, has_room_behind, has_room, with_inserted, without_last}
 
 abbrev own : ℕ → ℕ

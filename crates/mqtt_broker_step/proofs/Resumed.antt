@@ -1,14 +1,14 @@
 -- What a session that is resumed makes of a step: two rows.
 use Rattle.std.proofs.Common.{◌≡◌, ℕ, [], ◌∷◌, ◌++◌, refl, ap, sym, ◌∙◌, append-nil, append_assoc}
 use Rattle.std.specs.Prelude.{Option, Some, None}
-use Rattle.mqtt_records_message.specs.declared.message.Will.{Will}
-use Rattle.mqtt_records.specs.declared.session.Session.{Session}
-use Rattle.mqtt_records.specs.declared.change.Change.{Change}
-use Rattle.mqtt_records.specs.declared.change.Change.TheVariants.{SetSession}
-use Rattle.mqtt_records.specs.Records.{changed_all}
-use Rattle.mqtt_records.specs.Session.{columns_of}
-use Rattle.mqtt_rules.specs.State.{session_at}
-use Rattle.mqtt_rules.specs.Deeds.{Act, At, Resume, whose, will_row, part_rows_of, with_session, always, rows_of_all}
+use Rattle.mqtt_records.specs.declared.messages.message.Will.{Will}
+use Rattle.mqtt_records.specs.declared.state.session.Session.{Session}
+use Rattle.mqtt_records.specs.declared.state.change.Change.{Change}
+use Rattle.mqtt_records.specs.declared.state.change.Change.TheVariants.{SetSession}
+use Rattle.mqtt_records.specs.state.Records.{changed_all}
+use Rattle.mqtt_records.specs.state.Session.{columns_of}
+use Rattle.mqtt_rules.specs.step.State.{session_at}
+use Rattle.mqtt_rules.specs.step.Deeds.{Act, At, Resume, whose, will_row, part_rows_of, with_session, always, rows_of_all}
 use Rattle.mqtt_broker_step.specs.declared.fault.StepFault.{StepFault}
 use Rattle.mqtt_broker_step.specs.declared.fault.StepFault.TheVariants.{Memory, Spent}
 use Rattle.mqtt_broker_step.specs.Undoing.{with_records}

@@ -2,8 +2,8 @@
 use Rattle.std.proofs.Common.{◌≡◌, ℕ, ◌<◌, zero, suc, List, [], ◌∷◌, ap, ◌∙◌, arith}
 use Rattle.std.specs.Prelude.{Some, slice_get}
 use Rattle.std.proofs.lemmas.Bool.{eq-eqb}
-use Rattle.mqtt_records_rows.specs.Order.{IsAbove, IsAscending, row_at}
-use Rattle.mqtt_records_rows.proofs.OrderLemmas.{apart}
+use Rattle.mqtt_records.specs.lists.Order.{IsAbove, IsAscending, row_at}
+use Rattle.mqtt_records.proofs.lists_lemmas.OrderLemmas.{apart}
 
 module _ {X : Type 0} (key : X → ℕ) where
   above_there : (n i : ℕ) (xs : List X) (x : X) → IsAbove key n xs → slice_get xs i ≡ Some x → n < key x

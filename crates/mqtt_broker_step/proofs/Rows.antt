@@ -3,10 +3,10 @@ use Rattle.std.proofs.Common.{◌≡◌, false, ◌||◌, List, [], ◌∷◌, �
 use Rattle.std.specs.Prelude.{Result, Ok, Err, OnOk, OnErr}
 use Rattle.std.proofs.lemmas.Bool.{cases_Bool}
 use Rattle.mqtt_base.specs.declared.limits.TheConstants.{LAST_NUMBER}
-use Rattle.mqtt_records.specs.declared.change.Change.{Change}
-use Rattle.mqtt_records.specs.Records.{changed}
-use Rattle.mqtt_rules.specs.Step.{is_spent, number_given}
-use Rattle.mqtt_rules.proofs.fit.StoredLaw.{changed_all_append}
+use Rattle.mqtt_records.specs.declared.state.change.Change.{Change}
+use Rattle.mqtt_records.specs.state.Records.{changed}
+use Rattle.mqtt_rules.specs.step.Step.{is_spent, number_given}
+use Rattle.mqtt_rules.proofs.step_lemmas.fit.StoredLaw.{changed_all_append}
 use Rattle.mqtt_broker_step.specs.Undoing.{Changing, become, with_change}
 use Rattle.mqtt_broker_step.specs.Stepping.{IsStep}
 

@@ -2,21 +2,21 @@
 use Rattle.std.proofs.Common.{◌≡◌, ℕ, Bool, true, false, cond, List, [], ◌∷◌, ◌++◌, map, nat_eq, Option, Some, None, refl, ap, ap₂, sym, ◌∙◌, append-nil, inl, inr}
 use Rattle.std.specs.Prelude.{find, unwrap_or}
 use Rattle.std.proofs.lemmas.Bool.{cases_Bool}
-use Rattle.mqtt_codec.specs.declared.packet.Packet.{Packet}
-use Rattle.mqtt_codec.specs.declared.packet.Packet.TheVariants as packets
-use Rattle.mqtt_codec.specs.declared.publish.Publish.{Publish}
-use Rattle.mqtt_codec.specs.Packets.{shortest_of}
-use Rattle.mqtt_records_rows.specs.Order.{row_at, change_row}
-use Rattle.mqtt_records_rows.proofs.OrderLemmas.{change-none}
-use Rattle.mqtt_topic_aliases.specs.declared.form.Form.{Form}
-use Rattle.mqtt_topic_aliases.specs.declared.form.Form.TheVariants.{Plain, Named, Short}
-use Rattle.mqtt_topic_aliases.specs.declared.sizes.OtherBytes.{OtherBytes}
-use Rattle.mqtt_topic_aliases.specs.Sizes as sizes
-use Rattle.mqtt_topic_aliases.specs.Told.{ToldTopics, after_send, alias_of, forms_by, next_alias, none_told, told_if, with_told}
-use Rattle.mqtt_rules.specs.Forms.{first_within, form_for, in_form, is_within}
-use Rattle.mqtt_rules.specs.State.{Line, Telling, Broker, line_at, told_line, told_on, topics_in}
-use Rattle.mqtt_rules.proofs.forms.PlainForm.{plain_form}
-use Rattle.mqtt_rules.specs.Deeds.{Send, after, always, spoken, tells, tells_on, wires}
+use Rattle.mqtt_packet.specs.declared.codec.packet.Packet.{Packet}
+use Rattle.mqtt_packet.specs.declared.codec.packet.Packet.TheVariants as packets
+use Rattle.mqtt_packet.specs.declared.codec.publish.Publish.{Publish}
+use Rattle.mqtt_packet.specs.codec.Packets.{shortest_of}
+use Rattle.mqtt_records.specs.lists.Order.{row_at, change_row}
+use Rattle.mqtt_records.proofs.lists_lemmas.OrderLemmas.{change-none}
+use Rattle.mqtt_topic.specs.declared.sending.form.Form.{Form}
+use Rattle.mqtt_topic.specs.declared.sending.form.Form.TheVariants.{Plain, Named, Short}
+use Rattle.mqtt_topic.specs.declared.sending.sizes.OtherBytes.{OtherBytes}
+use Rattle.mqtt_topic.specs.sending.Sizes as sizes
+use Rattle.mqtt_topic.specs.sending.Told.{ToldTopics, after_send, alias_of, forms_by, next_alias, none_told, told_if, with_told}
+use Rattle.mqtt_rules.specs.step.Forms.{first_within, form_for, in_form, is_within}
+use Rattle.mqtt_rules.specs.step.State.{Line, Telling, Broker, line_at, told_line, told_on, topics_in}
+use Rattle.mqtt_rules.proofs.step_lemmas.forms.PlainForm.{plain_form}
+use Rattle.mqtt_rules.specs.step.Deeds.{Send, after, always, spoken, tells, tells_on, wires}
 use Rattle.mqtt_broker_step.specs.Lines.{line_number}
 use Rattle.mqtt_broker_step.specs.Stepping.{Stepping, Did, spelled, sent, with_broker}
 use Rattle.mqtt_broker_step.specs.declared.outputs.Outgoing.{Outgoing}

@@ -2,10 +2,10 @@
 use Rattle.std.proofs.Common.{◌≡◌, ℕ, ◌≤◌, List, [], ◌∷◌, length, take, refl, ap, ◌∙◌}
 use Rattle.std.specs.Prelude.{Option, Some, None}
 use Rattle.mqtt_base.specs.declared.limits.TheConstants.{LINE_LIMIT}
-use Rattle.mqtt_records_rows.specs.Order.{IsAscending, row_at, put_row, remove_row, change_row}
-use Rattle.mqtt_topic_aliases.specs.Told.{ToldTopics, next_alias, shortened, told_if}
-use Rattle.mqtt_topic_aliases.proofs.FormLemmas.{taken_back}
-use Rattle.mqtt_rules.specs.State.{Telling, told_line}
+use Rattle.mqtt_records.specs.lists.Order.{IsAscending, row_at, put_row, remove_row, change_row}
+use Rattle.mqtt_topic.specs.sending.Told.{ToldTopics, next_alias, shortened, told_if}
+use Rattle.mqtt_topic.proofs.sending_lemmas.FormLemmas.{taken_back}
+use Rattle.mqtt_rules.specs.step.State.{Telling, told_line}
 use Rattle.mqtt_broker_step.specs.Backs.{TakesTellingBack}
 use Rattle.mqtt_broker_step.specs.Tellings.{telling_cut, telling_more}
 use Rattle.mqtt_broker_step.proofs.AliasDeeds.{changed_put}

@@ -1,8 +1,8 @@
 -- One act after another, and where the second is refused.
 use Rattle.std.proofs.Common.{◌≡◌, Bool, true, false, ◌||◌, List, refl, ap, sym, ◌∙◌}
-use Rattle.mqtt_records.specs.declared.change.Change.{Change}
-use Rattle.mqtt_rules.specs.Deeds.{Act, then, after_all, rows_of_all}
-use Rattle.mqtt_rules.specs.Step.{is_spent}
+use Rattle.mqtt_records.specs.declared.state.change.Change.{Change}
+use Rattle.mqtt_rules.specs.step.Deeds.{Act, then, after_all, rows_of_all}
+use Rattle.mqtt_rules.specs.step.Step.{is_spent}
 use Rattle.mqtt_broker_step.specs.declared.fault.StepFault.{StepFault}
 use Rattle.mqtt_broker_step.specs.Stepping.{Stepping, did, Did, IsLeft}
 use Rattle.mqtt_broker_step.proofs.Doing.{did_did, rows_append}

@@ -1,11 +1,11 @@
 -- What takes back a change of a session, or of a line.
 use Rattle.std.specs.Prelude.{◌≡◌, ℕ, List, Option, Some, None}
-use Rattle.mqtt_records_rows.specs.Order.{change_row}
-use Rattle.mqtt_records.specs.declared.change.Change.{Change}
-use Rattle.mqtt_records.specs.declared.records.Records.{Records}
-use Rattle.mqtt_records.specs.declared.session.Session.{Session}
-use Rattle.mqtt_records.specs.Records.{changed}
-use Rattle.mqtt_rules.specs.State.{Line, Telling, session_at, told_line}
+use Rattle.mqtt_records.specs.lists.Order.{change_row}
+use Rattle.mqtt_records.specs.declared.state.change.Change.{Change}
+use Rattle.mqtt_records.specs.declared.state.records.Records.{Records}
+use Rattle.mqtt_records.specs.declared.state.session.Session.{Session}
+use Rattle.mqtt_records.specs.state.Records.{changed}
+use Rattle.mqtt_rules.specs.step.State.{Line, Telling, session_at, told_line}
 use Rattle.mqtt_broker_step.specs.declared.line.LineChange.{LineChange}
 use Rattle.mqtt_broker_step.specs.Lines.{line_changed, line_number}
 use Rattle.mqtt_broker_step.specs.Tellings.{telling_cut}

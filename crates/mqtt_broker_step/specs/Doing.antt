@@ -1,13 +1,13 @@
 -- Deeds that depend on nothing but the tables, as acts.
 use Rattle.std.specs.Prelude.{ℕ, suc, cond, List, [], ◌∷◌, Option, Some, None}
 use Rattle.mqtt_base.specs.declared.session.Ending.{Ending}
-use Rattle.mqtt_records_message.specs.declared.message.Will.{Will}
-use Rattle.mqtt_records.specs.declared.session.Columns.{Columns}
-use Rattle.mqtt_rules.specs.Deeds.{Act, Accept, Name, Count, At, Leave, Link, Begin, Message, Origin, whose, always, of_session, after_all}
-use Rattle.mqtt_rules.specs.Outbound.{at_place}
-use Rattle.mqtt_rules.specs.Routing.{next_publication}
-use Rattle.mqtt_rules.specs.State.{Broker}
-use Rattle.mqtt_rules.specs.Step.{can_link}
+use Rattle.mqtt_records.specs.declared.messages.message.Will.{Will}
+use Rattle.mqtt_records.specs.declared.state.session.Columns.{Columns}
+use Rattle.mqtt_rules.specs.step.Deeds.{Act, Accept, Name, Count, At, Leave, Link, Begin, Message, Origin, whose, always, of_session, after_all}
+use Rattle.mqtt_rules.specs.step.Outbound.{at_place}
+use Rattle.mqtt_rules.specs.step.Routing.{next_publication}
+use Rattle.mqtt_rules.specs.step.State.{Broker}
+use Rattle.mqtt_rules.specs.step.Step.{can_link}
 
 -- a publication is accepted, and gets the next number
 abbrev pub accepts : Origin → Message → Act

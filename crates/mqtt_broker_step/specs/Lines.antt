@@ -1,9 +1,9 @@
 -- The table of lines, by their numbers.
 use Rattle.std.specs.Prelude.{◌≡◌, refl, ℕ, zero, suc, cond, List, [], ◌∷◌, ◌++◌, Option, Some, is_some}
 use Rattle.std.specs.List.{remove}
-use Rattle.mqtt_topic.specs.Aliases.{AliasTable, after_resolve, restored, topic_of, with_topics}
-use Rattle.mqtt_flow_inbound.specs.Identifiers.{ids_without}
-use Rattle.mqtt_rules.specs.State.{Line}
+use Rattle.mqtt_topic.specs.names.Aliases.{AliasTable, after_resolve, restored, topic_of, with_topics}
+use Rattle.mqtt_flow.specs.inbound.Identifiers.{ids_without}
+use Rattle.mqtt_rules.specs.step.State.{Line}
 use Rattle.mqtt_broker_step.specs.declared.line.LineChange.{LineChange}
 use Rattle.mqtt_broker_step.specs.declared.line.LineChange.TheVariants.{Hear, Greet, SetWent, PushWent, PopWent, RemoveWent, PutWentBack, RestoreAlias}
 use Rattle.mqtt_broker_step.specs.Places.{with_inserted, with_pushed, without_last}

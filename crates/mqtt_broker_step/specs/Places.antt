@@ -2,8 +2,8 @@
 use Rattle.std.specs.Prelude.{◌≡◌, ℕ, zero, ◌-◌, ◌≤◌, Bool, true, cond, ◌&&◌, List, [], ◌∷◌, ◌++◌, length, take, get_or, nat_eq, nat_le, nat_lt}
 use Rattle.std.specs.List.{insert}
 use Rattle.mqtt_base.specs.declared.limits.TheConstants.{QUEUE_LIMIT}
-use Rattle.mqtt_records_rows.specs.Order.{IsAscending}
-use Rattle.mqtt_flow_inbound.specs.Inflow.{StandsAt}
+use Rattle.mqtt_records.specs.lists.Order.{IsAscending}
+use Rattle.mqtt_flow.specs.inbound.Inflow.{StandsAt}
 use Rattle.mqtt_broker_step.specs.declared.places.TheConstants.{FEW}
 
 -- each place is above those before it

@@ -1,18 +1,18 @@
 -- A step under way: what stood when it began, what its deeds made of it, and what they wrote and told.
 use Rattle.std.specs.Prelude.{◌≡◌, ℕ, true, false, List, [], ◌∷◌, ◌++◌, map, filter_map}
-use Rattle.mqtt_codec.specs.declared.packet.Packet.{Packet}
-use Rattle.mqtt_codec.specs.Packets.{shortest_of}
-use Rattle.mqtt_records.specs.declared.change.Change.{Change}
-use Rattle.mqtt_records.specs.declared.records.Records.{Records}
-use Rattle.mqtt_records.specs.Contents.{FitContents}
-use Rattle.mqtt_records.specs.Records.{FitAll, changed_all}
-use Rattle.mqtt_records.specs.Saying.{AllSayable}
-use Rattle.mqtt_records_names.specs.Slimming.{slim_entered}
-use Rattle.mqtt_rules.specs.declared.Limits.{Limits}
-use Rattle.mqtt_rules.specs.declared.Report.{Report}
-use Rattle.mqtt_rules.specs.State.{Broker, Env, MemberChoice}
-use Rattle.mqtt_rules.specs.Deeds.{Part, Deed, Act, whose, At, after_all, rows_of_all, of_session, always, wires, closing, report}
-use Rattle.mqtt_rules.specs.Step.{is_spent, stamped, with_moment}
+use Rattle.mqtt_packet.specs.declared.codec.packet.Packet.{Packet}
+use Rattle.mqtt_packet.specs.codec.Packets.{shortest_of}
+use Rattle.mqtt_records.specs.declared.state.change.Change.{Change}
+use Rattle.mqtt_records.specs.declared.state.records.Records.{Records}
+use Rattle.mqtt_records.specs.state.Contents.{FitContents}
+use Rattle.mqtt_records.specs.state.Records.{FitAll, changed_all}
+use Rattle.mqtt_records.specs.state.Saying.{AllSayable}
+use Rattle.mqtt_keep.specs.by_name.Slimming.{slim_entered}
+use Rattle.mqtt_rules.specs.declared.step.Limits.{Limits}
+use Rattle.mqtt_rules.specs.declared.step.Report.{Report}
+use Rattle.mqtt_rules.specs.step.State.{Broker, Env, MemberChoice}
+use Rattle.mqtt_rules.specs.step.Deeds.{Part, Deed, Act, whose, At, after_all, rows_of_all, of_session, always, wires, closing, report}
+use Rattle.mqtt_rules.specs.step.Step.{is_spent, stamped, with_moment}
 use Rattle.mqtt_broker_step.specs.declared.fault.StepFault.{StepFault}
 use Rattle.mqtt_broker_step.specs.declared.fault.StepFault.TheVariants.{Memory, Spent}
 use Rattle.mqtt_broker_step.specs.Undoing.{with_change, with_records, moment_of}

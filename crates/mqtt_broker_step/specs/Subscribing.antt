@@ -1,11 +1,11 @@
 -- Subscriptions of a session: each filter once, at its own place (MQTT 5.0, 3.8.4).
 use Rattle.std.specs.Prelude.{◌≡◌, ℕ, List, map}
 use Rattle.std.specs.List.{AllByRecursion}
-use Rattle.mqtt_records_rows.specs.Distinct.{AllDiffer}
-use Rattle.mqtt_records.specs.declared.records.Records.{Records}
-use Rattle.mqtt_records.specs.declared.session.Session.{Session}
-use Rattle.mqtt_records.specs.declared.subscription.Subscription.{Subscription}
-use Rattle.mqtt_rules.specs.Subscribe.{place_among}
+use Rattle.mqtt_records.specs.lists.Distinct.{AllDiffer}
+use Rattle.mqtt_records.specs.declared.state.records.Records.{Records}
+use Rattle.mqtt_records.specs.declared.state.session.Session.{Session}
+use Rattle.mqtt_records.specs.declared.state.subscription.Subscription.{Subscription}
+use Rattle.mqtt_rules.specs.step.Subscribe.{place_among}
 
 abbrev pub filter_of : Subscription → List ℕ
 filter_of x = x.filter

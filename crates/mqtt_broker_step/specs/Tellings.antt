@@ -1,17 +1,17 @@
 -- What clients were told of topics on their lines, and the form in which a PUBLISH goes out there (MQTT 5.0, 3.1.2.11.4, 3.3.2.3.4).
 use Rattle.std.specs.Prelude.{◌≡◌, ⊤, ℕ, Bool, List, Option, Some, None, is_some, unwrap_or}
-use Rattle.mqtt_codec.specs.declared.packet.Packet.{Packet}
-use Rattle.mqtt_codec.specs.declared.packet.Packet.TheVariants as packets
-use Rattle.mqtt_codec.specs.declared.publish.Publish.{Publish}
-use Rattle.mqtt_codec.specs.Packets.{shortest_of}
-use Rattle.mqtt_records_rows.specs.Order.{change_row, row_at}
-use Rattle.mqtt_topic_aliases.specs.declared.form.Form.{Form}
-use Rattle.mqtt_topic_aliases.specs.declared.form.Form.TheVariants.{Plain, Named, Short}
-use Rattle.mqtt_topic_aliases.specs.declared.sizes.OtherBytes.{OtherBytes}
-use Rattle.mqtt_topic_aliases.specs.Told.{ToldTopics, next_alias, shortened, told_if}
-use Rattle.mqtt_topic_aliases.specs.Sizes as sizes
-use Rattle.mqtt_rules.specs.Forms.{form_for, in_form}
-use Rattle.mqtt_rules.specs.State.{Line, Telling, Broker, line_at, told_line, told_on}
+use Rattle.mqtt_packet.specs.declared.codec.packet.Packet.{Packet}
+use Rattle.mqtt_packet.specs.declared.codec.packet.Packet.TheVariants as packets
+use Rattle.mqtt_packet.specs.declared.codec.publish.Publish.{Publish}
+use Rattle.mqtt_packet.specs.codec.Packets.{shortest_of}
+use Rattle.mqtt_records.specs.lists.Order.{change_row, row_at}
+use Rattle.mqtt_topic.specs.declared.sending.form.Form.{Form}
+use Rattle.mqtt_topic.specs.declared.sending.form.Form.TheVariants.{Plain, Named, Short}
+use Rattle.mqtt_topic.specs.declared.sending.sizes.OtherBytes.{OtherBytes}
+use Rattle.mqtt_topic.specs.sending.Told.{ToldTopics, next_alias, shortened, told_if}
+use Rattle.mqtt_topic.specs.sending.Sizes as sizes
+use Rattle.mqtt_rules.specs.step.Forms.{form_for, in_form}
+use Rattle.mqtt_rules.specs.step.State.{Line, Telling, Broker, line_at, told_line, told_on}
 use Rattle.mqtt_broker_step.specs.declared.outputs.Outgoing.{Outgoing}
 
 -- the topics behind the first so many are forgotten

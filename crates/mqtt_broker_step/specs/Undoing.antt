@@ -1,14 +1,14 @@
 -- The tables under way: what they were when the step began, and what its changes made of them.
 use Rattle.std.specs.Prelude.{ℕ, List, [], ◌∷◌, Option, Some, None}
 use Rattle.mqtt_base.specs.declared.limits.TheConstants.{LINE_LIMIT, SESSION_LIMIT}
-use Rattle.mqtt_records_rows.specs.Order.{put_row, remove_row, change_row}
-use Rattle.mqtt_records.specs.declared.records.Records.{Records}
-use Rattle.mqtt_records.specs.declared.change.Change.{Change}
-use Rattle.mqtt_records.specs.declared.change.Change.TheVariants.{SetCounter}
-use Rattle.mqtt_records.specs.declared.change.Counter.TheVariants.{Publications, Subscribes}
-use Rattle.mqtt_records.specs.Records.{changed}
-use Rattle.mqtt_records.specs.Session.{birth_of}
-use Rattle.mqtt_rules.specs.State.{Line, Telling, Broker, told_line}
+use Rattle.mqtt_records.specs.lists.Order.{put_row, remove_row, change_row}
+use Rattle.mqtt_records.specs.declared.state.records.Records.{Records}
+use Rattle.mqtt_records.specs.declared.state.change.Change.{Change}
+use Rattle.mqtt_records.specs.declared.state.change.Change.TheVariants.{SetCounter}
+use Rattle.mqtt_records.specs.declared.state.change.Counter.TheVariants.{Publications, Subscribes}
+use Rattle.mqtt_records.specs.state.Records.{changed}
+use Rattle.mqtt_records.specs.state.Session.{birth_of}
+use Rattle.mqtt_rules.specs.step.State.{Line, Telling, Broker, told_line}
 use Rattle.mqtt_broker_step.specs.declared.line.LineChange.{LineChange}
 use Rattle.mqtt_broker_step.specs.declared.undo.Undo.{Undo}
 use Rattle.mqtt_broker_step.specs.declared.undo.Undo.TheVariants.{Make, PutSession, PutLine, RemoveLine, EditLine, PutTelling, RemoveTelling, CutTelling, SetMoment}

@@ -1,9 +1,9 @@
 //! The deed of a Topic Alias (MQTT 5.0, 3.3.2.3.4).
 ghost use Rattle.std.specs.Prelude.{◌≡◌, ◌∷◌, [], Some, OnOk, OnErr, IfErr};
-ghost use Rattle.mqtt_records_rows.specs.Order.{row_at, change_row};
-ghost use Rattle.mqtt_topic.specs.Aliases.{IsInRange};
-ghost use Rattle.mqtt_rules.specs.State.{Line};
-ghost use Rattle.mqtt_rules.specs.Deeds.{SetAlias, On, always};
+ghost use Rattle.mqtt_records.specs.lists.Order.{row_at, change_row};
+ghost use Rattle.mqtt_topic.specs.names.Aliases.{IsInRange};
+ghost use Rattle.mqtt_rules.specs.step.State.{Line};
+ghost use Rattle.mqtt_rules.specs.step.Deeds.{SetAlias, On, always};
 ghost use Rattle.mqtt_broker_step.specs.Lines.{line_number, with_alias};
 ghost use Rattle.mqtt_broker_step.specs.Undoing.{with_lines};
 ghost use Rattle.mqtt_broker_step.specs.Stepping.{Did, IsLeft, with_broker};

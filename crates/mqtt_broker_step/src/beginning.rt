@@ -1,11 +1,11 @@
 //! A session begins, with its first CONNECT (MQTT 5.0, 3.1.2.4).
 ghost use Rattle.std.specs.Prelude.{◌≡◌, suc, None, IfOk, IfErr, OnOk};
-ghost use Rattle.mqtt_records_rows.specs.Order.{IsAscending};
-ghost use Rattle.mqtt_records.specs.declared.change.Change.TheVariants.{PutSession, SetCounter};
-ghost use Rattle.mqtt_records.specs.declared.change.Counter.TheVariants.{Births};
-ghost use Rattle.mqtt_records.specs.Session.{birth_of};
-ghost use Rattle.mqtt_rules.specs.State.{session_at};
-ghost use Rattle.mqtt_rules.specs.Numbers.{HasGivenBirths};
+ghost use Rattle.mqtt_records.specs.lists.Order.{IsAscending};
+ghost use Rattle.mqtt_records.specs.declared.state.change.Change.TheVariants.{PutSession, SetCounter};
+ghost use Rattle.mqtt_records.specs.declared.state.change.Counter.TheVariants.{Births};
+ghost use Rattle.mqtt_records.specs.state.Session.{birth_of};
+ghost use Rattle.mqtt_rules.specs.step.State.{session_at};
+ghost use Rattle.mqtt_rules.specs.step.Numbers.{HasGivenBirths};
 ghost use Rattle.mqtt_broker_step.specs.Doing.{begins, new_columns};
 ghost use Rattle.mqtt_broker_step.specs.Stepping.{Did, IsLeft, IsLeftRow, written};
 
@@ -13,9 +13,7 @@ use crate::fault::StepFault;
 use crate::numbers::{count, next};
 use crate::step::Step;
 use mqtt_base::{SESSION_LIMIT, Text};
-use mqtt_records::{Change, Columns, Counter, Session, SessionRow};
-use mqtt_records_message::Will;
-use mqtt_records_rows::{Boxed, Rows};
+use mqtt_records::{Boxed, Change, Columns, Counter, Rows, Session, SessionRow, Will};
 
 /// What is so of sessions: they are in the order of their births. Shows it to the prover.
 fn by_birth(sessions: &Rows<Boxed<Session>, SESSION_LIMIT>)

@@ -1,8 +1,8 @@
 //! A step begins at a moment, and ends: the store is told, and it is done or taken back (MQTT 5.0, 4.1).
 ghost use Rattle.std.specs.Prelude.{◌≡◌, ◌≢◌, ◌⊎◌, [], false, IfOk, IfErr, OnOk, OnErr, IsErrOf};
-ghost use Rattle.mqtt_records.specs.declared.records.Records.{Records};
-ghost use Rattle.mqtt_records.specs.Records.{changed_all};
-ghost use Rattle.mqtt_rules.specs.Step.{at_moment, is_spent};
+ghost use Rattle.mqtt_records.specs.declared.state.records.Records.{Records};
+ghost use Rattle.mqtt_records.specs.state.Records.{changed_all};
+ghost use Rattle.mqtt_rules.specs.step.Step.{at_moment, is_spent};
 ghost use Rattle.mqtt_broker_step.specs.Undoing.{moment_of};
 ghost use Rattle.mqtt_broker_step.specs.Stepping.{CanStore, at_rest, with_broker, with_stamp};
 
@@ -10,8 +10,8 @@ use crate::fault::StepFault;
 use crate::step::Step;
 use bytes::Bytes;
 use mqtt_base::LAST_NUMBER;
+use mqtt_keep::{Keep, KeepError};
 use mqtt_records::{Change, Counter};
-use mqtt_records_keep::{Keep, KeepError};
 use mqtt_rules::Report;
 use std::alloc::Global;
 use std::mem;

@@ -1,12 +1,12 @@
 //! A copy enters a session's queue (MQTT 5.0, 4.6).
 ghost use Rattle.std.specs.Prelude.{◌≡◌, IfOk, IfErr, OnOk, map};
 ghost use Rattle.mqtt_base.specs.declared.session.Phase.TheVariants.{Waiting};
-ghost use Rattle.mqtt_records_message.specs.Queue.{IsSpelled};
-ghost use Rattle.mqtt_records.specs.Session.{copy_place};
-ghost use Rattle.mqtt_routes.specs.Intended.{greatest};
-ghost use Rattle.mqtt_rules.specs.declared.Report.TheVariants as reports;
-ghost use Rattle.mqtt_rules.specs.Deeds.{Enter};
-ghost use Rattle.mqtt_rules.specs.Laws.{HasTables};
+ghost use Rattle.mqtt_records.specs.messages.Queue.{IsSpelled};
+ghost use Rattle.mqtt_records.specs.state.Session.{copy_place};
+ghost use Rattle.mqtt_routes.specs.routing.Intended.{greatest};
+ghost use Rattle.mqtt_rules.specs.declared.step.Report.TheVariants as reports;
+ghost use Rattle.mqtt_rules.specs.step.Deeds.{Enter};
+ghost use Rattle.mqtt_rules.specs.step.Laws.{HasTables};
 ghost use Rattle.mqtt_broker_step.specs.Stepping.{Did, IsLeft, to_session};
 
 use crate::fault::StepFault;
@@ -14,9 +14,7 @@ use crate::handshakes::has_tables;
 use crate::numbers::next;
 use crate::step::Step;
 use mqtt_base::Phase;
-use mqtt_records::{Change, Session};
-use mqtt_records_message::{CopyRow, MessageCopy};
-use mqtt_records_rows::Boxed;
+use mqtt_records::{Boxed, Change, CopyRow, MessageCopy, Session};
 use mqtt_rules::Report;
 use std::alloc::{AllocError, Global};
 

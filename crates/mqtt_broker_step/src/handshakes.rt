@@ -1,9 +1,9 @@
 //! Deeds of handshakes: identifiers of a publisher open and close, copies enter a queue and come further
 //! (MQTT 5.0, 4.3, 4.6).
 ghost use Rattle.std.specs.Prelude.{◌≡◌, suc, OnOk, IfErr, IfOk};
-ghost use Rattle.mqtt_records.specs.declared.change.Change.TheVariants as change;
-ghost use Rattle.mqtt_rules.specs.Deeds.{Open, Release, Mark};
-ghost use Rattle.mqtt_rules.specs.Laws.{HasTables};
+ghost use Rattle.mqtt_records.specs.declared.state.change.Change.TheVariants as change;
+ghost use Rattle.mqtt_rules.specs.step.Deeds.{Open, Release, Mark};
+ghost use Rattle.mqtt_rules.specs.step.Laws.{HasTables};
 ghost use Rattle.mqtt_broker_step.specs.Backs.{TakesBack};
 ghost use Rattle.mqtt_broker_step.specs.Stepping.{Did, IsLeft, to_session};
 

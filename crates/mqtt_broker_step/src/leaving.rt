@@ -1,12 +1,12 @@
 //! A copy leaves a session's queue, and the places that went out on the session's line (MQTT 5.0, 4.3, 4.4).
 ghost use Rattle.std.specs.Prelude.{◌≡◌, ◌≤◌, ℕ, Some, map, IfOk, IfErr, OnOk};
-ghost use Rattle.mqtt_records_rows.specs.Order.{change_row};
-ghost use Rattle.mqtt_records.specs.declared.session.Session.{Session as TheSession};
-ghost use Rattle.mqtt_records.specs.declared.change.Change.TheVariants.{RemoveCopy};
-ghost use Rattle.mqtt_rules.specs.declared.Report.TheVariants as reports;
-ghost use Rattle.mqtt_rules.specs.State.{session_at};
-ghost use Rattle.mqtt_rules.specs.Deeds.{without_place};
-ghost use Rattle.mqtt_rules.specs.Laws.{HasTables};
+ghost use Rattle.mqtt_records.specs.lists.Order.{change_row};
+ghost use Rattle.mqtt_records.specs.declared.state.session.Session.{Session as TheSession};
+ghost use Rattle.mqtt_records.specs.declared.state.change.Change.TheVariants.{RemoveCopy};
+ghost use Rattle.mqtt_rules.specs.declared.step.Report.TheVariants as reports;
+ghost use Rattle.mqtt_rules.specs.step.State.{session_at};
+ghost use Rattle.mqtt_rules.specs.step.Deeds.{without_place};
+ghost use Rattle.mqtt_rules.specs.step.Laws.{HasTables};
 ghost use Rattle.mqtt_broker_step.specs.Lines.{changed_from, line_number, without_went, nth_changed};
 ghost use Rattle.mqtt_broker_step.specs.Backs.{Makes, Unmakes};
 ghost use Rattle.mqtt_broker_step.specs.Undoing.{with_lines};
@@ -19,8 +19,7 @@ use crate::line::{LineChange, LineState};
 use crate::places::Places;
 use crate::step::Step;
 use mqtt_base::Ending;
-use mqtt_records::{Change, Session};
-use mqtt_records_message::CopyRow;
+use mqtt_records::{Change, CopyRow, Session};
 use mqtt_rules::Report;
 use std::alloc::{AllocError, Global};
 

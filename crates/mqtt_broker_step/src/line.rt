@@ -1,14 +1,14 @@
 //! A line: one connection, with what holds on it alone (MQTT 5.0, 3.1.2, 3.3.2.3.4).
 ghost use Rattle.std.specs.Prelude.{◌≡◌, Some, IfOk, OnOk, OnErr};
-ghost use Rattle.mqtt_topic.specs.Aliases.{IsInRange, after_resolve, topic_of};
-ghost use Rattle.mqtt_topic.specs.Names.{IsTopicName};
-ghost use Rattle.mqtt_rules.specs.State.{is_of};
-ghost use Rattle.mqtt_rules.specs.Deeds.{fresh_line};
+ghost use Rattle.mqtt_topic.specs.names.Aliases.{IsInRange, after_resolve, topic_of};
+ghost use Rattle.mqtt_topic.specs.names.Names.{IsTopicName};
+ghost use Rattle.mqtt_rules.specs.step.State.{is_of};
+ghost use Rattle.mqtt_rules.specs.step.Deeds.{fresh_line};
 ghost use Rattle.mqtt_broker_step.specs.Lines.{alias_restored, with_alias};
 
 use crate::places::Places;
 use mqtt_base::ALIAS_LIMIT;
-use mqtt_records_rows::{Editable, Row};
+use mqtt_records::{Editable, Row};
 use mqtt_topic::{Aliases, TopicName};
 use std::alloc::{AllocError, Global};
 use std::marker::Model;
@@ -27,7 +27,7 @@ pub struct LineState {
 }
 
 impl Model for LineState {
-    ghost use Rattle.mqtt_rules.specs.State.{Line};
+    ghost use Rattle.mqtt_rules.specs.step.State.{Line};
 
     ghost Value = { Line };
 

@@ -1,9 +1,9 @@
 //! Deeds of lines (MQTT 5.0, 3.1, 3.1.2.10).
 ghost use Rattle.std.specs.Prelude.{◌≡◌, ◌∷◌, [], ℕ, Some, option_copied, ◌++◌, ◌≤◌, length, IfOk, OnOk, OnErr, IfErr};
 ghost use Rattle.mqtt_base.specs.declared.limits.TheConstants.{LINE_LIMIT as line_limit};
-ghost use Rattle.mqtt_records_rows.specs.Order.{IsAscending, row_at};
-ghost use Rattle.mqtt_rules.specs.State.{Line};
-ghost use Rattle.mqtt_rules.specs.Deeds.{Gone, Hear, Greet, Went, On, always, greeted, on_line};
+ghost use Rattle.mqtt_records.specs.lists.Order.{IsAscending, row_at};
+ghost use Rattle.mqtt_rules.specs.step.State.{Line};
+ghost use Rattle.mqtt_rules.specs.step.Deeds.{Gone, Hear, Greet, Went, On, always, greeted, on_line};
 ghost use Rattle.mqtt_broker_step.specs.Lines.{line_changed, line_number, with_went};
 ghost use Rattle.mqtt_broker_step.specs.Backs.{Makes};
 ghost use Rattle.mqtt_broker_step.specs.Undoing.{with_line_changed, with_lines, with_tellings};

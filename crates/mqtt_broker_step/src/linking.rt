@@ -1,7 +1,7 @@
 //! A line is linked (MQTT 5.0, 3.1, 4.2).
 ghost use Rattle.std.specs.Prelude.{◌≡◌, suc};
-ghost use Rattle.mqtt_records_rows.specs.Order.{IsBelow};
-ghost use Rattle.mqtt_rules.specs.Step.{at_moment, can_link};
+ghost use Rattle.mqtt_records.specs.lists.Order.{IsBelow};
+ghost use Rattle.mqtt_rules.specs.step.Step.{at_moment, can_link};
 ghost use Rattle.mqtt_broker_step.specs.Lines.{line_number};
 ghost use Rattle.mqtt_broker_step.specs.Undoing.{with_linked};
 ghost use Rattle.mqtt_broker_step.specs.Doing.{links, next_line, after_act};

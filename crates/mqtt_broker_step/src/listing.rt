@@ -1,12 +1,10 @@
 //! All sessions and all retained messages, in order.
 ghost use Rattle.std.specs.Prelude.{◌≡◌};
-ghost use Rattle.mqtt_records_rows.specs.Order.{IsAscending};
-ghost use Rattle.mqtt_records.specs.Session.{birth_of};
+ghost use Rattle.mqtt_records.specs.lists.Order.{IsAscending};
+ghost use Rattle.mqtt_records.specs.state.Session.{birth_of};
 
 use crate::step::Step;
-use mqtt_records::Session;
-use mqtt_records_message::RetainedMessage;
-use mqtt_records_rows::Boxed;
+use mqtt_records::{Boxed, RetainedMessage, Session};
 
 impl Step {
     /// The sessions, by birth. Takes no memory.

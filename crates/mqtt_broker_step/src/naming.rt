@@ -1,7 +1,7 @@
 //! A session by its client identifier, and how many stand (MQTT 5.0, 3.1.3.1, 4.1).
 ghost use Rattle.std.specs.Prelude.{◌≡◌, Some, length, option_copied};
-ghost use Rattle.mqtt_records.specs.declared.session.Session.{Session as TheSession};
-ghost use Rattle.mqtt_rules.specs.State.{session_at, session_named};
+ghost use Rattle.mqtt_records.specs.declared.state.session.Session.{Session as TheSession};
+ghost use Rattle.mqtt_rules.specs.step.State.{session_at, session_named};
 
 use crate::step::Step;
 use mqtt_records::Session;

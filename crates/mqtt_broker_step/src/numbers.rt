@@ -1,8 +1,8 @@
 //! Deeds that give a number: a publication is accepted, a filter granted, a client identifier assigned
 //! (MQTT 5.0, 3.1.3.1, 3.3.4).
 ghost use Rattle.std.specs.Prelude.{◌≡◌, ◌≤◌, suc, IfOk, IfErr, OnOk};
-ghost use Rattle.mqtt_rules.specs.Deeds.{Message, Origin};
-ghost use Rattle.mqtt_rules.specs.Routing.{next_publication};
+ghost use Rattle.mqtt_rules.specs.step.Deeds.{Message, Origin};
+ghost use Rattle.mqtt_rules.specs.step.Routing.{next_publication};
 ghost use Rattle.mqtt_broker_step.specs.Stepping.{Did, IsLeft};
 ghost use Rattle.mqtt_broker_step.specs.Doing.{accepts, names, counts};
 

@@ -1,24 +1,24 @@
 //! What goes out, and what is told beside it.
 ghost use Rattle.std.specs.Prelude.{◌≡◌, ◌∷◌, [], IsFalse, OnErr, OnOk, IfOk, IfErr};
-ghost use Rattle.mqtt_codec.specs.Packets.{HasSpelling, shortest_of};
-ghost use Rattle.mqtt_codec.specs.declared.packet.Packet.{Packet as ThePacket};
-ghost use Rattle.mqtt_codec.specs.declared.packet.Packet.TheVariants as packets;
-ghost use Rattle.mqtt_codec.specs.declared.publish.Publish.{Publish};
-ghost use Rattle.mqtt_rules.specs.Deeds.{Send, RefuseWill, Whose, always};
+ghost use Rattle.mqtt_packet.specs.codec.Packets.{HasSpelling, shortest_of};
+ghost use Rattle.mqtt_packet.specs.declared.codec.packet.Packet.{Packet as ThePacket};
+ghost use Rattle.mqtt_packet.specs.declared.codec.packet.Packet.TheVariants as packets;
+ghost use Rattle.mqtt_packet.specs.declared.codec.publish.Publish.{Publish};
+ghost use Rattle.mqtt_rules.specs.step.Deeds.{Send, RefuseWill, Whose, always};
 ghost use Rattle.mqtt_broker_step.specs.Stepping.{Did, IsLeft, with_broker};
 ghost use Rattle.mqtt_broker_step.specs.Tellings.{IsFoundBy, IsNoPublish, IsOutgoing, form_on, takes_aliases, told_also};
 ghost use Rattle.mqtt_broker_step.specs.Undoing.{with_tellings};
-ghost use Rattle.mqtt_rules.specs.Forms.{form_for};
-ghost use Rattle.mqtt_rules.specs.State.{told_on};
-ghost use Rattle.mqtt_topic_aliases.specs.Told.{none_told};
+ghost use Rattle.mqtt_rules.specs.step.Forms.{form_for};
+ghost use Rattle.mqtt_rules.specs.step.State.{told_on};
+ghost use Rattle.mqtt_topic.specs.sending.Told.{none_told};
 
 use crate::fault::StepFault;
 use crate::step::Step;
 use bytes::Bytes;
 use mqtt_base::Text;
-use mqtt_codec::{Packet, encode};
+use mqtt_packet::{Packet, encode};
 use mqtt_rules::Report;
-use mqtt_topic_aliases::{Form, OtherBytes, OutAliases};
+use mqtt_topic::{Form, OtherBytes, OutAliases};
 use std::alloc::Global;
 
 /// A PUBLISH as it goes out on a line.

@@ -1,7 +1,7 @@
 //! The places of the copies whose PUBLISH went out on a line, in the order in which they went (MQTT 5.0, 4.3, 4.6).
 ghost use Rattle.std.specs.Prelude.{◌≡◌, ◌≤◌, ◌+◌, ◌-◌, [], ◌∷◌, ◌++◌, true, length, vec_capacity, IfOk, IfSome};
 ghost use Rattle.std.specs.List.{remove};
-ghost use Rattle.mqtt_flow_inbound.specs.Identifiers.{ids_without, is_among};
+ghost use Rattle.mqtt_flow.specs.inbound.Identifiers.{ids_without, is_among};
 ghost use Rattle.mqtt_broker_step.specs.Places.{AreAscending, IsIndexOf, has_room, has_room_behind, room_for, with_inserted, with_pushed, without_last};
 
 use mqtt_base::QUEUE_LIMIT;

@@ -1,19 +1,18 @@
 //! A session is resumed by a CONNECT, with its Session Expiry Interval and its Will (MQTT 5.0, 3.1.2.4, 3.1.2.5).
 ghost use Rattle.std.specs.Prelude.{◌≡◌, Option, Some, None, IfOk, IfErr, OnOk};
-ghost use Rattle.mqtt_records_message.specs.declared.message.Will.{Will as TheWill};
-ghost use Rattle.mqtt_records.specs.declared.session.Session.{Session as TheSession};
-ghost use Rattle.mqtt_records.specs.declared.change.Change.TheVariants.{SetSession};
-ghost use Rattle.mqtt_records.specs.Records.{changed};
-ghost use Rattle.mqtt_records.specs.Session.{columns_of};
-ghost use Rattle.mqtt_rules.specs.State.{session_at};
-ghost use Rattle.mqtt_rules.specs.Deeds.{will_row, Resume};
+ghost use Rattle.mqtt_records.specs.declared.messages.message.Will.{Will as TheWill};
+ghost use Rattle.mqtt_records.specs.declared.state.session.Session.{Session as TheSession};
+ghost use Rattle.mqtt_records.specs.declared.state.change.Change.TheVariants.{SetSession};
+ghost use Rattle.mqtt_records.specs.state.Records.{changed};
+ghost use Rattle.mqtt_records.specs.state.Session.{columns_of};
+ghost use Rattle.mqtt_rules.specs.step.State.{session_at};
+ghost use Rattle.mqtt_rules.specs.step.Deeds.{will_row, Resume};
 ghost use Rattle.mqtt_broker_step.specs.Stepping.{Did, IsLeft, IsKept, IsLeftRow, written, to_session};
 
 use crate::fault::StepFault;
 use crate::sessions::{columns, columns_back, will_back};
 use crate::step::Step;
-use mqtt_records::Change;
-use mqtt_records_message::Will;
+use mqtt_records::{Change, Will};
 use std::alloc::AllocError;
 
 /// The row of a Will, or of none.

@@ -1,17 +1,15 @@
 //! Deeds of retained messages: one is kept, one is forgotten (MQTT 5.0, 3.3.1.3).
 ghost use Rattle.std.specs.Prelude.{◌≡◌, ◌∷◌, [], IfOk, IfErr, OnOk};
-ghost use Rattle.mqtt_records.specs.Records.{changed, kept_place};
-ghost use Rattle.mqtt_records.specs.declared.change.Change.TheVariants as change;
-ghost use Rattle.mqtt_records_rows.specs.Order.{IsAscending};
-ghost use Rattle.mqtt_rules.specs.Deeds.{Keep, Forget, always};
+ghost use Rattle.mqtt_records.specs.state.Records.{changed, kept_place};
+ghost use Rattle.mqtt_records.specs.declared.state.change.Change.TheVariants as change;
+ghost use Rattle.mqtt_records.specs.lists.Order.{IsAscending};
+ghost use Rattle.mqtt_rules.specs.step.Deeds.{Keep, Forget, always};
 ghost use Rattle.mqtt_broker_step.specs.Stepping.{Did, IsLeft};
 
 use crate::fault::StepFault;
 use crate::step::Step;
 use mqtt_base::RETAINED_LIMIT;
-use mqtt_records::{Change, Records};
-use mqtt_records_message::RetainedMessage;
-use mqtt_records_rows::{Boxed, Rows};
+use mqtt_records::{Boxed, Change, Records, RetainedMessage, Rows};
 use std::alloc::AllocError;
 
 /// What is so of retained messages: they are in the order of their places. Shows it to the prover.

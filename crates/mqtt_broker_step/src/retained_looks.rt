@@ -1,17 +1,16 @@
 //! Looks for retained messages (MQTT 5.0, 3.3.1.3).
 ghost use Rattle.std.specs.Prelude.{◌≡◌, ◌<◌, length, map, find, option_map, option_copied, IfOk, IfErr};
 ghost use Rattle.mqtt_base.specs.declared.limits.TheConstants.{LAST_NUMBER as last_number};
-ghost use Rattle.mqtt_records.specs.Records.{kept_place};
-ghost use Rattle.mqtt_routes.specs.Intended.{greatest};
-ghost use Rattle.mqtt_rules.specs.State.{next_of};
-ghost use Rattle.mqtt_rules.specs.Routing.{is_topic, place_of_kept, retained_of};
+ghost use Rattle.mqtt_records.specs.state.Records.{kept_place};
+ghost use Rattle.mqtt_routes.specs.routing.Intended.{greatest};
+ghost use Rattle.mqtt_rules.specs.step.State.{next_of};
+ghost use Rattle.mqtt_rules.specs.step.Routing.{is_topic, place_of_kept, retained_of};
 
 use crate::fault::StepFault;
 use crate::numbers::next;
 use crate::step::Step;
 use mqtt_base::RETAINED_LIMIT;
-use mqtt_records_message::RetainedMessage;
-use mqtt_records_rows::{Boxed, Rows};
+use mqtt_records::{Boxed, RetainedMessage, Rows};
 
 /// Whether a retained message is of a topic.
 fn is_topic(kept: &RetainedMessage, topic: &[u8]) -> bool

@@ -1,8 +1,8 @@
 //! A row of a list, sought by its key: first where it stands if no row before it has left.
 ghost use Rattle.std.specs.Prelude.{◌≡◌, Some, option_copied, IfSome};
-ghost use Rattle.mqtt_records_rows.specs.Order.{row_at};
+ghost use Rattle.mqtt_records.specs.lists.Order.{row_at};
 
-use mqtt_records_rows::{Row, Rows};
+use mqtt_records::{Row, Rows};
 
 /// The row as far behind the first as its key is above the first one's, if it has the key: it stands there if none in
 /// between has left.

@@ -1,10 +1,10 @@
 //! Deeds of sessions: one closes, another expiry is set, a Will is dropped, one ends (MQTT 5.0, 3.1.2.5, 3.1.2.11.2, 4.1).
 ghost use Rattle.std.specs.Prelude.{◌≡◌, ◌∷◌, [], Option, Some, IfOk, IfErr, OnOk, OnErr};
-ghost use Rattle.mqtt_records.specs.Session.{columns_of};
-ghost use Rattle.mqtt_records.specs.declared.session.Columns.{Columns as TheColumns};
-ghost use Rattle.mqtt_records.specs.declared.change.Change.TheVariants as change;
-ghost use Rattle.mqtt_records_message.specs.declared.message.Will.{Will as TheWill};
-ghost use Rattle.mqtt_rules.specs.Deeds.{will_row, Whose, Close, SetExpiry, DropWill, Finish, always};
+ghost use Rattle.mqtt_records.specs.state.Session.{columns_of};
+ghost use Rattle.mqtt_records.specs.declared.state.session.Columns.{Columns as TheColumns};
+ghost use Rattle.mqtt_records.specs.declared.state.change.Change.TheVariants as change;
+ghost use Rattle.mqtt_records.specs.declared.messages.message.Will.{Will as TheWill};
+ghost use Rattle.mqtt_rules.specs.step.Deeds.{will_row, Whose, Close, SetExpiry, DropWill, Finish, always};
 ghost use Rattle.mqtt_broker_step.specs.Backs.{TakesBack};
 ghost use Rattle.mqtt_broker_step.specs.Stepping.{Did, IsLeft, written, to_session};
 

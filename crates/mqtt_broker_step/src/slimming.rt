@@ -1,8 +1,8 @@
 //! A step that is stored leaves slim the copies that it put; copies are filled before a pump, and made slim after it
 //! (MQTT 5.0, 3.3, 4.1).
 ghost use Rattle.std.specs.Prelude.{◌≡◌, ◌↔◌, false, IsTrue};
-ghost use Rattle.mqtt_records.specs.Slim.{all_slim};
-ghost use Rattle.mqtt_records_names.specs.Slimming.{slim_places, whole_places, TakesAll};
+ghost use Rattle.mqtt_records.specs.state.Slim.{all_slim};
+ghost use Rattle.mqtt_keep.specs.by_name.Slimming.{slim_places, whole_places, TakesAll};
 ghost use Rattle.mqtt_broker_step.specs.Undoing.{with_records};
 ghost use Rattle.mqtt_broker_step.specs.Stepping.{at_rest, with_entered_slim};
 

@@ -1,7 +1,7 @@
 //! The limits of a step, the order of its sessions, and the numbers that were given before it (ours).
 ghost use Rattle.std.specs.Prelude.{◌≡◌};
-ghost use Rattle.mqtt_records.specs.Session.{birth_of};
-ghost use Rattle.mqtt_records_rows.specs.Order.{IsAscending};
+ghost use Rattle.mqtt_records.specs.state.Session.{birth_of};
+ghost use Rattle.mqtt_records.specs.lists.Order.{IsAscending};
 ghost use Rattle.mqtt_broker_step.specs.Undoing.{publications_before, publications_set};
 ghost use Rattle.mqtt_broker_step.specs.Undoing.{subscribes_before, subscribes_set};
 

@@ -1,9 +1,9 @@
 //! A step under way: deeds are done in place and noted for the store, and can be taken back.
 ghost use Rattle.std.specs.Prelude.{◌≡◌, ◌≤◌, ◌<◌, [], ◌∷◌, ◌++◌, option_copied, IfOk, IfErr, OnOk, OnErr, vec_len, vec_capacity};
 ghost use Rattle.mqtt_base.specs.declared.limits.TheConstants.{LAST_NUMBER as last_number};
-ghost use Rattle.mqtt_records.specs.Records.{changed};
-ghost use Rattle.mqtt_rules.specs.State.{session_at};
-ghost use Rattle.mqtt_rules.specs.Step.{count_given, number_given};
+ghost use Rattle.mqtt_records.specs.state.Records.{changed};
+ghost use Rattle.mqtt_rules.specs.step.State.{session_at};
+ghost use Rattle.mqtt_rules.specs.step.Step.{count_given, number_given};
 ghost use Rattle.mqtt_broker_step.specs.Undoing.{become, broker_of, with_change};
 ghost use Rattle.mqtt_broker_step.specs.Stepping.{at_rest, written, told, shut, sent, IsLeftRow, IsRefusedRow};
 

@@ -1,13 +1,13 @@
 //! Subscriptions come and go (MQTT 5.0, 3.8.4, 3.10.4).
 ghost use Rattle.std.specs.Prelude.{◌≡◌, ℕ, List, find, option_copied, Some, IfOk, IfErr, OnOk};
-ghost use Rattle.mqtt_records.specs.declared.change.Change.{Change as TheChange};
-ghost use Rattle.mqtt_records.specs.declared.change.Change.TheVariants as change;
-ghost use Rattle.mqtt_records.specs.declared.records.Records.{Records};
-ghost use Rattle.mqtt_records.specs.declared.session.Session.{Session as TheSession};
-ghost use Rattle.mqtt_records.specs.Records.{changed_all, nothing};
-ghost use Rattle.mqtt_rules.specs.Deeds.{Subscribe, Unsubscribe};
-ghost use Rattle.mqtt_rules.specs.State.{session_at};
-ghost use Rattle.mqtt_rules.specs.Subscribe.{Wish, is_to, subscription};
+ghost use Rattle.mqtt_records.specs.declared.state.change.Change.{Change as TheChange};
+ghost use Rattle.mqtt_records.specs.declared.state.change.Change.TheVariants as change;
+ghost use Rattle.mqtt_records.specs.declared.state.records.Records.{Records};
+ghost use Rattle.mqtt_records.specs.declared.state.session.Session.{Session as TheSession};
+ghost use Rattle.mqtt_records.specs.state.Records.{changed_all, nothing};
+ghost use Rattle.mqtt_rules.specs.step.Deeds.{Subscribe, Unsubscribe};
+ghost use Rattle.mqtt_rules.specs.step.State.{session_at};
+ghost use Rattle.mqtt_rules.specs.step.Subscribe.{Wish, is_to, subscription};
 ghost use Rattle.mqtt_broker_step.specs.Backs.{TakesBack};
 ghost use Rattle.mqtt_broker_step.specs.Stepping.{Did, IsLeft, to_session};
 ghost use Rattle.mqtt_broker_step.specs.Subscribing.{HasEachFilterOnce, HaveFiltersOnce, MaySubscribe};
@@ -16,9 +16,7 @@ use crate::fault::StepFault;
 use crate::handshakes::has_tables;
 use crate::step::Step;
 use mqtt_base::Text;
-use mqtt_records::{Change, Session, Subscription};
-use mqtt_records_message::RetainedMessage;
-use mqtt_records_rows::Boxed;
+use mqtt_records::{Boxed, Change, RetainedMessage, Session, Subscription};
 use std::alloc::{AllocError, Global};
 
 /// Each session has each filter once, whatever changes are made of records if it is so. A wish for a filter

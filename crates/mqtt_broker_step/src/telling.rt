@@ -1,11 +1,11 @@
 //! What the client on a line was told of topics (MQTT 5.0, 3.3.2.3.4).
 ghost use Rattle.std.specs.Prelude.{◌≡◌, OnErr, OnOk, length};
-ghost use Rattle.mqtt_topic_aliases.specs.Told.{none_told};
+ghost use Rattle.mqtt_topic.specs.sending.Told.{none_told};
 ghost use Rattle.mqtt_broker_step.specs.Tellings.{telling_more};
 
 use mqtt_base::Text;
-use mqtt_records_rows::{Editable, Row};
-use mqtt_topic_aliases::OutAliases;
+use mqtt_records::{Editable, Row};
+use mqtt_topic::OutAliases;
 use std::alloc::{AllocError, Global};
 use std::marker::Model;
 
@@ -17,7 +17,7 @@ pub struct LineTopics {
 }
 
 impl Model for LineTopics {
-    ghost use Rattle.mqtt_rules.specs.State.{Telling};
+    ghost use Rattle.mqtt_rules.specs.step.State.{Telling};
 
     ghost Value = { Telling };
 
@@ -55,7 +55,7 @@ impl LineTopics {
 }
 
 impl Row for LineTopics {
-    ghost use Rattle.mqtt_rules.specs.State.{told_line};
+    ghost use Rattle.mqtt_rules.specs.step.State.{told_line};
 
     ghost key_of = { told_line };
 

@@ -1,8 +1,7 @@
 //! What takes a change of the tables back.
 use crate::line::{LineChange, LineState};
 use crate::telling::LineTopics;
-use mqtt_records::{Change, Session};
-use mqtt_records_rows::Boxed;
+use mqtt_records::{Boxed, Change, Session};
 
 /// What takes a change back.
 #[derive(Drop)]

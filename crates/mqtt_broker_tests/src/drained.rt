@@ -5,7 +5,7 @@ use crate::telling::Telling;
 use bytes::Bytes;
 use mqtt_broker::{Engine, EngineError, Keep, KeepError, Limits, Outcome};
 use mqtt_flow::Full;
-use mqtt_records_keep::MemKeep;
+use mqtt_keep::MemKeep;
 use mqtt_store::SqlKeep;
 use sqlite::{Connection, MemStore};
 use std::alloc::Global;

@@ -5,8 +5,7 @@ use crate::run::{Part, Played, play_over};
 use crate::sql::judge_in_sql;
 use crate::telling::Telling;
 use crate::unread::UnreadKeep;
-use mqtt_records_keep::MemKeep;
-use mqtt_records_keep::faulty::{Failure, FaultyKeep};
+use mqtt_keep::{Failure, FaultyKeep, MemKeep};
 use std::alloc::{AllocError, Global};
 use std::hash::RandomState;
 

@@ -3,9 +3,9 @@
 use crate::judging::{judge, judge_kept};
 use crate::run::{Part, Played, play_over, tell_kept};
 use crate::telling::Telling;
-use mqtt_records_keep::{KeepError, MemKeep};
+use mqtt_keep::{KeepError, MemKeep};
 use mqtt_store::SqlKeep;
-use mqtt_store_schema::create_store;
+use mqtt_store_tables::forms::create_store;
 use sqlite::{Alter, Connection, Error, MemStore};
 use std::alloc::{AllocError, Global};
 use std::hash::RandomState;

@@ -1,7 +1,7 @@
 //! A store that can't be read once.
 
+use mqtt_keep::{Keep, KeepError, MemKeep};
 use mqtt_records::{Change, CopyContent, Records};
-use mqtt_records_keep::{Keep, KeepError, MemKeep};
 use std::alloc::{AllocError, Global};
 
 /// A store in memory of which one `load` answers Disk.
@@ -27,7 +27,7 @@ impl UnreadKeep {
 impl Keep for UnreadKeep {
     ghost use Rattle.std.specs.Prelude.{◌≡◌};
     ghost use Rattle.std.proofs.Common.{◌∙◌, ap};
-    ghost use Rattle.mqtt_records.specs.Telling.{told_by, filling_in};
+    ghost use Rattle.mqtt_records.specs.state.Telling.{told_by, filling_in};
 
     ghost holds = { λ store r. store.keep.records ≡ r };
 

@@ -1,4 +1,2 @@
--- Lemmas on command lines.
-pub mod Commands
-pub mod Examples
-pub mod Views
+pub mod viewer_lemmas
+pub mod command_lemmas

@@ -1,6 +1,2 @@
--- What a command line asks for, and how the program ends.
-pub mod Limits
-pub mod Line
-pub mod Outcome
-pub mod Running
-pub mod Values
+pub mod viewer
+pub mod command

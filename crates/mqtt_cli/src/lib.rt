@@ -1,19 +1,17 @@
-//! The command line of `mqtt5`, and what its commands do over any reader and writer.
+//! The command line of `mqtt5`, and what `view` and `vectors` write.
 #![tactic(auto)]
 
-mod limits;
-mod line;
-mod outcome;
-mod program;
-mod values;
-mod words;
+mod command;
+mod viewer;
 
-pub use line::{Action, LineFault};
+pub use command::{
+    Action, DONE, FAILED, FAULTY, LineFault, Outcome, USAGE, action, ending, perform, run,
+};
 pub use mqtt_flow::Full;
 pub use mqtt_link::ServeFault;
 pub use mqtt_rules::Limits;
 pub use mqtt_script::{Played, ReplayFault};
-pub use mqtt_view::{Status, VectorsFault, ViewFault, one_view, vectors, view};
-pub use outcome::{DONE, FAILED, FAULTY, Outcome, USAGE, ending};
-pub use program::{perform, run};
-pub use words::action;
+pub use viewer::{
+    Gives, Status, Vector, VectorsFault, ViewFault, is_right, known_vectors, one_view, vectors,
+    view,
+};

@@ -1,15 +1,7 @@
-//! What no clause of mqtt_cli says: printed lines, failing streams, and each call once.
+//! Tests of `mqtt_cli` over its public calls.
 #![tactic(auto)]
 
 #[cfg(test)]
-mod failures;
+mod command;
 #[cfg(test)]
-mod files;
-#[cfg(test)]
-mod limits;
-#[cfg(test)]
-mod lines;
-#[cfg(test)]
-mod streams;
-#[cfg(test)]
-mod words;
+mod viewer;

@@ -1,9 +1,7 @@
-//! Tests of the handshakes of a session, over the public calls of mqtt_flow.
+//! Tests of `mqtt_flow` over its public calls (MQTT 5.0, 4.3, 4.4, 4.9).
 #![tactic(auto)]
 
 #[cfg(test)]
-mod faults;
+mod handshakes;
 #[cfg(test)]
-mod inbound;
-#[cfg(test)]
-mod outbound;
+mod ring;

@@ -1,7 +1,5 @@
-pub mod Fronts
-mod Waits
-pub mod Cuts
-pub mod Runs
-pub mod Shorter
-pub mod Wholes
-mod Examples
+pub mod parts_lemmas
+pub mod connect_lemmas
+pub mod subscribe_lemmas
+pub mod codec_lemmas
+pub mod stream_lemmas

@@ -1,2 +1,5 @@
-pub mod Front
-pub mod Stream
+pub mod parts
+pub mod connect
+pub mod subscribe
+pub mod codec
+pub mod stream

@@ -1,21 +1,22 @@
-//! MQTT 5.0 control packets, and the cut of a stream of bytes into them (2.1, 3).
+//! The packets of MQTT 5.0: their values, their spelling, and the cut of a stream of bytes into
+//! them (2, 3.1 to 3.15).
 #![tactic(auto)]
 
-mod framer;
-mod front;
-mod laws;
-mod store;
+mod codec;
+mod connect;
+mod parts;
+mod stream;
+mod subscribe;
 
-pub use framer::Framer;
-pub use laws::{any_pieces, first_spelled, joined_cut, moments, one_cut};
-pub use mqtt_codec::{
-    Ack, AckRef, Connack, ConnackRef, Delivery, Notice, NoticeRef, Packet, PacketRef, Publish,
-    PublishRef, Suback, SubackRef, decode, encode, encode_into, lawful, look_at, one_packet,
-    round_trip, spelled_len,
+pub use codec::{
+    Ack, AckRef, Connack, ConnackRef, Delivery, Head, Notice, NoticeRef, Packet, PacketRef,
+    Publish, PublishRef, Suback, SubackRef, decode, encode, encode_into, head_read, lawful,
+    look_at, one_packet, round_trip, spelled_len,
 };
-pub use mqtt_codec_connect::{Connect, ConnectRef, Will, WillRef};
-pub use mqtt_codec_parts::Fault;
-pub use mqtt_codec_subscribe::{
+pub use connect::{Connect, ConnectRef, Will, WillRef, connect_read, is_version_5};
+pub use parts::{Fault, both, qos_of, stands};
+pub use stream::{Framer, any_pieces, first_spelled, joined_cut, moments, one_cut};
+pub use subscribe::{
     Filters, FiltersRef, Subscribe, SubscribeRef, SubscriptionRef, Subscriptions, SubscriptionsRef,
-    Unsubscribe, UnsubscribeRef,
+    Unsubscribe, UnsubscribeRef, options_read, subscribe_read, unsubscribe_read,
 };

@@ -1,7 +1,12 @@
-//! What no clause of mqtt_packet says: values from outside, and that calls succeed.
+//! Tests of `mqtt_base`, `mqtt_props` and `mqtt_packet` over their public calls (MQTT 5.0, 1.5,
+//! 2, 3).
 #![tactic(auto)]
 
 #[cfg(test)]
-mod cut;
+mod codec;
 #[cfg(test)]
-mod framer;
+mod props;
+#[cfg(test)]
+mod stream;
+#[cfg(test)]
+mod values;

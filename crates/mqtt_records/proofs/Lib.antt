@@ -1,3 +1,3 @@
-pub mod Numbers
-pub mod TellingLemmas
-pub mod Examples
+pub mod lists_lemmas
+pub mod messages_lemmas
+pub mod state_lemmas

@@ -1,27 +1,23 @@
-//! What a broker keeps of its sessions and messages (4.1).
+//! What a broker stores: messages, copies in queues, subscriptions and sessions as rows, and their
+//! changes (MQTT 5.0, 3.3, 4.1).
 #![tactic(auto)]
 
-mod change;
-mod laws;
-mod passed;
-mod records;
-mod session;
-mod slim;
-mod subscription;
-mod telling;
+mod lists;
+mod messages;
+mod state;
 
-pub use change::{Change, Counter, all_pass_on, clone_all};
-pub use laws::{ended_session_leaves_nothing, numbers_never_fall};
-pub use mqtt_records_message::{
+pub use lists::{
+    Boxed, CloneRow, Editable, Fillable, Named, Parted, Row, Rows, Shareable, Slimmable,
+    all_differ, are_distinct, are_named_apart, newest_comes_last, rows_are_determined,
+    rows_are_found,
+};
+pub use messages::{
     Content, ContentRef, CopyContent, CopyFault, CopyPart, CopyRef, CopyRow, MessageCopy, PassedOn,
-    RetainedMessage, SubscriptionIdentifiers, Will,
+    RetainedMessage, SubscriptionIdentifiers, Will, number_in, sent_len, slim_rows_are_as_long,
+    slim_rows_are_filled_again,
 };
-pub use mqtt_records_rows::{
-    Boxed, CloneRow, Editable, Fillable, Named, Parted, Row, Rows, newest_comes_last,
-    rows_are_determined, rows_are_found,
+pub use state::{
+    Change, Columns, Counter, Records, Session, SessionPart, SessionRow, Subscription, all_pass_on,
+    clone_all, content_of, contents_in, ended_session_leaves_nothing, numbers_never_fall,
+    records_pass_on,
 };
-pub use passed::records_pass_on;
-pub use records::Records;
-pub use session::{Columns, Session, SessionPart, SessionRow};
-pub use subscription::Subscription;
-pub use telling::{content_of, contents_in};

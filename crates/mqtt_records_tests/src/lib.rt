@@ -1,13 +1,9 @@
-//! Tests of mqtt_records and the crates that it re-exports, over their public calls.
+//! Tests of `mqtt_records` and `mqtt_keep` over their public calls (MQTT 5.0, 4.1).
 #![tactic(auto)]
 
 #[cfg(test)]
-mod kept;
+mod contents;
 #[cfg(test)]
-mod long;
+mod keeping;
 #[cfg(test)]
-mod sent;
-#[cfg(test)]
-mod slim;
-#[cfg(test)]
-mod told;
+mod lawful;

@@ -1,5 +1,2 @@
--- Lemmas on what the lines of a script show.
-pub mod Examples
-pub mod Pieces
-pub mod Shown
-pub mod ToldExamples
+pub mod playing_lemmas
+pub mod over_world_lemmas

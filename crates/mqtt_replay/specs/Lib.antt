@@ -1,4 +1,2 @@
--- What can happen in a world, and what the replay of a script shows of it.
-pub mod Playing
-pub mod Replaying
-pub mod Told
+pub mod playing
+pub mod over_world

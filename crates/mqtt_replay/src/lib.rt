@@ -1,15 +1,10 @@
-//! The replay of a script on a world: each of its lines is an event, which happens there, and what is told of it is
-//! written (ours). Private: for the program that runs scripts.
+//! What `mqtt5 replay` writes of a script.
 #![tactic(auto)]
 
-mod ends;
-mod playing;
-mod replaying;
-mod runs;
-mod script;
-mod told;
+mod over_world;
+pub mod playing;
 
+pub use mqtt_keep::Keep;
+pub use mqtt_rules::Limits;
 pub use mqtt_script::{Played, ReplayFault};
-pub use replaying::replay;
-pub use runs::Runs;
-pub use told::{push_report, push_told};
+pub use over_world::{replay, replay_at, replay_over};

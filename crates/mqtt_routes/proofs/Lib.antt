@@ -1,21 +1,2 @@
-pub mod PlaceLemmas
-pub mod SpotLemmas
-pub mod RoomLemmas
-pub mod FoundLemmas
-pub mod DirectLemmas
-pub mod RisingLemmas
-pub mod TopicLemmas
-pub mod SomeLemmas
-pub mod TakerLemmas
-pub mod CopyLemmas
-pub mod MemberLemmas
-pub mod ServeLemmas
-pub mod KeptLemmas
-mod Examples
-pub mod SubsLemmas
-pub mod IndexLemmas
-pub mod RemoveLemmas
-pub mod MoveLemmas
-pub mod PutIndexLemmas
-pub mod LeaveLemmas
-pub mod RoomWithinLemmas
+pub mod tree_lemmas
+pub mod routing_lemmas

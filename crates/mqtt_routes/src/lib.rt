@@ -1,35 +1,13 @@
-//! Subscriptions, groups of shared ones, and who gets a publication (MQTT 5.0, 3.3.4, 4.7, 4.8).
+//! Subscriptions, shared subscriptions and retained messages: to whom a publication goes (MQTT 5.0,
+//! 3.3.1.3, 4.7, 4.8).
 #![tactic(auto)]
 
-mod answers;
-mod copy;
-mod fault;
-mod found;
-mod laws;
-mod member;
-mod publication;
-mod retained;
-mod routed;
-mod routes;
-mod row;
-mod serve;
-mod service;
-mod slot;
-mod spot;
-mod subscriber;
-mod subscribers;
-mod subscription;
-mod subscription_tree;
-mod table;
+mod routing;
+mod tree;
 
-pub use answers::Sessions;
-pub use copy::RoutedCopy;
-pub use fault::RoutesFault;
-pub use laws::{
+pub use routing::{
+    Kept, Routed, RoutedCopy, Routes, RoutesFault, Served, Sessions, Subscription,
     a_session_is_dropped_from_those_with_some, a_standing_session_is_nothing_more,
     empty_sessions_change_nothing, takers_are_told,
 };
-pub use retained::Kept;
-pub use routed::{Routed, Served};
-pub use routes::Routes;
-pub use subscription::Subscription;
+pub use tree::{Filters, TreeFault, a_place_keeps_the_order, matching, place};

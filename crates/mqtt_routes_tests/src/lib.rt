@@ -1,19 +1,11 @@
-//! Tests of `mqtt_routes` over its public calls (MQTT 5.0, 3.3.1.3, 3.3.4, 4.8.2).
+//! Tests of `mqtt_topic` and `mqtt_routes` over their public calls (MQTT 5.0, 3.3, 4.7, 4.8).
 #![tactic(auto)]
 
 #[cfg(test)]
-mod agrees;
-#[cfg(test)]
-mod bed;
-#[cfg(test)]
-mod deep;
-#[cfg(test)]
-mod faults;
-#[cfg(test)]
-mod retained;
-#[cfg(test)]
 mod routing;
 #[cfg(test)]
-mod subscribing;
+mod sending;
 #[cfg(test)]
-mod turns;
+mod topics;
+#[cfg(test)]
+mod tree;

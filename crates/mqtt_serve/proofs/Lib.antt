@@ -1,1 +1,3 @@
-mod Answered
+pub mod turns_lemmas
+pub mod database_lemmas
+pub mod serving_lemmas

@@ -1,3 +1,3 @@
-pub mod Announcing
-pub mod Clock
-pub mod Database
+pub mod turns
+pub mod database
+pub mod serving

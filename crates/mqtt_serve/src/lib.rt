@@ -1,14 +1,13 @@
-//! The broker over a database on disk and a listening socket, in turns and one thread (MQTT 5.0, 4.2).
+//! What `mqtt5 serve` does: turns over connections, its database, and the sockets.
 #![tactic(auto)]
 
-mod clock;
-mod poll_link;
+mod database;
 mod serving;
-mod store;
+mod turns;
 
-pub use clock::SteadyClock;
+pub use database::{MakeFault, PAGE_SIZE, make_database, make_over};
 pub use mqtt_link::ServeFault;
 pub use mqtt_rules::Limits;
-pub use mqtt_serve_turns::Timer;
-pub use serving::{serve, serve_over};
+pub use serving::{SteadyClock, serve, serve_over};
 pub use sqlite::{Start, Unknown};
+pub use turns::{Links, READ_LIMIT, TICK_LIMIT, Timer, run_turns, serve_turn};

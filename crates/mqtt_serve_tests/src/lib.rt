@@ -1,13 +1,11 @@
-//! Tests of `mqtt_serve` over its public calls, on files and sockets of this machine (MQTT 5.0, 4.1, 4.2).
+//! Tests of `mqtt_link` and `mqtt_serve` over their public calls.
 #![tactic(auto)]
 
 #[cfg(test)]
-mod callers;
+mod database;
 #[cfg(test)]
-mod limits;
+mod link;
 #[cfg(test)]
-mod restarts;
+mod serving;
 #[cfg(test)]
-mod runs;
-#[cfg(test)]
-mod time;
+mod turns;

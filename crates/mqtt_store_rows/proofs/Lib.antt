@@ -1,5 +1,3 @@
-pub mod Texts
-pub mod ListLemmas
-pub mod PartLemmas
-pub mod OneLemmas
-pub mod LawfulLemmas
+pub mod values_lemmas
+pub mod rows_lemmas
+pub mod gathering_lemmas

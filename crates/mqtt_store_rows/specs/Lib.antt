@@ -1,8 +1,3 @@
-pub mod Values
-pub mod Blocks
-pub mod Rows
-pub mod Ones
-pub mod Lists
-pub mod Gives
-pub mod Ends
-pub mod Tables
+pub mod values
+pub mod rows
+pub mod gathering

@@ -1,9 +1,9 @@
-//! Tests of mqtt_store_rows and mqtt_store_rows, over tables of the ported SQLite in memory.
+//! Tests of `mqtt_store_rows` over its public calls (MQTT 5.0, 4.1).
 #![tactic(auto)]
 
 #[cfg(test)]
-mod database;
+mod gathering;
 #[cfg(test)]
-mod refused;
+mod rows;
 #[cfg(test)]
-mod said;
+mod values;

@@ -11,8 +11,8 @@ use crate::second_databases::{
     crowded_queued, sound_queued,
 };
 use crate::store::{LOAD, act_over, database, found, left_of};
-use mqtt_records_keep::KeepError;
-use mqtt_store_schema::create_store;
+use mqtt_keep::KeepError;
+use mqtt_store_tables::forms::create_store;
 use sqlite::{Alter, Connection, Error, MemStore, params};
 use std::alloc::Global;
 use std::test::Fail;

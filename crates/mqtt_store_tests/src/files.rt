@@ -5,7 +5,7 @@ use crate::changes::LONG;
 use crate::limits::two;
 use crate::seen::Seen;
 use crate::store::{Deed, LOAD, Told, act_over, database, found};
-use mqtt_records_keep::KeepError;
+use mqtt_keep::KeepError;
 use sqlite::{Connection, FileStore, Files, Options};
 use sqlite_disk::{Disk, Fuse, Memory};
 use std::alloc::{AllocError, Global};

@@ -5,7 +5,7 @@ use crate::broken::{Base, database_of};
 use crate::changes::{LONG, STEPS};
 use crate::seen::Seen;
 use crate::store::{Deed, Told, database, found, load_whole, make, told_over};
-use mqtt_records_keep::{Keep, KeepError};
+use mqtt_keep::{Keep, KeepError};
 use mqtt_store::SqlKeep;
 use sqlite::Connection;
 use std::alloc::Global;

@@ -4,7 +4,7 @@ use crate::broken::{Base, database_of};
 use crate::changes::{LONG, SENT, STEPS};
 use crate::seen::Seen;
 use crate::store::{LOAD, act_over, database, found, load_whole, make};
-use mqtt_records_keep::{Keep, KeepError, MemKeep};
+use mqtt_keep::{Keep, KeepError, MemKeep};
 use sqlite::{Alter, Connection, Error};
 use std::alloc::Global;
 use std::test::Fail;

@@ -1,12 +1,12 @@
 //! A store over a connection: what it finds, and the steps of the course in it.
 ghost use Rattle.std.specs.Prelude.{OnOk};
 ghost use Rattle.sqlite.specs.Held.{state};
-ghost use Rattle.mqtt_store.specs.Holding.{IsLoaded};
+ghost use Rattle.mqtt_store.specs.keeping.Holding.{IsLoaded};
 
 use crate::changes::{STEPS, add_changes};
 use crate::seen::{Seen, seen, with};
 use crate::told::ask_all;
-use mqtt_records_keep::{Keep, KeepError};
+use mqtt_keep::{Keep, KeepError};
 use mqtt_store::SqlKeep;
 use sqlite::{Alter, Connection, MemStore};
 use std::alloc::Global;

@@ -1,6 +1,2 @@
-pub mod LevelLemmas
-pub mod FilterLemmas
-pub mod MatchLemmas
-pub mod AliasLemmas
-pub mod FilterWords
-mod Examples
+pub mod names_lemmas
+pub mod sending_lemmas

@@ -1,5 +1,2 @@
-pub mod Levels
-pub mod Names
-pub mod Filters
-pub mod Matching
-pub mod Aliases
+pub mod names
+pub mod sending

@@ -1,23 +1,16 @@
-//! Topic names, topic filters, shared filters and topic aliases (MQTT 5.0, 3.3.2.3.4, 4.7, 4.8.2).
+//! Topic names, filters and aliases, and the form in which a topic is sent (MQTT 5.0, 3.3.2.3.4,
+//! 4.7, 4.8.2).
 #![tactic(auto)]
 
-mod aliases;
-mod fault;
-mod filter;
-mod laws;
-mod levels;
-mod matching;
-mod name;
-mod shared;
-mod sub_filter;
-mod text;
+mod names;
+mod sending;
 
-pub use aliases::Aliases;
-pub use fault::TopicFault;
-pub use filter::Filter;
-pub use laws::{filter_by_words, what_was_set_is_taken_back};
-pub use levels::Levels;
-pub use matching::matches;
-pub use name::TopicName;
-pub use shared::Shared;
-pub use sub_filter::SubFilter;
+pub use names::{
+    Aliases, Filter, Levels, Shared, SubFilter, TopicFault, TopicName, filter_by_words, matches,
+    what_was_set_is_taken_back,
+};
+pub use sending::{
+    ALIAS_LIMIT, Form, OtherBytes, OutAliases, aliases_agree, most_of, size_in,
+    too_large_only_where_no_form_is_within, what_goes_out_means_its_topic,
+    what_was_told_is_taken_back,
+};

@@ -1,4 +1,6 @@
--- The world that runs.
-pub mod Stages
-pub mod Visits
-pub mod Worlds
+pub mod script_laws
+pub mod script_drains
+pub mod reopening
+pub mod clients
+pub mod scene
+pub mod world

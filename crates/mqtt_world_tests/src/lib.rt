@@ -1,13 +1,20 @@
-//! Worlds over a store in memory, on which scripts are run: what they tell, and what is seen of them (MQTT 5.0, 4.1 to 4.4).
+//! Tests of the world: scripts, its ends, runs over a broker, and what `replay` writes (MQTT 5.0,
+//! 4.3, 4.4).
 #![tactic(auto)]
 
 #[cfg(test)]
-mod drains;
+mod clients;
 #[cfg(test)]
-mod refusals;
+mod handshakes;
 #[cfg(test)]
-mod scripts;
+mod peers;
 #[cfg(test)]
-mod stage;
+mod playing;
 #[cfg(test)]
-mod stops;
+mod replay;
+#[cfg(test)]
+mod script;
+#[cfg(test)]
+mod strangers;
+#[cfg(test)]
+mod world;

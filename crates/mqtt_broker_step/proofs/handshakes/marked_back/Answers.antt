@@ -1,6 +1,6 @@
 use Rattle.std.proofs.Common.{◌≡◌, refl, ap, sym, ◌∙◌}
-use Rattle.mqtt_records_message.specs.Queue.{CopyRow}
-use Rattle.mqtt_records.specs.Session.{with_phase}
+use Rattle.mqtt_records.specs.messages.Queue.{CopyRow}
+use Rattle.mqtt_records.specs.state.Session.{with_phase}
 use Rattle.mqtt_broker_step.proofs.Backs.{session_back, marked_back, marked_same}
 use Rattle.mqtt_broker_step.proofs.handshakes.marked_back.Goals as goal
 

@@ -1,6 +1,6 @@
 use Rattle.std.proofs.Common.{ap, sym, ◌∙◌}
-use Rattle.mqtt_records_rows.specs.Order.{has_row}
-use Rattle.mqtt_records.specs.Session.{number_of, with_open, without_open}
+use Rattle.mqtt_records.specs.lists.Order.{has_row}
+use Rattle.mqtt_records.specs.state.Session.{number_of, with_open, without_open}
 use Rattle.mqtt_broker_step.proofs.Backs.{session_back, opened_back, opened_same, open_found, open_none}
 use Rattle.std.proofs.Common.{refl}
 use Rattle.mqtt_broker_step.proofs.handshakes.opened_back.Goals as goal

@@ -1,6 +1,6 @@
 -- No line from the first on is the session's.
 use Rattle.std.proofs.Common.{◌≡◌, ℕ, ◌≤◌, ◌-◌, length}
-use Rattle.mqtt_rules.specs.Deeds.{without_place}
+use Rattle.mqtt_rules.specs.step.Deeds.{without_place}
 use Rattle.mqtt_broker_step.specs.Lines.{changed_from}
 use Rattle.mqtt_broker_step.proofs.leaving.next_of.Given as goal
 

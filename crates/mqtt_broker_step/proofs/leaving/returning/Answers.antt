@@ -1,5 +1,5 @@
 use Rattle.std.proofs.Common.{◌≡◌, ℕ, ◌-◌, true, List, length, ap, sym, subst, ◌∙◌}
-use Rattle.mqtt_rules.specs.State.{Line}
+use Rattle.mqtt_rules.specs.step.State.{Line}
 use Rattle.mqtt_broker_step.specs.Places.{IsIndexOf, has_room_behind}
 use Rattle.mqtt_broker_step.proofs.PlaceLists.{put_back}
 use Rattle.mqtt_broker_step.proofs.leaving.returning.Goals as goal

@@ -1,10 +1,10 @@
 use Rattle.std.proofs.Common.{◌≡◌, List, ap, sym, ◌∙◌}
 use Rattle.std.specs.Prelude.{Some, None}
 use Rattle.mqtt_base.specs.declared.limits.TheConstants.{RETAINED_LIMIT}
-use Rattle.mqtt_records_message.specs.declared.message.RetainedMessage.{RetainedMessage}
-use Rattle.mqtt_records_rows.specs.Order.{put_row, remove_row, row_at}
-use Rattle.mqtt_records.specs.declared.records.Records.{Records}
-use Rattle.mqtt_records.specs.Records.{kept_place}
+use Rattle.mqtt_records.specs.declared.messages.message.RetainedMessage.{RetainedMessage}
+use Rattle.mqtt_records.specs.lists.Order.{put_row, remove_row, row_at}
+use Rattle.mqtt_records.specs.declared.state.records.Records.{Records}
+use Rattle.mqtt_records.specs.state.Records.{kept_place}
 use Rattle.mqtt_broker_step.proofs.Inverse.{put_back, put_over}
 use Rattle.mqtt_broker_step.proofs.retained.kept_back.Goals as goal
 

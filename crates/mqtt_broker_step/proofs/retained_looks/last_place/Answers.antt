@@ -1,8 +1,8 @@
 use Rattle.std.proofs.Common.{List, ap, sym, ◌∙◌}
 use Rattle.std.specs.Prelude.{map}
-use Rattle.mqtt_records_message.specs.declared.message.RetainedMessage.{RetainedMessage}
-use Rattle.mqtt_records.specs.Records.{kept_place}
-use Rattle.mqtt_routes.specs.Intended.{greatest}
+use Rattle.mqtt_records.specs.declared.messages.message.RetainedMessage.{RetainedMessage}
+use Rattle.mqtt_records.specs.state.Records.{kept_place}
+use Rattle.mqtt_routes.specs.routing.Intended.{greatest}
 use Rattle.mqtt_broker_step.proofs.Inverse.{last_greatest, last_none}
 use Rattle.mqtt_broker_step.proofs.retained_looks.last_place.Goals as goal
 

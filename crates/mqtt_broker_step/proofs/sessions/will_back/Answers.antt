@@ -1,6 +1,6 @@
 use Rattle.std.proofs.Common.{◌≡◌, ap, sym, ◌∙◌}
 use Rattle.std.specs.Prelude.{Some, None}
-use Rattle.mqtt_records_message.specs.declared.message.Will.{Will}
+use Rattle.mqtt_records.specs.declared.messages.message.Will.{Will}
 use Rattle.mqtt_broker_step.proofs.Backs.{will_row_back}
 use Rattle.mqtt_broker_step.proofs.sessions.will_back.Goals as goal
 

@@ -1,7 +1,7 @@
 use Rattle.std.proofs.Common.{sym, subst, ap, ◌∙◌}
-use Rattle.mqtt_records.specs.declared.change.Change.{Change}
-use Rattle.mqtt_records.specs.declared.change.Change.TheVariants.{PutSubscription}
-use Rattle.mqtt_records.specs.declared.subscription.Subscription.{Subscription}
+use Rattle.mqtt_records.specs.declared.state.change.Change.{Change}
+use Rattle.mqtt_records.specs.declared.state.change.Change.TheVariants.{PutSubscription}
+use Rattle.mqtt_records.specs.declared.state.subscription.Subscription.{Subscription}
 use Rattle.mqtt_broker_step.specs.Backs.{TakesBack}
 use Rattle.mqtt_broker_step.proofs.Doing.{if_ok}
 use Rattle.mqtt_broker_step.proofs.FilterBacks.{over_back, beside_back, new_back}

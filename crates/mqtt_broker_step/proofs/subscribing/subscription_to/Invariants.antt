@@ -1,7 +1,7 @@
 -- The rest answers as the whole (3.8.4).
 use Rattle.std.proofs.Common.{◌≡◌, length}
 use Rattle.std.specs.Prelude.{find}
-use Rattle.mqtt_rules.specs.Subscribe.{is_to}
+use Rattle.mqtt_rules.specs.step.Subscribe.{is_to}
 use Rattle.mqtt_broker_step.proofs.subscribing.subscription_to.Given as goal
 
 abbrev pub invariant-loop-subscription : goal.invariant-loop-subscription

@@ -1,6 +1,6 @@
 use Rattle.std.proofs.Common.{sym, subst}
-use Rattle.mqtt_records.specs.declared.change.Change.{Change}
-use Rattle.mqtt_records.specs.declared.change.Change.TheVariants.{RemoveSubscription}
+use Rattle.mqtt_records.specs.declared.state.change.Change.{Change}
+use Rattle.mqtt_records.specs.declared.state.change.Change.TheVariants.{RemoveSubscription}
 use Rattle.mqtt_broker_step.specs.Backs.{TakesBack}
 use Rattle.mqtt_broker_step.proofs.Doing.{if_ok}
 use Rattle.mqtt_broker_step.proofs.FilterBacks.{removal_back, none_back}

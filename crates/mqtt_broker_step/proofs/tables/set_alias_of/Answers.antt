@@ -1,5 +1,5 @@
 use Rattle.std.proofs.Common.{sym, ◌∙◌}
-use Rattle.mqtt_records_rows.proofs.OrderLemmas.{change-none, remove-none}
+use Rattle.mqtt_records.proofs.lists_lemmas.OrderLemmas.{change-none, remove-none}
 use Rattle.mqtt_broker_step.specs.Lines.{line_number, with_alias}
 use Rattle.mqtt_broker_step.proofs.AliasDeeds.{set_is, unset_is, set_back}
 use Rattle.mqtt_broker_step.proofs.tables.set_alias_of.Goals as goal

@@ -1,7 +1,7 @@
 use Rattle.std.proofs.Common.{length, ap, sym, ◌∙◌}
-use Rattle.mqtt_records_rows.proofs.OrderLemmas.{remove-none, change-none}
-use Rattle.mqtt_topic_aliases.specs.Told.{ToldTopics}
-use Rattle.mqtt_rules.specs.State.{told_line}
+use Rattle.mqtt_records.proofs.lists_lemmas.OrderLemmas.{remove-none, change-none}
+use Rattle.mqtt_topic.specs.sending.Told.{ToldTopics}
+use Rattle.mqtt_rules.specs.step.State.{told_line}
 use Rattle.mqtt_broker_step.specs.Tellings.{telling_more}
 use Rattle.mqtt_broker_step.proofs.TellingBacks.{told_is, told_back, untold_is}
 use Rattle.mqtt_broker_step.proofs.tables.tell_in.Goals as goal

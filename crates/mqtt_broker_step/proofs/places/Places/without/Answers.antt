@@ -1,6 +1,6 @@
 use Rattle.std.proofs.Common.{◌≡◌, ◌+◌, ◌≤◌, length, ap, subst, ◌∙◌}
 use Rattle.std.specs.Prelude.{vec_capacity}
-use Rattle.mqtt_flow_inbound.specs.Identifiers.{ids_without}
+use Rattle.mqtt_flow.specs.inbound.Identifiers.{ids_without}
 use Rattle.mqtt_broker_step.specs.Places.{room_for}
 use Rattle.mqtt_broker_step.proofs.PlaceLists.{kept-without}
 use Rattle.mqtt_broker_step.proofs.places.Places.without.Goals as goal

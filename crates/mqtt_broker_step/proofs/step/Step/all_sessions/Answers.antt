@@ -1,7 +1,7 @@
 use Rattle.std.proofs.Common.{◌≡◌, rules, subst}
-use Rattle.mqtt_records.specs.declared.records.Records.{Records}
-use Rattle.mqtt_records.specs.Session.{birth_of}
-use Rattle.mqtt_records_rows.specs.Order.{IsAscending}
+use Rattle.mqtt_records.specs.declared.state.records.Records.{Records}
+use Rattle.mqtt_records.specs.state.Session.{birth_of}
+use Rattle.mqtt_records.specs.lists.Order.{IsAscending}
 use Rattle.mqtt_broker_step.proofs.step.Step.all_sessions.Goals as goal
 
 pub returns-clause-order : goal.returns-clause-order

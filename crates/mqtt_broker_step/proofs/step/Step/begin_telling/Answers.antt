@@ -1,9 +1,9 @@
 use Rattle.std.proofs.Common.{List, Bool, ap, ◌∙◌}
 use Rattle.std.specs.Prelude.{None, cond}
 use Rattle.std.proofs.lemmas.Cmp.{nat_eq_equiv}
-use Rattle.mqtt_records_rows.specs.Order.{row_at}
-use Rattle.mqtt_records_rows.proofs.LookUps.{row_at-remove_row}
-use Rattle.mqtt_rules.specs.State.{Telling, told_line}
+use Rattle.mqtt_records.specs.lists.Order.{row_at}
+use Rattle.mqtt_records.proofs.lists_lemmas.LookUps.{row_at-remove_row}
+use Rattle.mqtt_rules.specs.step.State.{Telling, told_line}
 use Rattle.mqtt_broker_step.specs.Undoing.{Changing}
 use Rattle.mqtt_broker_step.proofs.step.Step.begin_telling.Goals as goal
 

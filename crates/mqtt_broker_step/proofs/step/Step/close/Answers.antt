@@ -1,8 +1,8 @@
 use Rattle.std.proofs.Common.{◌≡◌, [], ◌∷◌, refl, ap, sym}
-use Rattle.mqtt_records.specs.declared.session.Columns.{Columns}
-use Rattle.mqtt_records.specs.declared.session.Session.{Session}
-use Rattle.mqtt_records.specs.declared.change.Change.TheVariants.{SetSession}
-use Rattle.mqtt_rules.specs.Deeds.{Close, part_rows}
+use Rattle.mqtt_records.specs.declared.state.session.Columns.{Columns}
+use Rattle.mqtt_records.specs.declared.state.session.Session.{Session}
+use Rattle.mqtt_records.specs.declared.state.change.Change.TheVariants.{SetSession}
+use Rattle.mqtt_rules.specs.step.Deeds.{Close, part_rows}
 use Rattle.mqtt_broker_step.proofs.Doing.{on_ok, if_err_too, stands, part_ok, part_left}
 use Rattle.mqtt_broker_step.proofs.step.Step.close.Goals as goal
 

@@ -1,6 +1,6 @@
 use Rattle.std.proofs.Common.{◌≡◌, ℕ, List, refl, ap, sym, ◌∙◌}
-use Rattle.mqtt_rules.specs.State.{Line}
-use Rattle.mqtt_rules.specs.Deeds.{Greet}
+use Rattle.mqtt_rules.specs.step.State.{Line}
+use Rattle.mqtt_rules.specs.step.Deeds.{Greet}
 use Rattle.std.specs.Prelude.{Some}
 use Rattle.mqtt_broker_step.specs.declared.line.LineChange.TheVariants as changes
 use Rattle.mqtt_broker_step.specs.Undoing.{with_lines}

@@ -1,6 +1,6 @@
 use Rattle.std.proofs.Common.{ap, sym}
-use Rattle.mqtt_records.specs.declared.session.Columns.{Columns}
-use Rattle.mqtt_records.specs.declared.session.Session.{Session}
+use Rattle.mqtt_records.specs.declared.state.session.Columns.{Columns}
+use Rattle.mqtt_records.specs.declared.state.session.Session.{Session}
 use Rattle.mqtt_broker_step.proofs.Doing.{stands}
 use Rattle.mqtt_broker_step.proofs.step.Step.connect_row.Goals as goal
 

@@ -1,9 +1,9 @@
 use Rattle.std.proofs.Common.{◌≡◌, List, length, refl, ap, sym, ◌∙◌}
 use Rattle.std.specs.Prelude.{Some, None, slice_get}
 use Rattle.std.proofs.lemmas.Option.{slice_get_past, slice_get_read}
-use Rattle.mqtt_records_rows.specs.Order.{change_row}
-use Rattle.mqtt_rules.specs.State.{Line}
-use Rattle.mqtt_rules.specs.Deeds.{without_place}
+use Rattle.mqtt_records.specs.lists.Order.{change_row}
+use Rattle.mqtt_rules.specs.step.State.{Line}
+use Rattle.mqtt_rules.specs.step.Deeds.{without_place}
 use Rattle.mqtt_broker_step.specs.Lines.{line_number, without_went}
 use Rattle.mqtt_broker_step.specs.Undoing.{with_lines}
 use Rattle.mqtt_broker_step.specs.Stepping.{Stepping, with_broker}

@@ -1,7 +1,7 @@
 use Rattle.std.proofs.Common.{◌≡◌, ℕ, ◌≤◌, ◌+◌, suc, List, length, arith, ap, sym, subst, ◌∙◌}
 use Rattle.std.proofs.lemmas.List.{length-map}
-use Rattle.mqtt_rules.specs.State.{Line}
-use Rattle.mqtt_rules.specs.Deeds.{without_place}
+use Rattle.mqtt_rules.specs.step.State.{Line}
+use Rattle.mqtt_rules.specs.step.Deeds.{without_place}
 use Rattle.mqtt_broker_step.specs.Lines.{changed_from, nth_changed}
 use Rattle.mqtt_broker_step.specs.Undoing.{with_lines}
 use Rattle.mqtt_broker_step.specs.Stepping.{Stepping, with_broker}

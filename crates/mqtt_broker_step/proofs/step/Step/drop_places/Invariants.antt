@@ -1,5 +1,5 @@
 use Rattle.std.proofs.Common.{◌≡◌, ◌-◌, map}
-use Rattle.mqtt_rules.specs.Deeds.{without_place}
+use Rattle.mqtt_rules.specs.step.Deeds.{without_place}
 use Rattle.mqtt_broker_step.specs.Lines.{changed_from}
 use Rattle.mqtt_broker_step.specs.Undoing.{with_lines}
 use Rattle.mqtt_broker_step.specs.Stepping.{with_broker}

@@ -1,11 +1,11 @@
 use Rattle.std.proofs.Common.{◌≡◌, ◌∷◌, [], ◌++◌, refl, ap, sym, subst}
 use Rattle.std.specs.Prelude.{Some}
-use Rattle.mqtt_records.specs.declared.records.Records.{Records}
-use Rattle.mqtt_records.specs.declared.session.Session.{Session}
-use Rattle.mqtt_rules.specs.State.{session_at}
-use Rattle.mqtt_rules.specs.Laws.{HasTables}
+use Rattle.mqtt_records.specs.declared.state.records.Records.{Records}
+use Rattle.mqtt_records.specs.declared.state.session.Session.{Session}
+use Rattle.mqtt_rules.specs.step.State.{session_at}
+use Rattle.mqtt_rules.specs.step.Laws.{HasTables}
 use Rattle.mqtt_broker_step.specs.Stepping.{Stepping}
-use Rattle.mqtt_records.specs.declared.change.Change.TheVariants.{RemoveCopy}
+use Rattle.mqtt_records.specs.declared.state.change.Change.TheVariants.{RemoveCopy}
 use Rattle.mqtt_broker_step.specs.Undoing.{become, with_change}
 use Rattle.mqtt_broker_step.proofs.Rows.{row_more}
 use Rattle.mqtt_broker_step.proofs.step.Step.drop_row.Goals as goal

@@ -1,8 +1,8 @@
 use Rattle.std.proofs.Common.{◌≡◌, ℕ, false, List, ap, sym, ◌∙◌}
 use Rattle.std.specs.Prelude.{Some}
-use Rattle.mqtt_flow_inbound.specs.Identifiers.{is_among}
-use Rattle.mqtt_records_rows.proofs.OrderLemmas.{change-none}
-use Rattle.mqtt_rules.specs.State.{Line}
+use Rattle.mqtt_flow.specs.inbound.Identifiers.{is_among}
+use Rattle.mqtt_records.proofs.lists_lemmas.OrderLemmas.{change-none}
+use Rattle.mqtt_rules.specs.step.State.{Line}
 use Rattle.mqtt_broker_step.specs.Lines.{line_number, line_changed, without_went}
 use Rattle.mqtt_broker_step.specs.Undoing.{with_lines}
 use Rattle.mqtt_broker_step.specs.Stepping.{Stepping, with_broker}

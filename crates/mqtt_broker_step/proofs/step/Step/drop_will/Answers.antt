@@ -1,7 +1,7 @@
 use Rattle.std.proofs.Common.{refl, sym}
 use Rattle.std.specs.Prelude.{None}
-use Rattle.mqtt_records.specs.declared.change.Change.TheVariants.{RemoveWill}
-use Rattle.mqtt_rules.specs.Deeds.{DropWill}
+use Rattle.mqtt_records.specs.declared.state.change.Change.TheVariants.{RemoveWill}
+use Rattle.mqtt_rules.specs.step.Deeds.{DropWill}
 use Rattle.mqtt_broker_step.proofs.Doing.{on_ok, stands, part_ok}
 use Rattle.mqtt_broker_step.proofs.step.Step.drop_will.Goals as goal
 

@@ -3,14 +3,14 @@ use Rattle.std.specs.Prelude.{Some, None}
 use Rattle.std.proofs.lemmas.Bool.{lt-ltb}
 use Rattle.mqtt_base.specs.declared.limits.TheConstants.{LAST_NUMBER}
 use Rattle.mqtt_base.specs.declared.session.Phase.TheVariants.{Waiting}
-use Rattle.mqtt_records_message.specs.Queue.{CopyRow}
-use Rattle.mqtt_records_rows.specs.Order.{row_at}
-use Rattle.mqtt_records.specs.declared.session.Session.{Session}
-use Rattle.mqtt_records.specs.declared.change.Change.TheVariants.{PutCopy}
-use Rattle.mqtt_records.specs.Session.{copy_place, with_copy, without_copy}
-use Rattle.mqtt_rules.specs.declared.Report.{Report}
-use Rattle.mqtt_rules.specs.State.{next_of}
-use Rattle.mqtt_rules.specs.Deeds.{Enter, new_entry}
+use Rattle.mqtt_records.specs.messages.Queue.{CopyRow}
+use Rattle.mqtt_records.specs.lists.Order.{row_at}
+use Rattle.mqtt_records.specs.declared.state.session.Session.{Session}
+use Rattle.mqtt_records.specs.declared.state.change.Change.TheVariants.{PutCopy}
+use Rattle.mqtt_records.specs.state.Session.{copy_place, with_copy, without_copy}
+use Rattle.mqtt_rules.specs.declared.step.Report.{Report}
+use Rattle.mqtt_rules.specs.step.State.{next_of}
+use Rattle.mqtt_rules.specs.step.Deeds.{Enter, new_entry}
 use Rattle.mqtt_broker_step.proofs.Backs.{session_back, entered_back}
 use Rattle.mqtt_broker_step.proofs.Inverse.{none_above}
 use Rattle.mqtt_broker_step.proofs.Doing.{on_ok, if_err, stands, part_told, left_part}

@@ -1,5 +1,5 @@
 use Rattle.std.proofs.Common.{◌≡◌, ◌∷◌, [], ◌++◌, refl}
-use Rattle.mqtt_records.specs.declared.change.Change.TheVariants.{RemoveSession}
+use Rattle.mqtt_records.specs.declared.state.change.Change.TheVariants.{RemoveSession}
 use Rattle.mqtt_broker_step.specs.Undoing.{become, with_change}
 use Rattle.mqtt_broker_step.proofs.Rows.{row_more}
 use Rattle.mqtt_broker_step.proofs.step.Step.finish.Goals as goal

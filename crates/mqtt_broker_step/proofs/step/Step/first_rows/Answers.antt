@@ -1,6 +1,6 @@
 use Rattle.std.proofs.Common.{◌≡◌, ℕ, suc, ap, ◌∙◌}
-use Rattle.mqtt_records.specs.declared.records.Records.{Records}
-use Rattle.mqtt_rules.specs.State.{session_at}
+use Rattle.mqtt_records.specs.declared.state.records.Records.{Records}
+use Rattle.mqtt_rules.specs.step.State.{session_at}
 use Rattle.mqtt_broker_step.specs.Stepping.{Stepping}
 use Rattle.mqtt_broker_step.proofs.Begun.{none_below}
 use Rattle.mqtt_broker_step.proofs.step.Step.first_rows.Goals as goal

@@ -1,5 +1,5 @@
 use Rattle.std.proofs.Common.{◌≡◌, ◌∷◌, [], ◌++◌, refl}
-use Rattle.mqtt_records.specs.declared.change.Change.TheVariants.{RemoveRetained}
+use Rattle.mqtt_records.specs.declared.state.change.Change.TheVariants.{RemoveRetained}
 use Rattle.mqtt_broker_step.specs.Undoing.{become, with_change}
 use Rattle.mqtt_broker_step.proofs.Rows.{row_more}
 use Rattle.mqtt_broker_step.proofs.step.Step.forget.Goals as goal

@@ -1,5 +1,5 @@
 use Rattle.std.proofs.Common.{[], ◌∷◌, subst}
-use Rattle.mqtt_rules.specs.Deeds.{Gone, always}
+use Rattle.mqtt_rules.specs.step.Deeds.{Gone, always}
 use Rattle.mqtt_broker_step.specs.Stepping.{Stepping, Did}
 use Rattle.mqtt_broker_step.specs.Undoing.{Changing}
 use Rattle.mqtt_broker_step.proofs.Doing.{on_ok}

@@ -1,4 +1,4 @@
-use Rattle.mqtt_rules.specs.Deeds.{Greet}
+use Rattle.mqtt_rules.specs.step.Deeds.{Greet}
 use Rattle.mqtt_broker_step.proofs.Doing.{on_ok}
 use Rattle.mqtt_broker_step.proofs.LineDeeds.{greeted_ok}
 use Rattle.mqtt_broker_step.proofs.step.Step.greet.Goals as goal

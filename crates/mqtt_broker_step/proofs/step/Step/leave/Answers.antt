@@ -1,6 +1,6 @@
 use Rattle.std.proofs.Common.{ap, sym, ◌∙◌}
-use Rattle.mqtt_records_message.specs.Queue.{CopyRow}
-use Rattle.mqtt_rules.specs.declared.Report.TheVariants.{Ended}
+use Rattle.mqtt_records.specs.messages.Queue.{CopyRow}
+use Rattle.mqtt_rules.specs.declared.step.Report.TheVariants.{Ended}
 use Rattle.mqtt_broker_step.proofs.Doing.{on_ok}
 use Rattle.mqtt_broker_step.proofs.LeftCopies.{leave_ok}
 use Rattle.mqtt_broker_step.proofs.step.Step.leave.Goals as goal

@@ -1,7 +1,7 @@
 use Rattle.std.proofs.Common.{suc, ap, sym, subst, ◌∙◌}
-use Rattle.mqtt_records_rows.specs.Order.{IsBelow}
-use Rattle.mqtt_rules.specs.State.{Line}
-use Rattle.mqtt_rules.specs.Deeds.{fresh_line}
+use Rattle.mqtt_records.specs.lists.Order.{IsBelow}
+use Rattle.mqtt_rules.specs.step.State.{Line}
+use Rattle.mqtt_rules.specs.step.Deeds.{fresh_line}
 use Rattle.mqtt_broker_step.specs.Lines.{line_number}
 use Rattle.mqtt_broker_step.specs.Undoing.{with_linked}
 use Rattle.mqtt_broker_step.specs.Doing.{links, after_act}

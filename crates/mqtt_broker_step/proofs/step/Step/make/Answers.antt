@@ -1,7 +1,7 @@
 use Rattle.std.proofs.Common.{◌≡◌, false, nat_lt}
 use Rattle.std.proofs.lemmas.Bool.{le-ltb}
 use Rattle.mqtt_base.specs.declared.limits.TheConstants.{LAST_NUMBER}
-use Rattle.mqtt_rules.specs.Step.{number_given}
+use Rattle.mqtt_rules.specs.step.Step.{number_given}
 use Rattle.mqtt_broker_step.proofs.Rows.{row_if_made}
 use Rattle.mqtt_broker_step.proofs.step.Step.make.Goals as goal
 

@@ -1,6 +1,6 @@
 use Rattle.std.proofs.Common.{refl, sym}
-use Rattle.mqtt_records.specs.declared.change.Change.TheVariants.{SetCopy}
-use Rattle.mqtt_rules.specs.Deeds.{Mark}
+use Rattle.mqtt_records.specs.declared.state.change.Change.TheVariants.{SetCopy}
+use Rattle.mqtt_rules.specs.step.Deeds.{Mark}
 use Rattle.mqtt_broker_step.proofs.Doing.{on_ok, if_err_too, stands, part_ok, part_left}
 use Rattle.mqtt_broker_step.proofs.step.Step.mark.Goals as goal
 

@@ -1,10 +1,10 @@
 use Rattle.std.proofs.Common.{◌≡◌, ap, subst, ◌∙◌}
-use Rattle.mqtt_records_rows.specs.Order.{IsAscending}
-use Rattle.mqtt_records.specs.declared.session.Columns.{Columns}
-use Rattle.mqtt_records.specs.declared.records.Records.{Records}
-use Rattle.mqtt_records.specs.declared.change.Change.TheVariants.{PutSession, RemoveSession}
-use Rattle.mqtt_records.specs.Records.{changed}
-use Rattle.mqtt_records.specs.Session.{birth_of}
+use Rattle.mqtt_records.specs.lists.Order.{IsAscending}
+use Rattle.mqtt_records.specs.declared.state.session.Columns.{Columns}
+use Rattle.mqtt_records.specs.declared.state.records.Records.{Records}
+use Rattle.mqtt_records.specs.declared.state.change.Change.TheVariants.{PutSession, RemoveSession}
+use Rattle.mqtt_records.specs.state.Records.{changed}
+use Rattle.mqtt_records.specs.state.Session.{birth_of}
 use Rattle.mqtt_broker_step.specs.Stepping.{Stepping}
 use Rattle.mqtt_broker_step.proofs.Begun.{begun_back}
 use Rattle.mqtt_broker_step.proofs.step.Step.new_row.Goals as goal

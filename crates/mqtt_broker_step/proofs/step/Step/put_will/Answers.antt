@@ -1,5 +1,5 @@
 use Rattle.std.proofs.Common.{subst}
-use Rattle.mqtt_records.specs.declared.change.Change.{Change}
+use Rattle.mqtt_records.specs.declared.state.change.Change.{Change}
 use Rattle.mqtt_broker_step.specs.Stepping.{IsRefusedRow}
 use Rattle.mqtt_broker_step.proofs.Doing.{if_err_too}
 use Rattle.mqtt_broker_step.proofs.Resumed.{will_kept}

@@ -1,8 +1,8 @@
 use Rattle.std.proofs.Common.{◌≡◌, refl, ap, sym}
 use Rattle.std.specs.Prelude.{Some}
-use Rattle.mqtt_records.specs.declared.change.Change.TheVariants.{RemoveInbound}
-use Rattle.mqtt_rules.specs.Deeds.{Release}
-use Rattle.mqtt_rules.specs.declared.Report.TheVariants.{Released}
+use Rattle.mqtt_records.specs.declared.state.change.Change.TheVariants.{RemoveInbound}
+use Rattle.mqtt_rules.specs.step.Deeds.{Release}
+use Rattle.mqtt_rules.specs.declared.step.Report.TheVariants.{Released}
 use Rattle.mqtt_broker_step.proofs.Doing.{on_ok, stands, part_told}
 use Rattle.mqtt_broker_step.proofs.step.Step.release.Goals as goal
 

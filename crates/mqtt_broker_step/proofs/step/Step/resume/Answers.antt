@@ -1,6 +1,6 @@
 use Rattle.std.proofs.Common.{◌≡◌, ap, sym}
-use Rattle.mqtt_records.specs.declared.session.Session.{Session}
-use Rattle.mqtt_rules.specs.Deeds.{Resume}
+use Rattle.mqtt_records.specs.declared.state.session.Session.{Session}
+use Rattle.mqtt_rules.specs.step.Deeds.{Resume}
 use Rattle.mqtt_broker_step.specs.Stepping.{Stepping, to_session, written}
 use Rattle.mqtt_broker_step.proofs.Doing.{on_ok, if_err}
 use Rattle.mqtt_broker_step.proofs.Resumed.{resumed_row, resume_ok, resume_left, kept_later}

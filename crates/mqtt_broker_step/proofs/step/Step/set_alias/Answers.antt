@@ -1,5 +1,5 @@
 use Rattle.std.proofs.Common.{refl}
-use Rattle.mqtt_rules.specs.Deeds.{SetAlias}
+use Rattle.mqtt_rules.specs.step.Deeds.{SetAlias}
 use Rattle.mqtt_broker_step.proofs.Doing.{on_ok}
 use Rattle.mqtt_broker_step.proofs.LineDeeds.{on_line_ok}
 use Rattle.mqtt_broker_step.proofs.step.Step.set_alias.Goals as goal

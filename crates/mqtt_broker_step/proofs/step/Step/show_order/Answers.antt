@@ -1,7 +1,7 @@
 use Rattle.std.proofs.Common.{ap, subst, ◌∙◌}
-use Rattle.mqtt_records.specs.declared.records.Records.{Records}
-use Rattle.mqtt_records.specs.Session.{birth_of}
-use Rattle.mqtt_records_rows.specs.Order.{IsAscending}
+use Rattle.mqtt_records.specs.declared.state.records.Records.{Records}
+use Rattle.mqtt_records.specs.state.Session.{birth_of}
+use Rattle.mqtt_records.specs.lists.Order.{IsAscending}
 use Rattle.mqtt_broker_step.specs.Stepping.{Stepping}
 use Rattle.mqtt_broker_step.proofs.step.Step.show_order.Goals as goal
 

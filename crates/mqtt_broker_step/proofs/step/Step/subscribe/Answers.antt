@@ -1,7 +1,7 @@
 use Rattle.std.proofs.Common.{◌≡◌, ◌∷◌, [], refl, ap, sym, subst}
-use Rattle.mqtt_records.specs.declared.change.Change.TheVariants.{PutSubscription}
-use Rattle.mqtt_records.specs.declared.subscription.Subscription.{Subscription as TheSubscription}
-use Rattle.mqtt_rules.specs.Deeds.{Subscribe}
+use Rattle.mqtt_records.specs.declared.state.change.Change.TheVariants.{PutSubscription}
+use Rattle.mqtt_records.specs.declared.state.subscription.Subscription.{Subscription as TheSubscription}
+use Rattle.mqtt_rules.specs.step.Deeds.{Subscribe}
 use Rattle.mqtt_broker_step.specs.Backs.{TakesBack}
 use Rattle.mqtt_broker_step.proofs.Doing.{on_ok, if_err_too, stands, part_ok, part_left}
 use Rattle.mqtt_broker_step.proofs.step.Step.subscribe.Goals as goal

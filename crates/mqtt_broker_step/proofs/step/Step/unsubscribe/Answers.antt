@@ -1,6 +1,6 @@
 use Rattle.std.proofs.Common.{refl, sym}
-use Rattle.mqtt_records.specs.declared.change.Change.TheVariants.{RemoveSubscription}
-use Rattle.mqtt_rules.specs.Deeds.{Unsubscribe}
+use Rattle.mqtt_records.specs.declared.state.change.Change.TheVariants.{RemoveSubscription}
+use Rattle.mqtt_rules.specs.step.Deeds.{Unsubscribe}
 use Rattle.mqtt_broker_step.proofs.Doing.{on_ok, stands, part_ok}
 use Rattle.mqtt_broker_step.proofs.step.Step.unsubscribe.Goals as goal
 

@@ -1,7 +1,7 @@
 use Rattle.std.proofs.Common.{◌≡◌, ℕ, List, refl, ap, sym, ◌∙◌}
 use Rattle.std.specs.Prelude.{Some}
-use Rattle.mqtt_rules.specs.State.{Line}
-use Rattle.mqtt_rules.specs.Deeds.{Went}
+use Rattle.mqtt_rules.specs.step.State.{Line}
+use Rattle.mqtt_rules.specs.step.Deeds.{Went}
 use Rattle.mqtt_broker_step.specs.declared.line.LineChange.TheVariants.{PopWent}
 use Rattle.mqtt_broker_step.specs.Lines.{line_changed}
 use Rattle.mqtt_broker_step.proofs.Doing.{on_ok}

@@ -1,8 +1,8 @@
 use Rattle.std.proofs.Common.{◌≡◌, ℕ, sym, subst}
-use Rattle.mqtt_records.specs.declared.records.Records.{Records}
-use Rattle.mqtt_records.specs.declared.session.Session.{Session}
-use Rattle.mqtt_records.specs.Records.{changed}
-use Rattle.mqtt_rules.specs.Deeds.{will_row}
+use Rattle.mqtt_records.specs.declared.state.records.Records.{Records}
+use Rattle.mqtt_records.specs.declared.state.session.Session.{Session}
+use Rattle.mqtt_records.specs.state.Records.{changed}
+use Rattle.mqtt_rules.specs.step.Deeds.{will_row}
 use Rattle.mqtt_broker_step.proofs.Backs.{no_will_back}
 use Rattle.mqtt_broker_step.proofs.Doing.{if_ok, stands, found_birth}
 use Rattle.mqtt_broker_step.proofs.step.Step.will_undo.Goals as goal

@@ -1,7 +1,7 @@
 use Rattle.std.proofs.Common.{◌≡◌, List, ◌∷◌, [], ◌++◌, ap, sym, subst, ◌∙◌}
 use Rattle.std.specs.Prelude.{Some}
-use Rattle.mqtt_records_rows.specs.Order.{row_at, change_row}
-use Rattle.mqtt_rules.specs.State.{Line, Broker}
+use Rattle.mqtt_records.specs.lists.Order.{row_at, change_row}
+use Rattle.mqtt_rules.specs.step.State.{Line, Broker}
 use Rattle.mqtt_broker_step.specs.declared.undo.Undo.TheVariants.{EditLine}
 use Rattle.mqtt_broker_step.specs.Lines.{line_changed, line_number, number-line_changed}
 use Rattle.mqtt_broker_step.specs.Undoing.{Changing, broker_of, become, with_lines, with_line_changed}

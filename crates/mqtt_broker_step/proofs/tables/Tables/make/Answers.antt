@@ -1,7 +1,7 @@
 use Rattle.std.proofs.Common.{◌≡◌, ◌∷◌, [], ◌++◌, ap, sym, subst, ◌∙◌}
-use Rattle.mqtt_records.specs.declared.records.Records.{Records}
-use Rattle.mqtt_records.specs.Records.{changed}
-use Rattle.mqtt_rules.specs.State.{Broker}
+use Rattle.mqtt_records.specs.declared.state.records.Records.{Records}
+use Rattle.mqtt_records.specs.state.Records.{changed}
+use Rattle.mqtt_rules.specs.step.State.{Broker}
 use Rattle.mqtt_broker_step.specs.declared.undo.Undo.TheVariants.{Make}
 use Rattle.mqtt_broker_step.specs.Undoing.{Changing, broker_of, become, with_records, with_change}
 use Rattle.mqtt_broker_step.proofs.Journal.{change_is}

@@ -1,9 +1,9 @@
 use Rattle.std.proofs.Common.{◌≡◌, List, ◌∷◌, [], ◌++◌, refl, ap, subst, sym, ◌∙◌}
 use Rattle.std.specs.Prelude.{None}
 use Rattle.mqtt_base.specs.declared.limits.TheConstants.{LINE_LIMIT}
-use Rattle.mqtt_records_rows.specs.Order.{put_row, remove_row, row_at}
-use Rattle.mqtt_topic_aliases.specs.Told.{none_told}
-use Rattle.mqtt_rules.specs.State.{Telling, Broker, told_line}
+use Rattle.mqtt_records.specs.lists.Order.{put_row, remove_row, row_at}
+use Rattle.mqtt_topic.specs.sending.Told.{none_told}
+use Rattle.mqtt_rules.specs.step.State.{Telling, Broker, told_line}
 use Rattle.mqtt_broker_step.specs.declared.undo.Undo.TheVariants.{RemoveTelling}
 use Rattle.mqtt_broker_step.specs.Undoing.{Changing, broker_of, become, with_tellings}
 use Rattle.mqtt_broker_step.proofs.Inverse.{put_back}

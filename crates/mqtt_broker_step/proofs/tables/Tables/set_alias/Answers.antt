@@ -1,6 +1,6 @@
 use Rattle.std.proofs.Common.{◌≡◌, List, ◌∷◌, [], ◌++◌, ap, ◌∙◌}
-use Rattle.mqtt_records_rows.specs.Order.{change_row}
-use Rattle.mqtt_rules.specs.State.{Line, Broker}
+use Rattle.mqtt_records.specs.lists.Order.{change_row}
+use Rattle.mqtt_rules.specs.step.State.{Line, Broker}
 use Rattle.mqtt_broker_step.specs.declared.undo.Undo.TheVariants.{EditLine}
 use Rattle.mqtt_broker_step.specs.Lines.{line_number, with_alias}
 use Rattle.mqtt_broker_step.specs.Undoing.{Changing, broker_of, become, with_lines}

@@ -1,5 +1,5 @@
 use Rattle.std.proofs.Common.{◌≡◌, ◌∷◌, [], ◌++◌, refl, ap, ◌∙◌}
-use Rattle.mqtt_rules.specs.State.{Broker}
+use Rattle.mqtt_rules.specs.step.State.{Broker}
 use Rattle.mqtt_broker_step.specs.declared.undo.Undo.TheVariants.{SetMoment}
 use Rattle.mqtt_broker_step.specs.Undoing.{Changing, broker_of, become, with_moment_of}
 use Rattle.mqtt_broker_step.proofs.Journal.{change_is}

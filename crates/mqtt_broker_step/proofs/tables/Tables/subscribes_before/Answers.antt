@@ -1,5 +1,5 @@
 use Rattle.std.proofs.Common.{List, ap, sym, ◌∙◌}
-use Rattle.mqtt_records.specs.declared.records.Records.{Records}
+use Rattle.mqtt_records.specs.declared.state.records.Records.{Records}
 use Rattle.mqtt_broker_step.specs.declared.undo.Undo.{Undo}
 use Rattle.mqtt_broker_step.specs.Undoing.{Changing, broker_of, subscribes_before}
 use Rattle.mqtt_broker_step.proofs.NumbersBefore.{subscribes_taken_back}

@@ -1,11 +1,11 @@
 use Rattle.std.proofs.Common.{◌≡◌, ◌∷◌, [], ◌++◌, ap, sym, subst, ◌∙◌}
 use Rattle.std.specs.Prelude.{Some}
-use Rattle.mqtt_records.specs.declared.records.Records.{Records}
-use Rattle.mqtt_records.specs.declared.session.Session.{Session}
-use Rattle.mqtt_records.specs.declared.change.Change.TheVariants.{RemoveCopy, PutCopy}
-use Rattle.mqtt_records.specs.Records.{changed}
-use Rattle.mqtt_rules.specs.State.{Broker, session_at}
-use Rattle.mqtt_rules.specs.Laws.{HasTables}
+use Rattle.mqtt_records.specs.declared.state.records.Records.{Records}
+use Rattle.mqtt_records.specs.declared.state.session.Session.{Session}
+use Rattle.mqtt_records.specs.declared.state.change.Change.TheVariants.{RemoveCopy, PutCopy}
+use Rattle.mqtt_records.specs.state.Records.{changed}
+use Rattle.mqtt_rules.specs.step.State.{Broker, session_at}
+use Rattle.mqtt_rules.specs.step.Laws.{HasTables}
 use Rattle.mqtt_broker_step.specs.declared.undo.Undo.TheVariants.{Make}
 use Rattle.mqtt_broker_step.specs.Undoing.{Changing, broker_of, become, with_records, with_change}
 use Rattle.mqtt_broker_step.proofs.Backs.{left_back, left_none}

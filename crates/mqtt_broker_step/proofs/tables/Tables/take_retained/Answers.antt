@@ -1,14 +1,14 @@
 use Rattle.std.proofs.Common.{◌≡◌, ◌≤◌, List, ◌∷◌, [], ◌++◌, length, ap, sym, subst, ◌∙◌}
-use Rattle.mqtt_records_rows.specs.Order.{IsAscending, remove_row}
-use Rattle.mqtt_records_rows.proofs.OrderLemmas.{remove-none}
-use Rattle.mqtt_rules.specs.State.{Broker}
+use Rattle.mqtt_records.specs.lists.Order.{IsAscending, remove_row}
+use Rattle.mqtt_records.proofs.lists_lemmas.OrderLemmas.{remove-none}
+use Rattle.mqtt_rules.specs.step.State.{Broker}
 use Rattle.mqtt_base.specs.declared.limits.TheConstants.{RETAINED_LIMIT}
-use Rattle.mqtt_records_rows.specs.Order.{put_row}
-use Rattle.mqtt_records_message.specs.declared.message.RetainedMessage.{RetainedMessage}
-use Rattle.mqtt_records.specs.declared.records.Records.{Records}
-use Rattle.mqtt_records.specs.declared.change.Change.TheVariants.{RemoveRetained, PutRetained}
+use Rattle.mqtt_records.specs.lists.Order.{put_row}
+use Rattle.mqtt_records.specs.declared.messages.message.RetainedMessage.{RetainedMessage}
+use Rattle.mqtt_records.specs.declared.state.records.Records.{Records}
+use Rattle.mqtt_records.specs.declared.state.change.Change.TheVariants.{RemoveRetained, PutRetained}
 use Rattle.mqtt_broker_step.specs.declared.undo.Undo.TheVariants.{Make}
-use Rattle.mqtt_records.specs.Records.{kept_place}
+use Rattle.mqtt_records.specs.state.Records.{kept_place}
 use Rattle.mqtt_broker_step.specs.Undoing.{Changing, broker_of, become, with_records, with_change}
 use Rattle.mqtt_broker_step.proofs.Inverse.{removed_back}
 use Rattle.mqtt_broker_step.proofs.Journal.{change_is, same_is}

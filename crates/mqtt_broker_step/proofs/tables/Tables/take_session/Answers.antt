@@ -1,14 +1,14 @@
 use Rattle.std.proofs.Common.{◌≡◌, ◌≤◌, List, ◌∷◌, [], ◌++◌, length, ap, sym, subst, ◌∙◌}
-use Rattle.mqtt_records_rows.specs.Order.{IsAscending, remove_row}
-use Rattle.mqtt_records_rows.proofs.OrderLemmas.{remove-none}
-use Rattle.mqtt_rules.specs.State.{Broker}
+use Rattle.mqtt_records.specs.lists.Order.{IsAscending, remove_row}
+use Rattle.mqtt_records.proofs.lists_lemmas.OrderLemmas.{remove-none}
+use Rattle.mqtt_rules.specs.step.State.{Broker}
 use Rattle.mqtt_base.specs.declared.limits.TheConstants.{SESSION_LIMIT}
-use Rattle.mqtt_records_rows.specs.Order.{put_row}
-use Rattle.mqtt_records.specs.declared.session.Session.{Session}
-use Rattle.mqtt_records.specs.declared.records.Records.{Records}
-use Rattle.mqtt_records.specs.declared.change.Change.TheVariants.{RemoveSession}
+use Rattle.mqtt_records.specs.lists.Order.{put_row}
+use Rattle.mqtt_records.specs.declared.state.session.Session.{Session}
+use Rattle.mqtt_records.specs.declared.state.records.Records.{Records}
+use Rattle.mqtt_records.specs.declared.state.change.Change.TheVariants.{RemoveSession}
 use Rattle.mqtt_broker_step.specs.declared.undo.Undo.TheVariants.{PutSession}
-use Rattle.mqtt_records.specs.Session.{birth_of}
+use Rattle.mqtt_records.specs.state.Session.{birth_of}
 use Rattle.mqtt_broker_step.specs.Undoing.{Changing, broker_of, become, with_records, with_change}
 use Rattle.mqtt_broker_step.proofs.Inverse.{removed_back}
 use Rattle.mqtt_broker_step.proofs.Journal.{change_is, same_is}

@@ -1,9 +1,9 @@
 use Rattle.std.proofs.Common.{◌≡◌, List, ◌∷◌, [], ◌++◌, ap, sym, ◌∙◌}
-use Rattle.mqtt_records_rows.specs.Order.{remove_row}
-use Rattle.mqtt_records_rows.proofs.OrderLemmas.{remove-none}
-use Rattle.mqtt_rules.specs.State.{Telling, Broker, told_line}
+use Rattle.mqtt_records.specs.lists.Order.{remove_row}
+use Rattle.mqtt_records.proofs.lists_lemmas.OrderLemmas.{remove-none}
+use Rattle.mqtt_rules.specs.step.State.{Telling, Broker, told_line}
 use Rattle.mqtt_base.specs.declared.limits.TheConstants.{LINE_LIMIT}
-use Rattle.mqtt_records_rows.specs.Order.{put_row}
+use Rattle.mqtt_records.specs.lists.Order.{put_row}
 use Rattle.mqtt_broker_step.specs.declared.undo.Undo.TheVariants.{PutTelling}
 use Rattle.mqtt_broker_step.specs.Undoing.{Changing, broker_of, become, with_tellings}
 use Rattle.mqtt_broker_step.proofs.Inverse.{removed_back}

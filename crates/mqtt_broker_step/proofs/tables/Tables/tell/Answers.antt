@@ -1,6 +1,6 @@
 use Rattle.std.proofs.Common.{◌≡◌, List, ◌∷◌, [], ◌++◌, ap, ◌∙◌}
-use Rattle.mqtt_records_rows.specs.Order.{change_row}
-use Rattle.mqtt_rules.specs.State.{Telling, Broker, told_line}
+use Rattle.mqtt_records.specs.lists.Order.{change_row}
+use Rattle.mqtt_rules.specs.step.State.{Telling, Broker, told_line}
 use Rattle.mqtt_broker_step.specs.declared.undo.Undo.TheVariants.{CutTelling}
 use Rattle.mqtt_broker_step.specs.Tellings.{telling_more}
 use Rattle.mqtt_broker_step.specs.Undoing.{Changing, broker_of, become, with_tellings}

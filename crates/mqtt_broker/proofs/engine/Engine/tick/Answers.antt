@@ -1,8 +1,0 @@
-use Rattle.mqtt_rules.specs.Step.{Tick}
-use Rattle.mqtt_broker.proofs.Serving.{of_lines_called}
-use Rattle.mqtt_broker.proofs.engine.Engine.tick.Goals as goal
-
-pub invariant_of-self : goal.invariant_of-self
-invariant_of-self g c =
-    of_lines_called g.K.Keep c.args.moment Tick c.self.inside.inner c.tick-answer.new.self c.self.inside.framers c.end_closed.new.framers c.tick-answer.result tt
-    c.tick-answer.ensures c.end_closed.ensures.held c.end_closed.ensures.kept c.self.invariant

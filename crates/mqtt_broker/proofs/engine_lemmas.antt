@@ -1,0 +1,12 @@
+pub mod Unlinked
+pub mod Left
+pub mod Linking
+pub mod Framings
+pub mod Cuts
+pub mod Serving
+pub mod Pieced
+pub mod Opened
+pub mod FirstPackets
+pub mod HeldBytes
+pub mod Lent
+pub mod Looked

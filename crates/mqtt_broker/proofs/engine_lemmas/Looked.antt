@@ -1,0 +1,53 @@
+-- What may be looked at of a broker doesn't depend on what its waiting copies say.
+use Rattle.std.proofs.Common.{◌≡◌, ℕ, Bool, true, false, cond, List, [], ◌∷◌, map, length, Option, Some, refl, sym, ap, ◌∙◌}
+use Rattle.std.specs.Prelude.{bytes_eq, find, option_map}
+use Rattle.std.proofs.lemmas.List.{length-map}
+use Rattle.mqtt_records.specs.messages.Filling.{Fillings, filled_row}
+use Rattle.mqtt_records.specs.declared.state.session.Session.{Session}
+use Rattle.mqtt_rules.specs.step.State.{Broker, session_named}
+use Rattle.mqtt_rules.specs.step.Step.{can_link}
+use Rattle.mqtt_rules.specs.filling.Filling.{filled, filled_session}
+
+-- how many copies stand in a queue, if the session is there
+abbrev pub queue_length : Option Session → Option ℕ
+queue_length o = option_map (λ (s : Session). length s.queue) o
+
+module _ (fillings : Fillings) where
+  session_long : (s : Session) → queue_length (Some (filled_session fillings s)) ≡ queue_length (Some s)
+  session_long s = ap Some (length-map s.queue (filled_row (fillings s.birth)))
+
+  if_named : (t : Bool) (s : Session) (o p : Option Session) → queue_length o ≡ queue_length p
+      → queue_length (cond t (Some (filled_session fillings s)) o) ≡ queue_length (cond t (Some s) p)
+  if_named true s o p rest = session_long s
+  if_named false s o p rest = rest
+
+  named_long : (client : List ℕ) (ss : List Session)
+      → queue_length (find (λ s. bytes_eq s.client client) (map (filled_session fillings) ss)) ≡ queue_length (find (λ s. bytes_eq s.client client) ss)
+  named_long client [] = refl
+  named_long client (s ∷ ss) =
+      if_named (bytes_eq s.client client) s (find (λ s. bytes_eq s.client client) (map (filled_session fillings) ss)) (find (λ s. bytes_eq s.client client) ss)
+      (named_long client ss)
+
+-- a broker that is another one with its rows filled has as many copies in the queue of each client
+pub queues_long : (fillings : Fillings) (client : List ℕ) (some whole : Broker) → filled fillings some ≡ whole
+    → queue_length (session_named client some.records) ≡ queue_length (session_named client whole.records)
+queues_long fillings client some whole is =
+    sym (named_long fillings client some.records.sessions) ∙ ap (λ (b : Broker). queue_length (session_named client b.records)) is
+
+-- as many sessions
+pub sessions_long : (fillings : Fillings) (some whole : Broker) → filled fillings some ≡ whole
+    → length some.records.sessions ≡ length whole.records.sessions
+sessions_long fillings some whole is =
+    sym (length-map some.records.sessions (filled_session fillings)) ∙ ap (λ (b : Broker). length b.records.sessions) is
+
+-- as many sessions were born
+pub births_same : (fillings : Fillings) (some whole : Broker) → filled fillings some ≡ whole → some.records.births ≡ whole.records.births
+births_same fillings some whole is = ap (λ (b : Broker). b.records.births) is
+
+-- as many publications were accepted
+pub publications_same : (fillings : Fillings) (some whole : Broker) → filled fillings some ≡ whole → some.records.publications ≡ whole.records.publications
+publications_same fillings some whole is = ap (λ (b : Broker). b.records.publications) is
+
+-- and links a further line or not
+pub links_same : (fillings : Fillings) (some whole : Broker) → filled fillings some ≡ whole → can_link some ≡ can_link whole
+links_same fillings some whole is = ap can_link is

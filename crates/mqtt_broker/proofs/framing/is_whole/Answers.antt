@@ -1,6 +1,0 @@
-use Rattle.mqtt_packet.specs.Front.{first_of}
-use Rattle.mqtt_broker.proofs.FirstPackets.{whole_unless}
-use Rattle.mqtt_broker.proofs.framing.is_whole.Goals as goal
-
-pub returns : goal.returns
-returns c = whole_unless c.is_whole.result (first_of c.args.framer.now.held) c.is_whole.ensures.waits c.is_whole.ensures.whole

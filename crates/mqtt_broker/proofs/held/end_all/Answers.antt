@@ -1,6 +1,0 @@
-use Rattle.std.proofs.Common.{◌∙◌}
-use Rattle.mqtt_broker.proofs.Framings.{ended_is}
-use Rattle.mqtt_broker.proofs.held.end_all.Goals as goal
-
-pub returns : goal.returns
-returns c = c.end_each.ensures ∙ ended_is c.args.closed.now c.args.framers.now

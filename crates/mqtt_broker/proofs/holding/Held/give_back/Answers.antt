@@ -1,8 +1,0 @@
-use Rattle.std.proofs.Common.{sym, subst}
-use Rattle.mqtt_packet.specs.Stream.{Framing}
-use Rattle.mqtt_broker.specs.Framers.{AreBytes}
-use Rattle.mqtt_broker.proofs.HeldBytes.{back_bytes}
-use Rattle.mqtt_broker.proofs.holding.Held.give_back.Goals as goal
-
-pub invariant_of-self : goal.invariant_of-self
-invariant_of-self c = subst (λ (f : Framing). AreBytes f.held) (sym c.give_back.ensures) (back_bytes c.args.count c.self.inside.framer c.self.invariant)

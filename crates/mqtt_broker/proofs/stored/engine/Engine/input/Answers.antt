@@ -1,0 +1,10 @@
+use Rattle.std.proofs.Common.{refl, rules}
+use Rattle.mqtt_rules.specs.step.Step.{Input}
+use Rattle.mqtt_broker.proofs.stored_lemmas.Resting.{called_stopped}
+use Rattle.mqtt_broker.proofs.stored.engine.Engine.input.Goals as goal
+
+pub returns-in_err-session : goal.returns-in_err-session
+returns-in_err-session g c = called_stopped g.K.Keep c.args.moment (Input c.args.line c.args.packet.now) c.args.self.now _ c.in_err-session.field-0.0 (search rules) c.in_err-session.ensures.fault c.in_err-session.ensures.err
+
+pub returns-in-None : goal.returns-in-None
+returns-in-None g c = c.skip.ensures.called (Input c.args.line c.args.packet.now) refl

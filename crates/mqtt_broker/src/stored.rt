@@ -1,0 +1,18 @@
+//! The engine of the broker: it is opened over what a store holds, each call is a step of the rules, and the store holds what
+//! the step leaves; what waiting copies say is in the store alone (MQTT 5.0, 3.3, 4.1). Private: bytes are cut into packets by
+//! its caller.
+
+mod calling;
+mod closing;
+mod committing;
+mod engine;
+mod finishing;
+mod holding;
+mod opening;
+mod outcome;
+mod parts;
+mod pumping;
+
+pub use self::engine::Engine;
+pub use self::opening::open;
+pub use self::outcome::Outcome;

@@ -1,0 +1,5 @@
+pub mod closing
+pub mod connecting
+pub mod clock
+pub mod subscribing
+pub mod calls

@@ -1,0 +1,28 @@
+//! A turn of sending, as the acts of its call (MQTT 5.0, 4.6, 4.9).
+ghost use Rattle.std.specs.Prelude.{◌≡◌, IfOk, IfErr};
+ghost use Rattle.mqtt_rules.specs.step.Step.{Pump, SpentStep};
+ghost use Rattle.mqtt_broker_step.specs.declared.fault.StepFault.TheVariants.{Spent};
+ghost use Rattle.mqtt_broker_step.specs.Stepping.{at_rest};
+ghost use Rattle.mqtt_broker_acts.specs.calls.Doing.{DidCall};
+ghost use Rattle.mqtt_broker_acts.specs.calls.Ready.{IsReady};
+
+use mqtt_broker_queue::queues::pump;
+use mqtt_broker_step::{Step, StepFault};
+use std::alloc::Global;
+
+/// The step of a turn of sending on a line begins at a moment, and does its deeds. Answers whether there may be more:
+/// `PUMP_LIMIT` PUBLISH went out. `Memory` (1) and `Spent` (3): the step is to be taken back (4.6, 4.9).
+pub fn pump_at(alloc: Global, step: &mut Step, line: u64, moment: u64) -> Result<bool, StepFault>
+    requires rest { step.old ≡ at_rest step.old.limits step.old.broker }
+    requires ready { IsReady step.old.limits step.old.broker }
+    ensures called { IfOk result (λ again. DidCall moment (Pump line) again step.new) }
+    ensures left { IfErr result (λ fault. fault ≡ Spent
+        → SpentStep step.new.limits step.new.start moment (Pump line)) }
+    ensures start { step.new.start ≡ step.old.broker }
+    ensures limits { step.new.limits ≡ step.old.limits }
+{
+    match step.begin(moment) {
+        Ok(()) => pump(alloc, step, line),
+        Err(fault) => Err(fault),
+    }
+}

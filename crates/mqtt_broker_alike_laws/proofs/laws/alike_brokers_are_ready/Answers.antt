@@ -1,9 +1,0 @@
-use Rattle.mqtt_broker_calls.proofs.Sources.{sound_ready}
-use Rattle.mqtt_broker_alike_laws.proofs.Ready.{ready_alike}
-use Rattle.mqtt_broker_alike_laws.proofs.laws.alike_brokers_are_ready.Goals as goal
-
-pub returns-clause-ready : goal.returns-clause-ready
-returns-clause-ready c = ready_alike
-
-pub returns-clause-sound : goal.returns-clause-sound
-returns-clause-sound c = λ limits some whole alike sound. ready_alike limits some whole alike (sound_ready limits whole sound)

@@ -1,8 +1,0 @@
-use Rattle.mqtt_broker_alike_laws.proofs.Ready.{records_coherent, records_sourced}
-use Rattle.mqtt_broker_alike_laws.proofs.laws.alike_records_can_be_opened.Goals as goal
-
-pub returns-clause-coherent : goal.returns-clause-coherent
-returns-clause-coherent c = records_coherent
-
-pub returns-clause-sources : goal.returns-clause-sources
-returns-clause-sources c = records_sourced

@@ -1,7 +1,0 @@
-//! The laws that brokers which are alike but for what their waiting copies say can do the same calls, and be opened (MQTT
-//! 5.0, 4.1).
-#![tactic(auto)]
-
-mod laws;
-
-pub use laws::{alike_brokers_are_ready, alike_records_can_be_opened};

@@ -1,5 +1,0 @@
-use Rattle.mqtt_broker_engine.proofs.Going.{IsGoing}
-use Rattle.mqtt_broker_engine.proofs.closing.close_each.Given as goal
-
-abbrev pub invariant-loop-birth : goal.invariant-loop-birth
-invariant-loop-birth l = IsGoing l.fn.step l.step l.index.sessions l.birth-iterator.rest.items

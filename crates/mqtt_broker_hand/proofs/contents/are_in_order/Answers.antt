@@ -1,9 +1,0 @@
-use Rattle.std.proofs.Common.{nat_lt, rules}
-use Rattle.std.proofs.lemmas.Fn.{always_returns_same}
-use Rattle.mqtt_broker_hand.proofs.Filled.{sorted_ascends}
-use Rattle.mqtt_broker_hand.proofs.contents.are_in_order.Goals as goal
-
-pub returns : goal.returns
-returns c =
-    sorted_ascends c.is_sorted_by.result c.args.contents.now
-    (c.is_sorted_by.ensures.cases (λ x y. nat_lt x.place y.place) (always_returns_same _ _ _ (λ a r f k. search rules)))

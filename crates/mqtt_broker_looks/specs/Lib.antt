@@ -1,0 +1,3 @@
+pub mod sent
+pub mod at_hand
+pub mod decided

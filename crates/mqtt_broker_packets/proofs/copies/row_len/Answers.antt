@@ -1,6 +1,0 @@
-use Rattle.std.proofs.Common.{◌∙◌}
-use Rattle.mqtt_broker_packets.proofs.Spelled.{size_stays}
-use Rattle.mqtt_broker_packets.proofs.copies.row_len.Goals as goal
-
-pub returns : goal.returns
-returns c = λ now id dup. c.size.ensures.exact ∙ size_stays c.args.row.now.copy now id dup

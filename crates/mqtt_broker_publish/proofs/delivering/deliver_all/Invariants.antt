@@ -1,5 +1,0 @@
-use Rattle.mqtt_broker_publish.proofs.Delivered.{Handing}
-use Rattle.mqtt_broker_publish.proofs.delivering.deliver_all.Given as goal
-
-abbrev pub invariant-loop-copy : goal.invariant-loop-copy
-invariant-loop-copy l = Handing l.copy-iterator.rest.items l.fn.copies.items l.fn.step l.step

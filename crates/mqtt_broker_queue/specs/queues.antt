@@ -1,0 +1,5 @@
+pub mod Queues
+pub mod Turning
+pub mod Fitting
+pub mod Answering
+pub mod Entering

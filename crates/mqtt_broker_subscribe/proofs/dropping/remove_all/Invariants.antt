@@ -1,5 +1,0 @@
-use Rattle.mqtt_broker_subscribe.proofs.Removed.{Removing}
-use Rattle.mqtt_broker_subscribe.proofs.dropping.remove_all.Given as goal
-
-abbrev pub invariant-loop-filter : goal.invariant-loop-filter
-invariant-loop-filter l = Removing l.fn.birth l.filter-iterator.rest.items l.fn.filters.items l.fn.step l.step

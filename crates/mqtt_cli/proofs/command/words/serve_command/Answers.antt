@@ -1,0 +1,17 @@
+use Rattle.std.proofs.Common.{ap, ap₂, codes, ◌≡◌, ◌∙◌}
+use Rattle.std.proofs.lemmas.Result.{IfOk-weaker}
+use Rattle.clap.specs.Words.{app_of, new_app, with_rule}
+use Rattle.clap.specs.Simple.{app_of_fields}
+use Rattle.mqtt_cli.specs.command.Limits.{with_limits}
+use Rattle.mqtt_cli.proofs.command.words.serve_command.Goals as goal
+
+pub returns-clause-app : goal.returns-clause-app
+returns-clause-app c =
+    let listen = c.option_arg.ensures in
+    let db = c.option_arg-2.ensures in
+    let turns = c.option_arg-3.ensures in
+    let serve_is : app_of c.about.result ≡ new_app (codes "serve") = ap app_of_fields c.about.ensures ∙ c.new.ensures.app in
+    let with_listen = c.in_ok-arg.ensures.shape listen.local ∙ ap₂ with_rule serve_is listen.rule in
+    let with_db = c.in_ok-arg-2.ensures.shape db.local ∙ ap₂ with_rule with_listen db.rule in
+    let with_turns = c.in_ok-command.ensures.shape turns.local ∙ ap₂ with_rule with_db turns.rule in
+    IfOk-weaker c.limited.result _ _ (λ r is. is ∙ ap with_limits with_turns) c.limited.ensures.app

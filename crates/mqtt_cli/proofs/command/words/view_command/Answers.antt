@@ -1,0 +1,13 @@
+use Rattle.std.proofs.Common.{ap, ap₂, codes, ◌≡◌, ◌∙◌}
+use Rattle.std.proofs.lemmas.Result.{IfOk-weaker}
+use Rattle.clap.specs.Words.{app_of, new_app, with_rule}
+use Rattle.clap.specs.Simple.{app_of_fields}
+use Rattle.mqtt_cli.proofs.command.words.view_command.Goals as goal
+
+pub returns-clause-app : goal.returns-clause-app
+returns-clause-app c =
+    let payload = c.payload_arg.ensures in
+    let file = c.file_arg.ensures in
+    let view_is : app_of c.about.result ≡ new_app (codes "view") = ap app_of_fields c.about.ensures ∙ c.new.ensures.app in
+    let with_payload = c.in_ok-arg.ensures.shape payload.local ∙ ap₂ with_rule view_is payload.rule in
+    IfOk-weaker c.arg-2.result _ _ (λ r adds. adds.shape file.local ∙ ap₂ with_rule with_payload file.rule) c.arg-2.ensures

@@ -1,0 +1,114 @@
+-- Command lines, by computing.
+use Rattle.std.proofs.Common.{◌≡◌, true, List, [], ◌∷◌, None, Some, codes, refl}
+use Rattle.clap.proofs.OnLiterals.{clap_on_literals}
+use Rattle.clap.specs.Words.{Text}
+use Rattle.mqtt_cli.specs.command.Line.{command_of, file_in, is_vectors, payload_in, replay_rows_in, rows_in, serve_rows_in}
+use Rattle.mqtt_cli.specs.command.Values.{value_in}
+use Rattle.mqtt_cli.specs.declared.command.outcome.TheConstants.{DONE, FAULTY, USAGE, FAILED}
+
+-- ---- numbers
+
+done : DONE ≡ 0
+done = refl
+
+faulty : FAULTY ≡ 1
+faulty = refl
+
+usage : USAGE ≡ 2
+usage = refl
+
+failed : FAILED ≡ 3
+failed = refl
+
+-- ---- command lines
+
+abbrev line_of : List Text → List Text
+line_of words = codes "mqtt5" ∷ words
+
+standard_input : file_in (rows_in (command_of (line_of (codes "view" ∷ codes "-" ∷ [])))) ≡ Some (codes "-")
+unfolding clap_on_literals
+standard_input = refl
+
+with_flag : payload_in (rows_in (command_of (line_of (codes "view" ∷ codes "--payload" ∷ codes "f" ∷ [])))) ≡ Some (codes "true")
+unfolding clap_on_literals
+with_flag = refl
+
+without_flag : payload_in (rows_in (command_of (line_of (codes "view" ∷ codes "f" ∷ [])))) ≡ Some (codes "false")
+unfolding clap_on_literals
+without_flag = refl
+
+no_command : command_of (line_of []) ≡ None
+unfolding clap_on_literals
+no_command = refl
+
+other_command : command_of (line_of (codes "watch" ∷ codes "f" ∷ [])) ≡ None
+unfolding clap_on_literals
+other_command = refl
+
+no_file : command_of (line_of (codes "view" ∷ [])) ≡ None
+unfolding clap_on_literals
+no_file = refl
+
+two_files : command_of (line_of (codes "view" ∷ codes "a" ∷ codes "b" ∷ [])) ≡ None
+unfolding clap_on_literals
+two_files = refl
+
+call_for_help : command_of (line_of (codes "--help" ∷ [])) ≡ None
+unfolding clap_on_literals
+call_for_help = refl
+
+script : file_in (replay_rows_in (command_of (line_of (codes "replay" ∷ codes "a" ∷ [])))) ≡ Some (codes "a")
+unfolding clap_on_literals
+script = refl
+
+script_with_flag : command_of (line_of (codes "replay" ∷ codes "--payload" ∷ codes "a" ∷ [])) ≡ None
+unfolding clap_on_literals
+script_with_flag = refl
+
+vectors : is_vectors (command_of (line_of (codes "vectors" ∷ []))) ≡ true
+unfolding clap_on_literals
+vectors = refl
+
+vectors_with_file : command_of (line_of (codes "vectors" ∷ codes "f" ∷ [])) ≡ None
+unfolding clap_on_literals
+vectors_with_file = refl
+
+abbrev served : List Text
+served = line_of (codes "serve" ∷ codes "--turns" ∷ codes "3" ∷ codes "--listen" ∷ codes "1.2.3.4:5" ∷ codes "--db" ∷ codes "a" ∷ [])
+
+served-listen : value_in (codes "listen") (serve_rows_in (command_of served)) ≡ Some (codes "1.2.3.4:5")
+unfolding clap_on_literals
+served-listen = refl
+
+served-turns : value_in (codes "turns") (serve_rows_in (command_of served)) ≡ Some (codes "3")
+unfolding clap_on_literals
+served-turns = refl
+
+no_database : command_of (line_of (codes "serve" ∷ codes "--turns" ∷ codes "3" ∷ codes "--listen" ∷ codes "1.2.3.4:5" ∷ [])) ≡ None
+unfolding clap_on_literals
+no_database = refl
+
+-- ---- limits
+
+abbrev limited : List Text
+limited = line_of (codes "replay" ∷ codes "--queue" ∷ codes "2" ∷ codes "a" ∷ codes "--full=drop" ∷ [])
+
+limited-queue : value_in (codes "queue") (replay_rows_in (command_of limited)) ≡ Some (codes "2")
+unfolding clap_on_literals
+limited-queue = refl
+
+limited-full : value_in (codes "full") (replay_rows_in (command_of limited)) ≡ Some (codes "drop")
+unfolding clap_on_literals
+limited-full = refl
+
+limited-sessions : value_in (codes "sessions") (replay_rows_in (command_of limited)) ≡ None
+unfolding clap_on_literals
+limited-sessions = refl
+
+served-queue : value_in (codes "queue") (serve_rows_in (command_of served)) ≡ None
+unfolding clap_on_literals
+served-queue = refl
+
+queue_twice : command_of (line_of (codes "replay" ∷ codes "--queue" ∷ codes "2" ∷ codes "--queue" ∷ codes "3" ∷ codes "a" ∷ [])) ≡ None
+unfolding clap_on_literals
+queue_twice = refl

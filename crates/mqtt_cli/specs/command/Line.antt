@@ -1,0 +1,142 @@
+-- What a command line asks for, by `clap`'s meaning of its words (ours).
+use Rattle.std.specs.Prelude.{◌≡◌, ℕ, Bool, true, false, List, Option, None, Some, codes, if◌then◌else◌, option_and_then}
+use Rattle.std.specs.Str.{bytes_eq}
+use Rattle.clap.specs.declared.builder.ArgAction.TheVariants.{SetTrue}
+use Rattle.clap.specs.Walk.{is_empty}
+use Rattle.clap.specs.Words.{App, Row, Rule, Text, fault_of, first_of, new_app, new_rule, one_of, subcommand_of, with_rule, with_subcommand}
+use Rattle.mqtt_cli.specs.declared.command.line.Action.{Action}
+use Rattle.mqtt_cli.specs.declared.command.line.Action.TheVariants.{View, Replay, Vectors, Serve}
+use Rattle.mqtt_cli.specs.command.Limits.{AsksForLimits, with_limits}
+use Rattle.mqtt_cli.specs.command.Values.{IsAddress, IsCount, value_in}
+use Rattle.mqtt_rules.specs.declared.step.Limits.{Limits}
+use Rattle.std.specs.declared.net.socket_addr.SocketAddrV4.{SocketAddrV4}
+
+-- `--payload`, a flag
+abbrev pub payload_rule : Rule
+payload_rule =
+    record (new_rule (codes "payload")) { long = Some (codes "payload"); action = Some SetTrue }
+
+-- FILE, which has to be there
+abbrev pub file_rule : Rule
+file_rule = record (new_rule (codes "file")) { value_names = 1; required = true }
+
+-- `view [--payload] FILE`
+abbrev pub view_app : App
+view_app = with_rule (with_rule (new_app (codes "view")) payload_rule) file_rule
+
+-- `replay FILE`, with the options for limits
+abbrev pub replay_app : App
+replay_app = with_limits (with_rule (new_app (codes "replay")) file_rule)
+
+-- `vectors`
+abbrev pub vectors_app : App
+vectors_app = new_app (codes "vectors")
+
+-- `--NAME VALUE`, which has to be there
+abbrev pub option_rule : Text → Rule
+option_rule name = record (new_rule name) { long = Some name; value_names = 1; required = true }
+
+-- `serve --listen ADDR --db FILE --turns N`, with the options for limits
+abbrev pub serve_app : App
+serve_app =
+    with_limits
+    (with_rule (with_rule (with_rule (new_app (codes "serve")) (option_rule (codes "listen"))) (option_rule (codes "db")))
+    (option_rule (codes "turns")))
+
+-- the program, which has to be given a command
+abbrev pub program_app : App
+program_app =
+    let alone = new_app (codes "mqtt5") in
+    let required = record alone { top = record alone.top { subcommand_required = true } } in
+    with_subcommand (with_subcommand (with_subcommand (with_subcommand required view_app.top) replay_app.top) vectors_app.top)
+    serve_app.top
+
+-- the command and its matches, if the words are a lawful command line
+abbrev pub command_of : List Text → Option (Text × List Row)
+command_of words =
+    if is_empty (fault_of program_app words) then subcommand_of program_app words else None
+
+-- whether the command is `vectors`
+abbrev pub is_vectors : Option (Text × List Row) → Bool
+is_vectors None = false
+is_vectors (Some command) = bytes_eq command.0 (codes "vectors")
+
+-- the matches of `view`, if that is the command
+abbrev pub rows_in : Option (Text × List Row) → Option (List Row)
+rows_in None = None
+rows_in (Some command) = if bytes_eq command.0 (codes "view") then Some command.1 else None
+
+-- the matches of `replay`, if that is the command
+abbrev pub replay_rows_in : Option (Text × List Row) → Option (List Row)
+replay_rows_in None = None
+replay_rows_in (Some command) = if bytes_eq command.0 (codes "replay") then Some command.1 else None
+
+-- the matches of `serve`, if that is the command
+abbrev pub serve_rows_in : Option (Text × List Row) → Option (List Row)
+serve_rows_in None = None
+serve_rows_in (Some command) = if bytes_eq command.0 (codes "serve") then Some command.1 else None
+
+-- FILE
+abbrev pub file_in : Option (List Row) → Option Text
+file_in rows = option_and_then (first_of (codes "file")) rows
+
+-- the value of `--payload`
+abbrev pub payload_in : Option (List Row) → Option Text
+payload_in rows = option_and_then (one_of (codes "payload")) rows
+
+-- the flag by the text of its value
+pub record IsFlag (value : Option Text) (flag : Bool) : Type 0 where
+  pub none : value ≡ None → flag ≡ false
+  pub is_true : value ≡ Some (codes "true") → flag ≡ true
+  pub is_false : value ≡ Some (codes "false") → flag ≡ false
+
+-- `serve` is asked for at this address, over this database, for so many turns, with these limits
+pub record AsksToServe (rows : Option (List Row)) (listen : SocketAddrV4) (db : Text) (turns : ℕ) (limits : Limits) : Type 0 where
+  pub listen_text : Text
+  pub turns_text : Text
+  pub listen_is : value_in (codes "listen") rows ≡ Some listen_text
+  pub address : IsAddress listen_text listen
+  pub db_is : value_in (codes "db") rows ≡ Some db
+  pub turns_is : value_in (codes "turns") rows ≡ Some turns_text
+  pub count : IsCount turns_text turns
+  pub limits_are : AsksForLimits rows limits
+
+-- nothing that `serve` may be given is asked for
+abbrev pub AsksNoServer : Option (List Row) → Type 0
+AsksNoServer rows = (listen : SocketAddrV4) (db : Text) (turns : ℕ) (limits : Limits) → ¬ (AsksToServe rows listen db turns limits)
+
+-- `replay` is asked for, of this file, with these limits
+pub record AsksToReplay (rows : Option (List Row)) (file : Text) (limits : Limits) : Type 0 where
+  pub file_is : file_in rows ≡ Some file
+  pub limits_are : AsksForLimits rows limits
+
+-- nothing that `replay` may be given is asked for
+abbrev pub AsksNoReplay : Option (List Row) → Type 0
+AsksNoReplay rows = (file : Text) (limits : Limits) → ¬ (AsksToReplay rows file limits)
+
+-- these matches of `serve` ask for this, or for nothing
+abbrev pub AskToServe : List Row → Option Action → Type 0
+AskToServe rows None = AsksNoServer (Some rows)
+AskToServe rows (Some (Serve listen db turns limits)) = AsksToServe (Some rows) listen db.now turns limits
+AskToServe rows (Some Vectors) = ⊥
+AskToServe rows (Some (View file payload)) = ⊥
+AskToServe rows (Some (Replay file limits)) = ⊥
+
+-- these matches of `replay` ask for this, or for nothing
+abbrev pub AskToReplay : List Row → Option Action → Type 0
+AskToReplay rows None = AsksNoReplay (Some rows)
+AskToReplay rows (Some (Replay file limits)) = AsksToReplay (Some rows) file.now limits
+AskToReplay rows (Some Vectors) = ⊥
+AskToReplay rows (Some (View file payload)) = ⊥
+AskToReplay rows (Some (Serve listen db turns limits)) = ⊥
+
+-- this command asks for this, or for nothing
+abbrev pub AskFor : Option (Text × List Row) → Option Action → Type 0
+AskFor command None =
+    (file_in (rows_in command) ≡ None) × AsksNoReplay (replay_rows_in command) × (is_vectors command ≡ false)
+    × AsksNoServer (serve_rows_in command)
+AskFor command (Some Vectors) = is_vectors command ≡ true
+AskFor command (Some (View file payload)) =
+    (file_in (rows_in command) ≡ Some file.now) × IsFlag (payload_in (rows_in command)) payload
+AskFor command (Some (Replay file limits)) = AsksToReplay (replay_rows_in command) file.now limits
+AskFor command (Some (Serve listen db turns limits)) = AsksToServe (serve_rows_in command) listen db.now turns limits

@@ -1,0 +1,41 @@
+-- The text of the viewer: what `view` prints of a stream of packets (ours).
+use Rattle.std.specs.Prelude.{ℕ, ◌==◌, Bool, if◌then◌else◌, List, [], ◌∷◌, ◌++◌, length, codes}
+use Rattle.std.specs.List.{flat_map}
+use Rattle.std.specs.Fmt.{decimal}
+use Rattle.mqtt_packet.specs.declared.parts.fault.Fault.{Fault}
+use Rattle.mqtt_packet.specs.declared.parts.fault.Fault.TheVariants.{Malformed, Protocol, TooLarge, Version, Memory}
+use Rattle.mqtt_packet.specs.stream.Stream.{Item, Ending, short_at, fault_at}
+use Rattle.mqtt_cli.specs.viewer.PacketText.{packet_text}
+
+abbrev pub line_feed : ℕ
+line_feed = 0x0a
+
+-- the line of a packet
+abbrev pub line : Bool → Item → List ℕ
+line with_payload i = decimal i.place ++ packet_text with_payload i.size i.packet ++ line_feed ∷ []
+
+-- a fault, which is never want of memory
+abbrev pub fault_text : Fault → List ℕ
+fault_text Malformed = codes " fault Malformed"
+fault_text Protocol = codes " fault Protocol"
+fault_text TooLarge = codes " fault TooLarge"
+fault_text Version = codes " fault Version"
+fault_text Memory = []
+
+-- the line of a fault at this place
+abbrev pub fault_line : ℕ → Fault → List ℕ
+fault_line place fault = decimal place ++ fault_text fault ++ line_feed ∷ []
+
+-- the line of the bytes that are left at this place, fewer than a packet has
+abbrev pub rest_line : ℕ → ℕ → List ℕ
+rest_line place left = if left == 0 then [] else decimal place ++ codes " short" ++ line_feed ∷ []
+
+-- ---- the text
+
+abbrev pub last_line : Ending → List ℕ
+last_line (short_at place left) = rest_line place (length left)
+last_line (fault_at place fault) = fault_line place fault
+
+-- a line for each packet, and one for what ends the stream early
+abbrev pub view_text : Bool → List Item → Ending → List ℕ
+view_text with_payload items ending = flat_map (line with_payload) items ++ last_line ending

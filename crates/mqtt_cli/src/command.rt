@@ -1,0 +1,13 @@
+//! The command line of `mqtt5`, and what its commands do over any reader and writer.
+
+mod limits;
+mod line;
+mod outcome;
+mod program;
+mod values;
+mod words;
+
+pub use self::line::{Action, LineFault};
+pub use self::outcome::{DONE, FAILED, FAULTY, Outcome, USAGE, ending};
+pub use self::program::{perform, run};
+pub use self::words::action;

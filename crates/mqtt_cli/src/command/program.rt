@@ -1,0 +1,144 @@
+//! The program over a runtime: its arguments, its files and its streams (ours).
+
+ghost use Rattle.std.specs.Prelude.{◌≡◌, map};
+ghost use Rattle.mqtt_cli.specs.command.Line.{command_of};
+ghost use Rattle.mqtt_cli.specs.command.Running.{Answers, AnswersWords, IsOfView, Writes};
+ghost use Rattle.mqtt_rules.specs.step.Laws.{AreWithin};
+
+use crate::command::line::{Action, LineFault};
+use crate::command::outcome::Outcome;
+use crate::command::words::action;
+use crate::viewer::{ViewFault, vectors, view};
+use mqtt_link::ServeFault;
+use mqtt_rules::Limits;
+use mqtt_script::{Played, ReplayFault};
+use std::alloc::{AllocError, Global};
+use std::convert::AsStr;
+use std::io::{self, ErrorKind, Read, Write};
+use std::net::SocketAddrV4;
+use std::{env, fs};
+
+/// Why the process's arguments cannot be had: memory is wanting, or one of them is no text.
+fn no_words(alloc: Global, error: io::Error) -> LineFault {
+    if error.kind() == ErrorKind::OutOfMemory {
+        return LineFault::Memory;
+    }
+    match String::from_str(alloc, "mqtt5: an argument is no text\n") {
+        Ok(text) => LineFault::Usage(text),
+        Err(AllocError) => LineFault::Memory,
+    }
+}
+
+/// Writes the view of what a reader gives.
+fn view_of<I: Read + Drop, W: Write>(
+    alloc: Global,
+    mut reader: I,
+    writer: &mut W,
+    payload: bool,
+) -> Outcome
+    ensures { IsOfView result }
+{
+    match view(alloc, &mut reader, writer, payload) {
+        Ok(status) => Outcome::Done(status),
+        Err(fault) => Outcome::View(fault),
+    }
+}
+
+/// Serves as it was handed in; a function of its own, which asks for this one call.
+fn served<F: Fn(SocketAddrV4, &str, u32, Limits) -> Result<(), ServeFault>>(
+    serve: &F,
+    listen: SocketAddrV4,
+    db: &str,
+    turns: u32,
+    limits: Limits,
+) -> Result<(), ServeFault>
+    requires callable { F.pre serve.now listen db turns limits }
+    ensures { F.post serve.now listen db.entry turns limits result }
+{
+    serve(listen, db, turns, limits)
+}
+
+/// Replays as it was handed in; a function of its own, which asks for this one call.
+fn replayed<G: Fn(&str, Limits) -> Result<Played, ReplayFault>>(
+    replay: &G,
+    file: &str,
+    limits: Limits,
+) -> Result<Played, ReplayFault>
+    requires callable { G.pre replay.now file limits }
+    ensures { G.post replay.now file.entry limits result }
+{
+    replay(file, limits)
+}
+
+/// Does what these words ask for, the first of which names the program. The command line is looked at first, then
+/// the file or the database, then the socket. What files, sockets and standard input hold no contract can say; `view`
+/// and `vectors` say what is written. What serves at an address, over the database at a path, for so many turns, and what
+/// replays the script at a path, each with limits within those of the tables, are handed in: so nothing of the command line
+/// stands on the server or the world.
+pub fn perform<
+    S: AsStr,
+    W: Write,
+    F: Fn(SocketAddrV4, &str, u32, Limits) -> Result<(), ServeFault>,
+    G: Fn(&str, Limits) -> Result<Played, ReplayFault>,
+>(rt: &HostRuntime, words: &[S], writer: &mut W, serve: &F, replay: &G) -> Outcome
+    requires serves { (listen : _) (db : _) (turns : _) (limits : _) → AreWithin limits → F.pre serve.now listen db turns limits }
+    requires replays { (file : _) (limits : _) → AreWithin limits → G.pre replay.now file limits }
+    ensures answers { Answers (λ listen db turns limits ended. (text : _) × (text.now ≡ db) × F.post serve.now listen text turns limits ended)
+        (λ file limits ended. (text : _) × (text.now ≡ file) × G.post replay.now text limits ended)
+        (command_of (map S.text words.now)) result }
+    ensures writes { Writes (command_of (map S.text words.now))
+        (W.contents writer.old) (W.contents writer.new) result }
+{
+    match action(rt.alloc(), words) {
+        Err(fault) => Outcome::Line(fault),
+        Ok(Action::Vectors) => match vectors(rt.alloc(), writer) {
+            Ok(status) => Outcome::Done(status),
+            Err(fault) => Outcome::Vectors(fault),
+        },
+        Ok(
+            Action::Serve {
+                listen,
+                db,
+                turns,
+                limits,
+            },
+        ) => match served(serve, listen, db, turns, limits) {
+            Ok(()) => Outcome::Served,
+            Err(fault) => Outcome::Serve(fault),
+        },
+        Ok(Action::Replay { file, limits }) => match replayed(replay, file, limits) {
+            Ok(played) => Outcome::Replayed(played),
+            Err(fault) => Outcome::Replay(fault),
+        },
+        Ok(Action::View { file: "-", payload }) => {
+            view_of(rt.alloc(), rt.reader(), writer, payload)
+        }
+        Ok(Action::View { file, payload }) => match fs::open(rt, file) {
+            Ok(file) => view_of(rt.alloc(), file, writer, payload),
+            Err(error) if error.kind() == ErrorKind::OutOfMemory => {
+                Outcome::View(ViewFault::Memory)
+            }
+            Err(_) => Outcome::NoFile,
+        },
+    }
+}
+
+/// Does what the process's arguments ask for, and writes it to standard output.
+pub fn run<
+    F: Fn(SocketAddrV4, &str, u32, Limits) -> Result<(), ServeFault>,
+    G: Fn(&str, Limits) -> Result<Played, ReplayFault>,
+>(rt: &HostRuntime, serve: &F, replay: &G) -> Outcome
+    requires serves { (listen : _) (db : _) (turns : _) (limits : _) → AreWithin limits → F.pre serve.now listen db turns limits }
+    requires replays { (file : _) (limits : _) → AreWithin limits → G.pre replay.now file limits }
+    ensures { AnswersWords (λ listen db turns limits ended. (text : _) × (text.now ≡ db) × F.post serve.now listen text turns limits ended)
+        (λ file limits ended. (text : _) × (text.now ≡ file) × G.post replay.now text limits ended) result }
+{
+    let words = match env::args(rt) {
+        Ok(words) => words.collect::<Vec<String>>(rt.alloc()),
+        Err(error) => return Outcome::Line(no_words(rt.alloc(), error)),
+    };
+    let Ok(words) = words else {
+        return Outcome::Line(LineFault::Memory);
+    };
+    perform(rt, words.as_slice(), &mut io::writer(rt), serve, replay)
+}

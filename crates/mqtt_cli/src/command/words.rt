@@ -1,0 +1,222 @@
+//! The words of a command line, as `clap` reads them (ours).
+
+ghost use Rattle.std.specs.Prelude.{◌≡◌, ◌≢◌, None, Some, IfErr, IfOk, false, map};
+ghost use Rattle.clap.specs.Words.{app_of, found_of, kind_of, rows_of, rule_of, subcommand_rows_of};
+ghost use Rattle.clap.specs.declared.builder.command.Command.TheViews.{out-Command as fields_of};
+ghost use Rattle.mqtt_cli.specs.command.Line.{AskFor, AskToReplay, AskToServe, command_of, file_rule, option_rule, payload_rule, program_app, replay_app, serve_app, vectors_app, view_app};
+
+use crate::command::limits::{form_of_wrong, limited, limits_in};
+use crate::command::line::{Action, LineFault};
+use crate::command::values::{address_read, count_read};
+use clap::error::ErrorKind;
+use clap::{Arg, ArgAction, ArgMatches, Command};
+use std::alloc::{AllocError, Global};
+use std::convert::AsStr;
+
+/// What the words of a command line ask for, the first of which names the program. A call for help
+/// is `Usage`, with the help as its text.
+pub fn action<'a, S: AsStr>(alloc: Global, words: &'a [S]) -> Result<Action<'a>, LineFault>
+    ensures ok { IfOk result (λ action. AskFor (command_of (map S.text words.entry.now))
+        (Some action)) }
+    ensures usage { IfErr result (λ fault. fault ≢ LineFault.Memory
+        → AskFor (command_of (map S.text words.entry.now)) None) }
+{
+    let program = program(alloc)?;
+    match program.try_get_matches_from(words) {
+        Ok(matches) => asked(alloc, matches),
+        Err(error) => Err(line_fault(alloc, error)),
+    }
+}
+
+/// What the matches of a command line ask for, which are needed no longer.
+fn asked<'a>(alloc: Global, matches: ArgMatches<'a>) -> Result<Action<'a>, LineFault>
+    ensures ok { IfOk result (λ action. AskFor (subcommand_rows_of matches.entry) (Some action)) }
+    ensures usage { IfErr result (λ fault. fault ≢ LineFault.Memory
+        → AskFor (subcommand_rows_of matches.entry) None) }
+{
+    let asked = action_in(&matches);
+    let form = match matches.subcommand() {
+        Some((_, values)) => form_of_wrong(values),
+        None => "",
+    };
+    drop(matches);
+    match asked {
+        Some(action) => Ok(action),
+        None => Err(bad_value(alloc, form)),
+    }
+}
+
+/// The fault of a command line with a value that isn't of this form.
+fn bad_value(alloc: Global, form: &str) -> LineFault {
+    match String::from_str(alloc, form) {
+        Ok(text) => LineFault::Usage(text),
+        Err(_) => LineFault::Memory,
+    }
+}
+
+/// What the matches of a command line ask for.
+fn action_in<'a>(matches: &ArgMatches<'a>) -> Option<Action<'a>>
+    ensures { AskFor (subcommand_rows_of matches.now) result }
+{
+    let (name, view) = matches.subcommand()?;
+    if name == "vectors" {
+        return Some(Action::Vectors);
+    }
+    if name == "serve" {
+        return serve_in(view);
+    }
+    if name == "replay" {
+        return replay_in(view);
+    }
+    if name != "view" {
+        return None;
+    }
+    let file = view.get_str("file")?;
+    let payload = view.get_flag("payload");
+    Some(Action::View { file, payload })
+}
+
+/// What the matches of `serve` ask for: nothing, if a value isn't of its form.
+fn serve_in<'a>(matches: &ArgMatches<'a>) -> Option<Action<'a>>
+    ensures { AskToServe (rows_of (found_of matches.now)) result }
+{
+    let listen = matches.get_str("listen")?;
+    let db = matches.get_str("db")?;
+    let turns = matches.get_str("turns")?;
+    let listen = address_read(listen)?;
+    let turns = count_read(turns)?;
+    let limits = limits_in(matches)?;
+    Some(Action::Serve {
+        listen,
+        db,
+        turns,
+        limits,
+    })
+}
+
+/// What the matches of `replay` ask for: nothing, if a value isn't of its form.
+fn replay_in<'a>(matches: &ArgMatches<'a>) -> Option<Action<'a>>
+    ensures { AskToReplay (rows_of (found_of matches.now)) result }
+{
+    let file = matches.get_str("file")?;
+    let limits = limits_in(matches)?;
+    Some(Action::Replay { file, limits })
+}
+
+/// The program with its commands.
+fn program<'a>(alloc: Global) -> Result<Command<'a>, AllocError>
+    ensures { IfOk result (λ command. app_of command ≡ program_app) }
+{
+    let view = view_command(alloc)?;
+    let replay = replay_command(alloc)?;
+    let serve = serve_command(alloc)?;
+    Command::new(alloc, "mqtt5")
+        .about("An MQTT 5.0 broker, a viewer of its packets, and scripts that crash it")
+        .subcommand_required(true)
+        .subcommand(view)?
+        .subcommand(replay)?
+        .subcommand(vectors_command(alloc))?
+        .subcommand(serve)
+}
+
+/// `view [--payload] FILE`
+fn view_command<'a>(alloc: Global) -> Result<Command<'a>, AllocError>
+    ensures app { IfOk result (λ command. app_of command ≡ view_app) }
+    ensures local { IfOk result (λ command. (fields_of command).has_globals ≡ false) }
+{
+    Command::new(alloc, "view")
+        .about("Writes a line for each packet of FILE")
+        .arg(payload_arg(alloc))?
+        .arg(file_arg(alloc, "The bytes to view; - is standard input"))
+}
+
+/// `replay FILE`, with the options for limits.
+fn replay_command<'a>(alloc: Global) -> Result<Command<'a>, AllocError>
+    ensures app { IfOk result (λ command. app_of command ≡ replay_app) }
+    ensures local { IfOk result (λ command. (fields_of command).has_globals ≡ false) }
+{
+    let command = Command::new(alloc, "replay")
+        .about("Runs the events of FILE in a world of clients, lost lines and stops")
+        .arg(file_arg(alloc, "The script; - is standard input"))?;
+    limited(alloc, command)
+}
+
+/// `--payload`
+fn payload_arg<'a>(alloc: Global) -> Arg<'a>
+    ensures rule { rule_of result ≡ payload_rule }
+    ensures local { result.global ≡ false }
+{
+    Arg::new(alloc, "payload")
+        .long("payload")
+        .help("Show the first 16 payload bytes of each PUBLISH")
+        .action(ArgAction::SetTrue)
+}
+
+/// FILE
+fn file_arg<'a>(alloc: Global, help: &'a str) -> Arg<'a>
+    ensures rule { rule_of result ≡ file_rule }
+    ensures local { result.global ≡ false }
+{
+    Arg::new(alloc, "file")
+        .value_name("FILE")
+        .help(help)
+        .required(true)
+}
+
+/// `vectors`
+fn vectors_command<'a>(alloc: Global) -> Command<'a>
+    ensures app { app_of result ≡ vectors_app }
+    ensures local { (fields_of result).has_globals ≡ false }
+{
+    Command::new(alloc, "vectors").about("Checks frames whose meaning is known")
+}
+
+/// `serve --listen ADDR --db FILE --turns N`, with the options for limits.
+fn serve_command<'a>(alloc: Global) -> Result<Command<'a>, AllocError>
+    ensures app { IfOk result (λ command. app_of command ≡ serve_app) }
+    ensures local { IfOk result (λ command. (fields_of command).has_globals ≡ false) }
+{
+    let command = Command::new(alloc, "serve")
+        .about("Serves MQTT 5.0 clients over a database on disk")
+        .arg(option_arg(
+            alloc,
+            "listen",
+            "ADDR",
+            "An IPv4 address and a port, as 127.0.0.1:1883",
+        ))?
+        .arg(option_arg(
+            alloc,
+            "db",
+            "FILE",
+            "The database, made where there is none",
+        ))?
+        .arg(option_arg(
+            alloc,
+            "turns",
+            "N",
+            "How many turns to run, from 1 to 4294967295",
+        ))?;
+    limited(alloc, command)
+}
+
+/// `--NAME VALUE`, which has to be there.
+fn option_arg<'a>(alloc: Global, name: &'a str, value: &'a str, help: &'a str) -> Arg<'a>
+    ensures rule { rule_of result ≡ option_rule name.entry.now }
+    ensures local { result.global ≡ false }
+{
+    let arg = Arg::new(alloc, name).long(name).value_name(value);
+    arg.help(help).required(true)
+}
+
+/// The fault of a command line, with the text that `clap` gives it.
+fn line_fault(alloc: Global, error: clap::Error) -> LineFault
+    ensures { kind_of error ≡ ErrorKind.OutOfMemory → result ≡ LineFault.Memory }
+{
+    if error.kind() == ErrorKind::OutOfMemory {
+        return LineFault::Memory;
+    }
+    match error.to_string(alloc) {
+        Ok(text) => LineFault::Usage(text),
+        Err(_) => LineFault::Memory,
+    }
+}

@@ -1,0 +1,14 @@
+//! The view of a stream of packets, and the report on the vectors, over any reader and writer (ours).
+
+mod laws;
+mod packet_text;
+mod text;
+mod vectors_checker;
+mod vectors_report;
+mod vectors_table;
+mod viewer;
+
+pub use self::laws::one_view;
+pub use self::vectors_checker::{VectorsFault, is_right, vectors};
+pub use self::vectors_table::{Gives, Vector, known_vectors};
+pub use self::viewer::{Status, ViewFault, view};

@@ -1,0 +1,8 @@
+//! What no clause of mqtt_cli says: printed lines, failing streams, and each call once.
+
+mod failures;
+mod files;
+mod limits;
+mod lines;
+mod streams;
+mod words;

@@ -1,6 +1,0 @@
-use Rattle.std.proofs.Common.{◌≡◌, ◌++◌, map, take, drop}
-use Rattle.mqtt_flow.specs.Queue.{marked}
-use Rattle.mqtt_flow.proofs.change.mark_all.Given as goal
-
-abbrev pub invariant-loop-entry : goal.invariant-loop-entry
-invariant-loop-entry l = l.entries ≡ map (marked l.turn) (take l.entry-index l.fn.entries) ++ drop l.entry-index l.fn.entries

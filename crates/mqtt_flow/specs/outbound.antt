@@ -1,0 +1,9 @@
+pub mod Outbound
+pub mod OutboundCourse
+pub mod OutboundWorld
+pub mod Outflow
+pub mod Pacing
+pub mod Pumping
+pub mod Queue
+pub mod Receiver
+pub mod Stillness

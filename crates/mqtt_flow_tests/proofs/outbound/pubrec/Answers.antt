@@ -1,6 +1,0 @@
-use Rattle.std.proofs.Common.{rules}
-use Rattle.mqtt_flow.proofs.outbound.Room.{pubrec_fits}
-use Rattle.mqtt_flow_tests.proofs.outbound.pubrec.Goals as goal
-
-pub pubrec-requires : goal.pubrec-requires
-pubrec-requires c = search (rules, pubrec_fits)

@@ -1,6 +1,0 @@
-use Rattle.std.proofs.Common.{rules}
-use Rattle.mqtt_flow.proofs.outbound.Room.{pump_fits}
-use Rattle.mqtt_flow_tests.proofs.outbound.pump.Goals as goal
-
-pub pump-requires : goal.pump-requires
-pump-requires c = search (rules, pump_fits)

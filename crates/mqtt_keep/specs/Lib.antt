@@ -1,0 +1,5 @@
+pub mod contents
+pub mod lawful
+pub mod payloads
+pub mod keeping
+pub mod by_name

@@ -1,0 +1,10 @@
+//! What any store of records promises, and the stores in memory (3.3, 4.1).
+
+pub mod faulty;
+mod keep;
+mod loading;
+mod memory;
+
+pub use self::keep::{Keep, KeepError};
+pub use self::loading::slim_if_lawful;
+pub use self::memory::MemKeep;

@@ -1,0 +1,10 @@
+use Rattle.mqtt_packet.specs.declared.parts.fault.Fault.TheVariants.{Malformed}
+use Rattle.mqtt_packet.specs.subscribe.Filters.{filter_at}
+use Rattle.mqtt_packet.proofs.subscribe_lemmas.ItemLemmas.{no_items, none_of}
+use Rattle.mqtt_packet.proofs.subscribe.filters.Filters.new.Goals as goal
+
+pub invariant_of-result : goal.invariant_of-result
+invariant_of-result c = rw c.new.ensures (no_items Malformed filter_at)
+
+pub returns : goal.returns
+returns c = rw c.new.ensures (none_of Malformed filter_at)

@@ -1,7 +1,0 @@
-use Rattle.std.proofs.Common.{drop}
-use Rattle.mqtt_records.specs.Saying.{AllPassOn}
-use Rattle.mqtt_records.proofs.change.all_pass_on.Given as goal
-
--- who has the rest has the whole
-abbrev pub invariant-loop-change : goal.invariant-loop-change
-invariant-loop-change l = AllPassOn (drop l.change-index l.changes) → AllPassOn l.changes

@@ -1,6 +1,0 @@
-use Rattle.std.proofs.Common.{◌≡◌}
-use Rattle.mqtt_records.specs.Records.{changed_all}
-use Rattle.mqtt_records.proofs.records.Records.change_all.Given as goal
-
-abbrev pub invariant-loop-change : goal.invariant-loop-change
-invariant-loop-change l = changed_all l.change-iterator.rest.items l.self ≡ changed_all l.fn.changes.items l.fn.self

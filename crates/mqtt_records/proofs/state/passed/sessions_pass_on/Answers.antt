@@ -1,0 +1,16 @@
+use Rattle.std.proofs.Common.{◌≡◌, suc, ◌+◌, ◌∷◌, ◌∙◌, drop, ap, sym, subst, arith, drop-cons}
+use Rattle.std.specs.List.{AllByRecursion}
+use Rattle.mqtt_records.specs.declared.state.session.Session.{Session}
+use Rattle.mqtt_records.specs.messages.Queue.{CopyRow}
+use Rattle.mqtt_records.specs.messages.PassedOn.{IsPassedOn}
+use Rattle.mqtt_records.proofs.state.passed.sessions_pass_on.Goals as goal
+
+pub loop-session-preserved : goal.loop-session-preserved
+loop-session-preserved c = λ rest.
+    let l = c.loop-session in
+    let xs = c.args.sessions.now in
+    let next : l.session-index + 1 ≡ suc l.session-index = omega arith in
+    let from = drop-cons xs l.session-index c.session-item.result c.loop-session-test.true
+    ∙ ap (λ (x : Session). x ∷ drop (suc l.session-index) xs) (sym c.session-item.is)
+    ∙ ap (λ n. c.session-item.result ∷ drop n xs) (sym next) in
+    l.invariant (subst (AllByRecursion (λ (s : Session). AllByRecursion (λ (e : CopyRow). IsPassedOn e.copy.content.properties) s.queue)) (sym from) (c.session_passes_on.ensures, rest))

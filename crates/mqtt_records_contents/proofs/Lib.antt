@@ -1,6 +1,0 @@
-mod Lists
-mod Said
-mod Neighbours
-mod Listed
-pub mod Shared
-pub mod Nothing

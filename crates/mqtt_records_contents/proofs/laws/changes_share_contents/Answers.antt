@@ -1,5 +1,0 @@
-use Rattle.mqtt_records_contents.proofs.Said.{shared_after_all}
-use Rattle.mqtt_records_contents.proofs.laws.changes_share_contents.Goals as goal
-
-pub returns : goal.returns
-returns c changes r shared fits = shared_after_all changes r shared fits

@@ -1,7 +1,0 @@
--- The keys of the copies that were passed stand in the list.
-use Rattle.std.proofs.Common.{◌≡◌, map, take}
-use Rattle.mqtt_records_lawful.specs.CopyKeys.{key_of, value_of}
-use Rattle.mqtt_records_lawful.proofs.queue.keys.Given as goal
-
-abbrev pub invariant-loop-row : goal.invariant-loop-row
-invariant-loop-row l = map value_of l.keys.items ≡ map (λ row. key_of row.copy.id) (take l.row-index l.queue)

@@ -1,5 +1,0 @@
-use Rattle.mqtt_records_lawful.proofs.subscription.are_subscriptions.Goals as goal
-
-pub returns-else-branch : goal.returns-else-branch
-returns-else-branch c =
-    (λ t. absurd (let no = c.if-branch.false in cc), λ h. c.in_ok-are_named_apart.ensures.1 (rw c.as_slice-rows.ensures.rows h.filters))

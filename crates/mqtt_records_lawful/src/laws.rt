@@ -1,8 +1,0 @@
-//! Laws of lawful records.
-ghost use Rattle.mqtt_records.specs.Records.{nothing};
-ghost use Rattle.mqtt_records_lawful.specs.Lawful.{IsLawful};
-
-/// A store may be opened before the first session.
-pub fn nothing_is_lawful()
-    ensures { IsLawful nothing }
-{}

@@ -1,7 +1,0 @@
--- The bytes that are left make of the digest so far that of the whole.
-use Rattle.std.proofs.Common.{◌≡◌, ◌<◌, ◌^◌, drop}
-use Rattle.mqtt_records_names.specs.Digests.{digest_from, digest_of}
-use Rattle.mqtt_records_names.proofs.digest.digest_of.Given as goal
-
-abbrev pub invariant-loop-byte : goal.invariant-loop-byte
-invariant-loop-byte l = (l.digest < 2 ^ 32) × (digest_from l.digest (drop l.byte-index l.bytes) ≡ digest_of l.client)

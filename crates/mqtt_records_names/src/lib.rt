@@ -1,8 +1,0 @@
-//! What is kept, with the sessions found by their client identifiers (MQTT 5.0, 3.1.3.1, 4.1).
-#![tactic(auto)]
-
-mod digest;
-mod named;
-mod slim;
-
-pub use named::NamedRecords;

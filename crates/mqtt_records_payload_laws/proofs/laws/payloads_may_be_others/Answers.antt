@@ -1,8 +1,0 @@
-use Rattle.mqtt_records_payload_laws.proofs.Others.{lawful_same, slim_same}
-use Rattle.mqtt_records_payload_laws.proofs.laws.payloads_may_be_others.Goals as goal
-
-pub returns-clause-slim : goal.returns-clause-slim
-returns-clause-slim c = slim_same
-
-pub returns-clause-lawful : goal.returns-clause-lawful
-returns-clause-lawful c = lawful_same

@@ -1,7 +1,0 @@
-//! The law that neither the judge of records nor slim rows look at what a waiting copy's payload says (MQTT 5.0, 3.3.3,
-//! 4.1).
-#![tactic(auto)]
-
-mod laws;
-
-pub use laws::payloads_may_be_others;

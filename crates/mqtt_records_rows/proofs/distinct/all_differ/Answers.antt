@@ -1,8 +1,0 @@
-use Rattle.mqtt_records_rows.proofs.DifferLemmas.{numbers_differ}
-use Rattle.mqtt_records_rows.proofs.distinct.all_differ.Goals as goal
-
-pub returns : goal.returns
-returns c =
-    let says = c.are_distinct.ensures in
-    let same = numbers_differ c.args.numbers.now in
-    (λ t. same.0 (says.0 t), λ d. says.1 (same.1 d))

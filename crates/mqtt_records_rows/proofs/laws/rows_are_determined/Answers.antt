@@ -1,5 +1,0 @@
-use Rattle.mqtt_records_rows.proofs.LookUps.{same_rows}
-use Rattle.mqtt_records_rows.proofs.laws.rows_are_determined.Goals as goal
-
-pub returns : goal.returns
-returns g c = same_rows g.R.Row.key_of

@@ -1,0 +1,47 @@
+-- Why a replay ends for its store (MQTT 5.0, 4.1).
+use Rattle.std.specs.Prelude.{◌⊎◌, ⊤, ℕ}
+use Rattle.mqtt_keep.specs.lawful.Lawful.{IsLawful}
+use Rattle.mqtt_keep.specs.declared.keeping.keep.Keep.{Ghosts}
+use Rattle.mqtt_records.specs.declared.state.records.Records.{Records}
+use Rattle.mqtt_rules.specs.step.State.{Broker}
+use Rattle.mqtt_rules.specs.step.Step.{Call, SpentOpening, SpentStep}
+use Rattle.mqtt_rules.specs.declared.step.Limits.{Limits}
+use Rattle.mqtt_script.specs.declared.replay_fault.ReplayFault.{ReplayFault}
+use Rattle.mqtt_script.specs.declared.replay_fault.ReplayFault.TheVariants.{Read, Write, Memory, Store}
+use Rattle.mqtt_world_ends.specs.declared.peers.told.RunFault.{RunFault}
+use Rattle.mqtt_world_ends.specs.declared.peers.told.RunFault.TheVariants as fault
+use Rattle.mqtt_world.specs.scene.Halting.{IsStoreDue, IsUnopened}
+use Rattle.mqtt_world.specs.world.Worlds.{Lasting, Starts}
+
+-- as what a world ends that does not begin
+abbrev pub ends_as : RunFault → ReplayFault
+ends_as fault.Memory = Memory
+ends_as fault.Store = Store
+ends_as (fault.BadEvent place) = Store
+
+-- ---- over a store, by what it promises alone, whichever it is
+
+pub data HasStoreCause {K : Type 0} (g : Ghosts K) (limits : Limits) (keep : K) : Type 0 where
+  -- the broker's opening on what is stored was refused, and not for want of memory
+  not_begun : IsUnopened g limits 0 keep → HasStoreCause g limits keep
+  -- the world began, and in its run there was a cause that a world tells
+  in_its_run : (w : Lasting K) → Starts g limits keep w → IsStoreDue g → HasStoreCause g limits keep
+
+abbrev pub IsReplayDue : {K : Type 0} → Ghosts K → Limits → K → ReplayFault → Type 0
+IsReplayDue g limits keep Read = ⊤
+IsReplayDue g limits keep Write = ⊤
+IsReplayDue g limits keep Memory = ⊤
+IsReplayDue g limits keep Store = HasStoreCause g limits keep
+
+-- ---- from nothing stored, in memory: no failure is counted there, and its broker is opened; so what is left is that a call
+-- needs a number above 2^62, or that a broker is not opened again, for what its records are
+
+pub data HasNumberCause : Type 0 where
+  call_spends : (limits : Limits) (b : Broker) (now : ℕ) (call : Call) → SpentStep limits b now call → HasNumberCause
+  none_opens : (limits : Limits) (r : Records) (now : ℕ) → (IsLawful r → ⊥) ⊎ SpentOpening limits r now → HasNumberCause
+
+abbrev pub IsNumberDue : ReplayFault → Type 0
+IsNumberDue Read = ⊤
+IsNumberDue Write = ⊤
+IsNumberDue Memory = ⊤
+IsNumberDue Store = HasNumberCause

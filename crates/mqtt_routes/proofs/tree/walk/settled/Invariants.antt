@@ -1,0 +1,11 @@
+-- What was found, and what is found in the runs to come, is what is found in all.
+use Rattle.std.proofs.Common.{◌≡◌, ◌+◌, ℕ, drop, nat_eq, count_by}
+use Rattle.mqtt_routes.specs.tree.Tree.{AreRuns, found_in_all, levels_behind}
+use Rattle.mqtt_routes.proofs.tree.walk.settled.Given as goal
+
+abbrev pub invariant-loop-run : goal.invariant-loop-run
+invariant-loop-run g l = record {
+  runs : AreRuns (g.F.Filters.texts l.filters) l.left.items;
+  found : (i : ℕ) → (count_by (nat_eq i) l.found.items + found_in_all (g.F.Filters.texts l.filters) (levels_behind l.at l.name) i l.left.items) + found_in_all (g.F.Filters.texts l.filters) (levels_behind l.at l.name) i (drop l.run-index l.runs)
+      ≡ count_by (nat_eq i) l.fn.found.items + found_in_all (g.F.Filters.texts l.filters) (levels_behind l.at l.name) i l.runs;
+}

@@ -1,9 +1,0 @@
--- What was found, and what is found in the runs to come, is what is found in all.
-use Rattle.std.proofs.Common.{◌≡◌, ◌+◌, [], ℕ, drop, nat_eq, count_by}
-use Rattle.mqtt_routes_tree.specs.Tree.{found_in_all}
-use Rattle.mqtt_routes_tree.proofs.walk.end.Given as goal
-
-abbrev pub invariant-loop-run : goal.invariant-loop-run
-invariant-loop-run g l =
-    (i : ℕ) → count_by (nat_eq i) l.found.items + found_in_all (g.F.Filters.texts l.filters) [] i (drop l.run-index l.runs)
-    ≡ count_by (nat_eq i) l.fn.found.items + found_in_all (g.F.Filters.texts l.filters) [] i l.runs

@@ -1,7 +1,0 @@
-//! The numbers of the faults, which never change.
-use mqtt_routes_tree::TreeFault;
-
-#[test]
-fn each_fault_has_its_number(rt: HostRuntime) {
-    assert_eq!(rt; TreeFault::Memory as u8, 1);
-}

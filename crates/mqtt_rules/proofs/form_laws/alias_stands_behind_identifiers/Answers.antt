@@ -1,5 +1,0 @@
-use Rattle.mqtt_rules.proofs.forms.FormBlocks.{alias_between}
-use Rattle.mqtt_rules.proofs.form_laws.alias_stands_behind_identifiers.Goals as goal
-
-pub returns : goal.returns
-returns c = alias_between

@@ -1,8 +1,0 @@
-use Rattle.mqtt_rules.proofs.forms.FormSizes.{form_by_sizes, copy_by_sizes}
-use Rattle.mqtt_rules.proofs.form_laws.forms_are_found_by_size.Goals as goal
-
-pub returns-clause-packet : goal.returns-clause-packet
-returns-clause-packet c = form_by_sizes
-
-pub returns-clause-copy : goal.returns-clause-copy
-returns-clause-copy c = copy_by_sizes

@@ -1,8 +1,0 @@
-use Rattle.mqtt_rules_alike_laws.proofs.Steps.{turns_same, own_turns}
-use Rattle.mqtt_rules_alike_laws.proofs.alike_laws.alike_pumps.Goals as goal
-
-pub returns-clause-turns : goal.returns-clause-turns
-returns-clause-turns c = turns_same
-
-pub returns-clause-sends : goal.returns-clause-sends
-returns-clause-sends c = own_turns

@@ -1,6 +1,0 @@
-//! The law that states which are alike but for what their waiting copies say do alike (MQTT 5.0, 3.3, 4.6).
-#![tactic(auto)]
-
-mod alike_laws;
-
-pub use alike_laws::{alike_pumps, alike_steps, slim_rows_are_alike};

@@ -1,5 +1,0 @@
-use Rattle.mqtt_rules_filling_laws.proofs.Steps.{call_tells}
-use Rattle.mqtt_rules_filling_laws.proofs.filling_laws.calls_but_pumps_tell_the_same.Goals as goal
-
-pub returns : goal.returns
-returns c = record { told = call_tells }

@@ -1,5 +1,0 @@
-use Rattle.mqtt_rules_fitting_laws.proofs.Untold.{plain_offers, plain_pumps}
-use Rattle.mqtt_rules_fitting_laws.proofs.laws.who_was_told_nothing_is_sent_whole_topics.Goals as goal
-
-pub returns : goal.returns
-returns c = record { pumps = plain_pumps; offers = plain_offers }

@@ -1,8 +1,0 @@
-use Rattle.mqtt_rules_spelling_laws.proofs.Steps.{bytes_tell, step_spelled}
-use Rattle.mqtt_rules_spelling_laws.proofs.laws.what_goes_out_has_a_spelling.Goals as goal
-
-pub returns-clause-step : goal.returns-clause-step
-returns-clause-step c = step_spelled
-
-pub returns-clause-fault : goal.returns-clause-fault
-returns-clause-fault c = bytes_tell

@@ -1,8 +1,0 @@
-use Rattle.mqtt_rules_whole_laws.proofs.WholePumps.{pump_fits, whole_pump}
-use Rattle.mqtt_rules_whole_laws.proofs.laws.a_pump_in_forms_is_a_pump.Goals as goal
-
-pub returns-clause-forms : goal.returns-clause-forms
-returns-clause-forms c = whole_pump
-
-pub returns-clause-sizes : goal.returns-clause-sizes
-returns-clause-sizes c = pump_fits

@@ -1,6 +1,0 @@
--- By induction over the events.
-use Rattle.mqtt_script_laws.proofs.Scripts.{runs_by_turns}
-use Rattle.mqtt_script_laws.proofs.laws.a_script_runs_by_turns.Goals as goal
-
-pub returns : goal.returns
-returns c = record { is = runs_by_turns }

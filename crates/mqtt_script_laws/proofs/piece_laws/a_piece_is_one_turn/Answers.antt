@@ -1,9 +1,0 @@
--- By what its bytes ask for.
-use Rattle.mqtt_script_laws.proofs.Comings.{piece_first, piece_there}
-use Rattle.mqtt_script_laws.proofs.piece_laws.a_piece_is_one_turn.Goals as goal
-
-pub returns-clause-there : goal.returns-clause-there
-returns-clause-there c = piece_there
-
-pub returns-clause-first : goal.returns-clause-first
-returns-clause-first c = piece_first

@@ -1,0 +1,3 @@
+pub mod Announcing
+pub mod Clock
+pub mod Database

@@ -1,0 +1,194 @@
+//! The server: turns over sockets and a database (MQTT 5.0, 4.2).
+ghost use Rattle.std.specs.Prelude.{◌≡◌, ◌≢◌, [], codes, OnOk, IfOk, IfErr};
+ghost use Rattle.std.specs.Io.KnownBytes.{Appends, Keeps};
+ghost use Rattle.sqlite.specs.WalFiles.{image_at};
+ghost use Rattle.mqtt_rules.specs.step.Laws.{AreWithin};
+ghost use Rattle.mqtt_serve.specs.turns.Turns.{Begins, Runs, RunsAlone};
+ghost use Rattle.mqtt_serve.specs.serving.Announcing.{Announces, done, listening};
+ghost use Rattle.mqtt_serve.specs.serving.Database.{RunsOnDatabase, RunsOnFiles};
+
+use crate::serving::clock::{SteadyClock, moment};
+use crate::serving::poll_link::PollLink;
+use crate::serving::store::{
+    close_database, open_database, open_engine, stopped_by, store_over, stored_moment,
+};
+use crate::turns::{Links, run_turns};
+use mqtt_broker::Engine;
+use mqtt_keep::Keep;
+use mqtt_link::ServeFault;
+use mqtt_rules::Limits;
+use mqtt_store::SqlKeep;
+use sqlite::{Alter, Connection, FileFrom, FileStore, Start};
+use std::io;
+use std::io::{ErrorKind, Write};
+use std::net::SocketAddr;
+
+/// What a socket that did not open is to the server.
+fn socket_fault(error: &io::Error) -> ServeFault {
+    if error.kind() == ErrorKind::OutOfMemory {
+        ServeFault::Memory
+    } else {
+        ServeFault::Socket
+    }
+}
+
+/// Listens at an address.
+fn listen_at(rt: &HostRuntime, address: SocketAddr) -> Result<PollLink, ServeFault> {
+    match PollLink::bind(rt, rt.alloc(), address) {
+        Ok(link) => Ok(link),
+        Err(error) => Err(socket_fault(&error)),
+    }
+}
+
+/// The address at which it listens, with its port.
+fn address_of(link: &PollLink) -> Result<SocketAddr, ServeFault> {
+    match link.address() {
+        Ok(address) => Ok(address),
+        Err(error) => Err(socket_fault(&error)),
+    }
+}
+
+/// A link without connections.
+fn links_of(rt: &HostRuntime, link: PollLink) -> Result<Links<PollLink>, ServeFault>
+    ensures ok { IfOk result (λ links. links.wires ≡ []) }
+    ensures fault { IfErr result (λ fault. fault ≡ ServeFault.Memory) }
+{
+    match Links::new(rt.alloc(), link) {
+        Ok(links) => Ok(links),
+        Err(_) => Err(ServeFault::Memory),
+    }
+}
+
+/// Sends what was written on at once, so that a program that waits for the line sees it.
+fn flush<W: Write>(writer: &mut W) -> Result<(), ServeFault>
+    ensures same { Keeps (W.contents writer.old) (W.contents writer.new) }
+    ensures fault { IfErr result (λ fault. fault ≡ ServeFault.Write) }
+{
+    match writer.flush() {
+        Ok(()) => Ok(()),
+        Err(_) => Err(ServeFault::Write),
+    }
+}
+
+/// Writes the line that tells an address.
+fn write_listening<W: Write>(writer: &mut W, address: SocketAddr) -> Result<(), ServeFault>
+    ensures ok { OnOk result (Appends (W.contents writer.old) (W.contents writer.new) (listening address)) }
+    ensures fault { IfErr result (λ fault. fault ≡ ServeFault.Write) }
+{
+    match writeln!(writer, "listening {address}") {
+        Ok(()) => flush(writer),
+        Err(_) => Err(ServeFault::Write),
+    }
+}
+
+/// Writes the line that tells the end.
+fn write_done<W: Write>(writer: &mut W) -> Result<(), ServeFault>
+    ensures ok { OnOk result (Appends (W.contents writer.old) (W.contents writer.new) done) }
+    ensures fault { IfErr result (λ fault. fault ≡ ServeFault.Write) }
+{
+    match writer.write_all(b"done\n") {
+        Ok(()) => flush(writer),
+        Err(_) => Err(ServeFault::Write),
+    }
+}
+
+/// Listens, tells where, and runs turns from a moment on. A fault of the socket comes before anything is written.
+fn serve_engine<K: Keep, W: Write>(
+    rt: &HostRuntime,
+    listen: SocketAddr,
+    engine: &mut Engine<K>,
+    turns: u32,
+    begin: u64,
+    writer: &mut W,
+) -> Result<(), ServeFault>
+    ensures ok { OnOk result (Announces (W.contents writer.old) (W.contents writer.new) []) }
+    ensures ran { OnOk result (RunsAlone K.Keep begin turns engine.old engine.new) }
+    ensures socket { IfErr result (λ fault. fault ≡ ServeFault.Socket
+        → Keeps (W.contents writer.old) (W.contents writer.new)) }
+{
+    let link = listen_at(rt, listen)?;
+    let address = address_of(&link)?;
+    write_listening(writer, address)?;
+    let mut links = links_of(rt, link)?;
+    let mut timer = SteadyClock::new(rt, begin);
+    match run_turns(&mut links, engine, &mut timer, turns, begin) {
+        Ok(()) => Ok(()),
+        Err(error) => Err(stopped_by(error)),
+    }
+}
+
+/// Serves at an address, over any store, for so many turns from a moment on, and gives the store back (4.1, 4.2): the broker
+/// begins with what the store holds, with these limits, then it listens, and writes `listening` and the address. `Write` (2),
+/// `Memory` (3), `Store` (4) and `Socket` (5), if nothing was written.
+pub fn serve_over<K: Keep, W: Write>(
+    rt: &HostRuntime,
+    listen: SocketAddr,
+    keep: K,
+    begin: u64,
+    turns: u32,
+    writer: &mut W,
+    limits: Limits,
+) -> Result<K, ServeFault>
+    requires { AreWithin limits }
+    ensures ok { OnOk result (Announces (W.contents writer.old) (W.contents writer.new) []) }
+    ensures ran { IfOk result (λ given. Runs K.Keep limits begin turns keep given) }
+    ensures order { IfErr result (λ fault. fault ≡ ServeFault.Socket → (start : _) × Begins K.Keep limits begin keep start) }
+    ensures socket { IfErr result (λ fault. fault ≡ ServeFault.Socket
+        → Keeps (W.contents writer.old) (W.contents writer.new)) }
+{
+    let mut engine = open_engine(rt, keep, begin, limits)?;
+    let ran = serve_engine(rt, listen, &mut engine, turns, begin, writer);
+    let keep = engine.close();
+    match ran {
+        Ok(()) => Ok(keep),
+        Err(fault) => Err(fault),
+    }
+}
+
+/// Serves over the database of a connection, which it gives back, from the later of the moment that it stored last and that of
+/// the wall clock.
+fn serve_database<S: Alter + Drop, W: Write>(
+    rt: &HostRuntime,
+    listen: SocketAddr,
+    mut conn: Connection<S>,
+    turns: u32,
+    writer: &mut W,
+    limits: Limits,
+) -> Result<Connection<S>, ServeFault>
+    requires { AreWithin limits }
+    ensures ok { OnOk result (Announces (W.contents writer.old) (W.contents writer.new) []) }
+    ensures ran { IfOk result (λ given. RunsOnDatabase S.Store ⟦<SqlKeep<S> as Keep>⟧ (λ keep. keep.conn) limits turns conn given) }
+    ensures socket { IfErr result (λ fault. fault ≡ ServeFault.Socket
+        → Keeps (W.contents writer.old) (W.contents writer.new)) }
+{
+    let begin = moment(rt, stored_moment(&mut conn));
+    let keep = store_over(rt.alloc(), conn)?;
+    let keep = serve_over(rt, listen, keep, begin, turns, writer, limits)?;
+    Ok(keep.into_inner())
+}
+
+/// Serves MQTT 5.0 at an address, over the database in the file at a path, for so many turns, with these limits (4.1, 4.2): it
+/// writes `listening` and the address, with the port that was bound, and at the end `done`. The database is opened first, then
+/// the socket. `S` stands for what the database's files held: `main` passes `Unknown`. `Write` (2), `Memory` (3), `Store` (4),
+/// if `:memory:` was asked for too, and `Socket` (5), if nothing was written.
+pub fn serve<W: Write, S: Start>(
+    rt: &HostRuntime,
+    listen: SocketAddr,
+    db: &str,
+    turns: u32,
+    writer: &mut W,
+    limits: Limits,
+    start: S,
+) -> Result<(), ServeFault>
+    requires { AreWithin limits }
+    ensures ok { OnOk result (Announces (W.contents writer.old) (W.contents writer.new) done) }
+    ensures ran { OnOk result (RunsOnFiles ⟦<SqlKeep<FileStore<FileFrom<S>>> as Keep>⟧ (λ keep. keep.conn) (image_at S.Start) limits turns) }
+    ensures no_file { db.now ≡ codes ":memory:" → result ≡ Err ServeFault.Store }
+    ensures socket { IfErr result (λ fault. fault ≡ ServeFault.Socket
+        → Keeps (W.contents writer.old) (W.contents writer.new)) }
+{
+    let conn = open_database(rt, db, start)?;
+    let conn = serve_database(rt, listen, conn, turns, writer, limits)?;
+    close_database(conn)?;
+    write_done(writer)
+}

@@ -1,0 +1,201 @@
+//! A connection: its line of the broker, what waits to go out on it, and what becomes of it (MQTT 5.0, 4.2).
+ghost use Rattle.std.specs.Prelude.{◌≡◌, ◌≤◌, ◌++◌, [], ℕ, false, length, take, OnOk, IfErr};
+ghost use Rattle.mqtt_serve.specs.turns.Wires.{FindsNoRoom, Reads, Hears, WritesAnd, WritesLast, bytes_to, closing, is_standing, is_lost, is_closed, may_send};
+
+use bytes::Bytes;
+use mqtt_link::{Got, Link, Waiting, WaitingFault};
+use std::alloc::Global;
+use std::marker::Model;
+
+/// What becomes of a connection.
+#[derive(Clone, Copy, Debug, PartialEq, Eq)]
+pub enum Fate {
+    /// Its line is linked.
+    Stands,
+    /// It is lost, and the broker is to be told.
+    Lost,
+    /// The broker has closed its line: what waits is written once more, and it is dropped.
+    Closed,
+}
+
+/// A connection that the broker has linked.
+#[derive(Drop)]
+pub struct Connection<L: Link> {
+    number: u64,
+    peer: L::Peer,
+    waiting: Waiting,
+    is_clear: bool,
+    fate: Fate,
+}
+
+impl<L: Link> Model for Connection<L> {
+    ghost use Rattle.mqtt_link.specs.Links.{and_then};
+    ghost use Rattle.mqtt_serve.specs.turns.Wires.{Wire};
+
+    ghost Value = { Wire };
+
+    // What was written to it, and then what waits, is what was said to it.
+    ghost view = { λ c. record {
+      number = c.number;
+      reads = L.reads c.peer;
+      room = L.room c.peer;
+      heard = L.was_read c.peer;
+      writes = L.writes c.peer;
+      ended = L.ended c.peer;
+      waits = c.waiting;
+      said = and_then (L.written c.peer) c.waiting;
+      clear = c.is_clear;
+      fate = c.fate;
+    } };
+}
+
+/// Puts the outputs to a line behind what waits on it, up to the first that finds no room: too much would wait (1), or memory
+/// is wanting (2).
+fn push_all(
+    waiting: &mut Waiting,
+    number: u64,
+    outputs: &[(u64, Bytes)],
+) -> Result<(), WaitingFault>
+    ensures all { OnOk result (waiting.new ≡ waiting.old ++ bytes_to number outputs.now) }
+    ensures cut { IfErr result (λ fault. (count : ℕ)
+        × FindsNoRoom number outputs.now count waiting.old fault
+        × (waiting.new ≡ waiting.old ++ bytes_to number (take count outputs.now))) }
+{
+    for (line, bytes) in outputs {
+        if *line == number {
+            waiting.push(bytes)?;
+        }
+    }
+    Ok(())
+}
+
+impl<L: Link> Connection<L> {
+    /// A connection that the broker has linked as a line of this number. Takes no memory.
+    pub fn new(alloc: Global, number: u64, peer: L::Peer) -> Connection<L>
+        ensures number { result.number ≡ number }
+        ensures fate { result.fate ≡ Fate.Stands }
+        ensures silent { (result.waits ≡ []) × (result.clear ≡ false) }
+        ensures read { (result.reads ≡ L.reads peer) × (result.heard ≡ L.was_read peer) }
+        ensures unwritten { (result.writes ≡ L.writes peer) × (result.said ≡ L.written peer) }
+        ensures ended { result.ended ≡ L.ended peer }
+    {
+        Connection {
+            number,
+            peer,
+            waiting: Waiting::new(alloc),
+            is_clear: false,
+            fate: Fate::Stands,
+        }
+    }
+
+    /// The number of its line.
+    pub fn number(&self) -> u64
+        ensures { result ≡ self.now.number }
+    {
+        self.number
+    }
+
+    /// Whether its line is linked.
+    pub fn is_standing(&self) -> bool
+        ensures { result ≡ is_standing self.now.fate }
+    {
+        matches!(self.fate, Fate::Stands)
+    }
+
+    /// Whether the broker sends to it: it stands, and the last write took all that waited.
+    pub fn may_send(&self) -> bool
+        ensures { result ≡ may_send self.now }
+    {
+        self.is_standing() && self.is_clear
+    }
+
+    /// Whether it is lost, and the broker is to be told.
+    pub fn is_lost(&self) -> bool
+        ensures { result ≡ is_lost self.now.fate }
+    {
+        matches!(self.fate, Fate::Lost)
+    }
+
+    /// Whether the broker has closed its line.
+    pub fn is_closed(&self) -> bool
+        ensures { result ≡ is_closed self.now.fate }
+    {
+        matches!(self.fate, Fate::Closed)
+    }
+
+    /// Reads once, if it stands; a read that ends or fails makes it lost. How many bytes came.
+    pub fn read(&mut self, link: &mut L, buffer: &mut [u8]) -> usize
+        ensures bound { result ≤ length buffer.new }
+        ensures reads { Reads self.old.fate (length buffer.new) (take result buffer.new) self.old self.new }
+        ensures same { L.calls link.new ≡ L.calls link.old }
+    {
+        if !self.is_standing() {
+            return 0;
+        }
+        match link.read(&mut self.peer, buffer) {
+            Got::Given(count) => count,
+            Got::Nothing => 0,
+            Got::End | Got::Failure => {
+                self.fate = Fate::Lost;
+                0
+            }
+        }
+    }
+
+    /// Writes once what waits, unless it is lost; a write that ends or fails makes it lost. Whether bytes went out.
+    pub fn write(&mut self, link: &mut L) -> bool
+        ensures writes { WritesAnd result self.old self.new }
+        ensures same { L.calls link.new ≡ L.calls link.old }
+    {
+        if self.is_lost() {
+            return false;
+        }
+        let before = self.waiting.len();
+        if !self.waiting.write(link, &mut self.peer) && self.is_standing() {
+            self.fate = Fate::Lost;
+        }
+        if before > 0 {
+            self.is_clear = self.waiting.is_empty();
+        }
+        self.waiting.len() < before
+    }
+
+    /// Writes once more what waits, if the broker has closed its line.
+    pub fn write_last(&mut self, link: &mut L)
+        ensures writes { WritesLast self.old.fate self.old self.new }
+        ensures same { L.calls link.new ≡ L.calls link.old }
+    {
+        if self.is_closed() {
+            self.write(link);
+        }
+    }
+
+    /// Puts the outputs to its line behind what waits, if it stands. It is lost if too much would wait or memory is
+    /// wanting: then those before the one that finds no room wait, and no other.
+    pub fn tell(&mut self, outputs: &[(u64, Bytes)])
+        ensures { Hears self.old.fate outputs.now self.old self.new }
+    {
+        if !self.is_standing() {
+            return;
+        }
+        if push_all(&mut self.waiting, self.number, outputs).is_err() {
+            self.fate = Fate::Lost;
+        }
+    }
+
+    /// It is closed, if its line is among those that the broker closed.
+    pub fn close(&mut self, closed: &[u64])
+        ensures { self.new ≡ closing closed.now self.old }
+    {
+        if closed.contains(&self.number) {
+            self.fate = Fate::Closed;
+        }
+    }
+
+    /// It is lost, and the broker is to be told.
+    pub fn lose(&mut self)
+        ensures { self.new ≡ record self.old { fate = Fate.Lost } }
+    {
+        self.fate = Fate::Lost;
+    }
+}

@@ -1,0 +1,67 @@
+//! The turn of one connection (MQTT 5.0, 4.2).
+ghost use Rattle.std.specs.Prelude.{◌≡◌, ◌≢◌, ◌≤◌, ◌<◌, length, take, OnOk, IfOk, IfErr};
+ghost use Rattle.mqtt_serve.specs.turns.Breaks.{BreaksLine};
+ghost use Rattle.mqtt_serve.specs.turns.Turns.{server, ReadsAt, WritesAt, ServesLine};
+
+use crate::turns::asking::{number_at, pump_at, report_at};
+use crate::turns::connection::Connection;
+use crate::turns::giving::give_at;
+use crate::turns::turn::READ_LIMIT;
+use mqtt_broker::Engine;
+use mqtt_broker_step::EngineError;
+use mqtt_keep::Keep;
+use mqtt_link::Link;
+
+/// The connection at a place is read once: how many bytes came.
+fn read_at<L: Link>(
+    link: &mut L,
+    lines: &mut [Connection<L>],
+    place: usize,
+    buffer: &mut [u8],
+) -> usize
+    requires place { place < length lines.old }
+    ensures bound { result ≤ length buffer.new }
+    ensures reads { ReadsAt place (length buffer.new) (take result buffer.new) lines.old lines.new }
+    ensures len { length lines.new ≡ length lines.old }
+    ensures same { L.calls link.new ≡ L.calls link.old }
+{
+    lines[place].read(link, buffer)
+}
+
+/// What waits on the connection at a place is written once: whether bytes went out.
+fn write_at<L: Link>(link: &mut L, lines: &mut [Connection<L>], place: usize) -> bool
+    requires place { place < length lines.old }
+    ensures writes { WritesAt place result lines.old lines.new }
+    ensures len { length lines.new ≡ length lines.old }
+    ensures same { L.calls link.new ≡ L.calls link.old }
+{
+    lines[place].write(link)
+}
+
+/// The turn of the connection at a place: it is read once, the broker is given what came, and sends; what waits is
+/// written once; and if it is lost the broker is told. Whether bytes went in or out.
+pub(crate) fn serve_line<L: Link, K: Keep>(
+    link: &mut L,
+    lines: &mut [Connection<L>],
+    engine: &mut Engine<K>,
+    place: usize,
+    moment: u64,
+    buffer: &mut [u8; READ_LIMIT],
+) -> Result<bool, EngineError>
+    requires place { place < length lines.old }
+    ensures serves { IfOk result (λ moved. ServesLine K.Keep moment place moved
+        (server engine.old lines.old) (server engine.new lines.new)) }
+    ensures len { OnOk result (length lines.new ≡ length lines.old) }
+    ensures same { L.calls link.new ≡ L.calls link.old }
+    ensures refused { IfErr result (λ error. error ≢ EngineError.Memory) }
+    ensures breaks { IfErr result (λ error. BreaksLine K.Keep moment place error
+        (server engine.old lines.old) (server engine.new lines.new)) }
+{
+    let number = number_at(lines, place);
+    let count = read_at(link, lines, place, buffer);
+    give_at(lines, engine, place, number, &buffer[..count], moment)?;
+    pump_at(lines, engine, place, number, moment)?;
+    let wrote = write_at(link, lines, place);
+    report_at(lines, engine, place, number, moment)?;
+    Ok(wrote | (count > 0))
+}

@@ -1,0 +1,54 @@
+//! Turns of the server, one after the other (MQTT 5.0, 4.2).
+ghost use Rattle.std.specs.Prelude.{◌≡◌, ◌≢◌, ◌∷◌, [], ℕ, List, Option, None, OnOk, IfErr};
+ghost use Rattle.mqtt_link.specs.Links.{and_then};
+ghost use Rattle.mqtt_serve.specs.turns.Breaks.{RunsUntil};
+ghost use Rattle.mqtt_serve.specs.turns.Turns.{hosting, rested, RunsFor};
+
+use crate::turns::turn::{Links, serve_turn};
+use mqtt_broker::Engine;
+use mqtt_broker_step::EngineError;
+use mqtt_keep::Keep;
+use mqtt_link::Link;
+
+/// A clock. One that tells its moments has `told`; of another it says nothing.
+pub trait Timer {
+    /// The moments that it told, in order, if they are told.
+    ghost told: { Self → Option (List ℕ) } = { λ _. None };
+
+    /// The moment now, in whole milliseconds.
+    fn now(&mut self) -> u64
+        ensures { told self.new ≡ and_then (told self.old) (result ∷ []) };
+}
+
+/// Waits a little after a turn in which nothing came or went.
+fn rest<L: Link + Drop>(links: &mut Links<L>, busy: bool)
+    ensures { links.new ≡ rested busy links.old }
+{
+    if !busy {
+        links.wait();
+    }
+}
+
+/// Runs so many turns from a moment on, each at the greatest moment that the clock has told. After one in which nothing was
+/// accepted, read or written the link is asked to wait. `Stopped` (2) and `Spent` (3) are the engine's.
+pub fn run_turns<L: Link + Drop, K: Keep, T: Timer>(
+    links: &mut Links<L>,
+    engine: &mut Engine<K>,
+    timer: &mut T,
+    turns: u32,
+    begin: u64,
+) -> Result<(), EngineError>
+    ensures ran { OnOk result (RunsFor K.Keep begin turns (T.told timer.old) (T.told timer.new)
+        (hosting engine.old links.old) (hosting engine.new links.new)) }
+    ensures refused { IfErr result (λ error. error ≢ EngineError.Memory) }
+    ensures breaks { IfErr result (λ error. RunsUntil K.Keep begin turns error (T.told timer.old) (T.told timer.new)
+        (hosting engine.old links.old) (hosting engine.new links.new)) }
+{
+    let mut last = begin;
+    for _ in 0..turns {
+        last = last.max(timer.now());
+        let busy = serve_turn(links, engine, last)?;
+        rest(links, busy);
+    }
+    Ok(())
+}

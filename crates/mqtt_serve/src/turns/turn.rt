@@ -1,0 +1,181 @@
+//! A turn of the server (MQTT 5.0, 4.2).
+ghost use Rattle.std.specs.Prelude.{◌≡◌, ◌≢◌, [], length, OnOk, IfOk, IfErr};
+ghost use Rattle.std.specs.Vec.{vec_capacity};
+ghost use Rattle.mqtt_link.specs.Links.{waited};
+ghost use Rattle.mqtt_serve.specs.turns.Breaks.{BreaksAll, BreaksBelow, BreaksOff, BreaksTicks};
+ghost use Rattle.mqtt_serve.specs.turns.Related.{Related};
+ghost use Rattle.mqtt_serve.specs.turns.Wires.{WritesLast};
+ghost use Rattle.mqtt_serve.specs.turns.Turns.{server, hosting, without_closed, HasTurn, ServesAll, ServesBelow, Ticks};
+
+use crate::turns::accepting::accept;
+use crate::turns::asking::tick;
+use crate::turns::connection::Connection;
+use crate::turns::line::serve_line;
+use mqtt_base::LINE_LIMIT;
+use mqtt_broker::Engine;
+use mqtt_broker_step::EngineError;
+use mqtt_keep::Keep;
+use mqtt_link::Link;
+use std::alloc::{AllocError, Global};
+use std::marker::Model;
+
+/// The most bytes that are read from a connection in a turn (ours).
+pub const READ_LIMIT: usize = 4_096;
+
+/// The most turns of the clock in a turn (ours).
+pub const TICK_LIMIT: usize = 16;
+
+/// A link and its connections, in the order in which they came.
+#[derive(Drop)]
+pub struct Links<L: Link + Drop> {
+    alloc: Global,
+    link: L,
+    lines: Vec<Connection<L>>,
+}
+
+impl<L: Link + Drop> Model for Links<L> {
+    ghost use Rattle.std.specs.Prelude.{◌≤◌};
+    ghost use Rattle.std.specs.Vec.{vec_capacity};
+    ghost use Rattle.mqtt_base.specs.declared.limits.TheConstants.{LINE_LIMIT};
+    ghost use Rattle.mqtt_serve.specs.turns.Turns.{Linked};
+
+    ghost Value = { Linked };
+
+    ghost view = { λ l. record { calls = L.calls l.link; wires = l.lines.items } };
+
+    // There is room for as many as may be.
+    ghost invariant = { λ l. LINE_LIMIT ≤ vec_capacity l.lines };
+}
+
+impl<L: Link + Drop> Links<L> {
+    /// A link without connections, with room for 64 (ours). The one fault is want of memory.
+    pub fn new(alloc: Global, link: L) -> Result<Links<L>, AllocError>
+        ensures calls { IfOk result (λ links. links.calls ≡ L.calls link) }
+        ensures wires { IfOk result (λ links. links.wires ≡ []) }
+    {
+        let lines = Vec::with_capacity(alloc, LINE_LIMIT)?;
+        Ok(Links { alloc, link, lines })
+    }
+
+    /// The link.
+    pub fn link(&self) -> &L {
+        &self.link
+    }
+
+    /// Waits a little, or until a connection changes. The connections stay as they are.
+    pub fn wait(&mut self)
+        ensures calls { self.new.calls ≡ waited self.old.calls }
+        ensures wires { self.new.wires ≡ self.old.wires }
+    {
+        self.link.wait();
+    }
+
+    /// How many connections there are.
+    pub fn len(&self) -> usize
+        ensures { result ≡ length self.now.wires }
+    {
+        self.lines.len()
+    }
+}
+
+/// Each connection has its turn, in order. Whether bytes went in or out.
+fn serve_lines<L: Link, K: Keep>(
+    link: &mut L,
+    lines: &mut [Connection<L>],
+    engine: &mut Engine<K>,
+    moment: u64,
+) -> Result<bool, EngineError>
+    ensures serves { IfOk result (λ moved. ServesBelow K.Keep moment (length lines.old) moved
+        (server engine.old lines.old) (server engine.new lines.new)) }
+    ensures same { L.calls link.new ≡ L.calls link.old }
+    ensures refused { IfErr result (λ error. error ≢ EngineError.Memory) }
+    ensures breaks { IfErr result (λ error. BreaksBelow K.Keep moment (length lines.old) error
+        (server engine.old lines.old) (server engine.new lines.new)) }
+{
+    let mut buffer = [0_u8; READ_LIMIT];
+    let mut busy = false;
+    for place in 0..lines.len() {
+        busy |= serve_line(link, lines, engine, place, moment, &mut buffer)?;
+    }
+    Ok(busy)
+}
+
+/// Turns of the clock, while more may be due.
+fn tick_all<L: Link, K: Keep>(
+    lines: &mut [Connection<L>],
+    engine: &mut Engine<K>,
+    moment: u64,
+) -> Result<(), EngineError>
+    ensures ticks { OnOk result (Ticks K.Keep moment TICK_LIMIT
+        (server engine.old lines.old) (server engine.new lines.new)) }
+    ensures refused { IfErr result (λ error. error ≢ EngineError.Memory) }
+    ensures breaks { IfErr result (λ error. BreaksTicks K.Keep moment TICK_LIMIT error
+        (server engine.old lines.old) (server engine.new lines.new)) }
+{
+    for _ in 0..TICK_LIMIT {
+        if !tick(lines, engine, moment)? {
+            return Ok(());
+        }
+    }
+    Ok(())
+}
+
+/// What waits on connections that the broker closed is written once more.
+fn write_closed<L: Link>(link: &mut L, lines: &mut [Connection<L>])
+    ensures writes { Related (λ x y. WritesLast x.fate x y) lines.old lines.new }
+    ensures same { L.calls link.new ≡ L.calls link.old }
+{
+    for line in lines.iter_mut() {
+        line.write_last(link);
+    }
+}
+
+/// Connections that the broker closed are dropped.
+fn drop_closed<L: Link>(lines: &mut Vec<Connection<L>>)
+    ensures drops { lines.new.items ≡ without_closed lines.old.items }
+    ensures room { vec_capacity lines.new ≡ vec_capacity lines.old }
+{
+    lines.retain(|line| !line.is_closed());
+}
+
+/// Each connection has its turn, then the clock; what waits on connections that the broker closed is written once more.
+/// Whether bytes went in or out.
+fn serve_all<L: Link, K: Keep>(
+    link: &mut L,
+    lines: &mut [Connection<L>],
+    engine: &mut Engine<K>,
+    moment: u64,
+) -> Result<bool, EngineError>
+    ensures serves { IfOk result (λ moved. ServesAll K.Keep moment moved
+        (server engine.old lines.old) (server engine.new lines.new)) }
+    ensures same { L.calls link.new ≡ L.calls link.old }
+    ensures refused { IfErr result (λ error. error ≢ EngineError.Memory) }
+    ensures breaks { IfErr result (λ error. BreaksAll K.Keep moment error
+        (server engine.old lines.old) (server engine.new lines.new)) }
+{
+    let moved = serve_lines(link, lines, engine, moment)?;
+    tick_all(lines, engine, moment)?;
+    write_closed(link, lines);
+    Ok(moved)
+}
+
+/// A turn: at most one connection is accepted; each connection is read once, the broker is given what came and sends,
+/// and what waits is written once; then the clock has its turns, and connections that the broker closed are dropped.
+/// Ok says whether a connection or bytes came or went. `Stopped` (2) and `Spent` (3) are the engine's.
+pub fn serve_turn<L: Link + Drop, K: Keep>(
+    links: &mut Links<L>,
+    engine: &mut Engine<K>,
+    moment: u64,
+) -> Result<bool, EngineError>
+    ensures turn { IfOk result (λ busy. HasTurn K.Keep moment busy
+        (hosting engine.old links.old) (hosting engine.new links.new)) }
+    ensures refused { IfErr result (λ error. error ≢ EngineError.Memory) }
+    ensures breaks { IfErr result (λ error. BreaksOff K.Keep moment error
+        (hosting engine.old links.old) (hosting engine.new links.new)) }
+{
+    let (alloc, link, lines) = (links.alloc, &mut links.link, &mut links.lines);
+    let came = accept(alloc, link, lines, engine, moment);
+    let moved = serve_all(link, lines, engine, moment)?;
+    drop_closed(lines);
+    Ok(came | moved)
+}

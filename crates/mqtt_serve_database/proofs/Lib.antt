@@ -1,2 +1,0 @@
-mod Constants
-mod Leaving

@@ -1,7 +1,0 @@
-//! Tests of `mqtt_serve_database` over its public calls, on files in memory and of this machine (MQTT 5.0, 4.1).
-#![tactic(auto)]
-
-#[cfg(test)]
-mod broken;
-#[cfg(test)]
-mod paths;

@@ -1,0 +1,80 @@
+//! Runs of the server: what it writes, and why it ends early (MQTT 5.0, 4.2).
+use crate::serving::callers::{LIMITS, any_port, forget};
+use mqtt_serve::{ServeFault, Unknown, serve};
+use std::io;
+use std::io::{ErrorKind, Write};
+use std::net::{SocketAddr, TcpListener};
+use std::test::Fail;
+
+/// What three turns at an address over a database write is `listening` and the address, and then `done`; or nothing was
+/// written and they end early.
+fn runs(rt: &HostRuntime, at: SocketAddr, db: &str) -> Result<bool, ServeFault> {
+    let mut written: Vec<u8> = Vec::new(rt.alloc());
+    let ran = serve(rt, at, db, 3, &mut written, LIMITS, Unknown);
+    let is_silent = written.is_empty();
+    let begins = written.starts_with(b"listening 127.0.0.1:");
+    let ends = written.ends_with(b"\ndone\n");
+    drop(written);
+    match ran {
+        Ok(()) => Ok(begins && ends),
+        Err(fault) if is_silent => Err(fault),
+        Err(_) => Ok(false),
+    }
+}
+
+#[test]
+fn three_turns_write_where_they_listen_and_that_they_are_done(rt: HostRuntime) {
+    let (db, log) = ("three_turns.db", "three_turns.db-wal");
+    forget(&rt, db, log);
+    let first = runs(&rt, any_port(), db);
+    let again = runs(&rt, any_port(), db);
+    forget(&rt, db, log);
+    assert!(rt; first == Ok(true), "the first time");
+    assert!(rt; again == Ok(true), "the same again");
+}
+
+#[test]
+fn a_folder_is_no_database(rt: HostRuntime) {
+    assert!(rt; runs(&rt, any_port(), ".") == Err(ServeFault::Store));
+    assert!(rt; runs(&rt, any_port(), ":memory:") == Err(ServeFault::Store));
+}
+
+#[test]
+fn a_port_in_use_is_told(rt: HostRuntime) -> Result<(), Fail> {
+    let other = TcpListener::bind(&rt, any_port())?;
+    let at = other.local_addr()?;
+    let ran = runs(&rt, at, "port_in_use.db");
+    drop(other);
+    forget(&rt, "port_in_use.db", "port_in_use.db-wal");
+    assert!(rt; ran == Err(ServeFault::Socket));
+    Ok(())
+}
+
+/// A writer that fails.
+#[derive(Drop)]
+struct Broken;
+
+impl Write for Broken {
+    fn write(&mut self, _: &[u8]) -> io::Result<usize> {
+        Err(io::Error::from(ErrorKind::BrokenPipe))
+    }
+
+    fn flush(&mut self) -> io::Result<()> {
+        Ok(())
+    }
+}
+
+#[test]
+fn a_write_that_fails_is_told(rt: HostRuntime) {
+    let ran = serve(
+        &rt,
+        any_port(),
+        "broken.db",
+        3,
+        &mut Broken,
+        LIMITS,
+        Unknown,
+    );
+    forget(&rt, "broken.db", "broken.db-wal");
+    assert!(rt; ran == Err(ServeFault::Write));
+}

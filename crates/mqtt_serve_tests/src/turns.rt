@@ -1,0 +1,8 @@
+//! Tests of `mqtt_serve_turns` over its public calls: turns over clients in memory and at sockets (MQTT 5.0, 4.2).
+
+mod clients;
+mod full;
+mod groups;
+mod slow;
+mod sockets;
+mod turns;

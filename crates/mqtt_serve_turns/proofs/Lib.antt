@@ -1,3 +1,0 @@
-mod Constants
-pub mod Joined
-pub mod Going

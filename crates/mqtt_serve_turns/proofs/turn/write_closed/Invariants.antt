@@ -1,8 +1,0 @@
-use Rattle.std.proofs.Common.{◌≡◌}
-use Rattle.mqtt_serve_turns.specs.Related.{RelatedBelow}
-use Rattle.mqtt_serve_turns.specs.Wires.{WritesLast}
-use Rattle.mqtt_serve_turns.proofs.turn.write_closed.Given as goal
-
-abbrev pub invariant-loop-line : goal.invariant-loop-line
-invariant-loop-line g l =
-    RelatedBelow (λ x y. WritesLast x.fate x y) l.line-index l.fn.lines l.lines × (g.L.Link.calls l.link ≡ g.L.Link.calls l.fn.link)

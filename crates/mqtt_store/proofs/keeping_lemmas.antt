@@ -1,0 +1,5 @@
+pub mod Held
+pub mod Loads
+pub mod Applies
+pub mod Opened
+pub mod Asked

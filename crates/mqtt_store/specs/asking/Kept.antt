@@ -1,0 +1,36 @@
+-- Which records a database has.
+use Rattle.std.specs.Prelude.{◌≡◌}
+use Rattle.sqlite_trees.specs.Tree.{Trees}
+use Rattle.sqlite_trees.specs.declared.store.Store.{Ghosts}
+use Rattle.sqlite.specs.Held.{Held, state}
+use Rattle.sqlite.specs.State.{State}
+use Rattle.mqtt_keep.specs.lawful.Lawful.{IsLawful}
+use Rattle.mqtt_records.specs.declared.state.records.Records.{Records}
+use Rattle.mqtt_store_rows.specs.values.Gives.{Parts, Rows, Gives}
+use Rattle.mqtt_store_tables.specs.declared.forms.schema.StoreTable.TheVariants.{Meta, Session, Will, Subscription, Inbound, Copy, Retained}
+use Rattle.mqtt_store.specs.asking.Listing.{IsListing}
+
+-- the rows of the tables of what sessions have
+pub record ArePartsListed (db : Trees) (parts : Parts) : Type 0 where
+  pub wills : IsListing Will db parts.wills
+  pub subscriptions : IsListing Subscription db parts.subscriptions
+  pub inbound : IsListing Inbound db parts.inbound
+  pub copies : IsListing Copy db parts.copies
+
+-- the rows of all tables
+pub record AreListed (db : Trees) (rows : Rows) : Type 0 where
+  pub meta : IsListing Meta db rows.meta
+  pub sessions : IsListing Session db rows.sessions
+  pub parts : ArePartsListed db rows.parts
+  pub retained : IsListing Retained db rows.retained
+
+-- the rows of the tables give these records, and they are lawful
+pub record HasRecords (db : Trees) (r : Records) : Type 0 where
+  pub rows : Rows
+  pub listed : AreListed db rows
+  pub gives : Gives rows r
+  pub lawful : IsLawful r
+
+-- a connection with this database was asked for its schema, and so answered
+abbrev pub IsAsked : {S : Type 0} → Ghosts S → Held S → (State → State → Type 0) → Type 0
+IsAsked {S} g old Says = (before after : Held S) × ((state g before).now ≡ (state g old).now) × Says (state g before) (state g after)

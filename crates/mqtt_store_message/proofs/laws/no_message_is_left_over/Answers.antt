@@ -1,5 +1,0 @@
-use Rattle.mqtt_store_message.proofs.LeftOver.{none_is_left}
-use Rattle.mqtt_store_message.proofs.laws.no_message_is_left_over.Goals as goal
-
-pub returns : goal.returns
-returns c making change old new shaped all done = none_is_left making old new change shaped all done

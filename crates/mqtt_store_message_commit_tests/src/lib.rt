@@ -1,9 +1,0 @@
-//! Tests of a step's changes in a database of schema 2: the rows that they make, and that a step that fails makes none (4.1).
-#![tactic(auto)]
-
-#[cfg(test)]
-mod changes;
-#[cfg(test)]
-mod receivers;
-#[cfg(test)]
-mod steps;

@@ -1,5 +1,0 @@
-use Rattle.mqtt_store_message_laws.proofs.tables.Told.{rows_share}
-use Rattle.mqtt_store_message_laws.proofs.contents.rows_share_contents.Goals as goal
-
-pub returns : goal.returns
-returns c making db r sayable shaped written = rows_share making db r sayable shaped written

@@ -1,7 +1,0 @@
-//! Tests of the statements of schema 2: their texts run in a database that is new, and in one that was taken over (4.1).
-#![tactic(auto)]
-
-#[cfg(test)]
-mod changes;
-#[cfg(test)]
-mod course;

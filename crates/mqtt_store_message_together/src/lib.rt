@@ -1,6 +1,0 @@
-//! Further copies of a publication in schema 2, four of which one statement puts (MQTT 5.0, 4.1). Private.
-#![tactic(auto)]
-
-mod together;
-
-pub use together::{insert_four, push_copy};

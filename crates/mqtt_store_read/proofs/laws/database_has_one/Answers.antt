@@ -1,5 +1,0 @@
-use Rattle.mqtt_store_read.proofs.Unique.{records_one}
-use Rattle.mqtt_store_read.proofs.laws.database_has_one.Goals as goal
-
-pub returns : goal.returns
-returns c db q r h k = records_one db q r h k

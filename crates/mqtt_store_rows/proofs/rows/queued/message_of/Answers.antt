@@ -1,0 +1,9 @@
+use Rattle.std.proofs.Common.{◌≡◌, ap}
+use Rattle.std.specs.Prelude.{Err}
+use Rattle.mqtt_keep.specs.declared.keeping.keep.KeepError.{KeepError}
+use Rattle.mqtt_store_rows.proofs.rows.queued.message_of.Goals as goal
+
+pub returns-in-Err-clause-err : goal.returns-in-Err-clause-err
+returns-in-Err-clause-err c e copy says =
+    let same : c.in-Err.fault ≡ KeepError.Corrupt = cc in
+    c.in-Err.ensures.err (ap Err same) copy.identifiers (rw c.value_at-3.ensures says.own.identifiers)

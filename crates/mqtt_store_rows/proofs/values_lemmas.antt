@@ -1,0 +1,5 @@
+pub mod Texts
+pub mod ListLemmas
+pub mod PartLemmas
+pub mod OneLemmas
+pub mod LawfulLemmas

@@ -1,9 +1,0 @@
-//! Tests of schema 2: databases in memory that are made or taken over, or made by texts, and what each is found to be (4.1).
-#![tactic(auto)]
-
-#[cfg(test)]
-mod databases;
-#[cfg(test)]
-mod found;
-#[cfg(test)]
-mod made;

@@ -1,0 +1,11 @@
+use Rattle.sqlite.specs.Held.{state}
+use Rattle.mqtt_store_tables.proofs.forms_lemmas.Kept.{stays_inside}
+use Rattle.mqtt_store_tables.proofs.schema_lemmas.Adding.{adds}
+use Rattle.mqtt_store_tables.proofs.schema.creation.add.Goals as goal
+
+pub returns-clause-made : goal.returns-clause-made
+returns-clause-made g c clean making was has =
+    adds making c.args.added was (state g.S.Store c.args.tx.now.conn.now) (state g.S.Store c.execute.new.self.conn.now) c.execute.result has (rw c.text_of.ensures at (c.execute.ensures.runs clean has.inside))
+
+pub returns-clause-inside : goal.returns-clause-inside
+returns-clause-inside g c = stays_inside g.S.Store _ _ _ _ c.execute.result c.execute.ensures.ended c.execute.ensures.runs c.execute.ensures.survives

@@ -1,0 +1,5 @@
+pub mod forms
+pub mod schema
+pub mod statements
+pub mod messages
+pub mod together

@@ -1,5 +1,0 @@
-use Rattle.mqtt_topic.proofs.AliasLemmas.{restored-with_topic}
-use Rattle.mqtt_topic.proofs.laws.what_was_set_is_taken_back.Goals as goal
-
-pub returns : goal.returns
-returns c = restored-with_topic

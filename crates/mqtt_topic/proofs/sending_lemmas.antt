@@ -1,0 +1,3 @@
+pub mod AgreeLemmas
+pub mod FormLemmas
+pub mod Examples

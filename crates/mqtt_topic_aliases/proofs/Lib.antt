@@ -1,3 +1,0 @@
-pub mod AgreeLemmas
-pub mod FormLemmas
-mod Examples

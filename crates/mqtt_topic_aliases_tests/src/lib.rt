@@ -1,9 +1,0 @@
-//! Tests of `mqtt_topic_aliases` over its public calls (MQTT 5.0, 3.1.2.11.4, 3.1.2.11.5, 3.3.2.3.4).
-#![tactic(auto)]
-
-#[cfg(test)]
-mod rows;
-#[cfg(test)]
-mod sent;
-#[cfg(test)]
-mod table;

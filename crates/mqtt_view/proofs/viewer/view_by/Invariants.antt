@@ -1,6 +1,0 @@
-use Rattle.mqtt_view.proofs.Lines.{ViewsSoFar}
-use Rattle.mqtt_view.proofs.viewer.view_by.Given as goal
-
-abbrev pub invariant-loop : goal.invariant-loop
-invariant-loop g l =
-    ViewsSoFar l.payload l.framer (g.R.Read.remaining l.initial.reader) (g.R.Read.remaining l.reader) (g.W.Write.contents l.initial.writer) (g.W.Write.contents l.writer)

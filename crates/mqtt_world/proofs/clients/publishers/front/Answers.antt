@@ -1,0 +1,11 @@
+use Rattle.std.proofs.Common.{ap, ◌∙◌, if◌then◌else◌}
+use Rattle.mqtt_world_model.specs.model.Ends.{Publisher, wire}
+use Rattle.mqtt_world.proofs.clients_lemmas.Fronts.{asked_on}
+use Rattle.mqtt_world.proofs.clients.publishers.front.Goals as goal
+
+pub returns : goal.returns
+returns c =
+    let p = c.args.publisher.now in
+    let at = λ (p : Publisher). if c.args.old then p.line.old_number else p.line.number in
+    asked_on (wire p.client p.contents) p.line c.args.old c.in_ok-packet.packet c.number_on.result _ c.in_ok-packet.ensures
+    (c.number_on.ensures ∙ ap at c.publisher.view_is) c.paired.ensures

@@ -1,0 +1,8 @@
+use Rattle.std.proofs.Common.{◌≡◌, ◌++◌, drop, map, take}
+use Rattle.mqtt_world.specs.clients.Ends.{if_receiver, receiver_reads_at}
+use Rattle.mqtt_world.proofs.clients.receivers.read_named.Given as goal
+
+abbrev pub invariant-loop-receiver : goal.invariant-loop-receiver
+invariant-loop-receiver g l =
+    l.receiver-items
+    ≡ map (if_receiver l.client (receiver_reads_at l.engine.broker)) (take l.receiver-index l.fn.receivers.items) ++ drop l.receiver-index l.fn.receivers.items

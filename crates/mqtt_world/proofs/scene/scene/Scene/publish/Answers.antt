@@ -1,0 +1,16 @@
+use Rattle.std.proofs.Common.{sym}
+use Rattle.mqtt_world_model.specs.model.World.{publish}
+use Rattle.mqtt_world_ends.specs.peers.Publishers.{draft_of}
+use Rattle.mqtt_world.proofs.scene_lemmas.Unasked.{done_on, refused}
+use Rattle.mqtt_world.proofs.scene.scene.Scene.publish.Goals as goal
+
+pub returns-then-branch : goal.returns-then-branch
+returns-then-branch g c =
+    refused g.K.Keep (publish c.args.client.now (draft_of c.args.draft.now)) c.args.self.now c.in_ok-is_bad_publish.field-0 c.requires c.in_ok-is_bad_publish.ensures
+    c.if-branch.true
+
+pub returns : goal.returns
+returns g c =
+    done_on g.K.Keep (publish c.args.client.now (draft_of c.args.draft.now)) c.args.self.now c.self.inside.engine c.inner.result.now c.self.inside.clients
+    c.publish.new.self c.in_ok-is_bad_publish.field-0 c.silent.result c.inner.ensures (sym c.self.view_is) tt c.silent.ensures c.requires c.in_ok-is_bad_publish.ensures
+    c.if-branch.false c.in_ok-publish.ensures

@@ -1,0 +1,79 @@
+-- Why a world that runs is over (MQTT 5.0, 4.1).
+use Rattle.std.specs.Prelude.{◌≢◌, ⊤, ℕ}
+use Rattle.mqtt_keep.specs.declared.keeping.keep.Keep.{Ghosts}
+use Rattle.mqtt_keep.specs.declared.keeping.keep.KeepError.{KeepError}
+use Rattle.mqtt_keep.specs.declared.keeping.keep.KeepError.TheVariants as refusal
+use Rattle.mqtt_world_ends.specs.declared.peers.told.RunFault.{RunFault}
+use Rattle.mqtt_world_ends.specs.declared.peers.told.RunFault.TheVariants as fault
+use Rattle.mqtt_rules.specs.step.Step.{Call, SpentStep}
+use Rattle.mqtt_rules.specs.declared.step.Limits.{Limits}
+use Rattle.mqtt_broker_step.specs.declared.call.EngineError.{EngineError}
+use Rattle.mqtt_broker_step.specs.declared.call.EngineError.TheVariants.{Memory, Stopped, Spent}
+use Rattle.mqtt_broker.specs.stored.Opening.{IsRefused}
+use Rattle.mqtt_world.specs.scene.Scenes.{IsPlayable, Played}
+use Rattle.mqtt_world.specs.declared.scene.over.Over.{Over}
+use Rattle.mqtt_world.specs.declared.scene.over.Over.TheVariants as over
+
+-- what each call of a world that is over answers
+abbrev pub fault_of : Over → RunFault
+fault_of over.Memory = fault.Memory
+fault_of over.Store = fault.Store
+
+-- ---- a broker is not opened
+
+-- the broker's opening was refused so, and not for want of memory: the store failed, or holds what no broker begins with
+pub record IsUnopened {K : Type 0} (g : Ghosts K) (limits : Limits) (now : ℕ) (keep : K) : Type 0 where
+  pub error : KeepError
+  pub left : K
+  pub refused : IsRefused g limits now keep error left
+  pub not_memory : error ≢ refusal.Memory
+
+-- the opening's memory was wanting
+abbrev pub IsShortOfMemory : {K : Type 0} → Ghosts K → Limits → ℕ → K → Type 0
+IsShortOfMemory {K} g limits now keep = (left : K) × IsRefused g limits now keep refusal.Memory left
+
+-- Memory if the opening answers 1; Store if it answers 2 to 5
+abbrev pub IsUnbegun : {K : Type 0} → Ghosts K → Limits → ℕ → K → Over → Type 0
+IsUnbegun g limits now keep over.Memory = IsShortOfMemory g limits now keep
+IsUnbegun g limits now keep over.Store = IsUnopened g limits now keep
+
+-- the same of what a call answers
+abbrev pub IsNoStart : {K : Type 0} → Ghosts K → Limits → ℕ → K → RunFault → Type 0
+IsNoStart g limits now keep fault.Memory = IsShortOfMemory g limits now keep
+IsNoStart g limits now keep fault.Store = IsUnopened g limits now keep
+IsNoStart g limits now keep (fault.BadEvent place) = ⊥
+
+abbrev pub over_for : KeepError → Over
+over_for refusal.Memory = over.Memory
+over_for refusal.Disk = over.Store
+over_for refusal.Size = over.Store
+over_for refusal.Corrupt = over.Store
+over_for refusal.Schema = over.Store
+
+-- ---- why Store is answered, by what a store promises alone, whichever it is: over one that counts no failure, and whose device
+-- is sound, only for numbers that are spent, or for what it holds if a broker is opened
+
+pub data IsStoreDue {K : Type 0} (g : Ghosts K) : Type 0 where
+  -- in a call of a broker that ran, its store counted a failure
+  store_failed : (s : Played K) (left : K) → IsPlayable g s → g.counted left ≢ g.counted s.engine.running.keep → IsStoreDue g
+  -- a call of a broker that ran needs a number above 2^62, if the device of its store, as the call left that, is sound
+  numbers_spent : (s : Played K) (left : K) (now : ℕ) (call : Call) → IsPlayable g s
+      → (g.is_sound left → SpentStep s.engine.running.limits s.engine.running.broker now call) → IsStoreDue g
+  -- the opening of a broker was refused, and not for want of memory
+  not_opened : (limits : Limits) (now : ℕ) (keep : K) → IsUnopened g limits now keep → IsStoreDue g
+
+-- ---- of each reason, and of each answer; want of memory needs no cause
+
+abbrev pub IsOverDue : {K : Type 0} → Ghosts K → Over → Type 0
+IsOverDue g over.Memory = ⊤
+IsOverDue g over.Store = IsStoreDue g
+
+abbrev pub IsErrorDue : {K : Type 0} → Ghosts K → EngineError → Type 0
+IsErrorDue g Memory = ⊤
+IsErrorDue g Stopped = IsStoreDue g
+IsErrorDue g Spent = IsStoreDue g
+
+abbrev pub IsFaultDue : {K : Type 0} → Ghosts K → RunFault → Type 0
+IsFaultDue g fault.Memory = ⊤
+IsFaultDue g fault.Store = IsStoreDue g
+IsFaultDue g (fault.BadEvent place) = ⊤

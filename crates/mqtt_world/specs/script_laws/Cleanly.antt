@@ -1,0 +1,90 @@
+-- Scripts whose ends begin clean: each Clean Start is carried through, by the events alone; and no session of an end's name
+-- stands when it is made (MQTT 5.0, 3.1.2.4, ours).
+use Rattle.std.specs.Prelude.{◌≡◌, ⊤, ℕ, Bool, true, false, cond, not, ◌&&◌, ◌||◌, List, [], ◌∷◌, Option, Some, None, bytes_eq}
+use Rattle.std.specs.List.{AllByRecursion, list_any}
+use Rattle.mqtt_rules.specs.step.State.{session_named}
+use Rattle.mqtt_rules.specs.declared.step.Limits.{Limits}
+use Rattle.mqtt_world_model.specs.model.Run.{Turn, run}
+use Rattle.mqtt_world_model.specs.model.World as world
+use Rattle.mqtt_world_model.specs.model.World.{World}
+use Rattle.mqtt_world_laws.specs.headline.Delivery.{DeliversExactlyOnce}
+use Rattle.mqtt_world_laws.specs.acceptance.Spending.{run_spends}
+use Rattle.mqtt_script.specs.declared.event.Event.{Event}
+use Rattle.mqtt_world.specs.script_laws.Scripted.{AreTurnsFor, AreTurnsOf, IsRunOf, event_of}
+
+-- an end that has connected with Clean Start 1 gives no line up, and each further CONNECT of it has Clean Start 1; these are the
+-- names of those that have so far
+abbrev pub is_named : List ℕ → List (List ℕ) → Bool
+is_named client names = list_any (λ name. bytes_eq client name) names
+
+abbrev pub keeps_clean : List (List ℕ) → world.Event → Bool
+keeps_clean names (world.connect_end client clean) = clean || not (is_named client names)
+keeps_clean names (world.give_up client) = not (is_named client names)
+keeps_clean names e = true
+
+abbrev pub named_after : world.Event → List (List ℕ) → List (List ℕ)
+named_after (world.connect_end client clean) names = cond clean (client ∷ names) names
+named_after e names = names
+
+abbrev pub keeps_if : List (List ℕ) → Option world.Event → Bool
+keeps_if names None = true
+keeps_if names (Some e) = keeps_clean names e
+
+abbrev pub named_if : Option world.Event → List (List ℕ) → List (List ℕ)
+named_if None names = names
+named_if (Some e) names = named_after e names
+
+abbrev pub keep_clean_starts : List (List ℕ) → List Event → Bool
+keep_clean_starts names [] = true
+keep_clean_starts names (e ∷ es) = keeps_if names (event_of e) && keep_clean_starts (named_if (event_of e) names) es
+
+-- where an end is made, no session of its name stands
+abbrev pub IsMadeAnew : world.Event → World → Type 0
+IsMadeAnew (world.publisher client) w = session_named client w.broker.records ≡ None
+IsMadeAnew (world.receiver client window aliases) w = session_named client w.broker.records ≡ None
+IsMadeAnew e w = ⊤
+
+abbrev pub IsMadeAnewIf : Option world.Event → World → Type 0
+IsMadeAnewIf None w = ⊤
+IsMadeAnewIf (Some e) w = IsMadeAnew e w
+
+-- so it is with each event, whatever turns those before it come to
+abbrev pub AreMadeAnew : Limits → List Event → World → Type 0
+AreMadeAnew limits [] w = ⊤
+AreMadeAnew limits (e ∷ es) w =
+    IsMadeAnewIf (event_of e) w
+    × ((turns : List Turn) → AreTurnsFor limits e turns w → AreMadeAnew limits es (run limits turns w))
+
+-- what is asked of a script that begins in this world
+pub record BeginClean (limits : Limits) (es : List Event) (w : World) : Type 0 where
+  pub starts : keep_clean_starts [] es ≡ true
+  pub made : AreMadeAnew limits es w
+
+-- ---- a script that makes its ends before all else
+
+abbrev pub makes_end : Option world.Event → Bool
+makes_end None = false
+makes_end (Some (world.publisher client)) = true
+makes_end (Some (world.receiver client window aliases)) = true
+makes_end (Some e) = false
+
+abbrev pub makes_no_end : List Event → Bool
+makes_no_end [] = true
+makes_no_end (e ∷ es) = not (makes_end (event_of e)) && makes_no_end es
+
+abbrev pub makes_ends_first : List Event → Bool
+makes_ends_first [] = true
+makes_ends_first (e ∷ es) = cond (makes_end (event_of e)) (makes_ends_first es) (makes_no_end es)
+
+-- no session of the name of any of its ends stands in this world
+abbrev pub HaveNoSession : List Event → World → Type 0
+HaveNoSession es w = AllByRecursion (λ (e : Event). IsMadeAnewIf (event_of e) w) es
+
+-- ---- exactly-once delivery, of a script
+
+-- the events come to turns that lead there and spend no number; and whatever turns they come to that spend none, of those all is
+-- true that is proved of every run
+pub record ScriptDelivers (limits : Limits) (es : List Event) (w after : World) : Type 0 where
+  pub is_run : IsRunOf limits es w after
+  pub all : (turns : List Turn) → AreTurnsOf limits es turns w → run_spends limits turns w ≡ false
+      → DeliversExactlyOnce limits turns w

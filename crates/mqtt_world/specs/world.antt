@@ -1,0 +1,4 @@
+-- The world that runs.
+pub mod Stages
+pub mod Visits
+pub mod Worlds

@@ -1,6 +1,0 @@
--- By what each act lets enter.
-use Rattle.mqtt_world_acceptance_laws.proofs.copies.StepRuns.{run_enters}
-use Rattle.mqtt_world_acceptance_laws.proofs.run_laws.exactly_the_intended_copies_enter.Goals as goal
-
-pub returns : goal.returns
-returns c = record { entries = run_enters }

@@ -1,8 +1,0 @@
-use Rattle.std.proofs.Common.{◌≡◌, ◌++◌, drop, map, take}
-use Rattle.mqtt_world_clients.specs.Ends.{if_publisher, publisher_reads_at}
-use Rattle.mqtt_world_clients.proofs.publishers.read_named.Given as goal
-
-abbrev pub invariant-loop-publisher : goal.invariant-loop-publisher
-invariant-loop-publisher g l =
-    l.publisher-items
-    ≡ map (if_publisher l.client (publisher_reads_at l.engine.broker)) (take l.publisher-index l.fn.publishers.items) ++ drop l.publisher-index l.fn.publishers.items

@@ -1,8 +1,0 @@
-use Rattle.std.proofs.Common.{◌≡◌, ◌++◌, drop, map, take}
-use Rattle.mqtt_world_model.specs.World.{publisher_restarted}
-use Rattle.mqtt_world_clients.proofs.publishers.restart.Given as goal
-
-abbrev pub invariant-loop-publisher : goal.invariant-loop-publisher
-invariant-loop-publisher l =
-    l.publisher-items
-    ≡ map (publisher_restarted) (take l.publisher-index l.fn.publishers.items) ++ drop l.publisher-index l.fn.publishers.items

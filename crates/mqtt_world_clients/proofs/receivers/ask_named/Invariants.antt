@@ -1,9 +1,0 @@
-use Rattle.std.proofs.Common.{◌≡◌, ◌++◌, drop, map, take}
-use Rattle.mqtt_world_peers.specs.Receivers.{wish_of}
-use Rattle.mqtt_world_clients.specs.Ends.{asks_at, if_receiver}
-use Rattle.mqtt_world_clients.proofs.receivers.ask_named.Given as goal
-
-abbrev pub invariant-loop-receiver : goal.invariant-loop-receiver
-invariant-loop-receiver g l =
-    l.receiver-items
-    ≡ map (if_receiver l.client (asks_at (wish_of l.wish) l.engine.broker)) (take l.receiver-index l.fn.receivers.items) ++ drop l.receiver-index l.fn.receivers.items

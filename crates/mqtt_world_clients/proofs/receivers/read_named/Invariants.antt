@@ -1,8 +1,0 @@
-use Rattle.std.proofs.Common.{◌≡◌, ◌++◌, drop, map, take}
-use Rattle.mqtt_world_clients.specs.Ends.{if_receiver, receiver_reads_at}
-use Rattle.mqtt_world_clients.proofs.receivers.read_named.Given as goal
-
-abbrev pub invariant-loop-receiver : goal.invariant-loop-receiver
-invariant-loop-receiver g l =
-    l.receiver-items
-    ≡ map (if_receiver l.client (receiver_reads_at l.engine.broker)) (take l.receiver-index l.fn.receivers.items) ++ drop l.receiver-index l.fn.receivers.items

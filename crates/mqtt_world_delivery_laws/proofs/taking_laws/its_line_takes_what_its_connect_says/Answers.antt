@@ -1,6 +1,0 @@
--- By what changes a line's window and size: CONNECT alone.
-use Rattle.mqtt_world_delivery_laws.proofs.own.Taking.{new_takes, takes_there, turn_takes}
-use Rattle.mqtt_world_delivery_laws.proofs.taking_laws.its_line_takes_what_its_connect_says.Goals as goal
-
-pub returns : goal.returns
-returns c = record { begins = new_takes; keeps = turn_takes; connected = takes_there }

@@ -1,6 +1,0 @@
--- By what a filter brings, and by the line that it comes on.
-use Rattle.mqtt_world_delivery_laws.proofs.own.Wishes.{old_wished_stands, wished_stands}
-use Rattle.mqtt_world_delivery_laws.proofs.wish_laws.a_subscribe_leaves_a_receiver_standing.Goals as goal
-
-pub returns : goal.returns
-returns c = record { reads = wished_stands; reads_old = old_wished_stands }

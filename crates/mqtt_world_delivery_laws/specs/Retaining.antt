@@ -1,9 +1,0 @@
--- What copies of retained messages need to be told apart (MQTT 5.0, 3.3.1.3).
-use Rattle.std.specs.Prelude.{map}
-use Rattle.mqtt_records_message.specs.declared.message.RetainedMessage.{RetainedMessage}
-use Rattle.mqtt_records.specs.declared.records.Records.{Records}
-use Rattle.mqtt_records_rows.specs.Distinct.{AllDiffer}
-
--- no two retained messages are of one publication
-abbrev pub AreRetainedOnce : Records → Type 0
-AreRetainedOnce r = AllDiffer (map (λ (k : RetainedMessage). k.publication) r.retained)

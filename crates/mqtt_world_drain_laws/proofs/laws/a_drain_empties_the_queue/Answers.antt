@@ -1,6 +1,0 @@
--- By where the receiver is after the first round.
-use Rattle.mqtt_world_drain_laws.proofs.Emptied.{run_empties, script_empties, start_empties}
-use Rattle.mqtt_world_drain_laws.proofs.laws.a_drain_empties_the_queue.Goals as goal
-
-pub returns : goal.returns
-returns c = record { empties = run_empties; of_scripts = script_empties; from_nothing = start_empties }

@@ -1,6 +1,0 @@
-//! Laws of drains of the world that are not bad: they empty the receiver's queue (MQTT 5.0, 4.3, 4.4, 4.6).
-#![tactic(auto)]
-
-mod laws;
-
-pub use laws::a_drain_empties_the_queue;

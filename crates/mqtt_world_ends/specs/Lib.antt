@@ -1,0 +1,3 @@
+pub mod strangers
+pub mod handshakes
+pub mod peers

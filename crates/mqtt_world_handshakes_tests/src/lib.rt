@@ -1,5 +1,0 @@
-//! A publisher's handshakes as they go, and each growth refused (MQTT 5.0, 4.3, 4.4).
-#![tactic(auto)]
-
-#[cfg(test)]
-mod handshakes;

@@ -1,0 +1,15 @@
+pub mod granting_lemmas
+pub mod telling_lemmas
+pub mod acceptance_lemmas
+pub mod causes_lemmas
+pub mod reading_lemmas
+pub mod knowing_lemmas
+pub mod routing_lemmas
+pub mod receiver_lemmas
+pub mod delivery_lemmas
+pub mod drains_lemmas
+pub mod drain_causes_lemmas
+pub mod unsent_lemmas
+pub mod fitting_lemmas
+pub mod headline_lemmas
+pub mod headline_in_forms_lemmas

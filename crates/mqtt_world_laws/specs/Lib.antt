@@ -1,0 +1,14 @@
+pub mod telling
+pub mod acceptance
+pub mod causes
+pub mod reading
+pub mod knowing
+pub mod routing
+pub mod receiver
+pub mod delivery
+pub mod drains
+pub mod drain_causes
+pub mod unsent
+pub mod fitting
+pub mod headline
+pub mod headline_in_forms

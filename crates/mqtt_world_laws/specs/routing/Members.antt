@@ -1,0 +1,25 @@
+-- A copy of QoS 0 for a member of a group always has a line to go out on, but while the broker is opened, when none
+-- stands (MQTT 5.0, 4.1, 4.3.1, 4.8.2).
+use Rattle.std.specs.Prelude.{◌≡◌, ◌⊎◌, false, List, [], Some}
+use Rattle.std.specs.List.{AllByRecursion}
+use Rattle.mqtt_rules.specs.declared.step.Limits.{Limits}
+use Rattle.mqtt_rules.specs.step.State.{Broker, Line, line_of}
+use Rattle.mqtt_rules.specs.step.Routing.{CopyTo, accepted_copies, is_queued}
+use Rattle.mqtt_world_model.specs.model.World.{World}
+use Rattle.mqtt_world_model.specs.model.Run.{Turn, Acceptance, acceptances_over}
+use Rattle.mqtt_world_model.specs.model.Laws.{is_direct}
+
+-- if a copy of a publication is a group's and has QoS 0, its session stands on a line
+abbrev pub HasLine : Broker → CopyTo → Type 0
+HasLine b d = is_queued d ≡ false → is_direct d.copy.id.cause ≡ false → (l : Line) × (line_of d.birth b ≡ Some l)
+
+-- so each copy of a publication, as it is accepted
+abbrev pub HaveLines : Acceptance → Type 0
+HaveLines a = (ds : List CopyTo) → accepted_copies a.env a.message a.broker ≡ Some ds → AllByRecursion (HasLine a.broker) ds
+
+-- or no line stands at all, since the broker is being opened
+abbrev pub FindLines : Acceptance → Type 0
+FindLines a = HaveLines a ⊎ (a.broker.lines ≡ [])
+
+abbrev pub AllFindLines : Limits → List Turn → World → Type 0
+AllFindLines limits ts w = AllByRecursion FindLines (acceptances_over limits ts w)

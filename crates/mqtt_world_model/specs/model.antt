@@ -1,0 +1,9 @@
+pub mod Lines
+pub mod Ends
+pub mod World
+pub mod Run
+pub mod Seen
+pub mod Hops
+pub mod Seats
+pub mod Laws
+pub mod Tellings

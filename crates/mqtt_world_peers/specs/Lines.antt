@@ -1,9 +1,0 @@
--- How far an end has come with its line, in code and in the definitions (MQTT 5.0, 4.2).
-use Rattle.mqtt_flow_inbound.specs.Line as hop
-use Rattle.mqtt_world_peers.specs.declared.line.Link.{Link}
-use Rattle.mqtt_world_peers.specs.declared.line.Link.TheVariants.{Away, Asked, Live}
-
-abbrev pub link_of : Link → hop.Link
-link_of Away = hop.away
-link_of Asked = hop.asked
-link_of Live = hop.live

@@ -1,7 +1,0 @@
-//! Conforming ends on lines without a broker: what they send for what they read (MQTT 5.0, 4.3).
-#![tactic(auto)]
-
-#[cfg(test)]
-mod ends;
-#[cfg(test)]
-mod packets;

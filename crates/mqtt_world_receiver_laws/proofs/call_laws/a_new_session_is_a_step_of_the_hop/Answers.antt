@@ -1,6 +1,0 @@
--- By the deeds of CONNECT.
-use Rattle.mqtt_world_receiver_laws.proofs.connects.Beginning.{first_begins}
-use Rattle.mqtt_world_receiver_laws.proofs.call_laws.a_new_session_is_a_step_of_the_hop.Goals as goal
-
-pub returns : goal.returns
-returns c = record { begins = first_begins }

@@ -1,6 +1,0 @@
--- By the turns of a pump.
-use Rattle.mqtt_world_receiver_laws.proofs.queue.Sending.{pump_runs}
-use Rattle.mqtt_world_receiver_laws.proofs.call_laws.sending_is_a_step_of_the_hop.Goals as goal
-
-pub returns : goal.returns
-returns c = record { sends = pump_runs }

@@ -1,6 +1,0 @@
--- By the turns of those that have expired.
-use Rattle.mqtt_world_receiver_laws.proofs.queue.Entering.{lapsing_runs}
-use Rattle.mqtt_world_receiver_laws.proofs.copy_laws.copies_that_expire_are_steps_of_the_hop.Goals as goal
-
-pub returns : goal.returns
-returns c = record { lapses = lapsing_runs }

@@ -1,6 +1,0 @@
--- By the deeds of a line that is lost.
-use Rattle.mqtt_world_receiver_laws.proofs.own.Losing.{losing_runs}
-use Rattle.mqtt_world_receiver_laws.proofs.laws.a_lost_line_is_a_step_of_the_hop.Goals as goal
-
-pub returns : goal.returns
-returns c = record { loses = losing_runs }

@@ -1,7 +1,0 @@
--- By the deeds of a CONNECT.
-use Rattle.mqtt_world_receiver_laws.proofs.connects.OwnConnects.{first_in_step, renewal_in_step, resume_in_step}
-use Rattle.mqtt_world_receiver_laws.proofs.connects.OwnRefusals.{refused_awaiting}
-use Rattle.mqtt_world_receiver_laws.proofs.own_laws.a_connect_puts_a_receiver_in_step.Goals as goal
-
-pub returns : goal.returns
-returns c = record { resumes = resume_in_step; begins = first_in_step; renews = renewal_in_step; refuses = refused_awaiting }

@@ -1,6 +1,0 @@
--- By the members that were eligible, and the lines where publications are accepted.
-use Rattle.mqtt_world_routing_laws.proofs.Members.{all_find_lines}
-use Rattle.mqtt_world_routing_laws.proofs.laws.copies_of_members_find_a_line.Goals as goal
-
-pub returns : goal.returns
-returns c = all_find_lines

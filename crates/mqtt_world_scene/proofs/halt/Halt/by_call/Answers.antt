@@ -1,6 +1,0 @@
--- By its cause.
-use Rattle.mqtt_world_scene.proofs.Halted.{error_due}
-use Rattle.mqtt_world_scene.proofs.halt.Halt.by_call.Goals as goal
-
-pub by_store-requires : goal.by_store-requires
-by_store-requires g c = error_due g.K.Keep c.args.error c.in-Stopped.is c.requires

@@ -1,6 +1,0 @@
--- By its cause.
-use Rattle.mqtt_world_scene.proofs.Halted.{no_memory}
-use Rattle.mqtt_world_scene.proofs.halt.Halt.by_opening.Goals as goal
-
-pub by_store-requires : goal.by_store-requires
-by_store-requires g c = c.requires (no_memory c.args.refusal.1 c.in-Disk.is)

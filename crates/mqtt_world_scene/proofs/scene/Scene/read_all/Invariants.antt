@@ -1,8 +1,0 @@
--- So many packets were read.
-use Rattle.std.proofs.Common.{ℕ}
-use Rattle.mqtt_world_model.specs.World.{to_end}
-use Rattle.mqtt_world_scene.specs.Draining.{GoesOn, so_often}
-use Rattle.mqtt_world_scene.proofs.scene.Scene.read_all.Given as goal
-
-abbrev pub invariant-loop : goal.invariant-loop
-invariant-loop g l = (now : ℕ) → GoesOn g.K.Keep now (so_often l.counter (to_end l.client)) l.fn.self l.fn.told l.told l.self

@@ -1,5 +1,0 @@
-use Rattle.mqtt_world_scene.proofs.ReadAsSent.{spells_all}
-use Rattle.mqtt_world_scene.proofs.spelled.each_packet_is_read_as_it_was_sent.Goals as goal
-
-pub returns : goal.returns
-returns c = spells_all

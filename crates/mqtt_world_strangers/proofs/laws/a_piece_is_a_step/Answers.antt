@@ -1,6 +1,0 @@
--- Step by step.
-use Rattle.mqtt_world_strangers.proofs.Steps.{piece_deeds, piece_does}
-use Rattle.mqtt_world_strangers.proofs.laws.a_piece_is_a_step.Goals as goal
-
-pub returns : goal.returns
-returns c = record { does = piece_does; deeds = piece_deeds }

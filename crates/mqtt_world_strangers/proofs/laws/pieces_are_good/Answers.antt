@@ -1,6 +1,0 @@
--- Step by step.
-use Rattle.mqtt_world_strangers.proofs.Steps.{good_first, good_rest, nothing_held}
-use Rattle.mqtt_world_strangers.proofs.laws.pieces_are_good.Goals as goal
-
-pub returns : goal.returns
-returns c = record { first = good_first; rest = good_rest; nothing = nothing_held }

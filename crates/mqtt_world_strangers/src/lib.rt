@@ -1,9 +1,0 @@
-//! Strangers of a world: their lines, and their bytes packet by packet (MQTT 5.0, 2.1).
-#![tactic(auto)]
-
-mod front;
-mod laws;
-mod strangers;
-
-pub use laws::{a_piece_is_a_step, a_stranger_is_welcomed_first, pieces_are_good};
-pub use strangers::{Piece, Strangers};

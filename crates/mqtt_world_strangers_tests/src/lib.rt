@@ -1,5 +1,0 @@
-//! Strangers without a broker: what is cut of their bytes (MQTT 5.0, 2.1, 4.13).
-#![tactic(auto)]
-
-#[cfg(test)]
-mod pieces;

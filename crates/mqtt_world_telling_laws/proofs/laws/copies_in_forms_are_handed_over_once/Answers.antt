@@ -1,6 +1,0 @@
-use Rattle.mqtt_world_telling_laws.proofs.Handed.{handed}
-use Rattle.mqtt_world_telling_laws.proofs.Topics.{topics_sent}
-use Rattle.mqtt_world_telling_laws.proofs.laws.copies_in_forms_are_handed_over_once.Goals as goal
-
-pub returns : goal.returns
-returns c = record { handed = λ most limits ts. handed limits ts most (topics_sent limits ts) }

@@ -1,6 +1,0 @@
-use Rattle.mqtt_world_telling_laws.proofs.Runs.{understand}
-use Rattle.mqtt_world_telling_laws.proofs.Topics.{topics_sent}
-use Rattle.mqtt_world_telling_laws.proofs.laws.each_publish_is_understood.Goals as goal
-
-pub returns : goal.returns
-returns c = record { each = λ most limits ts. understand most limits ts (topics_sent limits ts) }

@@ -1,6 +1,0 @@
--- By the moment at which a copy is read: it stands then, so it has had no end.
-use Rattle.mqtt_world_unsent_laws.proofs.Unsent.{run_over}
-use Rattle.mqtt_world_unsent_laws.proofs.laws.what_has_ended_is_over.Goals as goal
-
-pub returns : goal.returns
-returns c = record { over = run_over }
