@@ -12,3 +12,4 @@ pub use mqtt_broker_step::EngineError;
 pub use mqtt_keep::{Keep, KeepError};
 pub use mqtt_packet::Packet;
 pub use mqtt_rules::Limits;
+pub use stored::Outcome;

@@ -1,3 +1,3 @@
-//! Tests of `mqtt_broker_hand` over its public calls (MQTT 5.0, 4.1, 4.6).
+//! Tests of `mqtt_broker_looks::at_hand` over its public calls (MQTT 5.0, 4.1, 4.6).
 
 mod hand;

@@ -1,4 +1,4 @@
-//! Tests of mqtt_broker_decisions over its public calls.
+//! Tests of mqtt_broker_looks::decided over its public calls.
 
 mod clients;
 mod looks;

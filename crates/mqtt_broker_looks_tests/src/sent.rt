@@ -1,4 +1,4 @@
-//! Tests of mqtt_broker_packets over its public calls.
+//! Tests of mqtt_broker_looks::sent over its public calls.
 
 mod answers;
 mod copies;

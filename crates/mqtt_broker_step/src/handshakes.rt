@@ -22,22 +22,10 @@ pub(crate) fn has_tables(session: &Session)
     session.queue.as_slice();
 }
 
-/// What takes back that an identifier is opened.
-fn opened_back(session: &Session, identifier: u16) -> Change
-    ensures { TakesBack (change.PutInbound session.now.birth identifier) result session.now }
-{
-    has_tables(session);
-    let birth = session.birth;
-    if session.inbound.has(u64::from(identifier)) {
-        Change::PutInbound { birth, identifier }
-    } else {
-        Change::RemoveInbound { birth, identifier }
-    }
-}
-
-/// What takes back that an identifier is closed.
-fn closed_back(session: &Session, identifier: u16) -> Change
-    ensures { TakesBack (change.RemoveInbound session.now.birth identifier) result session.now }
+/// What takes back that an identifier is opened, or that it is closed: it is open again if it was.
+fn identifier_back(session: &Session, identifier: u16) -> Change
+    ensures opened { TakesBack (change.PutInbound session.now.birth identifier) result session.now }
+    ensures closed { TakesBack (change.RemoveInbound session.now.birth identifier) result session.now }
 {
     has_tables(session);
     let birth = session.birth;
@@ -78,7 +66,7 @@ impl Step {
             return Ok(());
         };
         let birth = session.birth;
-        let undo = opened_back(session, identifier);
+        let undo = identifier_back(session, identifier);
         self.make(Change::PutInbound { birth, identifier }, undo)
     }
 
@@ -93,7 +81,7 @@ impl Step {
         };
         let birth = session.birth;
         let client = session.client.clone()?;
-        let undo = closed_back(session, identifier);
+        let undo = identifier_back(session, identifier);
         let report = Report::Released {
             birth,
             client,

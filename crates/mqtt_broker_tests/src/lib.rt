@@ -15,6 +15,8 @@ mod engine;
 #[cfg(test)]
 mod faults;
 #[cfg(test)]
+mod first_schema;
+#[cfg(test)]
 mod judging;
 #[cfg(test)]
 mod kept;

@@ -1,11 +1,11 @@
 //! Scripts whose broker is opened anew over a database of schema 1, which schema 2 takes over then (MQTT 5.0, 4.1).
 
+use crate::first_schema::create_first;
 use crate::judging::{judge, judge_kept};
 use crate::run::{Part, Played, play_over, tell_kept};
 use crate::telling::Telling;
 use mqtt_keep::{KeepError, MemKeep};
 use mqtt_store::SqlKeep;
-use mqtt_store_tables::forms::create_store;
 use sqlite::{Alter, Connection, Error, MemStore};
 use std::alloc::{AllocError, Global};
 use std::hash::RandomState;
@@ -131,7 +131,7 @@ on 3 3106 0003612f62 00 -> accepted=2 1:30060003612f6200 2:30060003612f6200
 
 /// Makes the tables of schema 1, with these rows; answers whether they are made.
 fn fill<S: Alter>(conn: &mut Connection<S>, rows: &str) -> bool {
-    conn.is_autocommit() && create_store(conn).is_ok() && conn.execute_batch(rows).is_ok()
+    create_first(conn).is_ok() && conn.execute_batch(rows).is_ok()
 }
 
 /// A store over a database of schema 1 with these rows, in memory.

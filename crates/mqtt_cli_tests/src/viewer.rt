@@ -1,4 +1,4 @@
-//! What no clause of mqtt_view says: lines from outside, views of inputs that come in pieces, and wrong vectors.
+//! What no clause of mqtt_cli::viewer says: lines from outside, views of inputs that come in pieces, and wrong vectors.
 
 mod examples;
 mod sweeps;

@@ -1,3 +1,3 @@
-//! Tests of `mqtt_flow_ring` over its public calls (MQTT 5.0, 4.1, 4.6).
+//! Tests of `mqtt_flow::ring` over its public calls (MQTT 5.0, 4.1, 4.6).
 
 mod at_hand;

@@ -8,5 +8,5 @@ mod waiting;
 
 pub use link::{Got, Link};
 pub use serve_fault::ServeFault;
-pub use sockets::{NetLink, got};
+pub use sockets::got;
 pub use waiting::{WAITING_LIMIT, Waiting, WaitingFault};

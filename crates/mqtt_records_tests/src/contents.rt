@@ -1,4 +1,4 @@
-//! Tests of mqtt_records_contents over its public call.
+//! Tests of mqtt_keep::contents over its public call.
 
 mod alike;
 mod kept;

@@ -1,4 +1,4 @@
-//! Tests of mqtt_records_lawful over its public call.
+//! Tests of mqtt_keep::lawful over its public call.
 
 mod kept;
 mod rules;

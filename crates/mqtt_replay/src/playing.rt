@@ -11,4 +11,3 @@ mod told;
 pub use self::replaying::replay;
 pub use self::runs::Runs;
 pub use self::told::{push_report, push_told};
-pub use mqtt_script::{Played, ReplayFault};

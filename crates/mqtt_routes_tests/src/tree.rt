@@ -1,4 +1,4 @@
-//! Tests of `mqtt_routes_tree` over its public calls (MQTT 5.0, 4.7).
+//! Tests of `mqtt_routes::tree` over its public calls (MQTT 5.0, 4.7).
 
 mod deep;
 mod faults;

@@ -6,6 +6,8 @@ mod database;
 #[cfg(test)]
 mod link;
 #[cfg(test)]
+mod net_link;
+#[cfg(test)]
 mod serving;
 #[cfg(test)]
 mod turns;

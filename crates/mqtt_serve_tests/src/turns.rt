@@ -1,4 +1,4 @@
-//! Tests of `mqtt_serve_turns` over its public calls: turns over clients in memory and at sockets (MQTT 5.0, 4.2).
+//! Tests of `mqtt_serve::turns` over its public calls: turns over clients in memory and at sockets (MQTT 5.0, 4.2).
 
 mod clients;
 mod full;

@@ -8,5 +8,3 @@ pub mod First
 pub mod Alike
 pub mod Found
 pub mod Kept
-pub mod New
-pub mod Order

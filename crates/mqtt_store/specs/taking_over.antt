@@ -1,2 +1,5 @@
 pub mod Puts
 pub mod Migration
+pub mod Kept
+pub mod Items
+pub mod Written

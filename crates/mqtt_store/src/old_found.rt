@@ -2,6 +2,4 @@
 
 mod laws;
 
-pub use self::laws::{
-    found_is_kept, kept_is_found, new_store_is_in_order, new_store_keeps_nothing, rows_are_of_one,
-};
+pub use self::laws::{found_is_kept, kept_is_found, rows_are_of_one};

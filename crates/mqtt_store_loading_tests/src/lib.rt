@@ -5,6 +5,8 @@
 #[cfg(test)]
 mod committing;
 #[cfg(test)]
+mod first_schema;
+#[cfg(test)]
 mod loading;
 #[cfg(test)]
 mod reading;

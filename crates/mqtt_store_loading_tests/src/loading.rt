@@ -1,4 +1,4 @@
-//! Tests of mqtt_store_load, over the ported SQLite in memory.
+//! Tests of mqtt_store::loading, over the ported SQLite in memory.
 
 mod databases;
 mod loaded;

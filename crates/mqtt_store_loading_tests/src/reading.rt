@@ -1,4 +1,4 @@
-//! Tests of mqtt_store_message_read, over the ported SQLite in memory.
+//! Tests of mqtt_store::reading, over the ported SQLite in memory.
 
 mod database;
 mod read;

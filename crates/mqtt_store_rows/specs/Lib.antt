@@ -1,3 +1,4 @@
 pub mod values
 pub mod rows
 pub mod gathering
+pub mod taking_over

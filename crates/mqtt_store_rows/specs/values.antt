@@ -5,4 +5,3 @@ pub mod Ones
 pub mod Lists
 pub mod Gives
 pub mod Ends
-pub mod Tables

@@ -3,4 +3,5 @@
 
 pub mod gathering;
 pub mod rows;
+pub mod taking_over;
 pub mod values;

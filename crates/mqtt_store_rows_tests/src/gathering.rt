@@ -1,4 +1,4 @@
-//! Tests of mqtt_store_message_stream, over tables of the ported SQLite in memory.
+//! Tests of mqtt_store_rows::gathering, over tables of the ported SQLite in memory.
 
 mod database;
 mod gathered;

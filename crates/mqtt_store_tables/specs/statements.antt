@@ -6,4 +6,3 @@ pub mod Removal
 pub mod Columns
 pub mod Numbers
 pub mod Put
-pub mod Step

@@ -2,14 +2,12 @@
 
 mod asking;
 mod columns;
-mod found;
 mod making;
 mod schema;
 mod tables;
 
-pub use self::asking::{is_empty, says_one, schema_said};
+pub use self::asking::{is_empty, schema_said};
 pub use self::columns::{ColumnForm, Formed, ParentForm, all_have, have_both};
-pub use self::found::{Found, found_in};
-pub use self::making::{create_store, make_tables};
+pub use self::making::make_tables;
 pub use self::schema::{FIRST_OF_SESSION, StoreTable, index_forms, is_schema, table_forms};
 pub use self::tables::{IndexForm, TableForm};

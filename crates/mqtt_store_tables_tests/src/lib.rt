@@ -2,6 +2,8 @@
 #![tactic(auto)]
 
 #[cfg(test)]
+mod first_schema;
+#[cfg(test)]
 mod messages;
 #[cfg(test)]
 mod schema;

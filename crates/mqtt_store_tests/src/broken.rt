@@ -6,13 +6,13 @@ use crate::first_databases::{
     broken_copies, broken_first_tables, broken_retained, crowded_copies, rows_of_the_course,
     sound_copies,
 };
+use crate::first_schema::create_first;
 use crate::second_databases::{
     broken_kept, broken_of_the_course, broken_old_tables, broken_queued, broken_tables,
     crowded_queued, sound_queued,
 };
 use crate::store::{LOAD, act_over, database, found, left_of};
 use mqtt_keep::KeepError;
-use mqtt_store_tables::forms::create_store;
 use sqlite::{Alter, Connection, Error, MemStore, params};
 use std::alloc::Global;
 use std::test::Fail;
@@ -48,9 +48,7 @@ pub(crate) enum Base {
 
 /// Makes the tables of schema 1 in an empty database, with the rows of the long course; answers whether they are made.
 pub(crate) fn fill_first<S: Alter>(conn: &mut Connection<S>) -> bool {
-    conn.is_autocommit()
-        && create_store(conn).is_ok()
-        && conn.execute_batch(rows_of_the_course()).is_ok()
+    create_first(conn).is_ok() && conn.execute_batch(rows_of_the_course()).is_ok()
 }
 
 /// A database of schema 1 with the rows of the long course.

@@ -13,6 +13,8 @@ mod files;
 #[cfg(test)]
 mod first_databases;
 #[cfg(test)]
+mod first_schema;
+#[cfg(test)]
 mod limits;
 #[cfg(test)]
 mod rows;

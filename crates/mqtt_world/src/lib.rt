@@ -12,4 +12,5 @@ pub use mqtt_keep::Keep;
 pub use mqtt_rules::Limits;
 pub use mqtt_script::{Asking, Event};
 pub use mqtt_world_ends::peers::{RunFault, Told};
+pub use scene::each_packet_is_read_as_it_was_sent;
 pub use world::World;

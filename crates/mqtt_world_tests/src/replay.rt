@@ -1,4 +1,4 @@
-//! What no clause of mqtt_replay_world says: the texts of scripts that are worked out by hand, a broker that stops at each commit,
+//! What no clause of mqtt_replay::over_world says: the texts of scripts that are worked out by hand, a broker that stops at each commit,
 //! over each store, a receiver that is drained, events that can't happen, a long script, and stores that fail.
 
 mod bad;

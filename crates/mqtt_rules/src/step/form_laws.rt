@@ -35,7 +35,7 @@ pub fn plain_is_the_publish()
         → packets.Publish (in_form Plain (published_of now dup id copy)) ≡ publish_of now dup id copy }
 {}
 
-/// The form in which a PUBLISH goes out is the one that `mqtt_topic_aliases` finds by its topic and its
+/// The form in which a PUBLISH goes out is the one that `mqtt_topic::sending` finds by its topic and its
 /// other bytes. Those of a copy are as many whenever it is sent, so its form is the same (3.1.2.11.4).
 pub fn forms_are_found_by_size()
     ensures packet { (largest : ℕ) (told : ToldTopics) (p : Publish)

@@ -6,8 +6,7 @@ ghost use Rattle.mqtt_serve.specs.turns.Turns.{server, may_send_at, stands_at, i
 
 use crate::turns::connection::Connection;
 use crate::turns::telling::{deliver, lose};
-use mqtt_broker::Engine;
-use mqtt_broker::stored::Outcome;
+use mqtt_broker::{Engine, Outcome};
 use mqtt_broker_step::EngineError;
 use mqtt_keep::Keep;
 use mqtt_link::Link;

@@ -3,7 +3,7 @@ ghost use Rattle.mqtt_serve.specs.turns.Related.{Related};
 ghost use Rattle.mqtt_serve.specs.turns.Wires.{Reaches, AreLost};
 
 use crate::turns::connection::Connection;
-use mqtt_broker::stored::Outcome;
+use mqtt_broker::Outcome;
 use mqtt_link::Link;
 
 /// The outputs of an answer wait on the connections that they name, and the connections that it closed are closed.

@@ -1,5 +1,6 @@
 //! Sockets of this machine.
-use mqtt_link::{Got, Link, NetLink, Waiting};
+use crate::net_link::NetLink;
+use mqtt_link::{Got, Link, Waiting};
 use std::io::{Read, Write};
 use std::net::{Ipv4Addr, OpenStream, SocketAddr, TcpStream};
 use std::test::Fail;

@@ -1,10 +1,11 @@
 //! Clients at sockets of this machine, in one thread with the broker (MQTT 5.0, 4.2, 4.3.3).
 
+use crate::net_link::NetLink;
 use crate::turns::clients::Stage;
 use crate::turns::turns::{CONNACK, LIMITS, PUBLISHED, PUBLISHER, SUBSCRIBED, SUBSCRIBER, are};
 use mqtt_broker::Engine;
 use mqtt_keep::{Keep, MemKeep};
-use mqtt_link::{Got, NetLink, got};
+use mqtt_link::{Got, got};
 use mqtt_serve::{Links, serve_turn};
 use std::hash::RandomState;
 use std::io;

@@ -1,5 +1,5 @@
 -- What the rows of all tables give, and the numbers of a new store.
-use Rattle.std.proofs.Common.{◌≡◌, ◌⊎◌, inl, inr, ℕ, zero, suc, ◌+◌, List, [], ◌∷◌, codes, ◌≤◌, IsTrue, Result, Ok, Err, IfOk, refl, sym, ap, subst, ◌∙◌, arith, IsSorted}
+use Rattle.std.proofs.Common.{◌≡◌, ℕ, zero, suc, List, [], ◌∷◌, codes, Result, Ok, Err, IfOk, refl, arith, IsSorted}
 use Rattle.std.proofs.lemmas.List.Sorted.{IsPermutation-refl}
 use Rattle.sqlite_value.specs.declared.value.Value.TheVariants.{Text}
 use Rattle.sqlite_value.specs.Order.{Row}
@@ -8,17 +8,15 @@ use Rattle.mqtt_keep.proofs.contents_lemmas.Nothing.{nothing_shared}
 use Rattle.mqtt_keep.specs.lawful.Lawful.{IsLawful}
 use Rattle.mqtt_records.specs.declared.state.records.Records.{Records}
 use Rattle.mqtt_keep.specs.declared.keeping.keep.KeepError.{KeepError}
-use Rattle.mqtt_keep.specs.declared.keeping.keep.KeepError.TheVariants.{Memory, Disk, Corrupt}
 use Rattle.mqtt_records.specs.state.Records.{nothing}
 use Rattle.mqtt_store_rows.specs.values.Values.{number}
-use Rattle.mqtt_store_rows.specs.values.Gives.{Rows, Gives}
-use Rattle.mqtt_store_rows.proofs.values_lemmas.LawfulLemmas.{lawful_within}
+use Rattle.mqtt_store_rows.specs.taking_over.Gives.{Rows, Gives}
 use Rattle.mqtt_store_tables.specs.forms.Creation.{numbers_of}
 use Rattle.mqtt_store_tables.specs.declared.forms.schema.StoreTable.TheVariants.{Meta}
 use Rattle.mqtt_store.specs.asking.Listing.{by_columns, IsListingOf, IsListing}
-use Rattle.mqtt_store.specs.asking.Kept.{AreListed, HasRecords}
+use Rattle.mqtt_store.specs.taking_over.Kept.{AreListed, HasRecords}
 use Rattle.mqtt_store.proofs.asking_lemmas.Rising.{Rise}
-use Rattle.mqtt_store.proofs.asking_lemmas.Unique.{by_total, names_rise, listed_one}
+use Rattle.mqtt_store.proofs.asking_lemmas.Unique.{by_total, names_rise}
 
 -- ---- all tables
 
@@ -26,12 +24,6 @@ use Rattle.mqtt_store.proofs.asking_lemmas.Unique.{by_total, names_rise, listed_
 pub gives_all : (db : Trees) (rows : Rows) (res : Result Records KeepError) → AreListed db rows → IfOk res (λ r. Gives rows r) → IfOk res (λ r. IsLawful r) → IfOk res (HasRecords db)
 gives_all db rows (Ok r) listed gives lawful = record { rows = rows; listed = listed; gives = gives; lawful = lawful }
 gives_all db rows (Err e) listed gives lawful = tt
-
--- if it gives none, the database has none
-pub gives_none : (db : Trees) (rows : Rows) → AreListed db rows → ((r : Records) → Gives rows r → IsLawful r → ⊥) → (r : Records) → HasRecords db r → ⊥
-gives_none db rows listed none r h =
-    let same = listed_one db rows h.rows r listed h.listed h.gives (lawful_within r h.lawful) in
-    none r (subst (λ rows. Gives rows r) (sym same) h.gives) h.lawful
 
 -- ---- a new store
 
@@ -68,8 +60,3 @@ nothing_lawful = record {
   retained = record { table = record { ascending = tt; within = omega arith }; topics = tt; each = tt };
   shared = nothing_shared;
 }
-
--- a failure of the database is not `Corrupt`
-pub fault_other : (e : KeepError) → (e ≡ Memory) ⊎ (e ≡ Disk) → ◌≡◌ {A = Result Records KeepError} (Err e) (Err Corrupt) → ⊥
-fault_other e (inl h) is = let k : e ≡ Corrupt = cc in absurd (let m : Memory ≡ Corrupt = sym h ∙ k in cc)
-fault_other e (inr h) is = let k : e ≡ Corrupt = cc in absurd (let m : Disk ≡ Corrupt = sym h ∙ k in cc)

@@ -8,13 +8,11 @@ use Rattle.sqlite_value.specs.declared.value.Value.TheVariants.{Text}
 use Rattle.sqlite_value.specs.Order.{Row, column, value_cmp}
 use Rattle.sqlite_value.proofs.OrderLemmas.{value_cmp_total, value_cmp-Int, value_cmp-Text}
 use Rattle.sqlite_trees.specs.Tree as tree
-use Rattle.mqtt_records.specs.declared.messages.message.RetainedMessage.{RetainedMessage}
 use Rattle.mqtt_records.specs.declared.state.session.Session.{Session}
 use Rattle.mqtt_records.specs.state.Session.{birth_of, place_of, number_of, copy_place}
-use Rattle.mqtt_records.specs.state.Records.{kept_place}
 use Rattle.mqtt_records.specs.lists.Order.{IsAbove, IsAscending}
 use Rattle.mqtt_store_rows.specs.values.Values.{number}
-use Rattle.mqtt_store_rows.specs.values.Rows.{SaysWill, SaysSubscription, SaysOpen, SaysCopy, SaysRetained}
+use Rattle.mqtt_store_rows.specs.values.Rows.{SaysWill, SaysSubscription, SaysOpen, SaysCopy}
 use Rattle.mqtt_store_rows.specs.values.Lists.{AreRows, AllOf, Takes}
 use Rattle.mqtt_store_rows.specs.values.Gives.{Parts, no_parts, list_of, AreSessions, IsWithin}
 use Rattle.mqtt_store.specs.asking.Listing.{by_columns}
@@ -161,7 +159,3 @@ pub columns_rise : (rows : List Row) (parts : Parts) (ss : List Session) → Are
 columns_rise [] parts ss are up = tt
 columns_rise (row ∷ rows) parts [] are up = absurd are
 columns_rise (row ∷ rows) parts (s ∷ ss) are up = (columns_above row s.birth rows are.1.0 ss are.0.birth are.1.2 up.0, columns_rise rows are.1.0 ss are.1.2 up.1)
-
--- rows of retained messages rise by place
-pub retained_rise : (rows : List Row) (all : List RetainedMessage) → AreRows SaysRetained rows all → IsAscending kept_place all → Rise (0 ∷ []) rows
-retained_rise = rows_rise SaysRetained kept_place (λ x r h. h.place)

@@ -1,5 +1,5 @@
 -- A database has the records that its rows give, and no other.
-use Rattle.std.proofs.Common.{◌≡◌, ℕ, List, [], ◌∷◌, codes, refl, subst}
+use Rattle.std.proofs.Common.{◌≡◌, ℕ, List, [], ◌∷◌, codes, refl}
 use Rattle.std.specs.Cmp.{IsTotalOrder}
 use Rattle.std.proofs.lemmas.Cmp.{on_total, then_total}
 use Rattle.std.proofs.lemmas.List.Sorted.{IsPermutation-sym, IsPermutation-trans}
@@ -7,16 +7,10 @@ use Rattle.sqlite_keyed.proofs.SortLemmas.{sorted_unique}
 use Rattle.sqlite_value.specs.declared.value.Value.TheVariants.{Text}
 use Rattle.sqlite_value.specs.Order.{Row, column}
 use Rattle.sqlite_value.proofs.OrderLemmas.{value_cmp_total}
-use Rattle.sqlite_trees.specs.Tree.{Trees}
-use Rattle.mqtt_records.specs.declared.state.records.Records.{Records}
 use Rattle.mqtt_store_rows.specs.declared.values.meta.Counters.{Counters}
 use Rattle.mqtt_store_rows.specs.values.Rows.{SaysNumbers}
-use Rattle.mqtt_store_rows.specs.values.Gives.{Parts, Rows, Gives, AreWithin, counters_of}
-use Rattle.mqtt_store_rows.proofs.values_lemmas.LawfulLemmas.{lawful_within}
-use Rattle.mqtt_store_rows.proofs.values_lemmas.OneLemmas as load
 use Rattle.mqtt_store.specs.asking.Listing.{by_columns, IsListingOf}
-use Rattle.mqtt_store.specs.asking.Kept.{AreListed, HasRecords}
-use Rattle.mqtt_store.proofs.asking_lemmas.Rising.{Rise, text_less, all_counted, parts_rise, columns_rise, retained_rise}
+use Rattle.mqtt_store.proofs.asking_lemmas.Rising.{Rise, text_less}
 
 -- ---- one listing
 
@@ -48,42 +42,12 @@ names_rise a b c d e f p q r s t u = (
 )
 
 -- the rows of counters rise
-pub numbers_rise : (all : Counters) (rows : List Row) → SaysNumbers all rows → Rise (0 ∷ []) rows
-numbers_rise all [] h = absurd h
-numbers_rise all (a ∷ []) h = absurd h
-numbers_rise all (a ∷ b ∷ []) h = absurd h
-numbers_rise all (a ∷ b ∷ c ∷ []) h = absurd h
-numbers_rise all (a ∷ b ∷ c ∷ d ∷ []) h = absurd h
-numbers_rise all (a ∷ b ∷ c ∷ d ∷ e ∷ []) h = absurd h
-numbers_rise all (a ∷ b ∷ c ∷ d ∷ e ∷ f ∷ []) h = names_rise a b c d e f h.0.name h.1.name h.2.name h.3.name h.4.name h.5.name
-numbers_rise all (a ∷ b ∷ c ∷ d ∷ e ∷ f ∷ g ∷ rows) h = absurd h
-
--- ---- all tables
-
-same_parts : (a b c d e f g h : List Row) → a ≡ b → c ≡ d → e ≡ f → g ≡ h
-    → ◌≡◌ {A = Parts} (record { wills = a; subscriptions = c; inbound = e; copies = g }) (record { wills = b; subscriptions = d; inbound = f; copies = h })
-same_parts a b c d e f g h p q r s = rw (p, q, r, s) refl
-
-same_rows : (a b c d : List Row) (p q : Parts) (e f : List Row) → a ≡ b → c ≡ d → p ≡ q → e ≡ f
-    → ◌≡◌ {A = Rows} (record { meta = a; sessions = c; parts = p; retained = e }) (record { meta = b; sessions = d; parts = q; retained = f })
-same_rows a b c d p q e f h i j k = rw (h, i, j, k) refl
-
--- what gives records is the only listing
-pub listed_one : (db : Trees) (rows others : Rows) (r : Records) → AreListed db rows → AreListed db others → Gives others r → AreWithin r → rows ≡ others
-listed_one db rows others r h k gives within =
-    let parts = parts_rise 0 others.sessions others.parts r.sessions gives.sessions (all_counted others.sessions others.parts r.sessions gives.sessions) within.sessions.ascending within.each in
-    same_rows _ _ _ _ _ _ _ _
-    (one_listing _ _ _ _ _ h.meta k.meta (numbers_rise (counters_of r) others.meta gives.numbers))
-    (one_listing _ _ _ _ _ h.sessions k.sessions (columns_rise others.sessions others.parts r.sessions gives.sessions within.sessions.ascending))
-    (same_parts _ _ _ _ _ _ _ _
-    (one_listing _ _ _ _ _ h.parts.wills k.parts.wills parts.wills.1)
-    (one_listing _ _ _ _ _ h.parts.subscriptions k.parts.subscriptions parts.subscriptions.1)
-    (one_listing _ _ _ _ _ h.parts.inbound k.parts.inbound parts.inbound.1)
-    (one_listing _ _ _ _ _ h.parts.copies k.parts.copies parts.copies.1))
-    (one_listing _ _ _ _ _ h.retained k.retained (retained_rise others.retained r.retained gives.retained within.retained.ascending))
-
--- a database has one records alone
-pub records_one : (db : Trees) (q r : Records) → HasRecords db q → HasRecords db r → q ≡ r
-records_one db q r h k =
-    let same = listed_one db h.rows k.rows r h.listed k.listed k.gives (lawful_within r k.lawful) in
-    load.one_records k.rows q r (subst (λ rows. Gives rows q) same h.gives) (lawful_within q h.lawful) k.gives (lawful_within r k.lawful)
+pub numbers_rise : (schema : ℕ) (all : Counters) (rows : List Row) → SaysNumbers schema all rows → Rise (0 ∷ []) rows
+numbers_rise schema all [] h = absurd h
+numbers_rise schema all (a ∷ []) h = absurd h
+numbers_rise schema all (a ∷ b ∷ []) h = absurd h
+numbers_rise schema all (a ∷ b ∷ c ∷ []) h = absurd h
+numbers_rise schema all (a ∷ b ∷ c ∷ d ∷ []) h = absurd h
+numbers_rise schema all (a ∷ b ∷ c ∷ d ∷ e ∷ []) h = absurd h
+numbers_rise schema all (a ∷ b ∷ c ∷ d ∷ e ∷ f ∷ []) h = names_rise a b c d e f h.0.name h.1.name h.2.name h.3.name h.4.name h.5.name
+numbers_rise schema all (a ∷ b ∷ c ∷ d ∷ e ∷ f ∷ g ∷ rows) h = absurd h

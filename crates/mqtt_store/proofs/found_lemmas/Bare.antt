@@ -4,26 +4,12 @@ use Rattle.sqlite_value.specs.Order.{Row}
 use Rattle.mqtt_records.specs.declared.state.records.Records.{Records}
 use Rattle.mqtt_records.specs.declared.state.session.Session.{Session}
 use Rattle.mqtt_records.specs.state.Contents.{StoredMessage}
-use Rattle.mqtt_store_rows.specs.declared.values.meta.Counters.{Counters}
 use Rattle.mqtt_store_rows.specs.values.Rows.{SaysWill, SaysSubscription, SaysOpen}
 use Rattle.mqtt_store_rows.specs.values.Lists.{AreRows, Takes}
-use Rattle.mqtt_store_rows.specs.values.Gives.{counters_of}
 use Rattle.mqtt_store.specs.item_laws.Members.{will_of, subscriptions_of, inbound_of}
-use Rattle.mqtt_store.proofs.old_found_lemmas.Traverse.{Shares, SaysSix, SaysItself, own_rows, wills_share, subscriptions_share, inbound_share}
+use Rattle.mqtt_store.proofs.old_found_lemmas.Traverse.{Shares, SaysItself, own_rows, wills_share, subscriptions_share, inbound_share}
 use Rattle.mqtt_store.proofs.old_found_lemmas.First.{FirstRows, AreFirstSaid}
-use Rattle.mqtt_store_rows.specs.rows.Rows.{SaysNumbers}
 use Rattle.mqtt_store_rows.specs.rows.Gives.{Rows, GivesBy, parts_of, without_queue}
-
--- what schema 2 says of its numbers
-six_of_second : (all : Counters) (rows : List Row) → SaysNumbers all rows → SaysSix 2 all rows
-six_of_second all [] h = absurd h
-six_of_second all (a ∷ []) h = absurd h
-six_of_second all (a ∷ b ∷ []) h = absurd h
-six_of_second all (a ∷ b ∷ c ∷ []) h = absurd h
-six_of_second all (a ∷ b ∷ c ∷ d ∷ []) h = absurd h
-six_of_second all (a ∷ b ∷ c ∷ d ∷ e ∷ []) h = absurd h
-six_of_second all (a ∷ b ∷ c ∷ d ∷ e ∷ f ∷ []) h = h
-six_of_second all (a ∷ b ∷ c ∷ d ∷ e ∷ f ∷ g ∷ rows) h = absurd h
 
 bare_own : (rows : List Row) (ss : List Session) → AreRows SaysItself rows (map without_queue ss) → AreRows SaysItself rows ss
 bare_own [] [] are = tt
@@ -45,7 +31,7 @@ first_said messages rows q by =
     let bare = map without_queue q.sessions in
     let others = by.sessions.others in
     record {
-      numbers = six_of_second (counters_of q) rows.meta by.numbers;
+      numbers = by.numbers;
       sessions = bare_own rows.sessions q.sessions (own_rows rows.sessions (parts_of rows) bare others);
       wills = bare_shares SaysWill will_of (λ s. refl) rows.wills q.sessions (wills_share rows.sessions (parts_of rows) bare others);
       subscriptions = bare_shares SaysSubscription subscriptions_of (λ s. refl) rows.subscriptions q.sessions (subscriptions_share rows.sessions (parts_of rows) bare others);

@@ -18,7 +18,7 @@ use Rattle.mqtt_store_tables.specs.declared.schema.tables.Making.{Making}
 use Rattle.mqtt_store_tables.specs.declared.schema.tables.Making.TheVariants.{New, TakenOver}
 use Rattle.mqtt_store_tables.specs.statements.Layout.{schema_of, second_layout}
 use Rattle.mqtt_store_tables.proofs.statements_lemmas.tables.Second.{is_second}
-use Rattle.mqtt_store_tables.proofs.statements_lemmas.sets.SetCopy.{own_number}
+use Rattle.mqtt_store_tables.proofs.statements_lemmas.tables.Numbers.{own_number}
 use Rattle.mqtt_store_tables.specs.messages.Places.{message_tree, queued_tree, kept_tree}
 use Rattle.mqtt_store_tables.proofs.messages_lemmas.Behind.{queued_listed}
 use Rattle.mqtt_store_tables.proofs.messages_lemmas.SetQueued.{one_queued}

@@ -11,7 +11,7 @@ use Rattle.mqtt_store_tables.specs.declared.schema.tables.Making.{Making}
 use Rattle.mqtt_store_tables.specs.declared.schema.tables.Making.TheVariants.{New, TakenOver}
 use Rattle.mqtt_store_tables.specs.statements.Content.{IsShapedAt}
 use Rattle.mqtt_store_tables.specs.statements.Layout.{second_layout, schema_of}
-use Rattle.mqtt_store.specs.item_laws.Written.{AreInOrder}
+use Rattle.mqtt_store.specs.taking_over.Written.{AreInOrder}
 use Rattle.mqtt_store.specs.row_laws.Written.{AreInOrderTwo, HasNoOldRows}
 use Rattle.mqtt_store.specs.committing.Settled.{IsSettled}
 use Rattle.mqtt_store.specs.loading.Keeping.{AreOrdered}

@@ -17,10 +17,9 @@ use Rattle.mqtt_store_tables.specs.forms.Settled.{OnlyReads}
 use Rattle.mqtt_store_tables.specs.forms.Tables.{keep_schema}
 use Rattle.mqtt_store_tables.specs.declared.schema.tables.Making.TheVariants.{TakenOver}
 use Rattle.mqtt_store_tables.specs.schema.Tables.{second_schema}
-use Rattle.mqtt_store_tables.specs.statements.Content.{IsShapedAt, AreShaped}
-use Rattle.mqtt_store_tables.specs.statements.Step.{IsSettled as IsSettledFirst}
-use Rattle.mqtt_store.specs.item_laws.Written.{KeepsRows}
-use Rattle.mqtt_store.specs.asking.Kept.{HasRecords}
+use Rattle.mqtt_store_tables.specs.statements.Content.{IsShapedAt, AreShaped, IsSettled as IsSettledFirst}
+use Rattle.mqtt_store.specs.taking_over.Written.{KeepsRows}
+use Rattle.mqtt_store.specs.taking_over.Kept.{HasRecords}
 use Rattle.mqtt_store.proofs.old_found_lemmas.Found.{found_distinct}
 use Rattle.mqtt_store.proofs.old_found_lemmas.Kept.{distinct_kept}
 use Rattle.mqtt_store.specs.committing.Settled.{IsSettled}

@@ -11,7 +11,8 @@ use Rattle.mqtt_store_tables.specs.declared.forms.schema.StoreTable.TheVariants.
 use Rattle.mqtt_store.specs.asking.Listing.{shown}
 use Rattle.mqtt_store.specs.item_laws.Members.{AllOrdered}
 use Rattle.mqtt_store.proofs.item_laws_lemmas.records.Determined.{same_members}
-use Rattle.mqtt_store.specs.item_laws.Written.{HasRows, AreSayable, IsCopyOf}
+use Rattle.mqtt_store.specs.item_laws.Written.{AreSayable, IsCopyOf}
+use Rattle.mqtt_store.specs.taking_over.Written.{HasRows}
 use Rattle.mqtt_store.proofs.old_found_lemmas.Lines.{AreLined, copy_line, retained_line, copy_shown, retained_shown}
 use Rattle.mqtt_store.proofs.old_found_lemmas.Same.{copy_same, retained_same}
 use Rattle.mqtt_store.proofs.old_found_lemmas.Table.{rewritten, same_item}

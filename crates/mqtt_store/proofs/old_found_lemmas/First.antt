@@ -18,7 +18,7 @@ use Rattle.mqtt_records.specs.declared.state.subscription.Subscription.{Subscrip
 use Rattle.mqtt_records.specs.state.Session.{columns_of}
 use Rattle.mqtt_records.specs.state.Members.{Has as HasItem, InPart, InQueue}
 use Rattle.mqtt_store_rows.specs.values.Values.{or_zero, IsIdentifier}
-use Rattle.mqtt_store_rows.specs.values.Rows.{SaysSession, SaysWill, SaysSubscription, SaysOpen}
+use Rattle.mqtt_store_rows.specs.values.Rows.{SaysNumbers, SaysSession, SaysWill, SaysSubscription, SaysOpen}
 use Rattle.mqtt_store_rows.specs.values.Lists.{AreRows}
 use Rattle.mqtt_store_rows.specs.values.Gives.{counters_of}
 use Rattle.mqtt_store_tables.specs.forms.Tables.{meta, will, sub, inbound}
@@ -32,7 +32,7 @@ use Rattle.mqtt_store.specs.item_laws.Items.{IsNumberRow, IsSessionRow, IsWillRo
 use Rattle.mqtt_store.specs.item_laws.Written.{AreWritten, AreSayable, IsSayableWill, IsSayableSubscription, IsWillOf, IsSubscriptionOf, IsOpenOf}
 use Rattle.mqtt_store.proofs.item_laws_lemmas.records.Determined.{determined}
 use Rattle.mqtt_store.proofs.old_found_lemmas.Exact.{by_columns, typed_row, as_long, key_null, something, int_there, blob_there, int_of, numbered_is, keyed_is}
-use Rattle.mqtt_store.proofs.old_found_lemmas.Traverse.{IsSaid, Shares, SaysSix, SaysNamed, SaysItself, SaysOf, numbers_at, rows_each, rows_only, numbers_each, numbers_only, shares_each, shares_only}
+use Rattle.mqtt_store.proofs.old_found_lemmas.Traverse.{IsSaid, Shares, SaysNamed, SaysItself, SaysOf, numbers_at, rows_each, rows_only, numbers_each, numbers_only, shares_each, shares_only}
 use Rattle.mqtt_store.proofs.old_found_lemmas.Lines.{AreLined, number_line, session_line, will_line, subscription_line, open_line, number_shown, session_shown, will_shown, subscription_shown, open_shown, number_said, session_said, will_said, subscription_said, open_said}
 use Rattle.mqtt_store.proofs.old_found_lemmas.Same.{session_same, will_same, subscription_same, open_same, number_same}
 use Rattle.mqtt_store.proofs.old_found_lemmas.Table.{rewritten, same_item, lined}
@@ -136,7 +136,7 @@ pub record AreFirstListed (db : Trees) (rows : FirstRows) : Type 0 where
 
 -- they say the numbers and sessions of these records, with what sessions have beside their queues
 pub record AreFirstSaid (schema : ℕ) (rows : FirstRows) (q : Records) : Type 0 where
-  pub numbers : SaysSix schema (counters_of q) rows.meta
+  pub numbers : SaysNumbers schema (counters_of q) rows.meta
   pub sessions : AreRows SaysItself rows.sessions q.sessions
   pub wills : Shares SaysWill will_of rows.wills q.sessions
   pub subscriptions : Shares SaysSubscription subscriptions_of rows.subscriptions q.sessions

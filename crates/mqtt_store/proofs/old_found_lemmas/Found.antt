@@ -12,15 +12,15 @@ use Rattle.mqtt_records.specs.declared.state.records.Records.{Records}
 use Rattle.mqtt_records.specs.declared.state.session.Session.{Session as SessionItem}
 use Rattle.mqtt_records.specs.state.Members.{Has as HasItem, queue_of}
 use Rattle.mqtt_store_rows.specs.values.Ones.{one_number}
-use Rattle.mqtt_store_rows.specs.values.Gives.{counters_of}
-use Rattle.mqtt_store_rows.specs.values.Rows.{SaysCopy, SaysRetained}
+use Rattle.mqtt_store_rows.specs.values.Rows.{SaysCopy}
+use Rattle.mqtt_store_rows.specs.taking_over.Rows.{SaysRetained}
 use Rattle.mqtt_store_tables.specs.declared.forms.schema.StoreTable.TheVariants.{Copy, Retained}
 use Rattle.mqtt_store.specs.asking.Listing.{shown, tree_of}
-use Rattle.mqtt_store.specs.asking.Kept.{HasRecords}
+use Rattle.mqtt_store.specs.taking_over.Kept.{HasRecords}
 use Rattle.mqtt_store.specs.item_laws.Members.{IsOrdered}
 use Rattle.mqtt_store.specs.item_laws.Written.{AreSayable, IsSayableCopy, IsCopyOf}
 use Rattle.mqtt_store.proofs.old_found_lemmas.Sent.{says_sent}
-use Rattle.mqtt_store.proofs.old_found_lemmas.Traverse.{Shares, SaysOf, six_of_first, own_rows, rows_each, rows_only, shares_each, shares_only, wills_share, subscriptions_share, inbound_share, copies_share}
+use Rattle.mqtt_store.proofs.old_found_lemmas.Traverse.{Shares, SaysOf, own_rows, rows_each, rows_only, shares_each, shares_only, wills_share, subscriptions_share, inbound_share, copies_share}
 use Rattle.mqtt_store.proofs.old_found_lemmas.Lines.{copy_line, retained_line, copy_said, retained_said}
 use Rattle.mqtt_store.proofs.old_found_lemmas.Table.{lined}
 use Rattle.mqtt_store.proofs.old_found_lemmas.First.{FirstRows, AreFirstListed, AreFirstSaid, first_found, wills_sayable, subscriptions_sayable}
@@ -57,7 +57,7 @@ module _ (db : Trees) (q : Records) (h : HasRecords db q) where
 
   first_said : AreFirstSaid 1 first_rows q
   first_said = record {
-    numbers = six_of_first (counters_of q) h.rows.meta h.gives.numbers;
+    numbers = h.gives.numbers;
     sessions = own_rows h.rows.sessions h.rows.parts q.sessions h.gives.sessions;
     wills = wills_share h.rows.sessions h.rows.parts q.sessions h.gives.sessions;
     subscriptions = subscriptions_share h.rows.sessions h.rows.parts q.sessions h.gives.sessions;

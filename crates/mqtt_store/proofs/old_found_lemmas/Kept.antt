@@ -14,10 +14,10 @@ use Rattle.mqtt_records.specs.declared.state.records.Records.{Records}
 use Rattle.mqtt_store_tables.specs.forms.Tables.{keep_schema, copy, retained}
 use Rattle.mqtt_store_tables.specs.declared.forms.schema.StoreTable.TheVariants.{Copy, Retained}
 use Rattle.mqtt_store_tables.specs.statements.Layout.{first_layout}
-use Rattle.mqtt_store_tables.proofs.statements_lemmas.sets.SetCopy.{one_copy, own_number}
+use Rattle.mqtt_store_tables.proofs.statements_lemmas.tables.Numbers.{one_copy, own_number}
 use Rattle.mqtt_store.specs.asking.Listing.{shown}
-use Rattle.mqtt_store.specs.item_laws.Items.{IsCopyRow, IsRetainedRow}
-use Rattle.mqtt_store.specs.item_laws.Written.{HasRows, AreAllSingle, AreInOrder, KeepsRows}
+use Rattle.mqtt_store.specs.taking_over.Items.{IsCopyRow, IsRetainedRow}
+use Rattle.mqtt_store.specs.taking_over.Written.{HasRows, AreAllSingle, AreInOrder, KeepsRows}
 use Rattle.mqtt_store.proofs.old_found_lemmas.Exact.{by_columns, typed_row, as_long, key_null, something, int_there, int_of, numbered_is, keyed_is}
 use Rattle.mqtt_store.proofs.old_found_lemmas.Lines.{copy_line, retained_line}
 use Rattle.mqtt_store.proofs.old_found_lemmas.Table.{rewritten}

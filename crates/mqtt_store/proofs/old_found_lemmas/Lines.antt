@@ -21,7 +21,8 @@ use Rattle.mqtt_records.specs.declared.state.session.Columns.{Columns}
 use Rattle.mqtt_records.specs.declared.state.subscription.Subscription.{Subscription as SubscriptionItem}
 use Rattle.mqtt_store_rows.specs.values.Values.{number_or_null as or_null}
 use Rattle.mqtt_store_rows.specs.values.Blocks.{IsBlockOf, SaysSent}
-use Rattle.mqtt_store_rows.specs.values.Rows.{SaysSession, SaysWill, SaysSubscription, SaysOpen, SaysCopy, SaysRetained, SaysCause, SaysPhase}
+use Rattle.mqtt_store_rows.specs.values.Rows.{SaysSession, SaysWill, SaysSubscription, SaysOpen, SaysCopy, SaysCause, SaysPhase}
+use Rattle.mqtt_store_rows.specs.taking_over.Rows.{SaysRetained}
 use Rattle.mqtt_store_tables.specs.declared.forms.schema.StoreTable.{StoreTable}
 use Rattle.mqtt_store_tables.specs.declared.forms.schema.StoreTable.TheVariants.{Meta, Session, Will, Subscription, Inbound, Copy, Retained}
 use Rattle.mqtt_store_tables.specs.statements.Columns.{flag, subscription_row}
@@ -29,7 +30,8 @@ use Rattle.mqtt_store_tables.specs.statements.Copy.{number_or_null, copy_row}
 use Rattle.mqtt_store_tables.specs.statements.Numbers.{number_row}
 use Rattle.mqtt_store_tables.specs.statements.Put.{open_row}
 use Rattle.mqtt_store.specs.asking.Listing.{shown, tree_of}
-use Rattle.mqtt_store.specs.item_laws.Items.{subscription_columns, copy_columns, cause_number, cause_text, cause_n, phase_number, packet_identifier, release_order, IsNumberRow, IsSessionRow, IsWillRow, IsSubscriptionRow, IsOpenRow, IsCopyRow, IsRetainedRow}
+use Rattle.mqtt_store.specs.item_laws.Items.{subscription_columns, cause_number, cause_text, cause_n, phase_number, packet_identifier, release_order, IsNumberRow, IsSessionRow, IsWillRow, IsSubscriptionRow, IsOpenRow}
+use Rattle.mqtt_store.specs.taking_over.Items.{copy_columns, IsCopyRow, IsRetainedRow}
 use Rattle.mqtt_store.specs.item_laws.Written.{AreWritten}
 use Rattle.mqtt_store.proofs.old_found_lemmas.Sent.{says_sent}
 use Rattle.mqtt_store.proofs.old_found_lemmas.Traverse.{SaysNamed, SaysOf}

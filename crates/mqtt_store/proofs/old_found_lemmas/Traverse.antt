@@ -9,7 +9,6 @@ use Rattle.mqtt_records.specs.declared.state.records.Records.{Records}
 use Rattle.mqtt_records.specs.declared.state.session.Session.{Session}
 use Rattle.mqtt_records.specs.state.Session.{columns_of}
 use Rattle.mqtt_records.specs.state.Members.{Has as HasItem, InPart, queue_of}
-use Rattle.mqtt_store_rows.specs.declared.values.meta.Counters.{Counters}
 use Rattle.mqtt_store_rows.specs.values.Rows.{SaysNumber, SaysNumbers, SaysSession, SaysWill, SaysSubscription, SaysOpen, SaysCopy}
 use Rattle.mqtt_store_rows.specs.values.Lists.{AreRows, IsOf, Takes}
 use Rattle.mqtt_store_rows.specs.values.Gives.{Parts, no_parts, list_of, TakesParts, AreSessions, counters_of}
@@ -44,31 +43,12 @@ module _ {X : Type 0} (Says : X → Row → Type 0) where
 abbrev pub numbers_at : ℕ → Records → List (List ℕ × ℕ)
 numbers_at schema r = take 5 (numbers_in r) ++ (codes "schema", schema) ∷ []
 
--- six rows by name, and nothing else, of a store of that schema
-abbrev pub SaysSix : ℕ → Counters → List Row → Type 0
-SaysSix schema all (autos ∷ births ∷ moment ∷ publications ∷ named ∷ subscribes ∷ []) =
-    SaysNumber (codes "autos") all.autos autos × SaysNumber (codes "births") all.births births
-    × SaysNumber (codes "moment") all.moment moment × SaysNumber (codes "publications") all.publications publications
-    × SaysNumber (codes "schema") schema named × SaysNumber (codes "subscribes") all.subscribes subscribes
-SaysSix schema all _ = ⊥
-
--- what schema 1 says of its numbers
-pub six_of_first : (all : Counters) (rows : List Row) → SaysNumbers all rows → SaysSix 1 all rows
-six_of_first all [] h = absurd h
-six_of_first all (a ∷ []) h = absurd h
-six_of_first all (a ∷ b ∷ []) h = absurd h
-six_of_first all (a ∷ b ∷ c ∷ []) h = absurd h
-six_of_first all (a ∷ b ∷ c ∷ d ∷ []) h = absurd h
-six_of_first all (a ∷ b ∷ c ∷ d ∷ e ∷ []) h = absurd h
-six_of_first all (a ∷ b ∷ c ∷ d ∷ e ∷ f ∷ []) h = h
-six_of_first all (a ∷ b ∷ c ∷ d ∷ e ∷ f ∷ g ∷ rows) h = absurd h
-
 abbrev pub SaysNamed : List ℕ × ℕ → Row → Type 0
 SaysNamed x row = SaysNumber x.0 x.1 row
 
 module _ (schema : ℕ) (q : Records) where
   -- each number is said by one of the rows
-  pub numbers_each : (rows : List Row) → SaysSix schema (counters_of q) rows → (x : List ℕ × ℕ) → HasItem (numbers_at schema q) x → IsSaid SaysNamed rows x
+  pub numbers_each : (rows : List Row) → SaysNumbers schema (counters_of q) rows → (x : List ℕ × ℕ) → HasItem (numbers_at schema q) x → IsSaid SaysNamed rows x
   numbers_each [] h x it = absurd h
   numbers_each (a ∷ []) h x it = absurd h
   numbers_each (a ∷ b ∷ []) h x it = absurd h
@@ -85,7 +65,7 @@ module _ (schema : ℕ) (q : Records) where
   numbers_each (a ∷ b ∷ c ∷ d ∷ e ∷ f ∷ g ∷ rows) h x it = absurd h
 
   -- each row of the table of numbers says one
-  pub numbers_only : (rows : List Row) → SaysSix schema (counters_of q) rows → (row : Row) → Has rows row → (x : List ℕ × ℕ) × HasItem (numbers_at schema q) x × SaysNamed x row
+  pub numbers_only : (rows : List Row) → SaysNumbers schema (counters_of q) rows → (row : Row) → Has rows row → (x : List ℕ × ℕ) × HasItem (numbers_at schema q) x × SaysNamed x row
   numbers_only [] h row it = absurd h
   numbers_only (a ∷ []) h row it = absurd h
   numbers_only (a ∷ b ∷ []) h row it = absurd h

@@ -2,18 +2,18 @@
 use Rattle.std.proofs.Common.{[], refl, arith}
 use Rattle.sqlite.specs.Effect.{Database}
 use Rattle.mqtt_records.specs.state.Records.{nothing}
+use Rattle.mqtt_store_rows.specs.values.Rows.{SaysNumbers}
 use Rattle.mqtt_store_rows.specs.values.Gives.{counters_of}
 use Rattle.mqtt_store_tables.specs.schema.Creation.{IsNewSecond}
 use Rattle.mqtt_store_tables.specs.declared.schema.tables.Making.TheVariants.{New}
 use Rattle.mqtt_store.proofs.asking_lemmas.Loaded.{new_meta, meta_listed, empty_listed, nothing_lawful}
-use Rattle.mqtt_store_rows.specs.rows.Rows.{SaysNumbers}
 use Rattle.mqtt_store_rows.specs.rows.Gives.{Rows}
 use Rattle.mqtt_store.specs.reading.Kept.{HasRecordsTwo}
 
 abbrev new_rows : Rows
 new_rows = record { meta = new_meta 2; sessions = []; wills = []; subscriptions = []; inbound = []; messages = []; queued = []; kept = [] }
 
-new_numbers : SaysNumbers (counters_of nothing) (new_meta 2)
+new_numbers : SaysNumbers 2 (counters_of nothing) (new_meta 2)
 new_numbers = (
   record { name = refl; value = refl; range = omega arith },
   record { name = refl; value = refl; range = omega arith },

@@ -8,25 +8,13 @@ use Rattle.mqtt_records.specs.state.Session.{birth_of, copy_place}
 use Rattle.mqtt_records.specs.state.Records.{kept_place}
 use Rattle.mqtt_records.specs.state.Contents.{StoredMessage}
 use Rattle.mqtt_records.specs.lists.Order.{IsAbove, IsAscending}
-use Rattle.mqtt_store_rows.specs.declared.values.meta.Counters.{Counters}
 use Rattle.mqtt_store_rows.specs.values.Gives.{IsWithin, AreWithin, counters_of}
 use Rattle.mqtt_store.proofs.asking_lemmas.Rising.{Rise, AllLater, PartsRise, rows_rise, part_rises, takes_on, parts_rise, all_counted, columns_rise}
-use Rattle.mqtt_store.proofs.asking_lemmas.Unique.{names_rise}
-use Rattle.mqtt_store_rows.specs.rows.Rows.{SaysNumbers, SaysMessage}
+use Rattle.mqtt_store.proofs.asking_lemmas.Unique.{numbers_rise}
+use Rattle.mqtt_store_rows.specs.rows.Rows.{SaysMessage}
 use Rattle.mqtt_store_rows.specs.rows.Joins.{publication_of, SaysCopy, SaysRetained}
 use Rattle.mqtt_store_rows.specs.rows.Gives.{Rows, Gives, AreQueues, without_queue, parts_of}
 use Rattle.mqtt_store_rows.proofs.rows_lemmas.QueueLemmas.{same_above, same_order, without_twice, within_without}
-
--- the rows of counters rise
-pub numbers_rise : (all : Counters) (rows : List Row) → SaysNumbers all rows → Rise (0 ∷ []) rows
-numbers_rise all [] h = absurd h
-numbers_rise all (a ∷ []) h = absurd h
-numbers_rise all (a ∷ b ∷ []) h = absurd h
-numbers_rise all (a ∷ b ∷ c ∷ []) h = absurd h
-numbers_rise all (a ∷ b ∷ c ∷ d ∷ []) h = absurd h
-numbers_rise all (a ∷ b ∷ c ∷ d ∷ e ∷ []) h = absurd h
-numbers_rise all (a ∷ b ∷ c ∷ d ∷ e ∷ f ∷ []) h = names_rise a b c d e f h.0.name h.1.name h.2.name h.3.name h.4.name h.5.name
-numbers_rise all (a ∷ b ∷ c ∷ d ∷ e ∷ f ∷ g ∷ rows) h = absurd h
 
 -- the rows of queues rise by birth and place
 queues_rise : (messages : List StoredMessage) (n : ℕ) (rows : List Row) (ss : List Session) → AreQueues messages rows ss → IsAbove birth_of n ss → IsAscending birth_of ss → AllByRecursion IsWithin ss
@@ -55,7 +43,7 @@ all_rise rows r gives within =
     let up : IsAscending birth_of bare = same_order bare r.sessions same within.sessions.ascending in
     let low : IsAbove birth_of 0 bare = all_counted rows.sessions (parts_of rows) bare are in
     record {
-      meta = numbers_rise (counters_of r) rows.meta gives.by.numbers;
+      meta = numbers_rise 2 (counters_of r) rows.meta gives.by.numbers;
       sessions = columns_rise rows.sessions (parts_of rows) bare are up;
       parts = parts_rise 0 rows.sessions (parts_of rows) bare are low up (within_without r.sessions within.each);
       messages = rows_rise SaysMessage publication_of (λ x row h. h.publication) rows.messages gives.messages gives.said gives.order.ascending;

@@ -15,9 +15,8 @@ use Rattle.mqtt_store_tables.specs.forms.Tables.{keep_schema}
 use Rattle.mqtt_store_tables.proofs.forms_lemmas.Kept.{commit_err}
 use Rattle.mqtt_store_tables.specs.schema.Tables.{second_schema}
 use Rattle.mqtt_store_tables.specs.declared.schema.tables.Making.TheVariants.{TakenOver}
-use Rattle.mqtt_store_tables.specs.statements.Content.{AreShaped, IsShapedAt, IsWhole}
+use Rattle.mqtt_store_tables.specs.statements.Content.{AreShaped, IsShapedAt, IsWhole, IsSettled as IsSettledFirst}
 use Rattle.mqtt_store_tables.specs.statements.Layout.{first_layout, schema_of}
-use Rattle.mqtt_store_tables.specs.statements.Step.{IsSettled as IsSettledFirst}
 use Rattle.mqtt_store.specs.row_laws.Written.{KeepsRowsTwo}
 use Rattle.mqtt_store.specs.committing.Settled.{IsSettled}
 use Rattle.mqtt_store.specs.taking_over.Migration.{Migrates, MayMigrate, MayCommit}

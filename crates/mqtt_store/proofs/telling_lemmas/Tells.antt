@@ -16,7 +16,7 @@ use Rattle.mqtt_store_rows.specs.values.Values.{number}
 use Rattle.mqtt_store_tables.specs.declared.schema.tables.Making.{Making}
 use Rattle.mqtt_store_tables.specs.statements.Content.{is_of}
 use Rattle.mqtt_store_tables.specs.statements.Removal.{is_keyed}
-use Rattle.mqtt_store_tables.proofs.statements_lemmas.sets.SetCopy.{own_number}
+use Rattle.mqtt_store_tables.proofs.statements_lemmas.tables.Numbers.{own_number}
 use Rattle.mqtt_store.specs.row_laws.Written.{KeepsRowsTwo}
 use Rattle.mqtt_store.specs.telling.Told.{copy_in, is_message_for, message_for, identifiers_read, properties_read, filling_said, told_with, told_in}
 use Rattle.mqtt_store.proofs.telling_lemmas.Back.{identifiers_fit, identifiers_back, properties_back}

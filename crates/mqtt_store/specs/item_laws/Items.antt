@@ -1,5 +1,5 @@
 -- The rows that are written from the items of records (4.1).
-use Rattle.std.specs.Prelude.{◌≡◌, ℕ, ℤ, pos, cond, List, [], ◌∷◌, Option, Some, None}
+use Rattle.std.specs.Prelude.{◌≡◌, ℕ, ℤ, pos, List, [], ◌∷◌, Option, Some, None}
 use Rattle.sqlite_value.specs.declared.value.Value.TheVariants.{Int, Text}
 use Rattle.sqlite_value.specs.Order.{Row, column}
 use Rattle.mqtt_base.specs.Service.{qos_number}
@@ -8,15 +8,13 @@ use Rattle.mqtt_base.specs.declared.session.Cause.TheVariants.{Direct, Share, Re
 use Rattle.mqtt_base.specs.declared.session.Phase.{Phase}
 use Rattle.mqtt_base.specs.declared.session.Phase.TheVariants.{Waiting, Sent, Released, Oversize}
 use Rattle.mqtt_props.specs.Properties.{block}
-use Rattle.mqtt_records.specs.declared.messages.message.RetainedMessage.{RetainedMessage}
 use Rattle.mqtt_records.specs.declared.messages.message.Will.{Will}
-use Rattle.mqtt_records.specs.messages.Queue.{CopyRow, first_sent}
 use Rattle.mqtt_records.specs.declared.state.session.Columns.{Columns}
 use Rattle.mqtt_records.specs.declared.state.subscription.Subscription.{Subscription}
 use Rattle.mqtt_store_rows.specs.values.Values.{handling_number, or_zero}
 use Rattle.mqtt_store_tables.specs.declared.statements.subscriptions.SubscriptionColumns.{SubscriptionColumns}
-use Rattle.mqtt_store_tables.specs.statements.Columns.{SessionColumns, WillColumns, RetainedColumns, will_row, subscription_row, retained_row}
-use Rattle.mqtt_store_tables.specs.statements.Copy.{CopyColumns, number_or_null, copy_row}
+use Rattle.mqtt_store_tables.specs.statements.Columns.{SessionColumns, WillColumns, will_row, subscription_row}
+use Rattle.mqtt_store_tables.specs.statements.Copy.{number_or_null}
 use Rattle.mqtt_store_tables.specs.statements.Numbers.{number_row}
 use Rattle.mqtt_store_tables.specs.statements.Put.{open_row}
 
@@ -83,36 +81,6 @@ release_order (Sent identifier) = None
 release_order (Released identifier order) = Some order
 release_order (Oversize identifier order) = Some order
 
--- the properties as a block, with the Subscription Identifiers, as they are sent when nothing was waited
-abbrev pub copy_columns : CopyRow → CopyColumns
-copy_columns x = record {
-  publication = x.copy.id.publication;
-  cause = cause_number x.copy.id.cause;
-  cause_text = cause_text x.copy.id.cause;
-  cause_n = cause_n x.copy.id.cause;
-  pid = packet_identifier x.phase;
-  phase = phase_number x.phase;
-  rel = release_order x.phase;
-  topic = x.copy.content.topic;
-  qos = qos_number x.copy.qos;
-  retain = cond x.copy.retain 1 0;
-  props = block (first_sent x.copy);
-  payload = x.copy.content.payload;
-  arrived = x.copy.content.arrived;
-}
-
--- the properties as a block, as they are passed on
-abbrev pub retained_columns : RetainedMessage → RetainedColumns
-retained_columns m = record {
-  topic = m.content.topic;
-  sender = m.sender;
-  publication = m.publication;
-  qos = qos_number m.qos;
-  props = block m.content.properties;
-  payload = m.content.payload;
-  arrived = m.content.arrived;
-}
-
 -- ---- which rows are written from an item; of what a session has, its birth is the first part of the item
 
 -- a name and its number, behind the number that the table gives the row
@@ -134,9 +102,3 @@ IsSubscriptionRow x row = (id : ℤ) × (row ≡ Int id ∷ subscription_row x.0
 
 abbrev pub IsOpenRow : ℕ × ℕ → Row → Type 0
 IsOpenRow x row = (id : ℤ) × (row ≡ Int id ∷ open_row x.0 x.1)
-
-abbrev pub IsCopyRow : ℕ × CopyRow → Row → Type 0
-IsCopyRow x row = (id : ℤ) × (row ≡ Int id ∷ copy_row x.0 x.1.place (copy_columns x.1))
-
-abbrev pub IsRetainedRow : RetainedMessage → Row → Type 0
-IsRetainedRow m row = row ≡ retained_row m.place (retained_columns m)

@@ -12,9 +12,9 @@ use Rattle.mqtt_store_tables.specs.forms.Tables.{keep_schema}
 use Rattle.mqtt_store_tables.specs.forms.Creation.{first}
 use Rattle.mqtt_store_tables.specs.schema.Tables.{second_schema}
 use Rattle.mqtt_store_tables.specs.declared.schema.tables.Making.{Making}
-use Rattle.mqtt_store.specs.asking.Kept.{HasRecords}
+use Rattle.mqtt_store.specs.taking_over.Kept.{HasRecords}
 use Rattle.mqtt_store_tables.specs.statements.Content.{IsShapedAt}
-use Rattle.mqtt_store.specs.item_laws.Written.{KeepsRows}
+use Rattle.mqtt_store.specs.taking_over.Written.{KeepsRows}
 use Rattle.mqtt_store.specs.reading.Kept.{HasRecordsTwo}
 use Rattle.mqtt_store.specs.row_laws.Written.{KeepsRowsTwo}
 

@@ -10,7 +10,7 @@ use Rattle.mqtt_store_tables.specs.forms.Tables.{keep_schema}
 use Rattle.mqtt_store_tables.specs.schema.Tables.{second_schema}
 use Rattle.mqtt_store_tables.specs.schema.Finding.{Differs, SaysKnown, SaysUnknown}
 use Rattle.mqtt_store_tables.specs.declared.schema.tables.Making.{Making}
-use Rattle.mqtt_store.specs.asking.Kept.{HasRecords, IsAsked}
+use Rattle.mqtt_store.specs.taking_over.Kept.{HasRecords}
 use Rattle.mqtt_store.specs.reading.Kept.{HasRecordsTwo}
 
 -- its tables are those of schema 1, or of schema 2, and their rows give no records
@@ -32,3 +32,7 @@ RefusesEither g old Disk = ⊤
 RefusesEither g old Size = ⊥
 RefusesEither g old Corrupt = HasNoneOfEither (state g old) × IsAsked g old SaysKnown
 RefusesEither g old Schema = HasNoneOfEither (state g old) × IsAsked g old SaysUnknown
+
+-- a connection with this database was asked for its schema, and so answered
+abbrev pub IsAsked : {S : Type 0} → Ghosts S → Held S → (State → State → Type 0) → Type 0
+IsAsked {S} g old Says = (before after : Held S) × ((state g before).now ≡ (state g old).now) × Says (state g before) (state g after)

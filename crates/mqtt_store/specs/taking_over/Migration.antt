@@ -10,8 +10,8 @@ use Rattle.mqtt_keep.specs.lawful.Lawful.{IsLawful}
 use Rattle.mqtt_store_tables.specs.forms.Tables.{keep_schema}
 use Rattle.mqtt_store_tables.specs.schema.Tables.{second_schema}
 use Rattle.mqtt_store_tables.specs.declared.schema.tables.Making.TheVariants.{TakenOver}
-use Rattle.mqtt_store_tables.specs.statements.Step.{IsSettled}
-use Rattle.mqtt_store.specs.item_laws.Written.{KeepsRows}
+use Rattle.mqtt_store_tables.specs.statements.Content.{IsSettled}
+use Rattle.mqtt_store.specs.taking_over.Written.{KeepsRows}
 use Rattle.mqtt_store.specs.row_laws.Written.{KeepsRowsTwo}
 
 -- the one keeps these records by schema 1, and the other the same by schema 2, as its trees list it

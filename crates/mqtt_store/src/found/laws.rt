@@ -5,8 +5,8 @@ ghost use Rattle.sqlite_schema.specs.Rules.{Obeys};
 ghost use Rattle.mqtt_records.specs.declared.state.records.Records.{Records};
 ghost use Rattle.mqtt_store_tables.specs.schema.Tables.{second_schema};
 ghost use Rattle.mqtt_store_tables.specs.declared.schema.tables.Making.{Making};
-ghost use Rattle.mqtt_store.specs.asking.Kept.{HasRecords};
-ghost use Rattle.mqtt_store.specs.item_laws.Written.{KeepsRows};
+ghost use Rattle.mqtt_store.specs.taking_over.Kept.{HasRecords};
+ghost use Rattle.mqtt_store.specs.taking_over.Written.{KeepsRows};
 ghost use Rattle.mqtt_store.specs.reading.Kept.{HasRecordsTwo};
 ghost use Rattle.mqtt_store.specs.row_laws.Written.{KeepsRowsTwo, AreInOrderTwo};
 

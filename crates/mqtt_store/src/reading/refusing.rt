@@ -8,7 +8,7 @@ ghost use Rattle.mqtt_store_tables.specs.forms.Settled.{IsSettled, OnlyReads};
 ghost use Rattle.mqtt_store_tables.specs.forms.Tables.{keep_schema};
 ghost use Rattle.mqtt_store_tables.specs.schema.Tables.{second_schema};
 ghost use Rattle.mqtt_store_tables.specs.schema.Finding.{SaysKnown, SaysUnknown};
-ghost use Rattle.mqtt_store.specs.asking.Kept.{HasRecords};
+ghost use Rattle.mqtt_store.specs.taking_over.Kept.{HasRecords};
 ghost use Rattle.mqtt_store_rows.specs.gathering.Slim.{IsSlimOf};
 ghost use Rattle.mqtt_store.specs.reading.Kept.{HasRecordsTwo};
 ghost use Rattle.mqtt_store.specs.reading.Refusals.{RefusesEither};

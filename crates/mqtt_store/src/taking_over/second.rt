@@ -13,7 +13,7 @@ ghost use Rattle.mqtt_store_tables.specs.statements.Content.{IsWhole};
 ghost use Rattle.mqtt_store_tables.specs.statements.Layout.{first_layout, second_layout};
 ghost use Rattle.mqtt_store_tables.specs.statements.Removal.{RemovesFrom};
 ghost use Rattle.mqtt_store_tables.specs.statements.Writing.{Writes};
-ghost use Rattle.mqtt_store.specs.item_laws.Written.{KeepsRows};
+ghost use Rattle.mqtt_store.specs.taking_over.Written.{KeepsRows};
 ghost use Rattle.mqtt_store.specs.row_laws.Written.{KeepsRowsTwo};
 ghost use Rattle.mqtt_store.specs.taking_over.Puts.{emptied};
 

@@ -3,10 +3,10 @@
 use crate::committing::changes::{
     closed, copy, no_subscription, publications, retained, session, subscription, will,
 };
+use crate::first_schema::create_first;
 use mqtt_base::Phase;
 use mqtt_records::Change;
 use mqtt_store::committing::commit_changes;
-use mqtt_store_tables::forms::create_store;
 use mqtt_store_tables::schema::{add_tables, create_second};
 use sqlite::{Alter, Connection, Error, ErrorCode, MemStore};
 use std::alloc::{AllocError, Global};
@@ -22,9 +22,7 @@ fn make_new<S: Alter>(conn: &mut Connection<S>) -> Result<(), Error> {
 
 /// Makes those of schema 1, and the others beside them.
 fn take_over<S: Alter>(conn: &mut Connection<S>) -> Result<(), Error> {
-    if conn.is_autocommit() {
-        create_store(conn)?;
-    }
+    create_first(conn)?;
     if conn.is_autocommit() {
         let mut tx = conn.transaction();
         add_tables(&mut tx)?;

@@ -1,6 +1,6 @@
 //! Databases in memory, of each kind that a load tells apart.
 
-use mqtt_store_tables::forms::create_store;
+use crate::first_schema::create_first;
 use mqtt_store_tables::schema::create_second;
 use sqlite::{Alter, Connection, Error, MemStore};
 use std::alloc::Global;
@@ -47,7 +47,7 @@ fn make<S: Alter>(conn: &mut Connection<S>, base: Base) -> Result<(), Error> {
     }
     match base {
         Base::Empty => Ok(()),
-        Base::First => create_store(conn),
+        Base::First => create_first(conn),
         Base::Second => create_second(conn),
         Base::Other => conn.execute_batch("CREATE TABLE book (title TEXT)"),
     }

@@ -1,9 +1,9 @@
 //! Databases in memory with the tables of schema 2, made in each way, and some rows.
 
+use crate::first_schema::create_first;
 use mqtt_keep::KeepError;
 use mqtt_records::Records;
 use mqtt_store::reading::records_or_refusal;
-use mqtt_store_tables::forms::create_store;
 use mqtt_store_tables::schema::{Making, add_tables, create_second};
 use sqlite::{Alter, Connection, Error, MemStore};
 use std::alloc::Global;
@@ -23,14 +23,6 @@ const ROWS: [&str; 9] = [
     "INSERT INTO kept VALUES (3, 'a/b', 'p1', 2, 2, 8)",
 ];
 
-/// Makes a store of schema 1 in an empty database.
-fn make_first<S: Alter>(conn: &mut Connection<S>) -> Result<(), Error> {
-    if conn.is_autocommit() {
-        create_store(conn)?;
-    }
-    Ok(())
-}
-
 /// Makes a store of schema 2 there.
 fn make_new<S: Alter>(conn: &mut Connection<S>) -> Result<(), Error> {
     if conn.is_autocommit() {
@@ -41,7 +33,7 @@ fn make_new<S: Alter>(conn: &mut Connection<S>) -> Result<(), Error> {
 
 /// Makes a store of schema 1, and the others beside its tables.
 fn take_over<S: Alter>(conn: &mut Connection<S>) -> Result<(), Error> {
-    make_first(conn)?;
+    create_first(conn)?;
     if conn.is_autocommit() {
         let mut tx = conn.transaction();
         add_tables(&mut tx)?;
@@ -58,7 +50,7 @@ pub(crate) fn empty(alloc: Global) -> Result<Connection<MemStore>, Error> {
 /// A store of schema 1 that keeps nothing.
 pub(crate) fn first(alloc: Global) -> Result<Connection<MemStore>, Error> {
     let mut conn = Connection::open_in_memory(alloc)?;
-    match make_first(&mut conn) {
+    match create_first(&mut conn) {
         Ok(()) => Ok(conn),
         Err(error) => {
             drop(conn);

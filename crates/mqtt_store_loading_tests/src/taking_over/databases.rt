@@ -1,6 +1,6 @@
 //! A database of schema 1 with three copies of two publications, one of which is retained, and what it shows.
 
-use mqtt_store_tables::forms::create_store;
+use crate::first_schema::create_first;
 use sqlite::{Alter, Connection, Error, MemStore};
 use std::alloc::Global;
 
@@ -67,9 +67,7 @@ SELECT count(*) FROM session -> 1
 
 /// Makes the tables of schema 1, and puts the rows.
 fn fill<S: Alter>(conn: &mut Connection<S>) -> Result<(), Error> {
-    if conn.is_autocommit() {
-        create_store(conn)?;
-    }
+    create_first(conn)?;
     for line in ROWS.lines() {
         conn.execute(line, &[])?;
     }

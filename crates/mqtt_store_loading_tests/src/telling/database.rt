@@ -1,6 +1,6 @@
 //! Databases in memory with the tables of schema 2, made in each way, and copies in queues.
 
-use mqtt_store_tables::forms::create_store;
+use crate::first_schema::create_first;
 use mqtt_store_tables::schema::{Making, add_tables, create_second};
 use sqlite::{Alter, Connection, Error, MemStore, params};
 use std::alloc::Global;
@@ -26,9 +26,7 @@ fn make_new<S: Alter>(conn: &mut Connection<S>) -> Result<(), Error> {
 
 /// Makes a store of schema 1, and the others beside its tables.
 fn take_over<S: Alter>(conn: &mut Connection<S>) -> Result<(), Error> {
-    if conn.is_autocommit() {
-        create_store(conn)?;
-    }
+    create_first(conn)?;
     if conn.is_autocommit() {
         let mut tx = conn.transaction();
         add_tables(&mut tx)?;

@@ -12,10 +12,11 @@ use Rattle.mqtt_records.specs.declared.state.records.Records.{Records}
 use Rattle.mqtt_records.specs.declared.state.session.Session.{Session}
 use Rattle.mqtt_keep.specs.lawful.Lawful.{IsLawful, IsLawfulSession, last_of}
 use Rattle.mqtt_keep.specs.declared.lawful.rows.Last.{Last}
+use Rattle.mqtt_store_rows.specs.values.Rows.{SaysNumbers}
 use Rattle.mqtt_store_rows.specs.values.Gives.{counters_of, AreSessions}
 use Rattle.mqtt_store_rows.specs.values.Lists.{AreRows}
 use Rattle.mqtt_store_rows.proofs.values_lemmas.LawfulLemmas.{lawful_within}
-use Rattle.mqtt_store_rows.specs.rows.Rows.{SaysNumbers, SaysMessage}
+use Rattle.mqtt_store_rows.specs.rows.Rows.{SaysMessage}
 use Rattle.mqtt_store_rows.specs.rows.Joins.{SaysRetained}
 use Rattle.mqtt_store_rows.specs.rows.Gives.{Rows, parts_of, without_queue, AreHeads, GivesBy, IsReferred, Gives}
 use Rattle.mqtt_store_rows.proofs.rows_lemmas.OneLemmas.{one_heads}
@@ -87,7 +88,7 @@ module _ (g : Queues) (said queued : List Row) (rows : Rows) (heads : AreHeads g
   given_by r have =
       let same = have.heads in
       record {
-        numbers = subst (λ (h : Records). SaysNumbers (counters_of h) rows.meta) (sym same) heads.numbers;
+        numbers = subst (λ (h : Records). SaysNumbers 2 (counters_of h) rows.meta) (sym same) heads.numbers;
         sessions = record {
           others = subst (AreSessions rows.sessions (parts_of rows)) (sym have.same) heads.sessions;
           queues = have.queues;

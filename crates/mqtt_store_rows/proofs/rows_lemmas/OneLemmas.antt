@@ -1,39 +1,18 @@
 -- Rows of schema 2 give one thing.
-use Rattle.std.proofs.Common.{◌≡◌, List, [], ◌∷◌, map, ap, subst, ◌∙◌}
-use Rattle.sqlite_value.specs.Order.{Row}
-use Rattle.mqtt_records.specs.declared.messages.message.RetainedMessage.{RetainedMessage}
+use Rattle.std.proofs.Common.{◌≡◌, List, map, subst}
 use Rattle.mqtt_records.specs.declared.state.records.Records.{Records}
 use Rattle.mqtt_records.specs.declared.state.session.Session.{Session}
 use Rattle.mqtt_records.specs.state.Session.{birth_of}
 use Rattle.mqtt_records.specs.lists.Order.{IsAscending}
 use Rattle.mqtt_records.specs.state.Contents.{StoredMessage}
-use Rattle.mqtt_store_rows.specs.declared.values.meta.Counters.{Counters}
-use Rattle.mqtt_store_rows.specs.values.Ones.{one_number, same_counters}
+use Rattle.mqtt_store_rows.specs.values.Ones.{one_numbers}
 use Rattle.mqtt_store_rows.specs.values.Gives.{counters_of, AreWithin}
-use Rattle.mqtt_store_rows.proofs.values_lemmas.OneLemmas.{same_rows, one_sessions}
-use Rattle.mqtt_store_rows.specs.rows.Rows.{SaysNumbers, SaysMessage}
+use Rattle.mqtt_store_rows.proofs.values_lemmas.OneLemmas.{same_rows, one_sessions, same_records}
+use Rattle.mqtt_store_rows.specs.rows.Rows.{SaysMessage}
 use Rattle.mqtt_store_rows.specs.rows.Joins.{SaysRetained}
 use Rattle.mqtt_store_rows.specs.rows.Ones.{one_message, one_retained}
 use Rattle.mqtt_store_rows.specs.rows.Gives.{Rows, parts_of, without_queue, AreSessionsWith, GivesBy, AreHeads, Gives}
 use Rattle.mqtt_store_rows.proofs.rows_lemmas.QueueLemmas.{same_order, without_twice, one_queues}
-
--- ---- meta
-
-same_numbers : (x y : Counters) (autos births moment publications schema subscribes : Row) → SaysNumbers x (autos ∷ births ∷ moment ∷ publications ∷ schema ∷ subscribes ∷ []) → SaysNumbers y (autos ∷ births ∷ moment ∷ publications ∷ schema ∷ subscribes ∷ []) → x ≡ y
-same_numbers x y autos births moment publications schema subscribes h k =
-    same_counters x.births y.births x.publications y.publications x.subscribes y.subscribes x.autos y.autos x.moment y.moment
-    (one_number _ _ _ h.1.value k.1.value) (one_number _ _ _ h.3.value k.3.value) (one_number _ _ _ h.5.value k.5.value)
-    (one_number _ _ _ h.0.value k.0.value) (one_number _ _ _ h.2.value k.2.value)
-
-one_numbers : (x y : Counters) (rows : List Row) → SaysNumbers x rows → SaysNumbers y rows → x ≡ y
-one_numbers x y [] h k = absurd h
-one_numbers x y (a ∷ []) h k = absurd h
-one_numbers x y (a ∷ b ∷ []) h k = absurd h
-one_numbers x y (a ∷ b ∷ c ∷ []) h k = absurd h
-one_numbers x y (a ∷ b ∷ c ∷ d ∷ []) h k = absurd h
-one_numbers x y (a ∷ b ∷ c ∷ d ∷ e ∷ []) h k = absurd h
-one_numbers x y (a ∷ b ∷ c ∷ d ∷ e ∷ f ∷ []) h k = same_numbers x y a b c d e f h k
-one_numbers x y (a ∷ b ∷ c ∷ d ∷ e ∷ f ∷ g ∷ rows) h k = absurd h
 
 -- ---- sessions
 
@@ -48,32 +27,17 @@ one_list messages rows ss ts are up those rise = one_queues messages rows.queued
 
 -- ---- records
 
-abbrev records_of : Counters → List Session → List RetainedMessage → Records
-records_of numbers sessions retained = record {
-  births = numbers.births;
-  publications = numbers.publications;
-  subscribes = numbers.subscribes;
-  autos = numbers.autos;
-  moment = numbers.moment;
-  sessions = sessions;
-  retained = retained;
-}
-
-same_records : (a b : Counters) (c d : List Session) (e f : List RetainedMessage) → a ≡ b → c ≡ d → e ≡ f → records_of a c e ≡ records_of b d f
-same_records a b c d e f p q r =
-    ap (λ (x : Counters). records_of x c e) p ∙ (ap (λ (x : List Session). records_of b x e) q ∙ ap (λ (x : List RetainedMessage). records_of b d x) r)
-
 -- with these messages rows give one records and no other
 pub one_by : (messages : List StoredMessage) (rows : Rows) (r s : Records) → GivesBy messages rows r → AreWithin r → GivesBy messages rows s → AreWithin s → r ≡ s
 one_by messages rows r s gives within others as_well =
-    same_records (counters_of r) (counters_of s) r.sessions s.sessions r.retained s.retained (one_numbers (counters_of r) (counters_of s) rows.meta gives.numbers others.numbers)
+    same_records (counters_of r) (counters_of s) r.sessions s.sessions r.retained s.retained (one_numbers 2 (counters_of r) (counters_of s) rows.meta gives.numbers others.numbers)
     (one_list messages rows r.sessions s.sessions gives.sessions within.sessions.ascending others.sessions as_well.sessions.ascending)
     (same_rows (SaysRetained messages) (one_retained messages) rows.kept r.retained s.retained gives.retained others.retained)
 
 -- and one records of sessions without queues
 pub one_heads : (messages : List StoredMessage) (rows : Rows) (r s : Records) → AreHeads messages rows r → AreWithin r → AreHeads messages rows s → AreWithin s → r ≡ s
 one_heads messages rows r s heads within others as_well =
-    same_records (counters_of r) (counters_of s) r.sessions s.sessions r.retained s.retained (one_numbers (counters_of r) (counters_of s) rows.meta heads.numbers others.numbers)
+    same_records (counters_of r) (counters_of s) r.sessions s.sessions r.retained s.retained (one_numbers 2 (counters_of r) (counters_of s) rows.meta heads.numbers others.numbers)
     (one_sessions rows.sessions (parts_of rows) r.sessions s.sessions heads.sessions others.sessions within.sessions.ascending as_well.sessions.ascending)
     (same_rows (SaysRetained messages) (one_retained messages) rows.kept r.retained s.retained heads.retained others.retained)
 

@@ -12,10 +12,10 @@ use Rattle.mqtt_records.specs.declared.state.subscription.Subscription.{Subscrip
 use Rattle.mqtt_records.specs.state.Session.{birth_of, columns_of}
 use Rattle.mqtt_records.specs.lists.Order.{IsAscending}
 use Rattle.mqtt_store_rows.specs.declared.values.meta.Counters.{Counters}
-use Rattle.mqtt_store_rows.specs.values.Rows.{SaysWill, SaysSubscription, SaysOpen, SaysCopy, SaysRetained}
-use Rattle.mqtt_store_rows.specs.values.Ones.{one_columns, one_will, one_subscription, one_open, one_copy, one_retained, one_numbers}
+use Rattle.mqtt_store_rows.specs.values.Rows.{SaysWill, SaysSubscription, SaysOpen, SaysCopy}
+use Rattle.mqtt_store_rows.specs.values.Ones.{one_columns, one_will, one_subscription, one_open, one_copy}
 use Rattle.mqtt_store_rows.specs.values.Lists.{AreRows, BeginsOther, Takes}
-use Rattle.mqtt_store_rows.specs.values.Gives.{Parts, Rows, list_of, counters_of, TakesParts, AreSessions, Gives, AreWithin}
+use Rattle.mqtt_store_rows.specs.values.Gives.{Parts, list_of, TakesParts, AreSessions}
 use Rattle.mqtt_store_rows.specs.values.Ends.{EndsParts}
 use Rattle.mqtt_store_rows.proofs.values_lemmas.PartLemmas.{same_parts, same_rest, ends_before}
 
@@ -95,7 +95,8 @@ one_sessions (row ∷ rows) parts (s ∷ ss) (t ∷ ts) h k up rise =
 
 -- ---- records
 
-abbrev records_of : Counters → List Session → List RetainedMessage → Records
+-- the records of these numbers, sessions and retained messages
+abbrev pub records_of : Counters → List Session → List RetainedMessage → Records
 records_of numbers sessions retained = record {
   births = numbers.births;
   publications = numbers.publications;
@@ -106,13 +107,7 @@ records_of numbers sessions retained = record {
   retained = retained;
 }
 
-same_records : (a b : Counters) (c d : List Session) (e f : List RetainedMessage) → a ≡ b → c ≡ d → e ≡ f → records_of a c e ≡ records_of b d f
+-- equal parts make equal records
+pub same_records : (a b : Counters) (c d : List Session) (e f : List RetainedMessage) → a ≡ b → c ≡ d → e ≡ f → records_of a c e ≡ records_of b d f
 same_records a b c d e f p q r =
     ap (λ (x : Counters). records_of x c e) p ∙ (ap (λ (x : List Session). records_of b x e) q ∙ ap (λ (x : List RetainedMessage). records_of b d x) r)
-
--- rows give one records and no other
-pub one_records : (rows : Rows) (r s : Records) → Gives rows r → AreWithin r → Gives rows s → AreWithin s → r ≡ s
-one_records rows r s gives within others as_well =
-    same_records (counters_of r) (counters_of s) r.sessions s.sessions r.retained s.retained (one_numbers (counters_of r) (counters_of s) rows.meta gives.numbers others.numbers)
-    (one_sessions rows.sessions rows.parts r.sessions s.sessions gives.sessions others.sessions within.sessions.ascending as_well.sessions.ascending)
-    (same_rows SaysRetained one_retained rows.retained r.retained s.retained gives.retained others.retained)

@@ -8,10 +8,11 @@ use Rattle.mqtt_records.specs.declared.state.session.Session.{Session}
 use Rattle.mqtt_records.specs.declared.state.records.Records.{Records}
 use Rattle.mqtt_records.specs.lists.Order.{IsTable}
 use Rattle.mqtt_records.specs.state.Contents.{StoredMessage}
+use Rattle.mqtt_store_rows.specs.values.Rows.{SaysNumbers}
 use Rattle.mqtt_store_rows.specs.values.Lists.{AreRows, Takes}
 use Rattle.mqtt_store_rows.specs.values.Gives.{Parts, counters_of, AreSessions}
 use Rattle.mqtt_store_rows.specs.declared.rows.message.TheConstants.{MESSAGE_LIMIT}
-use Rattle.mqtt_store_rows.specs.rows.Rows.{SaysNumbers, SaysMessage}
+use Rattle.mqtt_store_rows.specs.rows.Rows.{SaysMessage}
 use Rattle.mqtt_store_rows.specs.rows.Joins.{publication_of, SaysCopy, SaysRetained}
 
 -- the rows of the tables: meta by name, session and will by birth, sub by birth and place, inbound by birth and
@@ -49,13 +50,13 @@ pub record AreSessionsWith (messages : List StoredMessage) (rows : Rows) (ss : L
 
 -- with these messages
 pub record GivesBy (messages : List StoredMessage) (rows : Rows) (r : Records) : Type 0 where
-  pub numbers : SaysNumbers (counters_of r) rows.meta
+  pub numbers : SaysNumbers 2 (counters_of r) rows.meta
   pub sessions : AreSessionsWith messages rows r.sessions
   pub retained : AreRows (SaysRetained messages) rows.kept r.retained
 
 -- the same of all tables but `queued`: no session has a queue
 pub record AreHeads (messages : List StoredMessage) (rows : Rows) (r : Records) : Type 0 where
-  pub numbers : SaysNumbers (counters_of r) rows.meta
+  pub numbers : SaysNumbers 2 (counters_of r) rows.meta
   pub sessions : AreSessions rows.sessions (parts_of rows) r.sessions
   pub bare : map without_queue r.sessions ≡ r.sessions
   pub retained : AreRows (SaysRetained messages) rows.kept r.retained

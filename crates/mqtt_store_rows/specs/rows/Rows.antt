@@ -1,5 +1,5 @@
 -- What a row of each table that is new in schema 2 says, its range included (4.1).
-use Rattle.std.specs.Prelude.{◌≡◌, ◌≢◌, List, [], ◌∷◌, ℕ, Some, map, codes}
+use Rattle.std.specs.Prelude.{◌≡◌, ◌≢◌, List, ℕ, Some, map}
 use Rattle.std.specs.List.{AllByRecursion}
 use Rattle.sqlite_value.specs.declared.value.Value.{Value}
 use Rattle.sqlite_value.specs.declared.value.Value.TheVariants.{Text, Blob}
@@ -14,20 +14,9 @@ use Rattle.mqtt_records.specs.messages.PassedOn.{identified}
 use Rattle.mqtt_records.specs.messages.Queue.{CopyRow}
 use Rattle.mqtt_records.specs.state.Records.{IsNumber}
 use Rattle.mqtt_records.specs.state.Contents.{StoredMessage}
-use Rattle.mqtt_store_rows.specs.declared.values.meta.Counters.{Counters}
 use Rattle.mqtt_store_rows.specs.values.Values.{number, flag, IsCounted, IsIdentifier, IsShort}
 use Rattle.mqtt_store_rows.specs.values.Blocks.{SaysPassed}
-use Rattle.mqtt_store_rows.specs.values.Rows.{SaysNumber, SaysId, SaysPhase}
-
--- ---- meta: name, n
-
--- six rows by name, and nothing else; schema is 2
-abbrev pub SaysNumbers : Counters → List Row → Type 0
-SaysNumbers all (autos ∷ births ∷ moment ∷ publications ∷ schema ∷ subscribes ∷ []) =
-    SaysNumber (codes "autos") all.autos autos × SaysNumber (codes "births") all.births births
-    × SaysNumber (codes "moment") all.moment moment × SaysNumber (codes "publications") all.publications publications
-    × SaysNumber (codes "schema") 2 schema × SaysNumber (codes "subscribes") all.subscribes subscribes
-SaysNumbers all _ = ⊥
+use Rattle.mqtt_store_rows.specs.values.Rows.{SaysId, SaysPhase}
 
 -- ---- message: pub, topic, props, payload
 

@@ -9,9 +9,9 @@ use Rattle.mqtt_records.specs.declared.state.records.Records.{Records}
 use Rattle.mqtt_records.specs.state.Records.{kept_place}
 use Rattle.mqtt_records.specs.state.Session.{birth_of, place_of, number_of, copy_place, columns_of}
 use Rattle.mqtt_store_rows.specs.declared.values.meta.Counters.{Counters}
-use Rattle.mqtt_store_rows.specs.values.Rows.{SaysNumbers, SaysSession, SaysWill, SaysSubscription, SaysOpen, SaysCopy, SaysRetained}
+use Rattle.mqtt_store_rows.specs.values.Rows.{SaysSession, SaysWill, SaysSubscription, SaysOpen, SaysCopy}
 use Rattle.mqtt_records.specs.lists.Order.{IsTable}
-use Rattle.mqtt_store_rows.specs.values.Lists.{AreRows, Takes}
+use Rattle.mqtt_store_rows.specs.values.Lists.{Takes}
 
 -- ---- sessions
 
@@ -53,21 +53,8 @@ pub record IsWithin (s : Session) : Type 0 where
 
 -- ---- all tables
 
--- the rows of the tables: meta by name, session and will by birth, sub by birth and place, inbound by birth and
--- identifier, copy by birth and place, retained by place
-pub record Rows : Type 0 where
-  pub meta : List Row
-  pub sessions : List Row
-  pub parts : Parts
-  pub retained : List Row
-
 abbrev pub counters_of : Records → Counters
 counters_of r = record { births = r.births; publications = r.publications; subscribes = r.subscribes; autos = r.autos; moment = r.moment }
-
-pub record Gives (rows : Rows) (r : Records) : Type 0 where
-  pub numbers : SaysNumbers (counters_of r) rows.meta
-  pub sessions : AreSessions rows.sessions rows.parts r.sessions
-  pub retained : AreRows SaysRetained rows.retained r.retained
 
 -- the lists of records are in order, and within their limits
 pub record AreWithin (r : Records) : Type 0 where

@@ -32,7 +32,7 @@ use Rattle.mqtt_records.specs.declared.state.subscription.Subscription.{Subscrip
 use Rattle.mqtt_store_rows.specs.declared.values.meta.Counters.{Counters}
 use Rattle.mqtt_store_rows.specs.values.Values.{number, number_or_null, flag, handling_number, or_zero, IsIdentifier}
 use Rattle.mqtt_store_rows.specs.values.Blocks.{IsBlockOf, identifiers_in, SaysPassed, SaysSent}
-use Rattle.mqtt_store_rows.specs.values.Rows.{SaysNumbers, SaysSession, SaysOpen, SaysOptions, SaysSubscription, SaysCause, SaysId, SaysPhase, SaysSentContent, SaysMessage, SaysCopy, SaysContent, SaysRetained, SaysWill}
+use Rattle.mqtt_store_rows.specs.values.Rows.{SaysNumbers, SaysSession, SaysOpen, SaysOptions, SaysSubscription, SaysCause, SaysId, SaysPhase, SaysSentContent, SaysMessage, SaysCopy, SaysWill}
 
 -- ---- values
 
@@ -86,21 +86,21 @@ counters_of births publications subscribes autos moment =
 pub same_counters : (a b c d e f g h i j : ℕ) → a ≡ b → c ≡ d → e ≡ f → g ≡ h → i ≡ j → counters_of a c e g i ≡ counters_of b d f h j
 same_counters a b c d e f g h i j p q r s t = rw (p, q, r, s, t) refl
 
-same_numbers : (x y : Counters) (autos births moment publications schema subscribes : Row) → SaysNumbers x (autos ∷ births ∷ moment ∷ publications ∷ schema ∷ subscribes ∷ []) → SaysNumbers y (autos ∷ births ∷ moment ∷ publications ∷ schema ∷ subscribes ∷ []) → x ≡ y
-same_numbers x y autos births moment publications schema subscribes h k =
+same_numbers : (schema : ℕ) (x y : Counters) (autos births moment publications named subscribes : Row) → SaysNumbers schema x (autos ∷ births ∷ moment ∷ publications ∷ named ∷ subscribes ∷ []) → SaysNumbers schema y (autos ∷ births ∷ moment ∷ publications ∷ named ∷ subscribes ∷ []) → x ≡ y
+same_numbers schema x y autos births moment publications named subscribes h k =
     same_counters x.births y.births x.publications y.publications x.subscribes y.subscribes x.autos y.autos x.moment y.moment
     (one_number _ _ _ h.1.value k.1.value) (one_number _ _ _ h.3.value k.3.value) (one_number _ _ _ h.5.value k.5.value)
     (one_number _ _ _ h.0.value k.0.value) (one_number _ _ _ h.2.value k.2.value)
 
-pub one_numbers : (x y : Counters) (rows : List Row) → SaysNumbers x rows → SaysNumbers y rows → x ≡ y
-one_numbers x y [] h k = absurd h
-one_numbers x y (a ∷ []) h k = absurd h
-one_numbers x y (a ∷ b ∷ []) h k = absurd h
-one_numbers x y (a ∷ b ∷ c ∷ []) h k = absurd h
-one_numbers x y (a ∷ b ∷ c ∷ d ∷ []) h k = absurd h
-one_numbers x y (a ∷ b ∷ c ∷ d ∷ e ∷ []) h k = absurd h
-one_numbers x y (a ∷ b ∷ c ∷ d ∷ e ∷ f ∷ []) h k = same_numbers x y a b c d e f h k
-one_numbers x y (a ∷ b ∷ c ∷ d ∷ e ∷ f ∷ g ∷ rows) h k = absurd h
+pub one_numbers : (schema : ℕ) (x y : Counters) (rows : List Row) → SaysNumbers schema x rows → SaysNumbers schema y rows → x ≡ y
+one_numbers schema x y [] h k = absurd h
+one_numbers schema x y (a ∷ []) h k = absurd h
+one_numbers schema x y (a ∷ b ∷ []) h k = absurd h
+one_numbers schema x y (a ∷ b ∷ c ∷ []) h k = absurd h
+one_numbers schema x y (a ∷ b ∷ c ∷ d ∷ []) h k = absurd h
+one_numbers schema x y (a ∷ b ∷ c ∷ d ∷ e ∷ []) h k = absurd h
+one_numbers schema x y (a ∷ b ∷ c ∷ d ∷ e ∷ f ∷ []) h k = same_numbers schema x y a b c d e f h k
+one_numbers schema x y (a ∷ b ∷ c ∷ d ∷ e ∷ f ∷ g ∷ rows) h k = absurd h
 
 -- ---- session
 
@@ -210,21 +210,11 @@ content_of topic properties payload arrived = record { topic = topic; properties
 pub same_content : (a b : List ℕ) (c d : List Prop) (e f : List ℕ) (g h : ℕ) → a ≡ b → c ≡ d → e ≡ f → g ≡ h → content_of a c e g ≡ content_of b d f h
 same_content a b c d e f g h p q r s = rw (p, q, r, s) refl
 
-one_content : (x y : Content) (row : Row) → SaysContent x row → SaysContent y row → x ≡ y
-one_content x y row h k =
-    same_content _ _ _ _ _ _ _ _ (one_text _ _ _ h.topic k.topic) (one_passed _ _ _ h.properties k.properties) (one_blob _ _ _ h.payload k.payload)
-    (one_number _ _ _ h.arrived k.arrived)
-
 abbrev pub retained_of : ℕ → List ℕ → ℕ → Qos → Content → RetainedMessage
 retained_of place sender publication qos content = record { place = place; sender = sender; publication = publication; qos = qos; content = content }
 
 pub same_retained : (a b : ℕ) (c d : List ℕ) (e f : ℕ) (g h : Qos) (i j : Content) → a ≡ b → c ≡ d → e ≡ f → g ≡ h → i ≡ j → retained_of a c e g i ≡ retained_of b d f h j
 same_retained a b c d e f g h i j p q r s t = rw (p, q, r, s, t) refl
-
-pub one_retained : (x y : RetainedMessage) (row : Row) → SaysRetained x row → SaysRetained y row → x ≡ y
-one_retained x y row h k =
-    same_retained _ _ _ _ _ _ _ _ _ _ (one_number _ _ _ h.place k.place) (one_text _ _ _ h.sender k.sender)
-    (one_number _ _ _ h.publication k.publication) (one_qos _ _ _ h.qos k.qos) (one_content _ _ row h.content k.content)
 
 -- ---- copy
 

@@ -18,14 +18,13 @@ use Rattle.mqtt_props.specs.declared.place.Place.TheVariants as places
 use Rattle.mqtt_records.specs.declared.messages.message.Content.{Content}
 use Rattle.mqtt_records.specs.declared.messages.message.MessageCopy.{MessageCopy}
 use Rattle.mqtt_records.specs.declared.messages.message.Will.{Will}
-use Rattle.mqtt_records.specs.declared.messages.message.RetainedMessage.{RetainedMessage}
 use Rattle.mqtt_records.specs.messages.Queue.{CopyRow, IsSpelled}
 use Rattle.mqtt_records.specs.declared.state.subscription.Subscription.{Subscription}
 use Rattle.mqtt_records.specs.declared.state.session.Columns.{Columns}
 use Rattle.mqtt_records.specs.state.Records.{IsNumber, IsMoment}
 use Rattle.mqtt_store_rows.specs.declared.values.meta.Counters.{Counters}
 use Rattle.mqtt_store_rows.specs.values.Values.{number, number_or_null, flag, handling_number, or_zero, IsCounted, IsPacketIdentifier, IsIdentifier, IsShort}
-use Rattle.mqtt_store_rows.specs.values.Blocks.{IsBlockOf, SaysPassed, SaysSent}
+use Rattle.mqtt_store_rows.specs.values.Blocks.{IsBlockOf, SaysSent}
 
 -- ---- meta: name, n
 
@@ -34,13 +33,13 @@ pub record SaysNumber (text : List ℕ) (n : ℕ) (row : Row) : Type 0 where
   pub value : column row 1 ≡ number n
   pub range : IsNumber n
 
--- six rows by name, and nothing else
-abbrev pub SaysNumbers : Counters → List Row → Type 0
-SaysNumbers all (autos ∷ births ∷ moment ∷ publications ∷ schema ∷ subscribes ∷ []) =
+-- six rows by name, and nothing else, of a store of that schema
+abbrev pub SaysNumbers : ℕ → Counters → List Row → Type 0
+SaysNumbers schema all (autos ∷ births ∷ moment ∷ publications ∷ named ∷ subscribes ∷ []) =
     SaysNumber (codes "autos") all.autos autos × SaysNumber (codes "births") all.births births
     × SaysNumber (codes "moment") all.moment moment × SaysNumber (codes "publications") all.publications publications
-    × SaysNumber (codes "schema") 1 schema × SaysNumber (codes "subscribes") all.subscribes subscribes
-SaysNumbers all _ = ⊥
+    × SaysNumber (codes "schema") schema named × SaysNumber (codes "subscribes") all.subscribes subscribes
+SaysNumbers schema all _ = ⊥
 
 -- ---- session: birth, client, expiry, closed
 
@@ -141,24 +140,3 @@ pub record SaysCopy (x : CopyRow) (row : Row) : Type 0 where
   pub phase : SaysPhase x.copy.qos x.phase (column row 6) (column row 7) (column row 8)
   pub message : SaysMessage x.copy row
   pub spelled : IsSpelled x.copy
-
--- ---- retained: place, topic, sender, pub, qos, props, payload, arrived
-
-pub record SaysContent (c : Content) (row : Row) : Type 0 where
-  pub topic : column row 1 ≡ Text c.topic
-  pub topic_range : FitsText c.topic
-  pub properties : SaysPassed c.properties (column row 5)
-  pub payload : column row 6 ≡ Blob c.payload
-  pub arrived : column row 7 ≡ number c.arrived
-  pub arrived_range : IsNumber c.arrived
-  pub short : IsShort (column row 1) (column row 5) (column row 6)
-
-pub record SaysRetained (kept : RetainedMessage) (row : Row) : Type 0 where
-  pub place : column row 0 ≡ number kept.place
-  pub place_range : IsCounted kept.place
-  pub sender : column row 2 ≡ Text kept.sender
-  pub sender_range : FitsText kept.sender
-  pub publication : column row 3 ≡ number kept.publication
-  pub publication_range : IsCounted kept.publication
-  pub qos : column row 4 ≡ number (qos_number kept.qos)
-  pub content : SaysContent kept.content row

@@ -11,9 +11,8 @@ ghost use Rattle.mqtt_store_rows.specs.rows.Gives.{parts_of, without_queue, AreH
 ghost use Rattle.mqtt_store_rows.specs.rows.Tables.{rows_in};
 
 use crate::rows::messages::Messages;
-use crate::rows::meta::counters_of;
 use crate::rows::refers::all_with;
-use crate::values::{PartRows, sessions_of};
+use crate::values::{PartRows, counters_of, sessions_of};
 use mqtt_base::{RETAINED_LIMIT, SESSION_LIMIT};
 use mqtt_keep::KeepError;
 use mqtt_records::{Boxed, Records, RetainedMessage, Rows, Session};
@@ -79,7 +78,7 @@ pub fn heads_of(alloc: Global, messages: &Messages, tables: &Tables) -> Result<R
         → AreHeads messages.now (rows_in tables.now) r → AreWithin r → ⊥ }
     ensures fault { IfErr result (λ e. (e ≡ KeepError.Memory) ⊎ (e ≡ KeepError.Corrupt)) }
 {
-    let Some(numbers) = counters_of(&tables.meta) else {
+    let Some(numbers) = counters_of(&tables.meta, 2) else {
         return Err(KeepError::Corrupt);
     };
     let retained = match all_with::<Boxed<RetainedMessage>, RETAINED_LIMIT>(

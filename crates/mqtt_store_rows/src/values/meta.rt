@@ -36,24 +36,25 @@ pub fn number_in(row: &Row, name: &str) -> Option<u64>
     kept(value_at(row, 1))
 }
 
-/// The numbers in six rows.
+/// The numbers in six rows, of a store of that schema.
 fn numbers_in(
     autos: &Row,
     births: &Row,
     moment: &Row,
     publications: &Row,
-    schema: &Row,
+    named: &Row,
     subscribes: &Row,
+    schema: u64,
 ) -> Option<Counters>
-    ensures { let six = autos.now ∷ births.now ∷ moment.now ∷ publications.now ∷ schema.now ∷ subscribes.now ∷ [] in
-        MatchOption result ((all : Counters) → SaysNumbers all six → ⊥) (λ all. SaysNumbers all six) }
+    ensures { let six = autos.now ∷ births.now ∷ moment.now ∷ publications.now ∷ named.now ∷ subscribes.now ∷ [] in
+        MatchOption result ((all : Counters) → SaysNumbers schema all six → ⊥) (λ all. SaysNumbers schema all six) }
 {
     let autos = number_in(autos, "autos")?;
     let births = number_in(births, "births")?;
     let moment = number_in(moment, "moment")?;
     let publications = number_in(publications, "publications")?;
     let subscribes = number_in(subscribes, "subscribes")?;
-    if number_in(schema, "schema")? != 1 {
+    if number_in(named, "schema")? != schema {
         return None;
     }
     Some(Counters {
@@ -65,13 +66,21 @@ fn numbers_in(
     })
 }
 
-/// The numbers that the rows of `meta` say, by name. Takes no memory.
-pub fn counters_of(rows: &[Row]) -> Option<Counters>
-    ensures { MatchOption result ((all : Counters) → SaysNumbers all rows.now → ⊥)
-        (λ all. SaysNumbers all rows.now) }
+/// The numbers that the rows of `meta` say, by name, of a store of that schema. Takes no memory.
+pub fn counters_of(rows: &[Row], schema: u64) -> Option<Counters>
+    ensures { MatchOption result ((all : Counters) → SaysNumbers schema all rows.now → ⊥)
+        (λ all. SaysNumbers schema all rows.now) }
 {
-    let [autos, births, moment, publications, schema, subscribes] = rows else {
+    let [autos, births, moment, publications, named, subscribes] = rows else {
         return None;
     };
-    numbers_in(autos, births, moment, publications, schema, subscribes)
+    numbers_in(
+        autos,
+        births,
+        moment,
+        publications,
+        named,
+        subscribes,
+        schema,
+    )
 }

@@ -2,7 +2,7 @@
 
 use mqtt_keep::KeepError;
 use mqtt_records::Records;
-use mqtt_store_rows::values::{Tables, records_of};
+use mqtt_store_rows::taking_over::{Tables, records_of};
 use sqlite::{Alter, Connection, Error, MemStore, params};
 use std::alloc::Global;
 

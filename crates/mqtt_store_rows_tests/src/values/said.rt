@@ -2,7 +2,7 @@
 
 use super::database::{database, tables};
 use mqtt_base::{Cause, Phase, Qos, RetainHandling};
-use mqtt_store_rows::values::records_of;
+use mqtt_store_rows::taking_over::records_of;
 use std::test::Fail;
 
 #[test]

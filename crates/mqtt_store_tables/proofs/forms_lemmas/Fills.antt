@@ -1,15 +1,12 @@
 -- What the INSERT of a new store's numbers makes of a database.
-use Rattle.std.proofs.Common.{arith, ◌≡◌, ◌≢◌, ℕ, pos, List, [], ◌∷◌, map, drop, codes, Ok, Err, Result, OnOk, None, refl, sym, ap, subst, ◌∙◌, IsTrue}
+use Rattle.std.proofs.Common.{◌≡◌, ◌≢◌, ℕ, pos, List, [], ◌∷◌, map, drop, codes, Ok, Err, Result, OnOk, None, refl, sym, ap, subst, ◌∙◌, IsTrue}
 use Rattle.std.specs.List.{AllByRecursion}
 use Rattle.sqlite_schema.specs.declared.schema.Schema.{Schema}
 use Rattle.sqlite_schema.specs.declared.schema.Table.{Table}
 use Rattle.sqlite_schema.specs.declared.schema.Index.{Index}
 use Rattle.sqlite_value.specs.declared.value.Value.TheVariants.{Null, Int, Text}
 use Rattle.sqlite_value.specs.Order.{Row, value_cmp}
-use Rattle.sqlite_value.specs.Keys.{joined}
-use Rattle.sqlite_schema.specs.Names.{same_name}
 use Rattle.sqlite_schema.specs.declared.schema.Keys.TheVariants.{Enforced}
-use Rattle.sqlite_sql.specs.Ops.{unary}
 use Rattle.sqlite_trees.specs.Tree.{Trees}
 use Rattle.sqlite_rules.specs.declared.error.Rowids.TheVariants.{Chosen}
 use Rattle.sqlite_rules.specs.Edit.{Edit, edit_of, numbered, put_all, taken_by}
@@ -27,8 +24,8 @@ use Rattle.sqlite.specs.Listing.{understood}
 use Rattle.sqlite.specs.State.{State, mode_of, ExecutesInside}
 use Rattle.sqlite_tied.specs.Compute.{everything}
 use Rattle.sqlite.proofs.Callers.{IsPlain, command_of, statement_of, runs_as, one_step}
-use Rattle.mqtt_store_tables.specs.forms.Tables.{keep_schema, meta}
-use Rattle.mqtt_store_tables.specs.forms.Creation.{HasTables, AreEmpty, fill_text, numbers_of, IsNewStore}
+use Rattle.mqtt_store_tables.specs.forms.Tables.{meta}
+use Rattle.mqtt_store_tables.specs.forms.Creation.{AreEmpty, numbers_of}
 use Rattle.mqtt_store_tables.proofs.forms_lemmas.Creates.{went, same_value}
 
 abbrev row_terms : List ℕ → ℕ → List Term → List Term
@@ -107,24 +104,7 @@ writes_numbers others indexes n text it old new (Ok count) has none h =
       others = subst (λ (x : Trees). AllByRecursion (λ t. t.tree ≢ 0 → x t.tree ≡ db t.tree) schema.tables) (sym is) step.tables;
     }
 
-fills_meta : FillsMeta keep_schema 1 fill_text
-unfolding understood unary value_cmp lib.Ieee.is_nan lib.Ieee.lt same_name joined everything
-fills_meta = record { command = refl; plain = (refl, refl); numbered_are = refl; unworked = λ olds. refl }
-
 -- tables of which none is meta stay empty
 pub stay_empty : (tables : List Table) (old new : Trees) → AllByRecursion (λ t. t.tree ≢ 0 → new t.tree ≡ old t.tree) tables → AllByRecursion (λ t. t.tree ≢ 0) tables → AreEmpty tables old → AreEmpty tables new
 stay_empty [] old new same apart empty = empty
 stay_empty (t ∷ tables) old new same apart empty = (same.0 apart.0 ∙ empty.0, stay_empty tables old new same.1 apart.1 empty.1)
-
--- once the first numbers are put into the seven tables the database is a new store
-pub fills : (old new : State) (r : Result ℕ Error) → HasTables 7 old → ExecutesInside 0 fill_text [] old new r → OnOk r (IsNewStore new.now × IsTrue new.in_transaction)
-fills old new (Err e) has h = tt
-fills old new (Ok count) has h =
-    let it = writes_numbers _ _ 1 fill_text fills_meta old new (Ok count) has.schema has.empty.0 h in (
-      record {
-        schema = it.schema_is;
-        meta_rows = it.numbers;
-        empty = stay_empty (drop 1 keep_schema.tables) old.now.trees new.now.trees it.others.1 (omega arith, (omega arith, (omega arith, (omega arith, (omega arith, (omega arith, tt)))))) has.empty.1;
-      },
-      it.inside,
-    )

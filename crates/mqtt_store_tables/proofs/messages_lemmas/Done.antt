@@ -1,4 +1,4 @@
--- What the statements of mqtt_store_write come to in schema 2.
+-- What the statements of mqtt_store_tables::statements come to in schema 2.
 use Rattle.std.proofs.Common.{◌≡◌, ℕ, ℤ, List, ◌∷◌, Option, Ok, Err, Result, OnOk, refl, sym, subst, inr}
 use Rattle.std.proofs.lemmas.Result.{on_ok_weaker}
 use Rattle.sqlite_value.specs.declared.value.Value.TheVariants.{Int}

@@ -13,7 +13,7 @@ use Rattle.mqtt_store_tables.specs.declared.schema.tables.Making.{Making}
 use Rattle.mqtt_store_tables.specs.statements.Content.{is_of, IsShapedAt}
 use Rattle.mqtt_store_tables.specs.statements.Put.{numbered}
 use Rattle.mqtt_store_tables.proofs.statements_lemmas.puts.PutSession.{own_number}
-use Rattle.mqtt_store_tables.proofs.statements_lemmas.sets.SetCopy.{own_number as finds_itself}
+use Rattle.mqtt_store_tables.proofs.statements_lemmas.tables.Numbers.{own_number as finds_itself}
 use Rattle.mqtt_store_tables.specs.messages.Places.{message_tree, queued_tree}
 use Rattle.mqtt_store_tables.specs.messages.Rows.{MessageColumns, QueuedColumns, message_row, queued_row}
 use Rattle.mqtt_store_tables.specs.messages.Messages.{is_referred, with_missing, PutsMessage, StandsIf}

@@ -17,7 +17,7 @@ use Rattle.mqtt_store_tables.specs.statements.Layout.{second_layout, schema_of}
 use Rattle.mqtt_store_tables.specs.statements.Content.{is_of, IsShapedAt}
 use Rattle.mqtt_store_tables.specs.statements.Put.{PutsInto, PutsNumbered, numbered, is_retained}
 use Rattle.mqtt_store_tables.specs.statements.Removal.{is_keyed, RemovesFrom}
-use Rattle.mqtt_store_tables.proofs.statements_lemmas.sets.SetCopy.{own_number}
+use Rattle.mqtt_store_tables.proofs.statements_lemmas.tables.Numbers.{own_number}
 use Rattle.mqtt_store_tables.proofs.statements_lemmas.steps.Stands.{put_old}
 use Rattle.mqtt_store_tables.proofs.statements_lemmas.tables.Rows.{equal_is}
 use Rattle.mqtt_store_tables.specs.messages.Places.{message_tree, queued_tree, kept_tree}

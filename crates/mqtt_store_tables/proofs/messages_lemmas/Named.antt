@@ -22,7 +22,7 @@ use Rattle.mqtt_store_tables.specs.statements.Removal.{RemovesFrom}
 use Rattle.mqtt_store_tables.proofs.statements_lemmas.tables.Rows.{has_permuted}
 use Rattle.mqtt_store_tables.proofs.statements_lemmas.deletes.Removal.{has_map, map_has}
 use Rattle.mqtt_store_tables.proofs.statements_lemmas.puts.PutSession.{own_number}
-use Rattle.mqtt_store_tables.proofs.statements_lemmas.sets.SetCopy.{own_number as finds_itself}
+use Rattle.mqtt_store_tables.proofs.statements_lemmas.tables.Numbers.{own_number as finds_itself}
 use Rattle.mqtt_store_tables.specs.messages.Places.{message_tree, queued_tree, kept_tree}
 use Rattle.mqtt_store_tables.specs.messages.Messages.{is_referred}
 use Rattle.mqtt_store_tables.specs.messages.References.{as_row, as_rows, Finds, FindsAll}

@@ -22,7 +22,7 @@ use Rattle.mqtt_store_tables.specs.declared.schema.tables.Making.TheVariants.{Ne
 use Rattle.mqtt_store_tables.specs.statements.Layout.{second_layout, schema_of}
 use Rattle.mqtt_store_tables.specs.statements.Content.{is_of, is_text, IsWhole}
 use Rattle.mqtt_store_tables.specs.statements.Put.{PutsInto, is_retained}
-use Rattle.mqtt_store_tables.proofs.statements_lemmas.sets.SetCopy.{cast_int, cast_null}
+use Rattle.mqtt_store_tables.proofs.statements_lemmas.tables.Numbers.{cast_int, cast_null}
 use Rattle.mqtt_store_tables.proofs.statements_lemmas.tables.Fresh.{and_true, or_false}
 use Rattle.mqtt_store_tables.proofs.statements_lemmas.puts.Replace.{replaces}
 use Rattle.mqtt_store_tables.specs.messages.Places.{kept_tree}

@@ -37,7 +37,7 @@ use Rattle.mqtt_store_tables.proofs.statements_lemmas.tables.Commands.{over, pro
 use Rattle.mqtt_store_tables.proofs.statements_lemmas.tables.Parts.{overlay_none, went, same_value}
 use Rattle.mqtt_store_tables.proofs.statements_lemmas.tables.Fresh.{and_true}
 use Rattle.mqtt_store_tables.proofs.statements_lemmas.tables.Whole.{whole_after}
-use Rattle.mqtt_store_tables.proofs.statements_lemmas.sets.SetCopy.{cast_int, cast_null}
+use Rattle.mqtt_store_tables.proofs.statements_lemmas.tables.Numbers.{cast_int, cast_null}
 use Rattle.mqtt_store_tables.specs.messages.Places.{message_tree}
 use Rattle.mqtt_store_tables.specs.messages.Rows.{MessageColumns, message_row}
 use Rattle.mqtt_store_tables.specs.messages.Messages.{with_missing, PutsMessage}

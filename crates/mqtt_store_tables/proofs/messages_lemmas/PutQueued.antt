@@ -28,7 +28,7 @@ use Rattle.mqtt_store_tables.specs.statements.Layout.{second_layout, schema_of}
 use Rattle.mqtt_store_tables.specs.statements.Content.{is_of, IsWhole}
 use Rattle.mqtt_store_tables.specs.statements.Removal.{is_keyed}
 use Rattle.mqtt_store_tables.specs.statements.Put.{PutsInto, numbered}
-use Rattle.mqtt_store_tables.proofs.statements_lemmas.sets.SetCopy.{cast_int, cast_null, cast_number}
+use Rattle.mqtt_store_tables.proofs.statements_lemmas.tables.Numbers.{cast_int, cast_null, cast_number}
 use Rattle.mqtt_store_tables.proofs.statements_lemmas.tables.Fresh.{apart, and_true, or_false}
 use Rattle.mqtt_store_tables.proofs.statements_lemmas.puts.Replace.{replaces}
 use Rattle.mqtt_store_tables.specs.messages.Places.{queued_tree}

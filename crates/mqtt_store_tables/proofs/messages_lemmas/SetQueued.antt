@@ -47,7 +47,7 @@ use Rattle.mqtt_store_tables.proofs.statements_lemmas.tables.Parts.{passes, show
 use Rattle.mqtt_store_tables.proofs.statements_lemmas.tables.Whole.{whole_after}
 use Rattle.mqtt_store_tables.proofs.statements_lemmas.deletes.RemoveSession.{only_row}
 use Rattle.mqtt_store_tables.proofs.statements_lemmas.sets.SetAny.{any_whole}
-use Rattle.mqtt_store_tables.proofs.statements_lemmas.sets.SetCopy.{cast_int, cast_number, same_rowid, own_number}
+use Rattle.mqtt_store_tables.proofs.statements_lemmas.tables.Numbers.{cast_int, cast_number, same_rowid, own_number}
 use Rattle.mqtt_store_tables.specs.messages.Places.{queued_tree}
 use Rattle.mqtt_store_tables.specs.messages.Rows.{QueuedColumns, queued_row}
 use Rattle.mqtt_store_tables.specs.messages.Copies.{set_queued, SetsQueued}

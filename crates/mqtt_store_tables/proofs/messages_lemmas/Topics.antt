@@ -28,7 +28,7 @@ use Rattle.mqtt_store_tables.specs.declared.schema.tables.Making.{Making}
 use Rattle.mqtt_store_tables.specs.declared.schema.tables.Making.TheVariants.{New, TakenOver}
 use Rattle.mqtt_store_tables.specs.statements.Layout.{second_layout, schema_of}
 use Rattle.mqtt_store_tables.specs.statements.Content.{is_text, IsShapedAt, IsWhole}
-use Rattle.mqtt_store_tables.proofs.statements_lemmas.sets.SetCopy.{same_rowid}
+use Rattle.mqtt_store_tables.proofs.statements_lemmas.tables.Numbers.{same_rowid}
 use Rattle.mqtt_store_tables.proofs.statements_lemmas.tables.Commands.{over, program, equals}
 use Rattle.mqtt_store_tables.proofs.statements_lemmas.tables.Fresh.{and_true}
 use Rattle.mqtt_store_tables.specs.messages.Places.{kept_tree}

@@ -2,7 +2,6 @@
 pub mod Cascade
 pub mod Deletes
 pub mod Removal
-pub mod RemoveNone
 pub mod RemoveSession
 pub mod RemoveSessionRuns
 pub mod RemovesSession

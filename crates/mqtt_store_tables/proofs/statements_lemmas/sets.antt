@@ -1,4 +1,3 @@
 -- What each UPDATE leaves.
 pub mod SetAny
-pub mod SetCopy
 pub mod SetNumber

@@ -1,3 +1,2 @@
--- Which rows stand after a statement, and what a transaction leaves.
+-- Which rows stand after a statement.
 pub mod Stands
-pub mod Steps

@@ -2,6 +2,7 @@
 pub mod Commands
 pub mod First
 pub mod Fresh
+pub mod Numbers
 pub mod Parts
 pub mod Rows
 pub mod Second

@@ -37,7 +37,7 @@ use Rattle.mqtt_store_tables.specs.declared.schema.tables.Making.TheVariants.{Ne
 use Rattle.mqtt_store_tables.specs.statements.Layout.{second_layout, schema_of}
 use Rattle.mqtt_store_tables.specs.statements.Content.{IsShapedAt, IsWhole}
 use Rattle.mqtt_store_tables.specs.statements.Removal.{is_keyed}
-use Rattle.mqtt_store_tables.proofs.statements_lemmas.sets.SetCopy.{cast_null, own_number}
+use Rattle.mqtt_store_tables.proofs.statements_lemmas.tables.Numbers.{cast_null, own_number}
 use Rattle.mqtt_store_tables.proofs.statements_lemmas.steps.Stands.{given_free}
 use Rattle.mqtt_store_tables.proofs.statements_lemmas.tables.Parts.{went, same_value}
 use Rattle.mqtt_store_tables.proofs.statements_lemmas.tables.Whole.{Spares, whole_after}

@@ -1,5 +1,5 @@
 -- What a database says when it is asked for its schema.
-use Rattle.std.specs.Prelude.{◌≢◌, ◌⊎◌, ℤ, pos, ℕ, List, [], ◌∷◌, Option, Some, None, codes}
+use Rattle.std.specs.Prelude.{◌≢◌, ◌⊎◌, ℤ, ℕ, List, [], ◌∷◌, Option, Some, None, codes}
 use Rattle.sqlite_value.specs.declared.value.Value.TheVariants.{Int}
 use Rattle.sqlite_value.specs.Order.{Row}
 use Rattle.sqlite.specs.declared.error.Error.{Error}
@@ -12,11 +12,3 @@ ask_text = codes "SELECT n FROM meta WHERE name = 'schema'"
 abbrev pub Says : Option ℤ → State → State → Type 0
 Says (Some n) old new = Shown ask_text [] old new ((Int n ∷ []) ∷ [])
 Says None old new = ((rows : List Row) × Shown ask_text [] old new rows × ((n : ℤ) → rows ≢ (Int n ∷ []) ∷ [])) ⊎ ((e : Error) × FailsToQuery ask_text [] old new e)
-
--- the answer is the one number 1
-abbrev pub SaysOne : State → State → Type 0
-SaysOne old new = Shown ask_text [] old new ((Int (pos 1) ∷ []) ∷ [])
-
--- the answer is another, or there is none
-abbrev pub SaysOther : State → State → Type 0
-SaysOther old new = ((rows : List Row) × Shown ask_text [] old new rows × (rows ≢ (Int (pos 1) ∷ []) ∷ [])) ⊎ ((e : Error) × FailsToQuery ask_text [] old new e)

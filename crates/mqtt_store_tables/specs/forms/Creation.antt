@@ -7,7 +7,6 @@ use Rattle.sqlite_trees.specs.Tree.{Trees}
 use Rattle.sqlite.specs.State.{State}
 use Rattle.sqlite_value.specs.declared.value.Value.TheVariants.{Int, Text}
 use Rattle.sqlite_value.specs.Order.{Row}
-use Rattle.sqlite.specs.Effect.{Database}
 use Rattle.mqtt_store_tables.specs.forms.Tables.{keep_schema, session, will, sub, inbound, copy, retained}
 use Rattle.mqtt_store_tables.specs.declared.forms.schema.StoreTable.{StoreTable}
 use Rattle.mqtt_store_tables.specs.declared.forms.schema.StoreTable.TheVariants.{Meta, Session, Will, Subscription, Inbound, Copy, Retained}
@@ -44,9 +43,6 @@ pub record HasTables (n : ℕ) (s : State) : Type 0 where
   pub inside : IsTrue s.in_transaction
   pub empty : AreEmpty (first n).tables s.now.trees
 
-abbrev pub fill_text : List ℕ
-fill_text = codes "INSERT INTO meta VALUES ('schema', 1), ('births', 0), ('publications', 0), ('subscribes', 0), ('autos', 0), ('moment', 0)"
-
 -- a row of meta, behind the number that the table gives it
 abbrev pub number_row : ℕ → List ℕ → ℕ → Row
 number_row place name n = Int (pos place) ∷ Text name ∷ Int (pos n) ∷ []
@@ -54,16 +50,3 @@ number_row place name n = Int (pos place) ∷ Text name ∷ Int (pos n) ∷ []
 -- the numbers of a store of this schema before anything is kept
 abbrev pub numbers_of : ℕ → List Row
 numbers_of schema = number_row 1 (codes "schema") schema ∷ number_row 2 (codes "births") 0 ∷ number_row 3 (codes "publications") 0 ∷ number_row 4 (codes "subscribes") 0 ∷ number_row 5 (codes "autos") 0 ∷ number_row 6 (codes "moment") 0 ∷ []
-
-abbrev pub first_numbers : List Row
-first_numbers = numbers_of 1
-
--- the tables of a store that keeps nothing
-pub record IsNewStore (db : Database) : Type 0 where
-  pub schema : db.schema ≡ keep_schema
-  pub meta_rows : db.trees 0 ≡ first_numbers
-  pub empty : AreEmpty (session ∷ will ∷ sub ∷ inbound ∷ copy ∷ retained ∷ []) db.trees
-
--- what may be committed where the tables are made
-abbrev pub MakesStore : State → Trees → Type 0
-MakesStore old db = old.now.schema ≡ first 0 → IsNewStore (record { schema = keep_schema; trees = db })

@@ -1,4 +1,4 @@
--- What the statements do to the tables.
+-- What stands in the tables, and when they are in order.
 use Rattle.std.specs.Prelude.{◌≡◌, ℕ, ℤ, Bool, not, List, filter, IsTrue}
 use Rattle.sqlite_value.specs.declared.value.Value.TheVariants.{Int, Text}
 use Rattle.sqlite_value.specs.declared.keys.Collation.TheVariants.{Binary}
@@ -8,6 +8,7 @@ use Rattle.sqlite_trees.specs.Tree.{Trees, IsTable, rowid}
 use Rattle.sqlite_trees.specs.View.{is_int}
 use Rattle.sqlite.specs.State.{State}
 use Rattle.sqlite_schema.specs.Rules.{equal, Obeys}
+use Rattle.mqtt_store_tables.specs.forms.Tables.{keep_schema}
 use Rattle.mqtt_store_tables.specs.statements.Layout.{Layout, schema_of}
 
 -- SQL finds the number in that place
@@ -20,15 +21,6 @@ is_text at text r = equal Binary (column r at) (Text text)
 
 abbrev pub without : ℕ → ℤ → List Row → List Row
 without at n = filter (λ r. not (is_of at n r))
-
-pub record RemovesSession (birth : ℤ) (old new : Trees) : Type 0 where
-  pub meta : new 0 ≡ old 0
-  pub session : new 2 ≡ without 0 birth (old 2)
-  pub will : new 4 ≡ without 0 birth (old 4)
-  pub sub : new 5 ≡ without 1 birth (old 5)
-  pub inbound : new 7 ≡ without 1 birth (old 7)
-  pub copy : new 9 ≡ without 1 birth (old 9)
-  pub retained : new 11 ≡ old 11
 
 -- a table's rows rise by their numbers
 pub record IsShapedAt (db : Trees) (t : ℕ) : Type 0 where
@@ -53,3 +45,13 @@ pub record IsWhole (l : Layout) (s : State) : Type 0 where
   pub inbound : IsShapedAt s.now.trees 7
   pub behind : AllByRecursion (λ t. IsShapedAt s.now.trees t.tree) l.tables
   pub obeys : Obeys (schema_of l) s.now.trees
+
+-- in schema 1, between two steps: all is committed, and the tables are in order
+pub record IsSettled (s : State) : Type 0 where
+  pub schema : s.now.schema ≡ keep_schema
+  pub shaped : AreShaped s.now.trees
+  pub meta : IsShapedAt s.now.trees 0
+  pub retained : IsShapedAt s.now.trees 11
+  pub obeys : Obeys keep_schema s.now.trees
+  pub same : s.committed ≡ s.now
+  pub is_open : IsTrue s.is_open

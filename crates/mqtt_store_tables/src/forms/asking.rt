@@ -4,7 +4,7 @@ ghost use Rattle.sqlite_value.specs.declared.value.Value.TheVariants.{Int};
 ghost use Rattle.sqlite.specs.Held.{state};
 ghost use Rattle.sqlite.specs.State.{HasCleanDisk};
 ghost use Rattle.mqtt_store_tables.specs.forms.Creation.{first};
-ghost use Rattle.mqtt_store_tables.specs.forms.Asking.{Says, SaysOne, SaysOther};
+ghost use Rattle.mqtt_store_tables.specs.forms.Asking.{Says};
 ghost use Rattle.mqtt_store_tables.specs.forms.Settled.{OnlyReads};
 
 use sqlite::types::ValueRef;
@@ -53,17 +53,5 @@ pub fn schema_said<S: Alter>(conn: &mut Connection<S>) -> Result<Option<i64>, Er
         Ok(rows) => Ok(number_of(rows.as_slice())),
         Err(Error::SqlInputError(_)) => Ok(None),
         Err(error) => Err(error),
-    }
-}
-
-/// Whether a database says that its schema is 1.
-pub fn says_one<S: Alter>(conn: &mut Connection<S>) -> Result<bool, Error>
-    ensures said { HasCleanDisk (state S.Store conn.new) → IfOk result (λ yes. MatchBool yes
-        (SaysOne (state S.Store conn.old) (state S.Store conn.new)) (SaysOther (state S.Store conn.old) (state S.Store conn.new))) }
-    ensures reads { OnlyReads (state S.Store conn.old) (state S.Store conn.new) }
-{
-    match schema_said(conn)? {
-        Some(n) => Ok(n == 1),
-        None => Ok(false),
     }
 }

@@ -1,12 +1,12 @@
 //! How the tables are made in an empty database.
-ghost use Rattle.std.specs.Prelude.{◌≡◌, ◌+◌, ◌<◌, ◌≤◌, false, OnOk, OnErr, IsTrue};
+ghost use Rattle.std.specs.Prelude.{◌≡◌, ◌+◌, ◌<◌, ◌≤◌, OnOk};
 ghost use Rattle.sqlite.specs.Held.{state};
-ghost use Rattle.sqlite.specs.State.{HasCleanDisk, Survives};
-ghost use Rattle.mqtt_store_tables.specs.forms.Creation.{create_text, fill_text, place_of, first, HasTables, IsNewStore, MakesStore};
+ghost use Rattle.sqlite.specs.State.{HasCleanDisk};
+ghost use Rattle.mqtt_store_tables.specs.forms.Creation.{create_text, place_of, HasTables};
 ghost use Rattle.mqtt_store_tables.specs.forms.Settled.{StaysInside};
 
 use crate::forms::schema::StoreTable;
-use sqlite::{Alter, Connection, Error, Transaction};
+use sqlite::{Alter, Error, Transaction};
 
 /// The text that makes a table.
 fn text_of(table: StoreTable) -> &'static str
@@ -40,19 +40,6 @@ fn make_table<S: Alter>(tx: &mut Transaction<'_, S>, table: StoreTable) -> Resul
     tx.execute(text_of(table), &[])
 }
 
-/// Writes a new store's numbers, if all tables stand empty.
-fn fill_meta<S: Alter>(tx: &mut Transaction<'_, S>) -> Result<usize, Error>
-    ensures same_reference { tx.new.conn.ghost_name ≡ tx.old.conn.ghost_name }
-    ensures made { HasCleanDisk (state S.Store tx.new.conn.now) → HasTables 7 (state S.Store tx.old.conn.now)
-        → OnOk result (IsNewStore (state S.Store tx.new.conn.now).now × IsTrue (state S.Store tx.new.conn.now).in_transaction) }
-    ensures inside { StaysInside (state S.Store tx.old.conn.now) (state S.Store tx.new.conn.now) }
-{
-    tx.execute(
-        "INSERT INTO meta VALUES ('schema', 1), ('births', 0), ('publications', 0), ('subscribes', 0), ('autos', 0), ('moment', 0)",
-        &[],
-    )
-}
-
 /// The table that is made in this place.
 fn table_at(at: usize) -> StoreTable
     requires { at < 7 }
@@ -81,34 +68,4 @@ pub fn make_tables<S: Alter>(tx: &mut Transaction<'_, S>, count: usize) -> Resul
         make_table(tx, table_at(at))?;
     }
     Ok(())
-}
-
-/// Makes all tables, and writes a new store's numbers.
-fn make_all<S: Alter>(tx: &mut Transaction<'_, S>) -> Result<(), Error>
-    ensures same_reference { tx.new.conn.ghost_name ≡ tx.old.conn.ghost_name }
-    ensures made { HasCleanDisk (state S.Store tx.new.conn.now) → HasTables 0 (state S.Store tx.old.conn.now)
-        → OnOk result (IsNewStore (state S.Store tx.new.conn.now).now × IsTrue (state S.Store tx.new.conn.now).in_transaction) }
-    ensures inside { StaysInside (state S.Store tx.old.conn.now) (state S.Store tx.new.conn.now) }
-{
-    make_tables(tx, 7)?;
-    fill_meta(tx)?;
-    Ok(())
-}
-
-/// Makes the tables of a store that keeps nothing, in an empty database: all, or none.
-pub fn create_store<S: Alter>(conn: &mut Connection<S>) -> Result<(), Error>
-    requires autocommit { conn.old.in_transaction ≡ false }
-    ensures autocommit { conn.new.in_transaction ≡ false }
-    ensures ok { HasCleanDisk (state S.Store conn.new) → (state S.Store conn.old).now.schema ≡ first 0
-        → OnOk result (IsNewStore (state S.Store conn.new).now) }
-    ensures committed { HasCleanDisk (state S.Store conn.new)
-        → OnOk result (((state S.Store conn.new).committed ≡ (state S.Store conn.new).now) × IsTrue (state S.Store conn.new).is_open) }
-    ensures err { HasCleanDisk (state S.Store conn.new) → IsTrue (state S.Store conn.new).is_open → (state S.Store conn.old).now.schema ≡ first 0
-        → OnErr result (((state S.Store conn.new).now ≡ (state S.Store conn.old).committed) × ((state S.Store conn.new).committed ≡ (state S.Store conn.old).committed)) }
-    ensures was_open { HasCleanDisk (state S.Store conn.new) → IsTrue (state S.Store conn.new).is_open → IsTrue (state S.Store conn.old).is_open }
-    ensures crash { Survives (state S.Store conn.old) (state S.Store conn.new) (MakesStore (state S.Store conn.old)) }
-{
-    let mut tx = conn.transaction();
-    make_all(&mut tx)?;
-    tx.commit()
 }

@@ -1,14 +1,13 @@
 //! The statements on sessions.
-ghost use Rattle.std.specs.Prelude.{◌≡◌, ◌<◌, ◌^◌, pos, IfSome};
+ghost use Rattle.std.specs.Prelude.{◌≡◌, ◌<◌, ◌^◌, pos, IfSome, option_map};
 ghost use Rattle.sqlite.specs.Held.{state};
 ghost use Rattle.mqtt_store_tables.specs.forms.Settled.{StaysInside};
-ghost use Rattle.mqtt_store_tables.specs.statements.Layout.{Layout, IsOurs, first_layout};
+ghost use Rattle.mqtt_store_tables.specs.statements.Layout.{Layout, IsOurs};
 ghost use Rattle.mqtt_store_tables.specs.statements.Writing.{Writes};
-ghost use Rattle.mqtt_store_tables.specs.statements.Content.{is_of, RemovesSession, IsWhole};
+ghost use Rattle.mqtt_store_tables.specs.statements.Content.{is_of, IsWhole};
 ghost use Rattle.mqtt_store_tables.specs.statements.Columns.{session_row};
 ghost use Rattle.mqtt_store_tables.specs.statements.Put.{PutsInto};
 
-use crate::statements::copies::whole_or_none;
 use sqlite::{Alter, Error, Transaction, params};
 use std::marker::Model;
 
@@ -39,16 +38,15 @@ pub(crate) fn whole(n: u64) -> i64
     n as i64
 }
 
-/// Removes a session, with its rows in the other tables. One that does not stand has none.
-pub fn remove_session<S: Alter>(tx: &mut Transaction<'_, S>, birth: u64) -> Result<usize, Error>
-    requires { birth < 2 ^ 63 }
-    ensures same_reference { tx.new.conn.ghost_name ≡ tx.old.conn.ghost_name }
-    ensures removed { Writes S.Store tx.old.conn.now tx.new.conn.now result (IsWhole first_layout)
-        (RemovesSession (pos birth)) }
-    ensures inside { StaysInside (state S.Store tx.old.conn.now) (state S.Store tx.new.conn.now) }
+/// A number that may be missing, as SQL has it.
+pub(crate) fn whole_or_none(n: Option<u64>) -> Option<i64>
+    requires { IfSome n (λ n. n < 2 ^ 63) }
+    ensures { result ≡ option_map pos n }
 {
-    let birth = whole(birth);
-    tx.execute("DELETE FROM session WHERE birth = ?1", params![birth])
+    match n {
+        Some(n) => Some(whole(n)),
+        None => None,
+    }
 }
 
 /// Puts a session's own row, in place of the one that it has: its rows in the other tables stay.

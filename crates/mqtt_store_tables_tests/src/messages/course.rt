@@ -1,6 +1,6 @@
 //! A publication's message, from the first row that refers to it to the last.
 
-use mqtt_store_tables::forms::create_store;
+use crate::first_schema::create_first;
 use mqtt_store_tables::messages::{
     KeptColumns, MessageColumns, QueuedColumns, pub_of_kept, pub_of_queued, pubs_of_queue,
     put_kept, put_message, put_queued, remove_kept, remove_queued, remove_session, set_queued,
@@ -21,9 +21,7 @@ fn make_new<S: Alter>(conn: &mut Connection<S>) -> Result<(), Error> {
 
 /// Makes those of schema 1, and the others beside them.
 fn take_over<S: Alter>(conn: &mut Connection<S>) -> Result<(), Error> {
-    if conn.is_autocommit() {
-        create_store(conn)?;
-    }
+    create_first(conn)?;
     if conn.is_autocommit() {
         let mut tx = conn.transaction();
         add_tables(&mut tx)?;

@@ -1,7 +1,7 @@
 //! Databases that are made, or taken over, and are found again.
 
+use crate::first_schema::create_first;
 use crate::schema::databases::{empty, found_after};
-use mqtt_store_tables::forms::create_store;
 use mqtt_store_tables::schema::{FoundStore, Making, add_tables, create_second, found_store};
 use sqlite::{Alter, Connection, Error};
 use std::alloc::Global;
@@ -51,9 +51,7 @@ fn take_over<S: Alter>(conn: &mut Connection<S>) -> Result<(), Error> {
 /// What a database of schema 1 with a row is found to be before and after it is taken over, and the
 /// rows that it then has.
 fn taken_over<S: Alter>(conn: &mut Connection<S>) -> Result<(FoundStore, FoundStore, i64), Error> {
-    if conn.is_autocommit() {
-        create_store(conn)?;
-    }
+    create_first(conn)?;
     let before = found_after(conn, "INSERT INTO session VALUES (1, 'r1', 0, 7)")?;
     take_over(conn)?;
     let after = found_store(conn)?;

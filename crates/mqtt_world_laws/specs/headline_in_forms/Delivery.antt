@@ -1,4 +1,4 @@
--- Exactly-once delivery, whole, of runs in which PUBLISH goes out in forms: what `mqtt_world_headline_laws` says of runs of what
+-- Exactly-once delivery, whole, of runs in which PUBLISH goes out in forms: what `mqtt_world_laws::headline` says of runs of what
 -- packets mean (MQTT 5.0, 3.3.2.3.4, 3.3.4, 4.3, 4.4, 4.6, 4.8, 4.9).
 use Rattle.std.specs.Prelude.{◌≡◌, ◌≤◌, ◌+◌, ⊤, All, ℕ, true, false, cond, List, [], ◌∷◌, ◌++◌, None, Option, Some, count_by, filter, filter_map, flat_map, length, map}
 use Rattle.std.specs.List.{AllByRecursion}

@@ -2,7 +2,8 @@
 
 use crate::playing::devices::{Brittle, Drip};
 use crate::playing::scripts::toy_of;
-use mqtt_replay::playing::{Played, ReplayFault, replay};
+use mqtt_replay::playing::replay;
+use mqtt_replay::{Played, ReplayFault};
 use mqtt_world_ends::peers::RunFault;
 use std::alloc::Global;
 use std::test::Fail;

@@ -3,7 +3,8 @@
 use crate::playing::devices::{Brittle, Drip};
 use crate::playing::toy::Toy;
 use mqtt_base::Text;
-use mqtt_replay::playing::{Played, ReplayFault, replay};
+use mqtt_replay::playing::replay;
+use mqtt_replay::{Played, ReplayFault};
 use mqtt_world_ends::peers::RunFault;
 use std::alloc::{AllocError, Global};
 use std::test::Fail;

@@ -3,7 +3,8 @@ use Rattle.std.proofs.Common.{◌≡◌, List, sym, subst}
 use Rattle.sqlite_value.specs.Order.{Row, column}
 use Rattle.sqlite_trees.specs.Tree.{Trees}
 use Rattle.sqlite_rules.specs.Lists.{Has}
-use Rattle.mqtt_store.specs.item_laws.Written.{AreWritten, AreAllSingle}
+use Rattle.mqtt_store.specs.item_laws.Written.{AreWritten}
+use Rattle.mqtt_store.specs.taking_over.Written.{AreAllSingle}
 
 -- the same rows of the same items
 pub moved : {X : Type 0} (IsRow : X → Row → Type 0) (Item : X → Type 0) (old new : List Row) → new ≡ old → AreWritten IsRow Item old → AreWritten IsRow Item new

@@ -22,7 +22,8 @@ use Rattle.mqtt_store_tables.proofs.statements_lemmas.tables.Spared.{meta_spared
 use Rattle.mqtt_store_tables.proofs.messages_lemmas.Behind.{asked, message_shaped, queued_shaped, kept_shaped}
 use Rattle.mqtt_store.specs.item_laws.Items.{IsNumberRow, IsSessionRow, IsWillRow, IsSubscriptionRow, IsOpenRow}
 use Rattle.mqtt_store.specs.item_laws.Members.{HasColumns, will_of, subscriptions_of, inbound_of}
-use Rattle.mqtt_store.specs.item_laws.Written.{AreWritten, KeepsRows, numbers_in, IsWillOf, IsSubscriptionOf, IsOpenOf, IsCopyOf}
+use Rattle.mqtt_store.specs.item_laws.Written.{AreWritten, numbers_in, IsWillOf, IsSubscriptionOf, IsOpenOf, IsCopyOf}
+use Rattle.mqtt_store.specs.taking_over.Written.{KeepsRows}
 use Rattle.mqtt_store.proofs.item_laws_lemmas.tables.Kept.{Named, moved}
 use Rattle.mqtt_store.proofs.item_laws_lemmas.tables.Numbers.{number_set, number_named}
 use Rattle.mqtt_store.proofs.item_laws_lemmas.tables.Tables.{unchanged}

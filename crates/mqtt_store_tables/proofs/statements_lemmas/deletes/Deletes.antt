@@ -1,4 +1,4 @@
--- The DELETEs of a Will, a subscription, an open identifier, a copy and a retained message.
+-- The DELETEs of a Will, a subscription and an open identifier.
 use Rattle.std.proofs.Common.{◌≡◌, ℕ, ℤ, Bool, true, false, ◌&&◌, List, [], ◌∷◌, codes, Result, OnOk, refl, filter}
 use Rattle.sqlite_value.specs.declared.value.Value.TheVariants.{Int, Text}
 use Rattle.sqlite_value.specs.Keys.{joined}
@@ -13,11 +13,10 @@ use Rattle.sqlite.specs.Listing.{understood}
 use Rattle.sqlite.specs.State.{State, ExecutesInside}
 use Rattle.sqlite_tied.specs.Compute.{everything}
 use Rattle.sqlite.proofs.Callers.{IsPlain, command_of}
-use Rattle.mqtt_store_tables.specs.forms.Tables.{keep_schema, will, sub, inbound, copy, retained}
-use Rattle.mqtt_store_tables.specs.statements.Layout.{Layout, IsLayout, schema_of, first_layout}
+use Rattle.mqtt_store_tables.specs.forms.Tables.{will, sub, inbound}
+use Rattle.mqtt_store_tables.specs.statements.Layout.{Layout, IsLayout, schema_of}
 use Rattle.mqtt_store_tables.specs.statements.Content.{is_of, is_text, IsWhole}
 use Rattle.mqtt_store_tables.specs.statements.Removal.{is_keyed, is_subscription, RemovesFrom}
-use Rattle.mqtt_store_tables.proofs.statements_lemmas.tables.First.{is_first}
 use Rattle.mqtt_store_tables.proofs.statements_lemmas.tables.Fresh.{and_true as alone}
 use Rattle.mqtt_store_tables.proofs.statements_lemmas.tables.Commands.{over, program, equals}
 use Rattle.mqtt_store_tables.proofs.statements_lemmas.deletes.Removal.{numbers, deletes}
@@ -32,14 +31,8 @@ by_both = equals 1 0 ∷ equals 2 1 ∷ []
 abbrev pub remove_will_text : List ℕ
 remove_will_text = codes "DELETE FROM will WHERE birth = ?1"
 
-abbrev pub remove_retained_text : List ℕ
-remove_retained_text = codes "DELETE FROM retained WHERE place = ?1"
-
 abbrev pub remove_subscription_text : List ℕ
 remove_subscription_text = codes "DELETE FROM sub WHERE birth = ?1 AND filter = ?2"
-
-abbrev pub remove_copy_text : List ℕ
-remove_copy_text = codes "DELETE FROM copy WHERE birth = ?1 AND place = ?2"
 
 abbrev pub remove_open_text : List ℕ
 remove_open_text = codes "DELETE FROM inbound WHERE birth = ?1 AND ident = ?2"
@@ -52,14 +45,6 @@ will_plain : (l : Layout) → IsPlain (understood (schema_of l) remove_will_text
 unfolding understood everything
 will_plain l = (refl, refl)
 
-retained_is : command_of (understood keep_schema remove_retained_text) ≡ Delete 6 (program (over 11 by_number numbers))
-unfolding understood everything
-retained_is = refl
-
-retained_plain : IsPlain (understood keep_schema remove_retained_text)
-unfolding understood everything
-retained_plain = (refl, refl)
-
 subscription_is : (l : Layout) → command_of (understood (schema_of l) remove_subscription_text) ≡ Delete 3 (program (over 5 by_both numbers))
 unfolding understood everything
 subscription_is l = refl
@@ -67,14 +52,6 @@ subscription_is l = refl
 subscription_plain : (l : Layout) → IsPlain (understood (schema_of l) remove_subscription_text)
 unfolding understood everything
 subscription_plain l = (refl, refl)
-
-copy_is : command_of (understood keep_schema remove_copy_text) ≡ Delete 5 (program (over 9 by_both numbers))
-unfolding understood everything
-copy_is = refl
-
-copy_plain : IsPlain (understood keep_schema remove_copy_text)
-unfolding understood everything
-copy_plain = (refl, refl)
 
 open_is : (l : Layout) → command_of (understood (schema_of l) remove_open_text) ≡ Delete 4 (program (over 7 by_both numbers))
 unfolding understood everything
@@ -89,19 +66,10 @@ pub will_childless : (l : Layout) → IsLayout l → (olds : List Row) → works
 unfolding same_name joined
 will_childless l asked olds = asked.childless.1.0.out 0 olds
 
--- no table refers to retained messages, so one that is deleted sets nothing off
-pub retained_childless : (olds : List Row) → works keep_schema Enforced 0 11 olds [] ≡ []
-unfolding same_name joined
-retained_childless olds = refl
-
 -- no table refers to subscriptions, so one that is deleted sets nothing off
 pub sub_childless : (l : Layout) → IsLayout l → (olds : List Row) → works (schema_of l) Enforced 0 5 olds [] ≡ []
 unfolding same_name joined
 sub_childless l asked olds = asked.childless.1.1.0.out 0 olds
-
-copy_childless : (olds : List Row) → works keep_schema Enforced 0 9 olds [] ≡ []
-unfolding same_name joined
-copy_childless olds = refl
 
 open_childless : (l : Layout) → IsLayout l → (olds : List Row) → works (schema_of l) Enforced 0 7 olds [] ≡ []
 unfolding same_name joined
@@ -118,24 +86,12 @@ pub removes_will : (l : Layout) → IsLayout l → (birth : ℤ) (old new : Stat
 removes_will l asked birth old new r whole h =
     deletes l asked remove_will_text 2 will by_number (Int birth ∷ []) (will_is l) (will_plain l) refl (will_childless l asked) (is_of 0 birth) (λ r. alone (is_of 0 birth r)) old new r whole whole.will h
 
--- the DELETE of a retained message takes out the row at that place, and leaves the transaction whole
-pub removes_retained : (place : ℤ) (old new : State) (r : Result ℕ Error) → IsWhole first_layout old → ExecutesInside 0 remove_retained_text (Int place ∷ []) old new r
-    → OnOk r (RemovesFrom first_layout 11 (is_of 0 place) old.now.trees new.now.trees) × OnOk r (IsWhole first_layout new)
-removes_retained place old new r whole h =
-    deletes first_layout is_first remove_retained_text 6 retained by_number (Int place ∷ []) retained_is retained_plain refl retained_childless (is_of 0 place) (λ r. alone (is_of 0 place r)) old new r whole whole.behind.1.0 h
-
 -- the DELETE of a subscription takes out the rows of that session and filter, and leaves the transaction whole
 pub removes_subscription : (l : Layout) → IsLayout l → (birth : ℤ) (filter : List ℕ) (old new : State) (r : Result ℕ Error) → IsWhole l old → ExecutesInside 0 remove_subscription_text (Int birth ∷ Text filter ∷ []) old new r
     → OnOk r (RemovesFrom l 5 (is_subscription birth filter) old.now.trees new.now.trees) × OnOk r (IsWhole l new)
 removes_subscription l asked birth filter old new r whole h =
     deletes l asked remove_subscription_text 3 sub by_both (Int birth ∷ Text filter ∷ []) (subscription_is l) (subscription_plain l) refl (sub_childless l asked) (is_subscription birth filter)
     (λ r. and_true (is_of 1 birth r) (is_text 2 filter r)) old new r whole whole.sub h
-
--- the DELETE of a copy takes out the rows of that session and place, and leaves the transaction ready
-pub removes_copy : (birth n : ℤ) (old new : State) (r : Result ℕ Error) → IsWhole first_layout old → ExecutesInside 0 remove_copy_text (Int birth ∷ Int n ∷ []) old new r
-    → OnOk r (RemovesFrom first_layout 9 (is_keyed birth n) old.now.trees new.now.trees) × OnOk r (IsWhole first_layout new)
-removes_copy birth n old new r ready h =
-    deletes first_layout is_first remove_copy_text 5 copy by_both (Int birth ∷ Int n ∷ []) copy_is copy_plain refl copy_childless (is_keyed birth n) (λ r. and_true (is_of 1 birth r) (is_of 2 n r)) old new r ready ready.behind.0 h
 
 -- the DELETE of an open identifier takes out the rows of that session and identifier, and leaves the transaction ready
 pub removes_open : (l : Layout) → IsLayout l → (birth n : ℤ) (old new : State) (r : Result ℕ Error) → IsWhole l old → ExecutesInside 0 remove_open_text (Int birth ∷ Int n ∷ []) old new r

@@ -1,22 +1,19 @@
--- DELETE FROM session, with its cascade.
-use Rattle.std.proofs.Common.{◌≡◌, ◌≢◌, ◌⊎◌, ℕ, zero, suc, ℤ, pos, ◌+◌, Bool, true, false, not, ◌&&◌, ◌||◌, cond, List, [], ◌∷◌, ◌++◌, filter, map, length, Option, Some, None, Ok, Err, Result, refl, sym, ap, ◌∙◌, subst, inl, inr, IsTrue, append-nil, append_assoc, length-append, arith, codes}
+-- Which rows a session that goes takes along.
+use Rattle.std.proofs.Common.{◌≡◌, ℕ, ℤ, Bool, true, false, ◌&&◌, ◌||◌, List, [], ◌∷◌, filter, Some, refl, sym, ap, ◌∙◌, inl, inr}
 use Rattle.std.specs.List.{list_any}
 use Rattle.std.specs.Ordering.{is_eq}
 use Rattle.sqlite_value.specs.declared.value.Value.{Value}
 use Rattle.sqlite_value.specs.declared.value.Value.TheVariants.{Null, Int, Real, Text, Blob}
 use Rattle.sqlite_value.specs.declared.keys.Collation.TheVariants.{Binary}
-use Rattle.sqlite_value.specs.Keys.{plain, first_key, joined}
+use Rattle.sqlite_value.specs.Keys.{plain, first_key}
 use Rattle.sqlite_value.specs.Order.{Row, column, value_cmp}
 use Rattle.sqlite_trees.specs.Tree.{IsTable, rowid}
 use Rattle.sqlite_trees.specs.View.{is_int}
 use Rattle.sqlite_sql.specs.Ops.{is_true, from_truth, binary}
-use Rattle.sqlite_schema.specs.Names.{same_name}
 use Rattle.sqlite_schema.specs.Rules.{equal}
 use Rattle.sqlite_schema.specs.declared.schema.Table.{Table}
-use Rattle.sqlite_schema.specs.declared.schema.Keys.TheVariants.{Enforced}
 use Rattle.sqlite_rules.specs.Lists.{Has}
-use Rattle.sqlite_rules.specs.Action.{works, is_child_of, loses}
-use Rattle.mqtt_store_tables.specs.forms.Tables.{keep_schema, will, sub, inbound, copy}
+use Rattle.sqlite_rules.specs.Action.{is_child_of, loses}
 use Rattle.mqtt_store_tables.specs.statements.Content.{is_of}
 use Rattle.sqlite_value.proofs.OrderLemmas.{value_cmp_total}
 use Rattle.sqlite_trees.proofs.ListLemmas.{filter_none}
@@ -46,12 +43,6 @@ pub children_are : (child : Table) (at : ℕ) (parent : Row) (birth : ℤ) (r : 
     → list_any (is_child_of (work child at parent) r) (work child at parent).moves ≡ is_of at birth r
 unfolding first_key
 children_are child at parent birth r is lost = tidy (loses plain (0 ∷ []) (parent, [])) (equal Binary (column r at) (rowid parent)) lost ∙ ap (equal Binary (column r at)) is
-
--- a session that goes sets off one action in each table that refers to it
-pub works_are : (parent : Row) → loses plain (0 ∷ []) (parent, []) ≡ true
-    → works keep_schema Enforced 0 2 (parent ∷ []) [] ≡ work will 0 parent ∷ work sub 1 parent ∷ work inbound 1 parent ∷ work copy 1 parent ∷ []
-unfolding same_name joined
-works_are parent lost = rw lost
 
 -- the only row with a rowid
 pub only_row : (rows : List Row) (p : Row → Bool) (one : Row) → IsTable rows → Has rows one → p one ≡ true → ((r : Row) → Has rows r → p r ≡ true → value_cmp (rowid r) (rowid one) ≡ Rattle.std.proofs.Common.Equal) → filter p rows ≡ one ∷ []

@@ -29,7 +29,7 @@ use Rattle.mqtt_store_tables.specs.statements.Layout.{Layout, IsLayout, schema_o
 use Rattle.mqtt_store_tables.specs.statements.Content.{IsWhole}
 use Rattle.mqtt_store_tables.specs.statements.Removal.{is_keyed}
 use Rattle.mqtt_store_tables.specs.statements.Put.{PutsInto, numbered, open_row}
-use Rattle.mqtt_store_tables.proofs.statements_lemmas.sets.SetCopy.{cast_int, cast_null}
+use Rattle.mqtt_store_tables.proofs.statements_lemmas.tables.Numbers.{cast_int, cast_null}
 use Rattle.mqtt_store_tables.proofs.statements_lemmas.tables.Fresh.{apart, and_true, or_false}
 use Rattle.mqtt_store_tables.proofs.statements_lemmas.puts.Replace.{replaces}
 

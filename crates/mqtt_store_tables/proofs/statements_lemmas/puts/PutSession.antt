@@ -53,7 +53,7 @@ use Rattle.mqtt_store_tables.proofs.statements_lemmas.tables.Rows.{equal_is}
 use Rattle.mqtt_store_tables.proofs.statements_lemmas.deletes.RemoveSession.{equal_ids, only_row}
 use Rattle.mqtt_store_tables.proofs.statements_lemmas.deletes.RemovesSession.{tied_ids}
 use Rattle.mqtt_store_tables.proofs.statements_lemmas.deletes.RemoveSessionRuns.{went_out}
-use Rattle.mqtt_store_tables.proofs.statements_lemmas.sets.SetCopy.{cast_int, cast_null, cast_number}
+use Rattle.mqtt_store_tables.proofs.statements_lemmas.tables.Numbers.{cast_int, cast_null, cast_number}
 use Rattle.mqtt_store_tables.proofs.statements_lemmas.tables.Fresh.{and_true, or_false}
 use Rattle.mqtt_store_tables.proofs.statements_lemmas.puts.Replace.{IsPutOf, task, puts_row, left, inserts}
 

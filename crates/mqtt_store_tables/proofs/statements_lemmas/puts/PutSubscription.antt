@@ -31,7 +31,7 @@ use Rattle.mqtt_store_tables.specs.statements.Removal.{is_subscription}
 use Rattle.mqtt_store_tables.specs.statements.Columns.{subscription_row}
 use Rattle.mqtt_store_tables.specs.declared.statements.subscriptions.SubscriptionColumns.{SubscriptionColumns}
 use Rattle.mqtt_store_tables.specs.statements.Put.{PutsInto, numbered}
-use Rattle.mqtt_store_tables.proofs.statements_lemmas.sets.SetCopy.{cast_int, cast_null}
+use Rattle.mqtt_store_tables.proofs.statements_lemmas.tables.Numbers.{cast_int, cast_null}
 use Rattle.mqtt_store_tables.proofs.statements_lemmas.tables.Fresh.{apart, and_true, or_false}
 use Rattle.mqtt_store_tables.proofs.statements_lemmas.puts.Replace.{replaces}
 

@@ -24,7 +24,7 @@ use Rattle.mqtt_store_tables.specs.statements.Layout.{Layout, IsLayout, schema_o
 use Rattle.mqtt_store_tables.specs.statements.Content.{is_of, IsWhole}
 use Rattle.mqtt_store_tables.specs.statements.Columns.{flag, WillColumns, will_row}
 use Rattle.mqtt_store_tables.specs.statements.Put.{PutsInto}
-use Rattle.mqtt_store_tables.proofs.statements_lemmas.sets.SetCopy.{cast_int, cast_null}
+use Rattle.mqtt_store_tables.proofs.statements_lemmas.tables.Numbers.{cast_int, cast_null}
 use Rattle.mqtt_store_tables.proofs.statements_lemmas.tables.Fresh.{and_true, or_false}
 use Rattle.mqtt_store_tables.proofs.statements_lemmas.puts.Replace.{replaces}
 

@@ -46,7 +46,7 @@ use Rattle.mqtt_store_tables.specs.statements.Numbers.{number_row, SetsNumber}
 use Rattle.mqtt_store_tables.proofs.statements_lemmas.tables.Commands.{over, program, equals}
 use Rattle.mqtt_store_tables.proofs.statements_lemmas.tables.Parts.{passes, shows, answers_over, updated}
 use Rattle.mqtt_store_tables.proofs.statements_lemmas.deletes.RemoveSession.{only_row}
-use Rattle.mqtt_store_tables.proofs.statements_lemmas.sets.SetCopy.{cast_int, same_rowid}
+use Rattle.mqtt_store_tables.proofs.statements_lemmas.tables.Numbers.{cast_int, same_rowid}
 use Rattle.mqtt_store_tables.proofs.statements_lemmas.tables.Fresh.{and_true}
 use Rattle.mqtt_store_tables.proofs.statements_lemmas.tables.Whole.{whole_after}
 use Rattle.mqtt_store_tables.proofs.statements_lemmas.sets.SetAny.{any_whole}

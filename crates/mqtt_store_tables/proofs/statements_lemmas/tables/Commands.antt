@@ -1,6 +1,5 @@
 -- What the statements mean.
-use Rattle.std.proofs.Common.{◌≡◌, ℕ, List, [], ◌∷◌, codes, None, refl, pos, negsuc, false}
-use Rattle.sqlite.specs.Command.TheVariants.{Delete}
+use Rattle.std.proofs.Common.{ℕ, List, [], None, pos, negsuc, false}
 use Rattle.sqlite_schema.specs.declared.program.Program.{Program}
 use Rattle.sqlite_sql.specs.declared.ops.BinaryOp.TheVariants.{Compare}
 use Rattle.sqlite_sql.specs.declared.ops.CompareOp.TheVariants.{Eq}
@@ -8,10 +7,6 @@ use Rattle.sqlite_value.specs.declared.keys.Collation.TheVariants.{Binary}
 use Rattle.sqlite.specs.Term.{Term, lit, col, op2}
 use Rattle.sqlite.specs.Query.{Query, inner, end}
 use Rattle.sqlite.specs.declared.types.Value.TheVariants.{Int}
-use Rattle.sqlite.specs.Listing.{understood}
-use Rattle.sqlite_tied.specs.Compute.{everything}
-use Rattle.sqlite.proofs.Callers.{command_of}
-use Rattle.mqtt_store_tables.specs.forms.Tables.{keep_schema}
 
 abbrev pub over : ℕ → List Term → List Term → Query
 over tree filter project = record { from = inner tree end; filter = filter; group = None; project = project; distinct = false; collations = []; order = []; limit = lit (Int (negsuc 0)); offset = lit (Int (pos 0)) }
@@ -21,8 +16,3 @@ program q = record { lets = []; body = q }
 
 abbrev pub equals : ℕ → ℕ → Term
 equals at param = op2 (Compare Eq Binary) (col 1 at) (col 0 param)
-
--- the text of the DELETE of a session means: from sessions, the one with this birth
-pub remove_session_is : command_of (understood keep_schema (codes "DELETE FROM session WHERE birth = ?1")) ≡ Delete 1 (program (over 2 (equals 0 0 ∷ []) (col 1 0 ∷ [])))
-unfolding understood everything
-remove_session_is = refl

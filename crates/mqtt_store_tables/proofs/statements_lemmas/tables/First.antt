@@ -4,7 +4,6 @@ use Rattle.sqlite_value.specs.Keys.{joined}
 use Rattle.sqlite_schema.specs.Names.{same_name}
 use Rattle.sqlite_rules.specs.Edit.{IsNoIndex}
 use Rattle.mqtt_store_tables.specs.statements.Layout.{IsLayout, IsChildless, first_layout, schema_of}
-use Rattle.mqtt_store_tables.proofs.statements_lemmas.tables.Spared as over
 
 not_tree : (t : ℕ) → t ≢ 1 → t ≢ 3 → t ≢ 6 → t ≢ 8 → t ≢ 10 → t ≢ 12 → IsNoIndex (schema_of first_layout) t
 not_tree t a b c d e f = (λ h. a (sym h), (λ h. b (sym h), (λ h. c (sym h), (λ h. d (sym h), (λ h. e (sym h), (λ h. f (sym h), tt))))))
@@ -43,23 +42,3 @@ is_first = record {
   childless = (no_meta, (no_will, (no_sub, (no_inbound, tt))));
   unmoved = λ olds new. refl;
 }
-
--- in schema 1 the table of numbers is no index's tree
-pub meta_spared : IsNoIndex (schema_of first_layout) 0
-meta_spared = over.meta_spared first_layout is_first
-
--- nor is that of sessions
-pub session_spared : IsNoIndex (schema_of first_layout) 2
-session_spared = over.session_spared first_layout is_first
-
--- nor that of Wills
-pub will_spared : IsNoIndex (schema_of first_layout) 4
-will_spared = over.will_spared first_layout is_first
-
--- nor that of subscriptions
-pub sub_spared : IsNoIndex (schema_of first_layout) 5
-sub_spared = over.sub_spared first_layout is_first
-
--- nor that of open identifiers
-pub inbound_spared : IsNoIndex (schema_of first_layout) 7
-inbound_spared = over.inbound_spared first_layout is_first

@@ -5,7 +5,7 @@ use Rattle.sqlite_schema.specs.Names.{same_name}
 use Rattle.mqtt_store_tables.specs.schema.Tables.{second_schema}
 use Rattle.mqtt_store_tables.specs.declared.schema.tables.Making.{Making}
 use Rattle.mqtt_store_tables.specs.declared.schema.tables.Making.TheVariants.{New, TakenOver}
-use Rattle.mqtt_store_tables.specs.statements.Layout.{Layout, IsLayout, IsChildless, IsOurs, first_layout, second_layout, schema_of}
+use Rattle.mqtt_store_tables.specs.statements.Layout.{Layout, IsLayout, IsChildless, IsOurs, second_layout, schema_of}
 use Rattle.mqtt_store_tables.proofs.statements_lemmas.tables.First.{is_first}
 
 new_meta : IsChildless (second_layout New) 0
@@ -71,7 +71,3 @@ is_second TakenOver = (refl, taken_over_is)
 pub laid_out : (l : Layout) → IsOurs l → IsLayout l
 laid_out l (inl first) = subst IsLayout (sym first) is_first
 laid_out l (inr second) = subst IsLayout (sym second.1) (is_second second.0).1
-
--- schema 1's is one of ours
-pub first_is_ours : IsOurs first_layout
-first_is_ours = inl refl

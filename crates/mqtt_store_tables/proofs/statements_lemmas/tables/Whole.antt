@@ -7,8 +7,8 @@ use Rattle.sqlite_schema.specs.Rules.{Obeys}
 use Rattle.sqlite_schema.specs.declared.schema.Table.{Table}
 use Rattle.sqlite_rules.specs.Edit.{IsNoIndex}
 use Rattle.sqlite.specs.State.{State}
-use Rattle.mqtt_store_tables.specs.statements.Layout.{Layout, IsLayout, schema_of, first_layout}
-use Rattle.mqtt_store_tables.specs.statements.Content.{AreShaped, IsShapedAt, IsWhole}
+use Rattle.mqtt_store_tables.specs.statements.Layout.{Layout, IsLayout, schema_of}
+use Rattle.mqtt_store_tables.specs.statements.Content.{IsShapedAt, IsWhole}
 use Rattle.mqtt_store_tables.proofs.statements_lemmas.tables.Spared.{meta_spared, session_spared, will_spared, sub_spared, inbound_spared}
 
 abbrev pub Spares : Layout → ℕ → Trees → Trees → Type 0
@@ -46,7 +46,3 @@ whole_after l asked tree old new whole others own schema inside obeys =
       behind = behind_after l l.tables tree old.now.trees new.now.trees others own asked.tables whole.behind;
       obeys = obeys;
     }
-
--- the tables of schema 1 rise by their numbers
-pub shaped_of : (s : State) → IsWhole first_layout s → AreShaped s.now.trees
-shaped_of s whole = record { session = whole.session; will = whole.will; sub = whole.sub; inbound = whole.inbound; copy = whole.behind.0 }

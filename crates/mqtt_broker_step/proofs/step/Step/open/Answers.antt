@@ -6,7 +6,7 @@ use Rattle.mqtt_broker_step.proofs.step.Step.open.Goals as goal
 
 pub make-requires : goal.make-requires
 make-requires c =
-    c.opened_back-undo.ensures c.args.self.now.broker.records (stands c.args.birth c.args.self.now.broker.records c.in-Some.session.now (sym c.in-Some.ensures))
+    c.identifier_back-undo.ensures.opened c.args.self.now.broker.records (stands c.args.birth c.args.self.now.broker.records c.in-Some.session.now (sym c.in-Some.ensures))
 
 pub returns-clause-ok : goal.returns-clause-ok
 returns-clause-ok c =

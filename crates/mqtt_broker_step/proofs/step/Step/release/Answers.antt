@@ -8,7 +8,7 @@ use Rattle.mqtt_broker_step.proofs.step.Step.release.Goals as goal
 
 pub make_told-requires : goal.make_told-requires
 make_told-requires c =
-    c.closed_back-undo.ensures c.args.self.now.broker.records (stands c.args.birth c.args.self.now.broker.records c.in-Some.session.now (sym c.in-Some.ensures))
+    c.identifier_back-undo.ensures.closed c.args.self.now.broker.records (stands c.args.birth c.args.self.now.broker.records c.in-Some.session.now (sym c.in-Some.ensures))
 
 pub returns-clause-ok : goal.returns-clause-ok
 returns-clause-ok c =

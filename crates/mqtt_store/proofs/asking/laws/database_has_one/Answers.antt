@@ -1,4 +1,4 @@
-use Rattle.mqtt_store.proofs.asking_lemmas.Unique.{records_one}
+use Rattle.mqtt_store.proofs.taking_over_lemmas.Unique.{records_one}
 use Rattle.mqtt_store.proofs.asking.laws.database_has_one.Goals as goal
 
 pub returns : goal.returns

@@ -1,6 +1,6 @@
 use Rattle.sqlite.specs.Held.{state}
-use Rattle.mqtt_store_rows.specs.values.Tables.{rows_in}
-use Rattle.mqtt_store.proofs.asking_lemmas.Loaded.{gives_none, fault_other}
+use Rattle.mqtt_store_rows.specs.taking_over.Tables.{rows_in}
+use Rattle.mqtt_store.proofs.taking_over_lemmas.Loaded.{gives_none, fault_other}
 use Rattle.mqtt_store.proofs.asking.loading.records_in.Goals as goal
 use Rattle.mqtt_store.proofs.asking.loading.records_in.Goals.{in-Ok, in-Err}
 

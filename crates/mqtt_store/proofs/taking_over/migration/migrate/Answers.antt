@@ -3,7 +3,7 @@ use Rattle.std.proofs.lemmas.Result.{on_ok_weaker}
 use Rattle.sqlite.specs.Held.{state}
 use Rattle.sqlite.specs.State.{HasCleanDisk, Survives}
 use Rattle.sqlite.proofs.StateLemmas.{survives_then}
-use Rattle.mqtt_store_tables.specs.statements.Step.{IsSettled as IsSettledFirst}
+use Rattle.mqtt_store_tables.specs.statements.Content.{IsSettled as IsSettledFirst}
 use Rattle.mqtt_store.specs.taking_over.Migration.{Migrates, MayMigrate, MayCommit}
 use Rattle.mqtt_store.proofs.taking_over_lemmas.Committed.{begun_whole, begun_survives, migrates, commits, undone}
 use Rattle.mqtt_store.proofs.taking_over.migration.migrate.Goals as goal

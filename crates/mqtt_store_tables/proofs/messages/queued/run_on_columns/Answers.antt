@@ -4,7 +4,7 @@ use Rattle.sqlite.specs.State.{ExecutesInside}
 use Rattle.sqlite.specs.Held.{state}
 use Rattle.mqtt_store_tables.proofs.forms_lemmas.Kept.{stays_inside}
 use Rattle.mqtt_store_tables.proofs.statements_lemmas.tables.Fresh.{flag_is}
-use Rattle.mqtt_store_tables.proofs.statements_lemmas.sets.SetCopy.{bound_is}
+use Rattle.mqtt_store_tables.proofs.statements_lemmas.tables.Numbers.{bound_is}
 use Rattle.mqtt_store_tables.specs.messages.Rows.{QueuedColumns, queued_row}
 use Rattle.mqtt_store_tables.proofs.messages_lemmas.Refused.{runs_on}
 use Rattle.mqtt_store_tables.proofs.messages.queued.run_on_columns.Goals as goal

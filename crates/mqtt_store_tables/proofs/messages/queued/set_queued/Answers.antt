@@ -3,7 +3,7 @@ use Rattle.std.proofs.lemmas.Int.{to_z-of_z}
 use Rattle.sqlite_value.specs.declared.value.Value.TheVariants.{Int}
 use Rattle.sqlite.specs.Held.{state}
 use Rattle.mqtt_store_tables.proofs.forms_lemmas.Kept.{stays_inside}
-use Rattle.mqtt_store_tables.proofs.statements_lemmas.sets.SetCopy.{args_are}
+use Rattle.mqtt_store_tables.proofs.statements_lemmas.tables.Numbers.{args_are}
 use Rattle.mqtt_store_tables.proofs.messages_lemmas.SetQueued.{sets, any_queued}
 use Rattle.mqtt_store_tables.proofs.messages.queued.set_queued.Goals as goal
 

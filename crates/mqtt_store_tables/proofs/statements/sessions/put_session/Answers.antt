@@ -5,7 +5,7 @@ use Rattle.mqtt_store_tables.proofs.forms_lemmas.Kept.{stays_inside}
 use Rattle.mqtt_store_tables.specs.statements.Content.{is_of, IsWhole}
 use Rattle.mqtt_store_tables.specs.statements.Columns.{SessionColumns, session_row}
 use Rattle.mqtt_store_tables.specs.statements.Put.{PutsInto}
-use Rattle.mqtt_store_tables.proofs.statements_lemmas.sets.SetCopy.{bound_is}
+use Rattle.mqtt_store_tables.proofs.statements_lemmas.tables.Numbers.{bound_is}
 use Rattle.mqtt_store_tables.proofs.statements_lemmas.puts.PutSession.{puts}
 use Rattle.mqtt_store_tables.proofs.statements.sessions.put_session.Goals as goal
 

@@ -2,7 +2,7 @@ use Rattle.std.proofs.Common.{◌≡◌, ◌++◌, OnOk, arith, w64, pos, refl, 
 use Rattle.std.proofs.lemmas.Int.{to_z-of_z}
 use Rattle.sqlite.specs.Values.{bound}
 use Rattle.mqtt_store_tables.proofs.statements_lemmas.tables.Fresh.{flag_is}
-use Rattle.mqtt_store_tables.proofs.statements_lemmas.sets.SetCopy.{bound_is}
+use Rattle.mqtt_store_tables.proofs.statements_lemmas.tables.Numbers.{bound_is}
 use Rattle.mqtt_store_tables.specs.messages.Rows.{QueuedColumns, queued_row}
 use Rattle.mqtt_store_tables.proofs.together_lemmas.Pushed.{pushed}
 use Rattle.mqtt_store_tables.proofs.together.together.push_columns.Goals as goal

@@ -1,4 +1,0 @@
-use Rattle.bench_sql.proofs.course.message.Given as goal
-
-abbrev pub invariant-loop-at : goal.invariant-loop-at
-invariant-loop-at g l = g.K.Keep.is_loaded l.keep

@@ -1,0 +1,4 @@
+pub mod Rows
+pub mod Gives
+pub mod Ones
+pub mod Tables
