@@ -1,10 +1,5 @@
-pub mod item_laws
-pub mod written
-pub mod row_laws
-pub mod committing
-pub mod taking_over
-pub mod asking
-pub mod reading
-pub mod telling
-pub mod loading
-pub mod keeping
+pub mod Holding
+pub mod Ones
+pub mod Opening
+pub mod Props
+pub mod Telling

@@ -1,7 +1,7 @@
 //! A store over a connection: what it finds, and the steps of the course in it.
 ghost use Rattle.std.specs.Prelude.{OnOk};
 ghost use Rattle.sqlite.specs.Held.{state};
-ghost use Rattle.mqtt_store.specs.keeping.Holding.{IsLoaded};
+ghost use Rattle.mqtt_store.specs.Holding.{IsLoaded};
 
 use crate::changes::{STEPS, add_changes};
 use crate::seen::{Seen, seen, with};

@@ -13,8 +13,8 @@ use Rattle.sqlite.specs.Start.{FindsIn}
 use Rattle.mqtt_rules.specs.declared.step.Limits.{Limits}
 use Rattle.mqtt_keep.specs.declared.keeping.keep.Keep as keep
 use Rattle.mqtt_records.specs.declared.state.records.Records.{Records}
-use Rattle.mqtt_store.specs.keeping.Holding.{Holds, Leaves}
-use Rattle.mqtt_store.specs.keeping.Opening.{OpensAnew, rolled_back}
+use Rattle.mqtt_store.specs.Holding.{Holds, Leaves}
+use Rattle.mqtt_store.specs.Opening.{OpensAnew, rolled_back}
 use Rattle.mqtt_serve.specs.turns.Turns.{Runs}
 
 -- the question for the moment of the newest step

@@ -1,5 +1,0 @@
-use Rattle.mqtt_store.proofs.taking_over_lemmas.Unique.{records_one}
-use Rattle.mqtt_store.proofs.asking.laws.database_has_one.Goals as goal
-
-pub returns : goal.returns
-returns c db q r h k = records_one db q r h k

@@ -1,6 +1,0 @@
-use Rattle.sqlite.specs.Held.{state}
-use Rattle.mqtt_store.proofs.keeping_lemmas.Held.{load_holds}
-use Rattle.mqtt_store.proofs.keeping.laws.load_keeps_what_it_has.Goals as goal
-
-pub returns : goal.returns
-returns g c old new r it holds = load_holds (state g.S.Store old) (state g.S.Store new) r it holds

@@ -1,6 +1,0 @@
-use Rattle.sqlite.specs.Held.{state}
-use Rattle.mqtt_store.proofs.keeping_lemmas.Held.{load_leaves}
-use Rattle.mqtt_store.proofs.keeping.laws.load_leaves_no_more.Goals as goal
-
-pub returns : goal.returns
-returns g c old new r it found = load_leaves (state g.S.Store old) (state g.S.Store new) r it found

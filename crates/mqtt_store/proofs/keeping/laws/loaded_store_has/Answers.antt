@@ -1,6 +1,0 @@
-use Rattle.sqlite.specs.Held.{state}
-use Rattle.mqtt_store.proofs.keeping_lemmas.Held.{has_now}
-use Rattle.mqtt_store.proofs.keeping.laws.loaded_store_has.Goals as goal
-
-pub returns : goal.returns
-returns g c conn r has = has_now (state g.S.Store conn) r (λ up db. g.met.S.Store.settled conn.store db up) has

@@ -1,5 +1,0 @@
-pub mod Held
-pub mod Loads
-pub mod Applies
-pub mod Opened
-pub mod Asked

@@ -1,4 +1,0 @@
-pub mod puts
-pub mod tables
-pub mod Making
-pub mod Committed

@@ -1,5 +1,0 @@
-use Rattle.mqtt_store.proofs.telling_lemmas.Tells.{rows_tell}
-use Rattle.mqtt_store.proofs.telling.laws.tables_tell_what_copies_say.Goals as goal
-
-pub returns : goal.returns
-returns c making db r k = rows_tell making db r k

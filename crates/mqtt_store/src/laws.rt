@@ -1,0 +1,42 @@
+//! The laws of what a store in SQL has (4.1).
+ghost use Rattle.std.specs.Prelude.{◌≡◌, ◌⊎◌};
+ghost use Rattle.sqlite.specs.Held.{Held, state};
+ghost use Rattle.mqtt_records.specs.declared.state.records.Records.{Records};
+ghost use Rattle.mqtt_store_database.specs.loading.Loading.{HasKept, OnlyLoads};
+ghost use Rattle.mqtt_store.specs.Holding.{Holds, Leaves, OnlySteps};
+
+use sqlite::Alter;
+
+/// A store whose rows are those of records between two transactions has these, whatever a crash may
+/// leave.
+pub fn loaded_store_has<S: Alter>()
+    ensures { (conn : Held S) (r : Records)
+        → HasKept (state S.Store conn) r → Holds (state S.Store conn) r }
+{}
+
+/// What a store has stays through a load: a load commits what it finds at the most.
+pub fn load_keeps_what_it_has<S: Alter>()
+    ensures { (old new : Held S) (r : Records)
+        → OnlyLoads (state S.Store old) (state S.Store new)
+        → Holds (state S.Store old) r → Holds (state S.Store new) r }
+{}
+
+/// After a load a crash leaves what it left before, and nothing else.
+pub fn load_leaves_no_more<S: Alter>()
+    ensures { (old new : Held S) (r : Records)
+        → OnlyLoads (state S.Store old) (state S.Store new)
+        → Leaves (state S.Store new) r → Leaves (state S.Store old) r }
+{}
+
+/// After a step, whatever became of it, a crash leaves the records before it or those after it.
+pub fn step_leaves_one_of_two<S: Alter>()
+    ensures { (old new : Held S) (r after left : Records)
+        → OnlySteps (state S.Store old) (state S.Store new) r after
+        → Holds (state S.Store old) r → Leaves (state S.Store new) left → (left ≡ r) ⊎ (left ≡ after) }
+{}
+
+/// A crash leaves what a store has.
+pub fn crash_leaves_what_it_has<S: Alter>()
+    ensures { (conn : Held S) (left r : Records)
+        → Holds (state S.Store conn) r → Leaves (state S.Store conn) left → left ≡ r }
+{}

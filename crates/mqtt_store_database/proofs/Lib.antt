@@ -1,0 +1,10 @@
+pub mod item_laws_lemmas
+pub mod written_lemmas
+pub mod row_laws_lemmas
+pub mod committing_lemmas
+pub mod taking_over_lemmas
+pub mod asking_lemmas
+pub mod reading_lemmas
+pub mod telling_lemmas
+pub mod found_lemmas
+pub mod loading_lemmas

@@ -1,0 +1,12 @@
+use Rattle.mqtt_store_database.proofs.row_laws_lemmas.changes.Retained.{removal_keeps, removal_in_order}
+use Rattle.mqtt_store_database.proofs.row_laws_lemmas.changes.Dropped.{retained_removed}
+use Rattle.mqtt_store_database.proofs.row_laws.copies.message_that_is_removed_keeps_rows.Goals as goal
+
+pub returns-clause-rows : goal.returns-clause-rows
+returns-clause-rows c making place db next r k o h = removal_keeps making db next r k o place h
+
+pub returns-clause-order : goal.returns-clause-order
+returns-clause-order c making place db next r k o h = removal_in_order making db next r k o place h
+
+pub returns-clause-dropped : goal.returns-clause-dropped
+returns-clause-dropped c making place db mid next r k o removes drops = retained_removed making db mid next r k o drops place removes

@@ -1,0 +1,7 @@
+pub mod puts
+pub mod tables
+pub mod Making
+pub mod Committed
+pub mod Unique
+pub mod Loaded
+pub mod found

@@ -1,0 +1,9 @@
+pub mod item_laws
+pub mod written
+pub mod row_laws
+pub mod committing
+pub mod taking_over
+pub mod asking
+pub mod reading
+pub mod telling
+pub mod loading
