@@ -8,6 +8,7 @@ pub mod Comings
 pub mod Cleanly
 pub mod Carrying
 pub mod Chosen
+pub mod CleanExamples
 pub mod Repeated
 pub mod Drained
 pub mod OneTurn

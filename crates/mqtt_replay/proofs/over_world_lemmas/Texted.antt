@@ -17,7 +17,7 @@ use Rattle.mqtt_script.specs.declared.event.Event.{Event}
 use Rattle.mqtt_script.specs.Lines.{IsLineOf, is_passed_over}
 use Rattle.mqtt_script.specs.Telling.{bad_text, publisher_text, receiver_text, broker_text}
 use Rattle.mqtt_world.specs.script_laws.Scripted.{IsBad, RunsTo}
-use Rattle.mqtt_world.proofs.script_laws_lemmas.Carrying.{delivers_once}
+use Rattle.mqtt_world.proofs.script_drains_lemmas.Done.{delivers_once}
 use Rattle.mqtt_rules.specs.spelling.Sending.{HaveSentPhases}
 use Rattle.mqtt_world_laws.specs.acceptance.Fair.{opened_world}
 use Rattle.mqtt_script.specs.declared.replay_fault.Played.{Played}
@@ -189,9 +189,7 @@ module _ {K : Type 0} (g : Ghosts K) where
             tells = c.tells;
             runs = runs;
             told = c.told;
-            delivers = λ begins clean.
-                delivers_once limits c.events c.tells begun (world_at c.happen.to)
-                (subst (λ (l : Limits). AreWithin l) starts.limits_are came.within) begins clean runs;
+            delivers = λ begins. delivers_once limits c.events c.tells begun (world_at c.happen.to) begins runs;
           }
 
       -- an event that can't happen there is bad in the definitions' world: nobody was there at first, and the broker sent well
@@ -296,20 +294,20 @@ module _ {K : Type 0} (g : Ghosts K) where
   front_seen limits keep w (Some bytes) before after starts shows = inr (front_over limits keep w (lines_of bytes) before after starts shows)
 
 -- nothing was written, and nothing ran
-nothing_runs : (limits : Limits) (w : World) → AreWithin limits → RunsLines limits [] w [] [] w
-nothing_runs limits w within = record {
+nothing_runs : (limits : Limits) (w : World) → RunsLines limits [] w [] [] w
+nothing_runs limits w = record {
   are = refl;
   tells = [];
   runs = (refl, refl);
   told = refl;
-  delivers = λ begins clean. delivers_once limits [] [] w w within begins clean (refl, refl);
+  delivers = λ begins. delivers_once limits [] [] w w begins (refl, refl);
 }
 
 -- if nothing was written a front of the text was
-pub front_none : (limits : Limits) (lines : List (List ℕ)) (before after : Option (List ℕ)) → AreWithin limits → Keeps before after
+pub front_none : (limits : Limits) (lines : List (List ℕ)) (before after : Option (List ℕ)) → Keeps before after
     → Wrote (λ text. FrontText limits start_world lines text) before after
-front_none limits lines before after within kept =
-    ([], ([], lines, [], start_world, refl, nothing_runs limits start_world within), Appends-kept before before after [] (Appends-nil before) kept)
+front_none limits lines before after kept =
+    ([], ([], lines, [], start_world, refl, nothing_runs limits start_world), Appends-kept before before after [] (Appends-nil before) kept)
 
 -- ---- over a store that has nothing, and whose device always returns what was written
 
@@ -336,7 +334,7 @@ module _ {K : Type 0} (g : Ghosts K) (sound : (keep : K) → g.is_sound keep) (l
       → IfSome input (λ bytes. Keeps before after ⊎ FrontOver g limits keep (lines_of bytes) before after)
       → IfSome input (λ bytes. Wrote (λ text. FrontText limits start_world (lines_of bytes) text) before after)
   written_front None before after shows = tt
-  written_front (Some bytes) before after (inl kept) = front_none limits (lines_of bytes) before after within kept
+  written_front (Some bytes) before after (inl kept) = front_none limits (lines_of bytes) before after kept
   written_front (Some bytes) before after (inr shows) =
       from_nothing (λ w. Wrote (λ text. FrontText limits w (lines_of bytes) text) before after) shows
 
@@ -352,7 +350,7 @@ kept_seen g limits keep (Some bytes) before = inl (Keeps-refl before)
 pub front_kept : (limits : Limits) (input before : Option (List ℕ)) → AreWithin limits
     → IfSome input (λ bytes. Wrote (λ text. FrontText limits start_world (lines_of bytes) text) before before)
 front_kept limits None before within = tt
-front_kept limits (Some bytes) before within = front_none limits (lines_of bytes) before before within (Keeps-refl before)
+front_kept limits (Some bytes) before within = front_none limits (lines_of bytes) before before (Keeps-refl before)
 
 -- whatever the fault is
 pub any_fault : {A E : Type 0} (r : Result A E) (P : E → Type 0) → ((e : E) → P e) → IfErr r P

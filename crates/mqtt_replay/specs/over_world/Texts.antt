@@ -15,7 +15,7 @@ use Rattle.mqtt_rules.specs.declared.step.Limits.{Limits}
 use Rattle.mqtt_script.specs.declared.event.Event.{Event}
 use Rattle.mqtt_script.specs.Lines.{IsLineOf, IsNoLine, first_word, is_passed_over}
 use Rattle.mqtt_script.specs.Telling.{bad_text, broker_text, publisher_text, receiver_text}
-use Rattle.mqtt_world.specs.script_laws.Cleanly.{BeginClean, ScriptDelivers}
+use Rattle.mqtt_world.specs.script_laws.Cleanly.{ScriptDelivers}
 use Rattle.mqtt_world.specs.script_laws.Scripted.{IsBad, RunsTo}
 use Rattle.mqtt_world_laws.specs.headline.Lives.{BeginsWell}
 use Rattle.mqtt_world_laws.specs.acceptance.Fair.{opened_world}
@@ -63,14 +63,14 @@ last_lines_in es w =
     flat_map (end_line_in es w) (ends_made es) ++ broker_text w.broker.records.publications (length w.broker.records.sessions)
 
 -- ---- lines of a script run from one world to another, and are told so; and exactly-once delivery holds of it, if nobody was
--- there at first and their ends begin clean (3.1.2.4, 3.3.4, 4.3, 4.4, 4.6, 4.8, 4.9)
+-- there at first, of whatever fair turns they came to (3.1.2.4, 3.3.4, 4.3, 4.4, 4.6, 4.8, 4.9)
 
 pub record RunsLines (limits : Limits) (lines : List (List ℕ)) (w : World) (text : List ℕ) (events : List Event) (after : World) : Type 0 where
   pub are : AreEventsOf lines events
   pub tells : List Telling
   pub runs : RunsTo limits events tells w after
   pub told : text ≡ lines_told 0 events tells
-  pub delivers : BeginsWell limits w → BeginClean limits events w → ScriptDelivers limits events w after
+  pub delivers : BeginsWell limits w → ScriptDelivers limits events w after
 
 -- ---- the text of a script from a world on: all its lines run, and what they came to stands behind; or those before a bad line do,
 -- and the number that this would have

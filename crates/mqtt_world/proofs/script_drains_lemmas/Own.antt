@@ -15,6 +15,7 @@ use Rattle.mqtt_world_laws.specs.acceptance.Spending.{run_spends, spending}
 use Rattle.mqtt_world_laws.specs.acceptance.Steps.{step_called}
 use Rattle.mqtt_world_laws.specs.causes.Endings.{Asked, EndAt, end_at, ends_in, ends_of, ends_over, the_asked}
 use Rattle.mqtt_world_laws.specs.drain_causes.DrainEnds.{EndsBy}
+use Rattle.mqtt_world_laws.specs.drain_causes.Fitting.{IsNotTooLarge}
 use Rattle.mqtt_world_laws.proofs.drain_causes_lemmas.DrainRuns.{ends_append}
 use Rattle.mqtt_world_laws.specs.receiver.Drains.{after_round, all_to_broker, all_to_end, downs_by, drain_by, drain_turns, round_turns, times, turn_of, ups_by}
 use Rattle.mqtt_world_laws.proofs.receiver_lemmas.drains.DrainRuns.{run_append}
@@ -34,18 +35,19 @@ pub parts : {X : Type 0} (P : X → Type 0) (xs ys : List X) → AllByRecursion 
 parts P [] ys h = (tt, h)
 parts P (x ∷ xs) ys h = let more = parts P xs ys h.1 in ((h.0, more.0), more.1)
 
--- an end is of the receiver's copies, by what ends them in a drain, at this moment; whatever its cause is
+-- an end is of the receiver's copies, by what ends them in a drain, at this moment, and not as too large; whatever its cause is
 pub record IsHis (client : List ℕ) (moment : ℕ) (x : EndAt) : Type 0 where
   pub its : x.who.client ≡ client
   pub by : EndsBy client x.asked.call x.ending
   pub at : x.broker.now ≡ moment
+  pub fits : IsNotTooLarge x
 
 module _ (limits : Limits) (client : List ℕ) (moment : ℕ) where
   abbrev AreHis : List EndAt → Type 0
   AreHis xs = AllByRecursion (IsHis client moment) xs
 
   one_same : (x y : Asked) → x.call ≡ y.call → (b : Broker) (ds : List Deed) (d : Deed) (xs ys : List EndAt) → (AreHis xs → AreHis ys) → AreHis (cons_option (end_at x b ds d) xs) → AreHis (cons_option (end_at y b ds d) ys)
-  one_same x y same b ds (At who (Leave e ending)) xs ys more h = (record { its = h.0.its; by = subst (λ (o : Option Call). EndsBy client o ending) same h.0.by; at = h.0.at }, more h.1)
+  one_same x y same b ds (At who (Leave e ending)) xs ys more h = (record { its = h.0.its; by = subst (λ (o : Option Call). EndsBy client o ending) same h.0.by; at = h.0.at; fits = h.0.fits }, more h.1)
   one_same x y same b ds d xs ys more h = more h
 
   same_ends : (x y : Asked) → x.call ≡ y.call → (ds : List Deed) (b : Broker) → AreHis (ends_of x ds b) → AreHis (ends_of y ds b)

@@ -17,11 +17,7 @@ use Rattle.mqtt_world_laws.specs.acceptance.Fair.{IsFair}
 use Rattle.mqtt_world_laws.specs.acceptance.Spending.{run_spends}
 use Rattle.mqtt_world_laws.specs.receiver.Drains.{times}
 use Rattle.mqtt_world_laws.specs.delivery.Untouched.{IsUntouched}
-use Rattle.mqtt_world_laws.specs.headline.Delivery.{DeliversExactlyOnce}
-use Rattle.mqtt_world_laws.specs.headline.Lives.{BeginsWell}
-use Rattle.mqtt_world_laws.proofs.headline_lemmas.Delivered.{run_delivers_all}
-use Rattle.mqtt_world_laws.proofs.headline_lemmas.Lives.{start_begins}
-use Rattle.mqtt_world.specs.script_laws.Cleanly.{AreMadeAnew, BeginClean, IsMadeAnew, IsMadeAnewIf, ScriptDelivers, is_named, keep_clean_starts, keeps_clean, keeps_if, named_after, named_if}
+use Rattle.mqtt_world.specs.script_laws.Cleanly.{AreMadeAnew, BeginClean, ComesFairly, IsMadeAnew, IsMadeAnewIf, is_named, keep_clean_starts, keeps_clean, keeps_if, named_after, named_if}
 use Rattle.mqtt_world.specs.script_laws.Drains.{AreTurnsOfRound, AreTurnsOfRounds}
 use Rattle.mqtt_world.specs.script_laws.Scripted.{AreTurnsFor, AreTurnsOf, IsRunOf, RunsTo, event_of, of_drain, of_event}
 use Rattle.mqtt_world.specs.script_laws.Turns.{events_of}
@@ -232,34 +228,19 @@ nobody_known names w none nobody = record {
   receivers = subst (AllByRecursion (λ (r : Receiver). r.line.clean ≡ true → is_named r.client names ≡ true)) (sym nobody) tt;
 }
 
--- its turns are as is asked of every run
+-- whatever turns its events come to, that spend no number, they are as is asked of every run
+pub turns_fair : (limits : Limits) (es : List Line) (turns : List Turn) (w : World) → AreWithin limits → IsUntouched limits w → BeginClean limits es w
+    → AreTurnsOf limits es turns w → run_spends limits turns w ≡ false → IsFair limits turns w
+turns_fair limits es turns w within untouched clean are unspent =
+    let known = nobody_known [] w untouched.new.publishers untouched.new.receivers in
+    record { within = within; unspent = unspent; clean = script_carries limits es [] turns w known clean.starts clean.made are }
+
+-- so it comes fairly to where it comes
 pub script_fair : (limits : Limits) (es : List Line) (tells : List Telling) (w after : World) → AreWithin limits → IsUntouched limits w → BeginClean limits es w → RunsTo limits es tells w after
-    → (ts : List Turn) × IsFair limits ts w × (after ≡ run limits ts w)
+    → ComesFairly limits es w after
 script_fair limits es tells w after within untouched clean runs =
     let by : IsRunOf limits es w after = runs_by_turns limits es tells w after runs in
-    let known = nobody_known [] w untouched.new.publishers untouched.new.receivers in
-    (by.turns, record { within = within; unspent = by.unspent; clean = script_carries limits es [] by.turns w known clean.starts clean.made by.are }, by.is)
-
--- of whatever turns they come to, that spend no number, all holds that does of every run
-pub all_deliver : (limits : Limits) (es : List Line) (turns : List Turn) (w : World) → AreWithin limits → BeginsWell limits w → BeginClean limits es w
-    → AreTurnsOf limits es turns w → run_spends limits turns w ≡ false → DeliversExactlyOnce limits turns w
-all_deliver limits es turns w within begins clean are unspent =
-    let known = nobody_known [] w begins.untouched.new.publishers begins.untouched.new.receivers in
-    run_delivers_all limits turns w begins (record { within = within; unspent = unspent; clean = script_carries limits es [] turns w known clean.starts clean.made are })
-
--- a script that begins well delivers exactly once
-pub delivers_once : (limits : Limits) (es : List Line) (tells : List Telling) (w after : World) → AreWithin limits → BeginsWell limits w
-    → BeginClean limits es w → RunsTo limits es tells w after → ScriptDelivers limits es w after
-delivers_once limits es tells w after within begins clean runs = record {
-  is_run = runs_by_turns limits es tells w after runs;
-  all = λ turns are unspent. all_deliver limits es turns w within begins clean are unspent;
-}
-
--- so does each script from nothing
-pub start_delivers : (limits : Limits) (es : List Line) (tells : List Telling) (after : World) → AreWithin limits → BeginClean limits es start
-    → RunsTo limits es tells start after → ScriptDelivers limits es start after
-start_delivers limits es tells after within clean runs =
-    delivers_once limits es tells start after within (start_begins limits within) clean runs
+    record { turns = by.turns; are = by.are; fair = turns_fair limits es by.turns w within untouched clean by.are by.unspent; is = by.is }
 
 -- ---- strangers
 

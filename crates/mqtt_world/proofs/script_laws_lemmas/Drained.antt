@@ -5,7 +5,6 @@ use Rattle.mqtt_world_model.specs.model.Ends.{Receiver}
 use Rattle.mqtt_world_model.specs.model.Run.{Turn, deeds_over, run}
 use Rattle.mqtt_world_model.specs.model.Tellings.{Telling, silent, telling}
 use Rattle.mqtt_world_model.specs.model.World.{World, ask, pump, receiver_named, to_broker, to_end}
-use Rattle.mqtt_rules.specs.step.Laws.{AreWithin}
 use Rattle.mqtt_rules.specs.step.State.{MemberChoice}
 use Rattle.mqtt_rules.specs.declared.step.Limits.{Limits}
 use Rattle.mqtt_script.specs.declared.event.Event.{Event}
@@ -18,11 +17,9 @@ use Rattle.mqtt_world_laws.proofs.delivery_lemmas.drains.Drains.{ends_over, ends
 use Rattle.mqtt_world_laws.proofs.delivery_lemmas.whole.EveryRun.{fair_run_kept, over_or_drained}
 use Rattle.mqtt_world_laws.proofs.delivery_lemmas.order.QueueGrowth.{queue_grows}
 use Rattle.mqtt_world_laws.proofs.delivery_lemmas.others.Runs.{IsKept}
-use Rattle.mqtt_world.specs.script_laws.Cleanly.{BeginClean}
+use Rattle.mqtt_world.specs.script_laws.Cleanly.{ComesFairly}
 use Rattle.mqtt_world.specs.script_laws.Drains.{DrainHappens, DrainsBy, IsRound, MakesRounds}
-use Rattle.mqtt_world.specs.script_laws.Scripted.{RunsTo}
 use Rattle.mqtt_world.specs.script_laws.Turns.{both_tell}
-use Rattle.mqtt_world.proofs.script_laws_lemmas.Carrying.{script_fair}
 use Rattle.mqtt_world.proofs.script_laws_lemmas.Repeated.{Comes, IsReady, answers_same, come_joined, pump_same, reads_same, ready_after, repeats_by, tell_nothing_first, tell_nothing_more, tell_together, turn_by}
 
 -- ---- a round by one choice
@@ -156,11 +153,10 @@ a_round_more limits client (suc rounds) t u w mid after (at, first, rest, v, mad
 
 -- ---- from wherever a script has come to
 
-module _ (limits : Limits) (es : List Event) (tells : List Telling) (choice : MemberChoice) (client : List ℕ) (w v : World) (within : AreWithin limits) (untouched : IsUntouched limits w) (clean : BeginClean limits es w)
-    (runs : RunsTo limits es tells w v) where
+module _ (limits : Limits) (es : List Event) (choice : MemberChoice) (client : List ℕ) (w v : World) (untouched : IsUntouched limits w) (comes : ComesFairly limits es w v) where
   -- where a script has led, the receiver is kept as a drain asks
   pub kept_there : IsKept [] client limits v
-  kept_there = let f = script_fair limits es tells w v within untouched clean runs in subst (IsKept [] client limits) (sym f.2) (fair_run_kept limits f.0 w untouched f.1 client)
+  kept_there = subst (IsKept [] client limits) (sym comes.is) (fair_run_kept limits comes.turns w untouched comes.fair client)
 
   -- rounds that were made there come to what the drain by one choice comes to
   pub so_far : (rounds : ℕ) (t : Telling) (after : World) → MakesRounds limits client rounds t v after → DrainsBy limits choice client rounds rounds t v after

@@ -11,8 +11,7 @@ use Rattle.mqtt_script.specs.declared.event.Event.TheVariants.{Drain}
 use Rattle.mqtt_world.specs.script_laws.Scripted.{IsBad, IsBadHere, RunsTo, as_drain, as_event, bad_drain, bad_event}
 use Rattle.mqtt_world.specs.script_laws.Drains.{DrainHappens}
 use Rattle.mqtt_world.specs.script_drains.Done.{IsEmptied}
-use Rattle.mqtt_world.proofs.script_drains_lemmas.Done.{script_empties}
-use Rattle.mqtt_world.proofs.script_laws_lemmas.Carrying.{delivers_once}
+use Rattle.mqtt_world.proofs.script_drains_lemmas.Done.{delivers_once, script_empties}
 use Rattle.mqtt_world.proofs.script_laws_lemmas.Fronts.{script_refuses}
 use Rattle.mqtt_world.proofs.script_laws_lemmas.Scripts.{runs_join}
 use Rattle.mqtt_rules.specs.step.Laws.{AreWithin}
@@ -220,9 +219,9 @@ module _ {K : Type 0} (g : Ghosts K) where
 
 -- if the events that a world keeps led to it, their messages were delivered exactly once
 pub delivered : {K : Type 0} (g : Ghosts K) (start : World) (w : Lasting K) → HasCome g start w → HasDelivered g start w
-delivered {K} g start w come = λ s is sound begins clean.
+delivered {K} g start w come = λ s is sound begins.
     let c = come s is sound in
-    delivers_once s.limits w.events c.tells start (world_at s) c.within begins clean c.runs
+    delivers_once s.limits w.events c.tells start (world_at s) begins c.runs
 
 module _ {K : Type 0} (g : Ghosts K) where
   -- ---- what a step of the world comes to
@@ -360,14 +359,14 @@ module _ {K : Type 0} (g : Ghosts K) where
   pub drain_empties : (start : World) (client : List ℕ) (r : Result ℕ RunFault) (old new : Lasting K)
       → IfOk r (λ (n : ℕ). HappenDrained g client n old new) → HasCome g start old
       → IfOk r (λ (n : ℕ). DrainEmpties g start client n old new)
-  drain_empties start client (Ok n) old new h come = λ from to was is sound untouched clean.
+  drain_empties start client (Ok n) old new h come = λ from to was is sound untouched fairly.
       let ends : h.happened.to ≡ to = ok_is new.stage h.happened.to to h.happened.is is in
       let begins : h.happened.from ≡ from = ok_is old.stage h.happened.from from h.happened.was was in
       let here : IsSoundAt g h.happened.to = subst (λ (x : Staged K). IsSoundAt g x) (sym ends) sound in
       let c = come from was (subst (λ (x : Staged K). IsSoundAt g x) begins (h.happened.runs.sound here)) in
       let d = h.drained from to was is sound c.reached c.knowing in
       subst (λ (k : ℕ). IsEmptied from.limits client k (world_at from) (world_at to)) d.1
-      (script_empties from.limits old.events c.tells client start (world_at from) c.within untouched clean c.runs h.t (world_at to) d.0)
+      (script_empties from.limits old.events client start (world_at from) untouched fairly h.t (world_at to) d.0)
   drain_empties start client (Err f) old new h come = tt
 
   -- ---- what a run comes to

@@ -1,6 +1,6 @@
--- Scripts whose ends begin clean: each Clean Start is carried through, by the events alone; and no session of an end's name
--- stands when it is made (MQTT 5.0, 3.1.2.4, ours).
-use Rattle.std.specs.Prelude.{◌≡◌, ⊤, ℕ, Bool, true, false, cond, not, ◌&&◌, ◌||◌, List, [], ◌∷◌, Option, Some, None, bytes_eq}
+-- Scripts whose ends begin clean: each Clean Start is carried through, and no session of an end's name stands when it is made; of
+-- the turns that a script comes to, or by its events alone (MQTT 5.0, 3.1.2.4, ours).
+use Rattle.std.specs.Prelude.{◌≡◌, ⊤, ℕ, Bool, true, false, cond, not, ◌&&◌, ◌||◌, List, [], ◌∷◌, ◌++◌, Option, Some, None, bytes_eq}
 use Rattle.std.specs.List.{AllByRecursion, list_any}
 use Rattle.mqtt_rules.specs.step.State.{session_named}
 use Rattle.mqtt_rules.specs.declared.step.Limits.{Limits}
@@ -8,9 +8,28 @@ use Rattle.mqtt_world_model.specs.model.Run.{Turn, run}
 use Rattle.mqtt_world_model.specs.model.World as world
 use Rattle.mqtt_world_model.specs.model.World.{World}
 use Rattle.mqtt_world_laws.specs.headline.Delivery.{DeliversExactlyOnce}
+use Rattle.mqtt_world_laws.specs.acceptance.Fair.{IsFair}
+use Rattle.mqtt_world_laws.specs.drain_causes.DrainEnds.{AreOfDrain}
+use Rattle.mqtt_world_laws.specs.drain_causes.Fitting.{NoneTooLarge}
+use Rattle.mqtt_world_laws.specs.drains.Emptied.{waiting_for}
+use Rattle.mqtt_world_laws.specs.receiver.Drains.{is_bad_drain}
 use Rattle.mqtt_world_laws.specs.acceptance.Spending.{run_spends}
 use Rattle.mqtt_script.specs.declared.event.Event.{Event}
+use Rattle.mqtt_script.specs.declared.event.Event.TheVariants.{Drain}
+use Rattle.mqtt_world.specs.script_laws.Drains.{AreTurnsOfDrain}
 use Rattle.mqtt_world.specs.script_laws.Scripted.{AreTurnsFor, AreTurnsOf, IsRunOf, event_of}
+
+-- ---- of the turns that a script comes to
+
+-- turns to which the events come lead from the one world to the other. They spend no number; no session of an end's name stands
+-- where it is made, and an end that connects with Clean Start 1 gives no line up, nor connects with 0, until it has read the CONNACK
+pub record ComesFairly (limits : Limits) (es : List Event) (w after : World) : Type 0 where
+  pub turns : List Turn
+  pub are : AreTurnsOf limits es turns w
+  pub fair : IsFair limits turns w
+  pub is : after ≡ run limits turns w
+
+-- ---- by the events of a script alone: enough for the turns, and more than is needed
 
 -- an end that has connected with Clean Start 1 gives no line up, and each further CONNECT of it has Clean Start 1; these are the
 -- names of those that have so far
@@ -82,9 +101,19 @@ HaveNoSession es w = AllByRecursion (λ (e : Event). IsMadeAnewIf (event_of e) w
 
 -- ---- exactly-once delivery, of a script
 
--- the events come to turns that lead there and spend no number; and whatever turns they come to that spend none, of those all is
--- true that is proved of every run
+-- the turns of a drain leave none of its receiver's copies, and the receiver's line stands still. Each copy that ends in them is
+-- the receiver's own, and ends at the drain's moment, for a cause of a drain; none ends as too large
+pub record LeaveNone (limits : Limits) (client : List ℕ) (turns : List Turn) (w : World) : Type 0 where
+  pub empty : waiting_for client (run limits turns w) ≡ 0
+  pub good : is_bad_drain client (run limits turns w) ≡ false
+  pub ends : AreOfDrain client limits turns w
+  pub fit : NoneTooLarge limits turns w
+
+-- the events come to turns that lead there and spend no number. Whatever turns they come to, if these are fair, of those all is
+-- true that is proved of every run; and each drain among the events leaves none of its receiver's copies, if it spends no number
 pub record ScriptDelivers (limits : Limits) (es : List Event) (w after : World) : Type 0 where
   pub is_run : IsRunOf limits es w after
-  pub all : (turns : List Turn) → AreTurnsOf limits es turns w → run_spends limits turns w ≡ false
-      → DeliversExactlyOnce limits turns w
+  pub all : (turns : List Turn) → AreTurnsOf limits es turns w → IsFair limits turns w → DeliversExactlyOnce limits turns w
+  pub drained : (before rest : List Event) (client : List ℕ) (v : World) (turns : List Turn) → es ≡ before ++ Drain client ∷ rest
+      → ComesFairly limits before w v → AreTurnsOfDrain limits client turns v → run_spends limits turns v ≡ false
+      → LeaveNone limits client turns v

@@ -13,7 +13,7 @@ use Rattle.mqtt_world_ends.specs.declared.peers.told.RunFault.TheVariants as fau
 use Rattle.mqtt_broker.specs.stored.Opening.{IsLoad}
 use Rattle.mqtt_script.specs.declared.event.Event.{Event}
 use Rattle.mqtt_script.specs.declared.event.Event.TheVariants.{Publish, Drain}
-use Rattle.mqtt_world.specs.script_laws.Cleanly.{BeginClean, ScriptDelivers}
+use Rattle.mqtt_world.specs.script_laws.Cleanly.{ComesFairly, ScriptDelivers}
 use Rattle.mqtt_world.specs.script_laws.Drains.{DrainHappens}
 use Rattle.mqtt_world.specs.script_laws.Scripted.{IsBad, IsBadHere, RunsTo, event_of}
 use Rattle.mqtt_world.specs.script_drains.Done.{IsEmptied}
@@ -131,19 +131,19 @@ pub record Stops {K : Type 0} (g : Ghosts K) (es : List Event) (f : RunFault) (o
 
 -- ---- what holds of all that a world keeps
 
--- exactly-once delivery, of all of them, whatever turns they came to: if nobody was there at first, what was stored is as a
--- broker leaves it, and their ends begin clean (3.1.2.4, 3.3.4, 4.3, 4.4, 4.6, 4.8, 4.9)
+-- exactly-once delivery, of all of them, whatever fair turns they came to: if nobody was there at first, and what was stored is as
+-- a broker leaves it (3.1.2.4, 3.3.4, 4.3, 4.4, 4.6, 4.8, 4.9)
 abbrev pub HasDelivered : {K : Type 0} → Ghosts K → World → Lasting K → Type 0
 HasDelivered {K} g start w = (s : Staged K) → w.stage ≡ Ok s → IsSoundAt g s → BeginsWell s.limits start
-    → BeginClean s.limits w.events start → ScriptDelivers s.limits w.events start (world_at s)
+    → ScriptDelivers s.limits w.events start (world_at s)
 
 -- a drain empties the queue, and the receiver's line stands still; it takes no more rounds than twice the copies that stand in
 -- the queue at its start or enter in its first round, and one; and each copy that ends in it is the receiver's, and ends for a
--- cause of a drain; if nobody was there at first and the ends so far began clean (3.1.2.4, 3.1.2.11, 3.3.2.3.3, 4.3, 4.4, 4.6,
--- 4.9)
+-- cause of a drain, none as too large; if nobody was there at first, and fair turns led to where it began (3.1.2.4, 3.1.2.11,
+-- 3.3.2.3.3, 4.3, 4.4, 4.6, 4.9)
 abbrev pub DrainEmpties : {K : Type 0} → Ghosts K → World → List ℕ → ℕ → Lasting K → Lasting K → Type 0
 DrainEmpties {K} g start client rounds old new = (from to : Staged K) → old.stage ≡ Ok from → new.stage ≡ Ok to → IsSoundAt g to
-    → IsUntouched from.limits start → BeginClean from.limits old.events start
+    → IsUntouched from.limits start → ComesFairly from.limits old.events start (world_at from)
     → IsEmptied from.limits client rounds (world_at from) (world_at to)
 
 -- ---- which events are bad

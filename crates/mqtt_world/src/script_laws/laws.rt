@@ -10,10 +10,11 @@ ghost use Rattle.mqtt_rules.specs.step.Laws.{AreWithin};
 ghost use Rattle.mqtt_rules.specs.declared.step.Limits.{Limits};
 ghost use Rattle.mqtt_script.specs.declared.event.Event.{Event};
 ghost use Rattle.mqtt_script.specs.declared.event.Event.TheVariants.{Drain};
-ghost use Rattle.mqtt_world.specs.script_laws.Cleanly.{BeginClean};
+ghost use Rattle.mqtt_world.specs.script_laws.Cleanly.{BeginClean, ComesFairly};
 ghost use Rattle.mqtt_world.specs.script_laws.Drains.{DrainHappens};
 ghost use Rattle.mqtt_world.specs.script_laws.Scripted.{AreTurnsOf, Happens, IsRunOf, RunsTo, event_of};
 ghost use Rattle.mqtt_world_laws.specs.acceptance.Fair.{IsFair};
+ghost use Rattle.mqtt_world_laws.specs.delivery.Untouched.{IsUntouched};
 ghost use Rattle.mqtt_world_laws.specs.acceptance.Spending.{run_spends};
 
 /// What a script's events do, one after the other, is what turns of the world do that are of one step of the broker each, and
@@ -38,12 +39,15 @@ pub fn scripts_follow_one_another()
 {}
 
 /// Exactly-once delivery, of scripts: whatever turns a script's events come to, all that is proved of every run of the world
-/// holds of them, if no number is spent and ends begin clean: in these turns (`delivers`), or by the script's events
-/// (`all`). Of where the script begins is asked what every run asks (3.1.2.4, 3.3.4, 4.3, 4.4, 4.6, 4.8, 4.9).
+/// holds of them, if no number is spent and ends begin clean. Ends begin clean in whatever turns a script comes to, if they
+/// do by its events alone (`fair`, and `comes` of a script that ran). Of where the script begins is asked what every run asks
+/// (3.1.2.4, 3.3.4, 4.3, 4.4, 4.6, 4.8, 4.9).
 pub fn whatever_a_script_does()
     ensures delivers { (limits : Limits) (es : List Event) (turns : List Turn) (w : World)
         → BeginsWell limits w → AreTurnsOf limits es turns w → IsFair limits turns w → DeliversExactlyOnce limits turns w }
-    ensures all { (limits : Limits) (es : List Event) (turns : List Turn) (w : World) → AreWithin limits → BeginsWell limits w
-        → BeginClean limits es w → AreTurnsOf limits es turns w → run_spends limits turns w ≡ false
-        → DeliversExactlyOnce limits turns w }
+    ensures fair { (limits : Limits) (es : List Event) (turns : List Turn) (w : World) → AreWithin limits
+        → IsUntouched limits w → BeginClean limits es w → AreTurnsOf limits es turns w
+        → run_spends limits turns w ≡ false → IsFair limits turns w }
+    ensures comes { (limits : Limits) (es : List Event) (tells : List Telling) (w after : World) → AreWithin limits
+        → IsUntouched limits w → BeginClean limits es w → RunsTo limits es tells w after → ComesFairly limits es w after }
 {}

@@ -9,7 +9,7 @@ ghost use Rattle.mqtt_rules.specs.step.Laws.{AreWithin};
 ghost use Rattle.mqtt_rules.specs.step.State.{MemberChoice};
 ghost use Rattle.mqtt_rules.specs.declared.step.Limits.{Limits};
 ghost use Rattle.mqtt_script.specs.declared.event.Event.{Event};
-ghost use Rattle.mqtt_world.specs.script_laws.Cleanly.{AreMadeAnew, BeginClean, HaveNoSession, ScriptDelivers, makes_ends_first};
+ghost use Rattle.mqtt_world.specs.script_laws.Cleanly.{AreMadeAnew, HaveNoSession, ScriptDelivers, makes_ends_first};
 ghost use Rattle.mqtt_world.specs.script_laws.Scripted.{HasBadFront, IsBad, IsBadHere, RunsTo};
 ghost use Rattle.mqtt_world_model.specs.single_steps.Unrolled.{AreAllAlike, HoldNoPacket};
 ghost use Rattle.mqtt_rules.specs.spelling.Sending.{SendsWell};
@@ -19,16 +19,15 @@ ghost use Rattle.mqtt_world_laws.specs.acceptance.Fair.{opened_world};
 /// Exactly-once delivery, of every script that ran, whatever was lost, given up, restarted or stopped in it, and whatever turns
 /// it came to: each message of a publisher was accepted once, with what it carries; of each publication exactly the intended
 /// copies entered queues, each once, and wait or have one end, for its cause; and each receiver was handed its copies once and
-/// in order. Asked of the script is but that its ends begin clean: its Clean Starts are carried through, which is read off its
-/// events, since an end that has connected with Clean Start 1 gives no line up, and connects so again; and no session of an
-/// end's name stands when it is made. From nothing stored nothing else is asked (3.1.2.4, 3.3.4, 4.3, 4.4, 4.6, 4.8, 4.9).
+/// in order; and each drain in it left none of its receiver's copies. That is so of all turns that the events may have come to in
+/// which each Clean Start is carried through until its CONNACK is read, and no session of an end's name stands when it is made.
+/// From nothing stored nothing else is asked (3.1.2.4, 3.3.4, 4.3, 4.4, 4.6, 4.8, 4.9).
 pub fn scripts_deliver_exactly_once()
-    ensures delivers { (limits : Limits) (es : List Event) (tells : List Telling) (w after : World) → AreWithin limits
-        → BeginsWell limits w → BeginClean limits es w → RunsTo limits es tells w after
-        → ScriptDelivers limits es w after }
+    ensures delivers { (limits : Limits) (es : List Event) (tells : List Telling) (w after : World)
+        → BeginsWell limits w → RunsTo limits es tells w after → ScriptDelivers limits es w after }
     ensures empty { (limits : Limits) (choice : MemberChoice) → opened_world limits choice 0 nothing ≡ start }
     ensures from_nothing { (limits : Limits) (es : List Event) (tells : List Telling) (after : World) → AreWithin limits
-        → BeginClean limits es start → RunsTo limits es tells start after → ScriptDelivers limits es start after }
+        → RunsTo limits es tells start after → ScriptDelivers limits es start after }
 {}
 
 /// A script that makes its ends before all else makes each where no session of its name stands, if none is stored; so it is where

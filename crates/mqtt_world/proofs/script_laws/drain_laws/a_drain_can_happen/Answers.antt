@@ -4,4 +4,4 @@ use Rattle.mqtt_world.proofs.script_laws_lemmas.Drained.{kept_there}
 use Rattle.mqtt_world.proofs.script_laws.drain_laws.a_drain_can_happen.Goals as goal
 
 pub returns : goal.returns
-returns c = λ limits es tells choice client most w v within untouched keeps runs good unspent enough. can_happen client limits choice most v (kept_there limits es tells choice client w v within untouched keeps runs) good unspent enough
+returns c = λ limits es choice client most w v untouched comes good unspent enough. can_happen client limits choice most v (kept_there limits es choice client w v untouched comes) good unspent enough

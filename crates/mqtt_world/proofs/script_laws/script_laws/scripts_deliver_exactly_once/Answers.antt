@@ -1,6 +1,6 @@
 -- By the law of every run.
 use Rattle.std.proofs.Common.{refl}
-use Rattle.mqtt_world.proofs.script_laws_lemmas.Carrying.{delivers_once, start_delivers}
+use Rattle.mqtt_world.proofs.script_drains_lemmas.Done.{delivers_once, start_delivers}
 use Rattle.mqtt_world.proofs.script_laws.script_laws.scripts_deliver_exactly_once.Goals as goal
 
 pub returns-clause-delivers : goal.returns-clause-delivers
