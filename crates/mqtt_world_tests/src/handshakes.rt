@@ -1,3 +1,3 @@
-//! A publisher's handshakes as they go, and each growth refused (MQTT 5.0, 4.3, 4.4).
+//! A publisher's handshakes as they go (MQTT 5.0, 4.3, 4.4).
 
 mod handshakes;

@@ -1,4 +1,4 @@
-//! Open identifiers as they live, and each growth refused.
+//! Open identifiers as they live, and want of memory.
 
 use mqtt_flow::{FlowFault, Inflow, Published, ReleaseAnswer};
 use std::alloc::Global;
@@ -125,7 +125,7 @@ fn open_at_last(rt: &impl Abort, flow: &mut Inflow, id: u16) {
     assert!(rt; flow.is_open(id), "it is open");
 }
 
-/// Run with each allocation failing in turn: an answer is right, or it is want of memory, which changes nothing.
+/// To be run with each allocation failing in turn: an answer is right, or it is want of memory, which changes nothing.
 #[test]
 fn want_of_memory_changes_nothing(rt: HostRuntime) {
     let mut flow = Inflow::new(rt.alloc());

@@ -583,7 +583,7 @@ fn made_in_the_end(
     Ok(())
 }
 
-/// Run with each allocation refused in turn.
+/// To be run with each allocation refused in turn.
 #[test]
 fn want_of_memory_changes_nothing(rt: HostRuntime) -> Result<(), Fail> {
     let alloc = rt.alloc();

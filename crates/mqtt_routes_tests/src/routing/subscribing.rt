@@ -102,7 +102,7 @@ fn subscribe_four(rt: &impl Abort, alloc: Global, bed: &mut Bed) -> Result<(), F
     Ok(())
 }
 
-/// Run with each allocation failing in turn: one that is refused changes nothing.
+/// To be run with each allocation failing in turn: one that is refused changes nothing.
 #[test]
 fn want_of_memory_changes_nothing(rt: HostRuntime) -> Result<(), Fail> {
     let mut bed = Bed::new(&rt)?;
