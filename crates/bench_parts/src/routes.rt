@@ -4,7 +4,7 @@
 ghost use Rattle.std.specs.Prelude.{true, false};
 
 use anyhow::Context;
-use mqtt_base::{Qos, RetainHandling, SubscriptionOptions};
+use mqtt_base::{Qos, RETAINED_LIMIT, RetainHandling, SubscriptionOptions};
 use mqtt_routes::{Routes, Sessions, Subscription};
 use mqtt_topic::{SubFilter, TopicName};
 use std::alloc::Global;
@@ -255,7 +255,7 @@ fn one_table(
     count: u32,
 ) -> anyhow::Result<Times> {
     let topic = TopicName::parse(alloc, "house/7/door")?;
-    let mut routes = Routes::new(alloc, hasher);
+    let mut routes = Routes::new(alloc, hasher, RETAINED_LIMIT);
     let times = time_routes(rt, alloc, &mut routes, &topic, count);
     drop(routes);
     drop(topic);
@@ -270,7 +270,7 @@ fn one_store(
     count: u32,
 ) -> anyhow::Result<(u128, u128)> {
     let filter = SubFilter::parse(alloc, "house/7/#")?;
-    let mut routes = Routes::new(alloc, hasher);
+    let mut routes = Routes::new(alloc, hasher, RETAINED_LIMIT);
     let times = time_retained(rt, alloc, &mut routes, &filter, count);
     drop(routes);
     drop(filter);
@@ -333,7 +333,7 @@ fn one_deep(
     let topic = TopicName::parse(alloc, text.as_str());
     drop(text);
     let topic = topic?;
-    let mut routes = Routes::new(alloc, hasher);
+    let mut routes = Routes::new(alloc, hasher, RETAINED_LIMIT);
     let times = time_deep(rt, alloc, &mut routes, &topic);
     drop(routes);
     drop(topic);

@@ -86,9 +86,11 @@ fn turn_away(alloc: Global, step: &mut Step, line: u64, connect: &Connect) -> Re
     }
 }
 
-/// A step is taken back, and begins again to turn a client away.
-fn turn_away_at(
+/// A step is taken back, with the members that groups chose for a Will that was published in it, and begins again to
+/// turn a client away. No clause sees that the choices are taken back; it is tested.
+fn turn_away_at<R: Router>(
     alloc: Global,
+    router: &mut R,
     step: &mut Step,
     line: u64,
     connect: &Connect,
@@ -99,7 +101,10 @@ fn turn_away_at(
     ensures left { (l : Line) → l.number ≡ line → IfErr result (λ fault.
         IsLeft (turns_away l connect.now) fault
         (begun step.old.limits moment step.old.start) step.new) }
+    ensures serves { (sessions : List Subscriber) → R.serves router.old sessions
+        → R.serves router.new sessions }
 {
+    router.forgo_choices();
     step.take_back();
     match step.begin(moment) {
         Ok(()) => turn_away(alloc, step, line, connect),
@@ -133,7 +138,7 @@ pub fn connect_at<R: Router>(
 {
     match greet_at(alloc, router, step, line, connect, moment) {
         Ok(Joined::Done) => Ok(()),
-        Ok(Joined::NoPlace) => turn_away_at(alloc, step, line, connect, moment),
+        Ok(Joined::NoPlace) => turn_away_at(alloc, router, step, line, connect, moment),
         Err(fault) => Err(fault),
     }
 }

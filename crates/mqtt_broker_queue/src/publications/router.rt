@@ -37,4 +37,10 @@ pub trait Router: Drop {
         ensures fault { IfErr result (λ fault. fault ≡ StepFault.Memory) }
         ensures serves { (sessions : List Subscriber) → serves self.old sessions
             → serves self.new sessions };
+
+    /// The step under way is taken back, and so are the choices of members that `route` made in it: each group goes on
+    /// from where it was before the step. No clause sees that, since any choice is right; it is tested. Takes no memory.
+    fn forgo_choices(&mut self)
+        ensures serves { (sessions : List Subscriber) → serves self.old sessions
+            → serves self.new sessions };
 }

@@ -100,7 +100,7 @@ impl Index {
         ensures empty { result.sessions ≡ [] }
     {
         Index {
-            routes: Routes::new(alloc, hasher),
+            routes: Routes::new(alloc, hasher, mqtt_base::RETAINED_LIMIT),
             turns: Vec::new(alloc),
         }
     }
@@ -301,5 +301,9 @@ impl Router for Index {
             Ok(None) => Ok(Routing::Refused),
             Err(fault) => Err(fault),
         }
+    }
+
+    fn forgo_choices(&mut self) {
+        self.take_back();
     }
 }

@@ -5,7 +5,6 @@ use denote.Ref.{Bor}
 use Rattle.mqtt_topic.specs.names.Matching.{is_match}
 use Rattle.mqtt_routes.specs.declared.routing.fault.RoutesFault.{RoutesFault}
 use Rattle.mqtt_routes.specs.declared.routing.fault.RoutesFault.TheVariants.{Full, Memory}
-use Rattle.mqtt_base.specs.declared.limits.TheConstants.{RETAINED_LIMIT}
 use Rattle.mqtt_routes.specs.declared.routing.retained.Kept.{Kept}
 use Rattle.mqtt_routes.specs.routing.Subscriptions.{Subscriber, have_room}
 
@@ -26,10 +25,14 @@ abbrev pub forget : {M : Type 0} → List ℕ → List (Kept M) → List (Kept M
 forget topic [] = []
 forget topic (k ∷ ks) = cond (is_of topic k) ks (k ∷ forget topic ks)
 
--- why a message isn't kept: only one of a new topic is refused
-abbrev pub RefusesKeep : {M : Type 0} → List ℕ → List (Kept M) → RoutesFault → Type 0
-RefusesKeep topic ks Full = (has_topic topic ks ≡ false) × (length ks ≡ RETAINED_LIMIT)
-RefusesKeep topic ks Memory = (has_topic topic ks ≡ false) × (length ks < RETAINED_LIMIT)
+-- a message of the topic finds a place: it replaces one, or fewer topics than the limit have one
+abbrev pub has_place : {M : Type 0} → ℕ → List ℕ → List (Kept M) → Bool
+has_place limit topic ks = has_topic topic ks || nat_lt (length ks) limit
+
+-- why a message isn't kept where so many topics can have one: only one of a new topic is refused
+abbrev pub RefusesKeep : {M : Type 0} → ℕ → List ℕ → List (Kept M) → RoutesFault → Type 0
+RefusesKeep limit topic ks Full = (has_topic topic ks ≡ false) × (length ks ≡ limit)
+RefusesKeep limit topic ks Memory = (has_topic topic ks ≡ false) × (length ks < limit)
 
 -- those that a filter matches, in order
 abbrev pub kept_for : {M : Type 0} → List ℕ → List (Kept M) → List (Kept M)
@@ -40,26 +43,29 @@ kept_for text ks = filter (λ k. is_match text k.topic) ks
 pub record Table (M : Type 0) : Type 0 where
   pub sessions : List Subscriber
   pub retained : List (Kept M)
+  -- how many topics can have a message (ours)
+  pub topic_limit : ℕ
 
 -- RETAIN 1: a message replaces its topic's, an empty one removes it
 abbrev pub retain : {M : Type 0} → List ℕ → Option M → List (Kept M) → List (Kept M)
 retain topic None ks = forget topic ks
 retain topic (Some message) ks = keep topic message ks
 
-abbrev pub RefusesRetain : {M : Type 0} → List ℕ → Option M → List (Kept M) → RoutesFault → Type 0
-RefusesRetain topic None ks fault = ⊥
-RefusesRetain topic (Some message) ks fault = RefusesKeep topic ks fault
+abbrev pub RefusesRetain : {M : Type 0} → List ℕ → Option M → Table M → RoutesFault → Type 0
+RefusesRetain topic None table fault = ⊥
+RefusesRetain topic (Some message) table fault = RefusesKeep table.topic_limit topic table.retained fault
 
--- what is to be retained finds a place: it removes, it replaces, or fewer topics than the limit have a message
-abbrev pub takes_topic : {M : Type 0} → List ℕ → Option M → List (Kept M) → Bool
-takes_topic topic None ks = true
-takes_topic topic (Some message) ks = has_topic topic ks || nat_lt (length ks) RETAINED_LIMIT
+-- what is to be retained finds a place, as an empty message always does
+abbrev pub takes_topic : {M : Type 0} → List ℕ → Option M → Table M → Bool
+takes_topic topic None table = true
+takes_topic topic (Some message) table = has_place table.topic_limit topic table.retained
 
 -- ---- the room beside the table: what can be put without memory
 
--- messages as they are held, and how many further topics take no memory
+-- messages as they are held, how many topics can have one, and how many further topics take no memory
 pub record KeptMessages (M : Type 0) : Type 0 where
   pub messages : List (Kept M)
+  pub limit : ℕ
   pub room : ℕ
 
 -- the table; for each session, and for topics, how many further ones take no memory

@@ -36,23 +36,28 @@ impl<M> Model for Routes<M> {
     ghost Value = { Index M };
 
     ghost view = { λ r. record {
-      table = record { sessions = r.subscribers.sessions; retained = r.retained.messages };
+      table = record {
+        sessions = r.subscribers.sessions;
+        retained = r.retained.messages;
+        topic_limit = r.retained.limit;
+      };
       session_room = r.subscribers.room;
       topic_room = r.retained.room;
     } };
 }
 
 impl<M: Drop> Routes<M> {
-    /// A table without subscriptions and messages. Filters and topics, which strangers choose, are
-    /// hashed by `hasher`.
-    pub fn new(alloc: Global, hasher: RandomState) -> Routes<M>
+    /// A table without subscriptions and messages, where `topics` topics can have a retained message
+    /// (ours). Filters and topics, which strangers choose, are hashed by `hasher`.
+    pub fn new(alloc: Global, hasher: RandomState, topics: usize) -> Routes<M>
         ensures sessions { result.table.sessions ≡ [] }
         ensures retained { result.table.retained ≡ [] }
+        ensures limit { result.table.topic_limit ≡ topics }
     {
         Routes {
             alloc,
             subscribers: SubscriptionTree::new(alloc, hasher),
-            retained: KeptTable::new(alloc, hasher),
+            retained: KeptTable::new(alloc, hasher, topics),
         }
     }
 
@@ -206,13 +211,14 @@ impl<M: Drop> Routes<M> {
     }
 
     /// Retains a message for a topic in place of the one before, or with none removes that one
-    /// (3.3.1.3). 1 (Full) if `RETAINED_LIMIT` topics have one and this topic hasn't, and only there.
+    /// (3.3.1.3). 1 (Full) if as many topics as the table takes have one and this topic hasn't, and
+    /// only there.
     pub fn retain(&mut self, topic: TopicName, message: Option<M>) -> Result<(), RoutesFault>
         ensures ok { OnOk result (self.new.table
             ≡ record self.old.table { retained = retain topic message self.old.table.retained }) }
-        ensures only { OnOk result (takes_topic topic message self.old.table.retained ≡ true) }
+        ensures only { OnOk result (takes_topic topic message self.old.table ≡ true) }
         ensures err { OnErr result (self.new.table ≡ self.old.table) }
-        ensures refused { IfErr result (RefusesRetain topic message self.old.table.retained) }
+        ensures refused { IfErr result (RefusesRetain topic message self.old.table) }
 
         // With room it takes no memory, and uses up its own room alone.
         ensures memory { (rest : List (List ℕ)) → has_room_of (topic ∷ rest) self.old ≡ true

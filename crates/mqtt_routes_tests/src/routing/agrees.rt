@@ -1,5 +1,6 @@
 //! 1,000 subscriptions give 200 topics the copies that a list of them gives (MQTT 5.0, 3.3.4, 4.7).
 use crate::routing::bed::{ALL, TWO, identified};
+use mqtt_base::RETAINED_LIMIT;
 use mqtt_routes::{RoutedCopy, Routes, RoutesFault};
 use mqtt_topic::{SubFilter, TopicName};
 use std::alloc::{AllocError, Global};
@@ -194,7 +195,7 @@ fn try_all(rt: &impl Abort, alloc: Global, pair: &mut Pair) -> Result<(), Fail> 
 fn a_thousand_subscriptions_route_as_a_list(rt: HostRuntime) -> Result<(), Fail> {
     let hasher = RandomState::new(&rt)?;
     let mut pair = Pair {
-        routes: Routes::new(rt.alloc(), hasher),
+        routes: Routes::new(rt.alloc(), hasher, RETAINED_LIMIT),
         list: Vec::new(rt.alloc()),
     };
     let done = try_all(&rt, rt.alloc(), &mut pair);

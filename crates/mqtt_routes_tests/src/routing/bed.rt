@@ -2,7 +2,7 @@
 ghost use Rattle.std.specs.Prelude.{cond, ◌&&◌, not, nat_eq, bytes_eq, codes};
 ghost use Rattle.std.specs.List.{list_any};
 
-use mqtt_base::{Qos, RetainHandling, SubscriptionOptions};
+use mqtt_base::{Qos, RETAINED_LIMIT, RetainHandling, SubscriptionOptions};
 use mqtt_routes::{Routed, RoutedCopy, Routes, RoutesFault, Sessions, Subscription};
 use mqtt_topic::{SubFilter, TopicFault, TopicName};
 use std::alloc::Global;
@@ -114,7 +114,7 @@ impl Bed {
         let hasher = RandomState::new(rt)?;
         let topic = TopicName::parse(rt.alloc(), "a/b")?;
         Ok(Bed {
-            routes: Routes::new(rt.alloc(), hasher),
+            routes: Routes::new(rt.alloc(), hasher, RETAINED_LIMIT),
             topic,
         })
     }

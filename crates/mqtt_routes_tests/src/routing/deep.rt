@@ -1,5 +1,6 @@
 //! A session with filters of as many levels as fit a packet (MQTT 5.0, 1.5.4, 4.7).
 use crate::routing::bed::{ALL, TWO, identified};
+use mqtt_base::RETAINED_LIMIT;
 use mqtt_routes::{Routes, RoutesFault};
 use mqtt_topic::TopicName;
 use std::alloc::{AllocError, Global};
@@ -80,7 +81,7 @@ fn come_and_go(
 fn filters_of_the_most_levels(rt: HostRuntime) -> Result<(), Fail> {
     let hasher = RandomState::new(&rt)?;
     let text = slashes(rt.alloc(), 65_535)?;
-    let mut routes = Routes::new(rt.alloc(), hasher);
+    let mut routes = Routes::new(rt.alloc(), hasher, RETAINED_LIMIT);
     let done = come_and_go(&rt, rt.alloc(), &mut routes, text.as_str());
     drop(routes);
     drop(text);
