@@ -4,6 +4,7 @@ pub mod Faces
 pub mod Followed
 pub mod Chosen
 pub mod Closed
+pub mod Shut
 pub mod Joined
 pub mod Opened
 pub mod Going
@@ -22,5 +23,6 @@ pub mod Resting
 pub mod Pumps
 pub mod Answering
 pub mod Over
+pub mod Identifiers
 pub mod Begun
 pub mod Holders

@@ -6,4 +6,5 @@ pub mod Pumping
 pub mod Sessions
 pub mod Closing
 pub mod Over
+pub mod Identifiers
 pub mod Opening

@@ -8,6 +8,7 @@ mod committing;
 mod engine;
 mod finishing;
 mod holding;
+mod identifiers;
 mod opening;
 mod outcome;
 mod parts;

@@ -11,7 +11,7 @@ mod opening;
 pub use keep::SqlKeep;
 pub use laws::{
     crash_leaves_what_it_has, load_keeps_what_it_has, load_leaves_no_more, loaded_store_has,
-    step_leaves_one_of_two,
+    step_leaves_one_of_two, store_in_memory_is_sound,
 };
 pub use mqtt_keep::{Keep, KeepError, MemKeep};
 pub use mqtt_records::{Change, Records};

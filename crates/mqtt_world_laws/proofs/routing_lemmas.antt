@@ -2,6 +2,7 @@ pub mod Lists
 pub mod Groups
 pub mod OwnSteps
 pub mod LinesStand
+pub mod OpeningLines
 pub mod OwnRuns
 pub mod OwnCounts
 pub mod Intended

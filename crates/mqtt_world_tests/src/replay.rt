@@ -10,3 +10,4 @@ mod long;
 mod playing;
 mod rows;
 mod stops;
+mod wills;

@@ -43,7 +43,7 @@ use Rattle.mqtt_rules.specs.step.Connect.{largest_of, refusal, refusal_size, ref
 use Rattle.mqtt_rules.specs.step.Inbound.{Meaning, Means, Wrong, meaning, sets_alias, standing, answer, opens, code_again, code_accepted, publish_new, publish_by, message_of, publish_meant, release_by, on_answer, new_expiry, is_late_expiry, leave_by}
 use Rattle.mqtt_rules.specs.step.Subscribe as sub
 use Rattle.mqtt_rules.specs.step.Tick.{is_silent, silence, lapses, has_lapsed, lapse_deeds, is_stale, first_due, due, on_tick}
-use Rattle.mqtt_rules.specs.step.Step.{Call, NewLine, Input, BadInput, Lost, Pump, Tick, first_packet, next_packet, on_packet, on_fault, late_code, on_pump, deeds_of, close_if, opening}
+use Rattle.mqtt_rules.specs.step.Step.{Call, NewLine, Input, BadInput, Lost, Pump, Tick, first_packet, next_packet, on_packet, on_fault, late_code, on_pump, deeds_of, connected_in, shuts, settles, shuts_all, settles_all, opening}
 use Rattle.mqtt_rules.proofs.step_lemmas.acts.Offers.{of_offer_if}
 use Rattle.mqtt_rules.proofs.step_lemmas.acts.Goods.{AreGood, GoodAct, good_append, good_series, good_map, good_flat, good_acts, good_cond, good_if, good_of_session, good_of_client, good_with_line, good_of_entry}
 
@@ -423,13 +423,10 @@ un_call env (Lost n) b old = good_with_line IsUnlinked (line_at n b) (close env 
 un_call env (Pump n) b old = good_with_line IsUnlinked (line_at n b) (λ l. on_pump l l.session) b (λ l e. un_pump l l.session b)
 un_call env Tick b old = un_on_tick (due env b) (un_due env b) b
 
-un_close_if : (env : Env) (t : Bool) (s : Session) → Does (close_if t env s)
-un_close_if env false s b = tt
-un_close_if env true s b =
-    good_series IsUnlinked (always (At (whose s) (Close b.now) ∷ []) ∷ settle env s.birth ∷ []) ((λ c. (tt, tt)), (un_settle env s.birth, tt)) b
-
 -- and so has an opening
 pub un_opening : (env : Env) (b : Broker) → AreGood IsUnlinked (opening env b) b
 un_opening env b =
-    good_series IsUnlinked (map (λ s. close_if (is_connected s) env s) b.records.sessions)
-    (good_acts IsUnlinked (λ s. close_if (is_connected s) env s) (λ s. un_close_if env (is_connected s) s) b.records.sessions) b
+    let ss = connected_in b.records in
+    good_series IsUnlinked (shuts_all ss ∷ settles_all env ss ∷ [])
+    (good_series IsUnlinked (map shuts ss) (good_acts IsUnlinked shuts (λ s c. (tt, tt)) ss),
+    (good_series IsUnlinked (map (settles env) ss) (good_acts IsUnlinked (settles env) (λ s. un_settle env s.birth) ss), tt)) b

@@ -7,6 +7,7 @@ use Rattle.mqtt_records.specs.declared.state.records.Records.{Records}
 use Rattle.mqtt_records.specs.state.Telling.{AreTold}
 use Rattle.mqtt_records.specs.state.PassedOn.{StoresPassedOn}
 use Rattle.mqtt_rules.specs.declared.step.Limits.{Limits}
+use Rattle.mqtt_rules.specs.spelling.Sending.{HaveSentPhases}
 use Rattle.mqtt_rules.specs.step.State.{Broker}
 use Rattle.mqtt_rules.specs.alike.Slim.{slim_broker}
 use Rattle.mqtt_rules.specs.filling.Filling.{filled}
@@ -32,14 +33,16 @@ module _ {K : Type 0} (g : Ghosts K)
   view : g.is_sound kept → filled (g.fillings kept) (slim_broker s.broker) ≡ h.after
   view = view_is g tells held kept limits (slim_broker s.broker) h.after slim_its
 
-  opened_here : IsBegun g first whole loaded → IsLawful whole → StoresPassedOn whole → (g.is_sound kept → g.is_sound loaded) → Opened g limits now first (Ok made)
-  opened_here begun lawful passed sound = record {
+  opened_here : IsBegun g first whole loaded → IsLawful whole → StoresPassedOn whole → HaveSentPhases whole → (g.is_sound kept → g.is_sound loaded)
+      → Opened g limits now first (Ok made)
+  opened_here begun lawful passed identifiers sound = record {
     opened = record {
       loaded = loaded;
       records = whole;
       load = begun.load;
       lawful = lawful;
       passed = passed;
+      identifiers = identifiers;
       after = h.after;
       opening = h.opening;
       lines = (ap (λ (b : Broker). b.lines) h.its.alike.rest, ap (λ (b : Broker). b.given) h.its.alike.rest);
@@ -53,6 +56,7 @@ module _ {K : Type 0} (g : Ghosts K)
   }
 
   -- an engine that was made so is opened
-  pub opened_as : (new : Running K) → new ≡ made → IsBegun g first whole loaded → IsLawful whole → StoresPassedOn whole → (g.is_sound kept → g.is_sound loaded) → Opened g limits now first (Ok new)
-  opened_as new is begun lawful passed sound =
-      subst (λ (e : Running K). Opened g limits now first (Ok e)) (sym is) (opened_here begun lawful passed sound)
+  pub opened_as : (new : Running K) → new ≡ made → IsBegun g first whole loaded → IsLawful whole → StoresPassedOn whole → HaveSentPhases whole
+      → (g.is_sound kept → g.is_sound loaded) → Opened g limits now first (Ok new)
+  opened_as new is begun lawful passed identifiers sound =
+      subst (λ (e : Running K). Opened g limits now first (Ok e)) (sym is) (opened_here begun lawful passed identifiers sound)

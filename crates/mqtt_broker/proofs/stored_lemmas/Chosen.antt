@@ -1,4 +1,4 @@
--- The closing of a session looks at a choice of members only at that session's client identifier.
+-- The settling of a session looks at a choice of members only at that session's client identifier.
 use Rattle.std.proofs.Common.{◌≡◌, ℕ, Bool, true, false, List, [], ◌∷◌, ◌++◌, map, Option, Some, None, nat_eq, bytes_eq, refl, sym, ap, subst, ◌∙◌}
 use Rattle.std.specs.Prelude.{⊤, option_map}
 use Rattle.std.specs.List.{AllByRecursion}
@@ -9,13 +9,13 @@ use Rattle.mqtt_topic.specs.names.Names.{is_empty}
 use Rattle.mqtt_routes.specs.routing.Acceptance.{routed}
 use Rattle.mqtt_rules.specs.declared.step.Limits.{Limits}
 use Rattle.mqtt_rules.specs.step.Closing.{end_session, has_due_end, has_due_will, publish_or_refuse, publish_will, settle, will_deeds, will_message}
-use Rattle.mqtt_rules.specs.step.Deeds.{Whose, whose, Message, FromWill, Close, DropWill, Deed, Accept, At, after_all, always, of_session, only_if, series, then, with_session}
+use Rattle.mqtt_rules.specs.step.Deeds.{Whose, whose, Message, FromWill, DropWill, Deed, Accept, At, after_all, always, of_session, only_if, series, then, with_session}
 use Rattle.mqtt_rules.specs.step.Laws.{client_at}
 use Rattle.mqtt_rules.specs.step.Routing.{CopyTo, accepted_copies, accepted_if, answers, copies_to, deliver, deliver_by, finds_place, is_queued, next_publication, publication_of, publish, retain_by, subscribers}
 use Rattle.mqtt_rules.specs.step.State.{Broker, Env, MemberChoice, session_at}
-use Rattle.mqtt_rules.proofs.step_lemmas.acts.LookedUp.{client_at_part}
-use Rattle.mqtt_broker.specs.stored.Sessions.{Face, IsThere, closes, closes_all, face}
-use Rattle.mqtt_broker.proofs.stored_lemmas.Own.{close_own}
+use Rattle.mqtt_rules.specs.step.Step.{settles, settles_all}
+use Rattle.mqtt_broker.specs.stored.Sessions.{Face, IsThere, face}
+use Rattle.mqtt_broker.proofs.stored_lemmas.Own.{settle_own}
 use Rattle.mqtt_broker.proofs.stored_lemmas.Faces.{deeds_kept}
 
 -- what surrounds a step, by its choice
@@ -45,12 +45,12 @@ there_client s r there = by (session_at s.birth r) there
     by None h = absurd cc
     by (Some x) h = let same : face x ≡ face s = cc in ap (λ (f : Face). Some f.0.client) same
 
--- the others stand as they did when one is closed
+-- the others stand as they did when one is settled
 pub still_there : (s : Session) (xs : List Session) (env : Env) (b : Broker) → AllByRecursion (AreApart s) xs → AllByRecursion (IsThere b.records) xs
-    → AllByRecursion (IsThere (after_all (closes s env b) b).records) xs
+    → AllByRecursion (IsThere (after_all (settles env s b) b).records) xs
 still_there s [] env b apart there = tt
 still_there s (x ∷ xs) env b apart there = (
-  deeds_kept s.birth x.birth apart.0.0 (closes s env b) b (close_own env s b) ∙ there.0,
+  deeds_kept s.birth x.birth apart.0.0 (settles env s b) b (settle_own s.birth env b) ∙ there.0,
   still_there s xs env b apart.1 there.1,
 )
 
@@ -112,20 +112,16 @@ module _ (limits : Limits) (start : Records) (f g : MemberChoice) where
       ap (λ ds. then ds (series (of_session birth (λ s. only_if (has_due_end b.now s) (always (end_session s))) ∷ [])) b)
       (same_settled b.now client (session_at birth b.records) b its agree)
 
-  -- two choices that agree on a session's client close it alike
-  pub same_close : (s : Session) (b : Broker) → IsThere b.records s → Agree f g s.client → closes s (env_by limits start f) b ≡ closes s (env_by limits start g) b
-  same_close s b there agree =
-      let first : List Deed = At (whose s) (Close b.now) ∷ [] in
-      let c = after_all first b in
-      ap (λ ds. first ++ (ds ++ []))
-      (same_settle s.birth s.client c (client_at_part (whose s) (Close b.now) s.birth b.records ∙ there_client s b.records there) agree)
+  -- two choices that agree on a session's client settle it alike
+  pub same_settles : (s : Session) (b : Broker) → IsThere b.records s → Agree f g s.client → settles (env_by limits start f) s b ≡ settles (env_by limits start g) s b
+  same_settles s b there agree = same_settle s.birth s.client b (there_client s b.records there) agree
 
   -- and so many sessions
   pub same_all : (ss : List Session) (b : Broker) → AllByRecursion (IsThere b.records) ss → AllApart ss → AllByRecursion (λ (s : Session). Agree f g s.client) ss
-      → closes_all ss (env_by limits start f) b ≡ closes_all ss (env_by limits start g) b
+      → settles_all (env_by limits start f) ss b ≡ settles_all (env_by limits start g) ss b
   same_all [] b there apart agree = refl
   same_all (s ∷ ss) b there apart agree =
-      let first = closes s (env_by limits start f) b in
+      let first = settles (env_by limits start f) s b in
       let c = after_all first b in
       ap (λ ds. first ++ ds) (same_all ss c (still_there s ss (env_by limits start f) b apart.0 there.1) apart.1 agree.1)
-      ∙ ap (λ ds. ds ++ closes_all ss (env_by limits start g) (after_all ds b)) (same_close s b there.0 agree.0)
+      ∙ ap (λ ds. ds ++ settles_all (env_by limits start g) ss (after_all ds b)) (same_settles s b there.0 agree.0)

@@ -1,4 +1,4 @@
--- What closing a session leaves of another: whose it is, and its Will.
+-- What closing or settling a session leaves of another: whose it is, and its Will.
 use Rattle.std.proofs.Common.{◌≡◌, ℕ, false, cond, Bool, List, [], ◌∷◌, Option, Some, None, nat_eq, refl, ap, ◌∙◌, inl, inr}
 use Rattle.std.specs.Prelude.{◌⊎◌, option_map}
 use Rattle.mqtt_records.specs.declared.state.session.Session.{Session}
@@ -60,7 +60,7 @@ module _ (k z : ℕ) (other : nat_eq k z ≡ false) where
   deed_kept (Send n packet) b h = refl
   deed_kept (Gone n) b h = elim h [ ]
 
-  -- the deeds of closing one session leave whose another is, and its Will
+  -- the deeds of closing or settling one session leave whose another is, and its Will
   pub deeds_kept : (ds : List Deed) (b : Broker) → AreGood (IsOwn k) ds b → face_at z (after_all ds b).records ≡ face_at z b.records
   deeds_kept [] b h = refl
   deeds_kept (d ∷ ds) b h = deeds_kept ds (after d b) h.1 ∙ deed_kept d b h.0

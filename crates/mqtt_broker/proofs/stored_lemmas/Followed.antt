@@ -1,4 +1,4 @@
--- An index can follow the rows of closing a session.
+-- An index can follow the rows of closing a session, and of settling it.
 use Rattle.std.proofs.Common.{◌≡◌, ℕ, List, [], ◌∷◌, ◌++◌, Option, Some, None, inl, inr}
 use Rattle.std.specs.Prelude.{◌⊎◌}
 use Rattle.mqtt_records.specs.declared.state.change.Change.{Change}
@@ -46,7 +46,7 @@ module _ (k : ℕ) where
   follow_deed (Send n packet) b h = tt
   follow_deed (Gone n) b h = elim h [ ]
 
-  -- an index can follow the rows of the deeds of closing a session
+  -- an index can follow the rows of the deeds of closing or settling a session
   pub follow_own : (ds : List Deed) (b : Broker) → AreGood (IsOwn k) ds b → CanAllBeFollowed (rows_of_all ds b.records) b.records
   follow_own [] b h = tt
   follow_own (d ∷ ds) b h =

@@ -1,8 +1,9 @@
--- The choices of several closings make one choice, since each looks only at its own client identifier.
+-- The choices of several settlings make one choice, since each looks only at its own client identifier.
 use Rattle.std.proofs.Common.{◌≡◌, ℕ, Bool, cond, List, [], ◌∷◌, bytes_eq, refl, sym, ap, subst, ◌∙◌}
 use Rattle.std.specs.List.{AllByRecursion}
 use Rattle.mqtt_records.specs.declared.state.session.Session.{Session}
 use Rattle.mqtt_rules.specs.step.State.{Env, MemberChoice}
+use Rattle.mqtt_rules.specs.step.Step.{settles, settles_all}
 use Rattle.mqtt_rules.proofs.step_lemmas.fit.FitLaw.{same_text}
 use Rattle.mqtt_broker_step.specs.declared.fault.StepFault.{StepFault}
 use Rattle.mqtt_broker_step.specs.Stepping.{Stepping, Did, env_in}
@@ -11,8 +12,8 @@ use Rattle.mqtt_broker_step.proofs.Then.{did_then, left_first, left_then, same_a
 use Rattle.mqtt_broker_queue.specs.publications.Choosing.{DoesSome, LeavesSome}
 use Rattle.mqtt_broker_queue.proofs.publications_lemmas.Some.{env_stays}
 use Rattle.mqtt_broker.specs.stored.Closing.{DidSome, LeftSome}
-use Rattle.mqtt_broker.specs.stored.Sessions.{IsThere, closes, closes_all}
-use Rattle.mqtt_broker.proofs.stored_lemmas.Chosen.{Agree, AllApart, AreApart, same_all, same_close, still_there}
+use Rattle.mqtt_broker.specs.stored.Sessions.{IsThere}
+use Rattle.mqtt_broker.proofs.stored_lemmas.Chosen.{Agree, AllApart, AreApart, same_all, same_settles, still_there}
 
 -- these members for one client, and another choice for the others
 abbrev joined : List ℕ → List ℕ → MemberChoice → MemberChoice
@@ -34,8 +35,8 @@ at_others s members others (x ∷ xs) apart = (
 
 -- ---- a session, then the others
 
-module _ (s : Session) (xs : List Session) (old mid : Stepping) (apart : AllApart (s ∷ xs)) (there : AllByRecursion (IsThere old.broker.records) (s ∷ xs)) (first : DoesSome (closes s) old mid) where
-  first_did : Did (closes s (env_in (alone first.members) old)) old mid
+module _ (s : Session) (xs : List Session) (old mid : Stepping) (apart : AllApart (s ∷ xs)) (there : AllByRecursion (IsThere old.broker.records) (s ∷ xs)) (first : DoesSome (λ env. settles env s) old mid) where
+  first_did : Did (settles (env_in (alone first.members) old) s) old mid
   first_did = first.is (alone first.members) refl
 
   -- the others stand as they did
@@ -56,48 +57,48 @@ module _ (s : Session) (xs : List Session) (old mid : Stepping) (apart : AllApar
     unfolding both
     both_others = at_others s first.members others xs apart.0
 
-    head_did : Did (closes s (env_in both old)) old mid
+    head_did : Did (settles (env_in both old) s) old mid
     head_did =
-        same_act (closes s (env_in (alone first.members) old)) (closes s (env_in both old)) old mid
-        (same_close old.limits old.start.records (alone first.members) both s old.broker there.0 both_first) first_did
+        same_act (settles (env_in (alone first.members) old) s) (settles (env_in both old) s) old mid
+        (same_settles old.limits old.start.records (alone first.members) both s old.broker there.0 both_first) first_did
 
     same_env : env_in both mid ≡ env_in both old
-    same_env = env_stays both (closes s (env_in both old)) old mid head_did
+    same_env = env_stays both (settles (env_in both old) s) old mid head_did
 
-    same_rest : closes_all xs (env_in others mid) mid.broker ≡ closes_all xs (env_in both old) mid.broker
+    same_rest : settles_all (env_in others mid) xs mid.broker ≡ settles_all (env_in both old) xs mid.broker
     same_rest =
         same_all mid.limits mid.start.records others both xs mid.broker others_there apart.1 both_others
-        ∙ ap (λ (e : Env). closes_all xs e mid.broker) same_env
+        ∙ ap (λ (e : Env). settles_all e xs mid.broker) same_env
 
-  -- what closes the others then closes all, by a joined choice
-  pub did_more : (new : Stepping) → DidSome (closes_all xs) mid new → DidSome (closes_all (s ∷ xs)) old new
+  -- what settles the others then settles all, by a joined choice
+  pub did_more : (new : Stepping) → DidSome (λ env. settles_all env xs) mid new → DidSome (λ env. settles_all env (s ∷ xs)) old new
   did_more new rest = record {
     choice = both rest.choice;
     is =
         let env = env_in (both rest.choice) old in
-        did_then (closes s env) (closes_all xs env) old mid new (head_did rest.choice)
-        (same_act (closes_all xs (env_in rest.choice mid)) (closes_all xs env) mid new (same_rest rest.choice) rest.is);
+        did_then (settles env s) (settles_all env xs) old mid new (head_did rest.choice)
+        (same_act (settles_all (env_in rest.choice mid) xs) (settles_all env xs) mid new (same_rest rest.choice) rest.is);
   }
 
   -- a refusal at the others is one of all
-  pub left_more : (fault : StepFault) (new : Stepping) → LeftSome (closes_all xs) fault mid new → LeftSome (closes_all (s ∷ xs)) fault old new
+  pub left_more : (fault : StepFault) (new : Stepping) → LeftSome (λ env. settles_all env xs) fault mid new → LeftSome (λ env. settles_all env (s ∷ xs)) fault old new
   left_more fault new rest = record {
     choice = both rest.choice;
     is =
         let env = env_in (both rest.choice) old in
-        left_then (closes s env) (closes_all xs env) fault old mid new (head_did rest.choice)
-        (same_left (closes_all xs (env_in rest.choice mid)) (closes_all xs env) fault mid new (same_rest rest.choice) rest.is);
+        left_then (settles env s) (settles_all env xs) fault old mid new (head_did rest.choice)
+        (same_left (settles_all (env_in rest.choice mid) xs) (settles_all env xs) fault mid new (same_rest rest.choice) rest.is);
   }
 
 -- ---- a refusal at the first, and the end
 
 -- so is one at the first
-pub left_at : (s : Session) (xs : List Session) (fault : StepFault) (old new : Stepping) → LeavesSome (closes s) fault old new → LeftSome (closes_all (s ∷ xs)) fault old new
+pub left_at : (s : Session) (xs : List Session) (fault : StepFault) (old new : Stepping) → LeavesSome (λ env. settles env s) fault old new → LeftSome (λ env. settles_all env (s ∷ xs)) fault old new
 left_at s xs fault old new left =
     let choice = alone left.members in
     let env = env_in choice old in
-    record { choice = choice; is = left_first (closes s env) (closes_all xs env) fault old new (left.is choice refl) }
+    record { choice = choice; is = left_first (settles env s) (settles_all env xs) fault old new (left.is choice refl) }
 
 -- if there is none nothing is to be done
-pub did_end : (s : Stepping) → DidSome (closes_all []) s s
+pub did_end : (s : Stepping) → DidSome (λ env. settles_all env []) s s
 did_end s = record { choice = alone []; is = record { is = sym (did_none s) } }

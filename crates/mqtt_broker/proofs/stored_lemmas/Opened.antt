@@ -1,5 +1,5 @@
--- An opening closes the sessions that stand connected, which differ in birth and client.
-use Rattle.std.proofs.Common.{◌≡◌, ◌<◌, ℕ, Bool, false, List, [], ◌∷◌, ◌++◌, filter, map, Some, nat_eq, bytes_eq, refl, ap, ◌∙◌, arith, inl, inr}
+-- The sessions that stand connected differ in birth and client.
+use Rattle.std.proofs.Common.{◌≡◌, ◌<◌, ℕ, Bool, false, List, [], ◌∷◌, filter, Some, nat_eq, bytes_eq, refl, ap, ◌∙◌, arith, inl, inr}
 use Rattle.std.specs.Prelude.{option_map}
 use Rattle.std.specs.List.{AllByRecursion}
 use Rattle.std.proofs.lemmas.Bool.{cases_Bool, eqb-true}
@@ -9,28 +9,14 @@ use Rattle.mqtt_records.specs.declared.state.records.Records.{Records}
 use Rattle.mqtt_records.specs.state.Session.{birth_of}
 use Rattle.mqtt_records.specs.lists.Order.{IsAbove, IsAscending, row_at}
 use Rattle.mqtt_rules.specs.step.Contents.{IsWilled}
-use Rattle.mqtt_rules.specs.step.Deeds.{after_all, series}
 use Rattle.mqtt_rules.specs.step.Laws.{IsCoherent, IsUnique, client_at}
-use Rattle.mqtt_rules.specs.step.State.{Broker, Env, is_connected, session_at}
-use Rattle.mqtt_rules.specs.step.Step.{close_if, opening}
+use Rattle.mqtt_rules.specs.step.State.{is_connected, session_at}
+use Rattle.mqtt_rules.specs.step.Step.{connected_in}
 use Rattle.mqtt_rules.proofs.step_lemmas.numbers.Copies.{each_more}
 use Rattle.mqtt_rules.proofs.step_lemmas.flight.FlightRows.{all_found}
 use Rattle.mqtt_broker_acts.specs.calls.Ready.{AreSourcesStored, HasLawfulSources}
-use Rattle.mqtt_broker.specs.stored.Sessions.{IsThere, closes, closes_all, connected_in, face}
+use Rattle.mqtt_broker.specs.stored.Sessions.{IsThere, face}
 use Rattle.mqtt_broker.proofs.stored_lemmas.Chosen.{AllApart, AreApart}
-
--- ---- those that aren't connected are passed over
-
-shuts_all : (env : Env) (ss : List Session) (b : Broker) → closes_all (filter is_connected ss) env b ≡ series (map (λ s. close_if (is_connected s) env s) ss) b
-shuts_all env [] b = refl
-shuts_all env (s ∷ ss) b = elim (cases_Bool (is_connected s)) [
-  | inl here ↦ rw here (ap (λ ds. closes s env b ++ ds) (shuts_all env ss (after_all (closes s env b) b)))
-  | inr away ↦ rw away (shuts_all env ss b)
-]
-
--- to close all that stand connected is the opening
-pub closes_opening : (env : Env) (b : Broker) → closes_all (connected_in b.records) env b ≡ opening env b
-closes_opening env b = shuts_all env b.records.sessions b
 
 -- ---- some of a list
 

@@ -1,4 +1,4 @@
--- The deeds by which a session is closed: none begins or ends another session, or subscribes.
+-- The deeds by which a session is closed or settled: none begins or ends another session, or subscribes.
 use Rattle.std.proofs.Common.{◌≡◌, ℕ, Bool, true, false, List, [], ◌∷◌, ◌++◌, map, Option, Some, None, refl, inl, inr}
 use Rattle.std.specs.Prelude.{⊤, ◌⊎◌, flat_map}
 use Rattle.mqtt_base.specs.declared.session.Ending.TheVariants.{SessionEnded}
@@ -23,7 +23,6 @@ use Rattle.mqtt_rules.specs.step.State.{Broker, Env, line_of, queue_on, session_
 use Rattle.mqtt_rules.proofs.step_lemmas.acts.Offers.{of_offer_if}
 use Rattle.mqtt_rules.proofs.step_lemmas.flight.FlightRows.{found_key}
 use Rattle.mqtt_rules.proofs.step_lemmas.acts.Goods.{AreGood, good_append, good_flat, good_of_entry, good_two, good_with_session}
-use Rattle.mqtt_broker.specs.stored.Sessions.{closes}
 
 -- a copy enters a queue, or leaves it
 abbrev pub IsQueued : Part → Type 0
@@ -37,7 +36,7 @@ IsClosing (Close moment) = ⊤
 IsClosing DropWill = ⊤
 IsClosing part = ⊥
 
--- a deed by which the session with a birth is closed
+-- a deed by which the session with a birth is closed or settled
 abbrev pub IsOwn : ℕ → Deed → Broker → Type 0
 IsOwn k (Accept number origin m) b = ⊤
 IsOwn k (Begin row will) b = ⊥
@@ -120,7 +119,8 @@ module _ (k : ℕ) where
   only_own true act b h = h
   only_own false act b h = tt
 
-  settle_own : (env : Env) (b : Broker) → AreOwn (settle env k b) b
+  -- the settling of a session has such deeds alone
+  pub settle_own : (env : Env) (b : Broker) → AreOwn (settle env k b) b
   settle_own env b =
       let wills = λ (s : Session). only_if (has_due_will b.now s) (publish_will env s) in
       let ends = λ (s : Session). only_if (has_due_end b.now s) (always (end_session s)) in
@@ -130,11 +130,3 @@ module _ (k : ℕ) where
       (λ s found. only_own (has_due_will b.now s) (publish_will env s) b (will_own env s s.will b (found_key birth_of k s b.records.sessions found))))
       (good_with_session (IsOwn k) (session_at k c.records) ends c
       (λ s found. only_own (has_due_end b.now s) (always (end_session s)) c (end_own s s.queue c (found_key birth_of k s c.records.sessions found))))
-
--- ---- a session is closed
-
--- the closing of a session has such deeds alone
-pub close_own : (env : Env) (s : Session) (b : Broker) → AreOwn s.birth (closes s env b) b
-close_own env s b =
-    good_two (IsOwn s.birth) (always (At (whose s) (Close b.now) ∷ [])) (settle env s.birth) b (inr (refl, tt), tt)
-    (settle_own s.birth env (after_all (At (whose s) (Close b.now) ∷ []) b))

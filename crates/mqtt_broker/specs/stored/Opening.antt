@@ -9,6 +9,7 @@ use Rattle.mqtt_rules.specs.declared.step.Limits.{Limits}
 use Rattle.mqtt_rules.specs.step.State.{Broker}
 use Rattle.mqtt_rules.specs.step.Step.{BrokerOpening, SpentOpening}
 use Rattle.mqtt_records.specs.state.PassedOn.{StoresPassedOn}
+use Rattle.mqtt_rules.specs.spelling.Sending.{HaveSentPhases}
 use Rattle.mqtt_broker.specs.stored.Calling.{KeepsLines}
 use Rattle.mqtt_broker.specs.stored.Running.{Running}
 use Rattle.mqtt_broker.specs.stored.Closing.{IsStoredAfter}
@@ -36,6 +37,8 @@ pub record IsOpened {K : Type 0} (g : Ghosts K) (limits : Limits) (now : ℕ) (k
   pub lawful : IsLawful records
   -- the properties of its copies and retained messages are such as publications pass on (3.3.2.3)
   pub passed : StoresPassedOn records
+  -- and what was in flight has packet identifiers from 1, of two bytes (2.2.1)
+  pub identifiers : HaveSentPhases records
   -- the opening, with whose lines it begins whatever the device returns, and with all of it if the device is sound
   pub after : Broker
   pub opening : BrokerOpening limits records now after

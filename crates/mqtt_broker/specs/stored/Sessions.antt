@@ -1,25 +1,10 @@
--- The sessions that the records show as connected are closed, one after another (MQTT 5.0, 4.1).
-use Rattle.std.specs.Prelude.{◌≡◌, ℕ, true, List, filter, map, Option, Some, option_map}
+-- Sessions that wait to be closed or settled as a broker opens (MQTT 5.0, 4.1).
+use Rattle.std.specs.Prelude.{◌≡◌, ℕ, Option, Some, option_map}
 use Rattle.mqtt_records.specs.declared.messages.message.Will.{Will}
 use Rattle.mqtt_records.specs.declared.state.session.Session.{Session}
 use Rattle.mqtt_records.specs.declared.state.records.Records.{Records}
-use Rattle.mqtt_rules.specs.step.Deeds.{Act, Whose, series, whose}
-use Rattle.mqtt_rules.specs.step.State.{Env, is_connected, session_at}
-use Rattle.mqtt_rules.specs.step.Step.{close_if}
-
--- those that the records show as connected, in the order of births
-abbrev pub connected_in : Records → List Session
-connected_in r = filter is_connected r.sessions
-
--- a session is closed at the moment, and settled
-abbrev pub closes : Session → Env → Act
-closes s env = close_if true env s
-
--- sessions are closed one after another
-abbrev pub closes_all : List Session → Env → Act
-closes_all ss env = series (map (λ s. closes s env) ss)
-
--- ---- a session that waits to be closed
+use Rattle.mqtt_rules.specs.step.Deeds.{Whose, whose}
+use Rattle.mqtt_rules.specs.step.State.{session_at}
 
 -- whose a session is, and its Will
 abbrev pub Face : Type 0

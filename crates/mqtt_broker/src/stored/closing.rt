@@ -1,5 +1,5 @@
-//! The sessions that the records show as connected are closed, one after another (MQTT 5.0, 3.1.2.11.2, 3.1.3.2.2,
-//! 4.1).
+//! The sessions that the records show as connected are closed, and then each is settled (MQTT 5.0, 3.1.2.11.2,
+//! 3.1.3.2.2, 4.1).
 ghost use Rattle.std.specs.Prelude.{◌≡◌, ◌≤◌, [], List, drop, length, map, IfOk, OnOk, IfErr};
 ghost use Rattle.mqtt_records.specs.state.Records.{changed_all};
 ghost use Rattle.mqtt_records.specs.declared.state.records.Records.{Records as TheRecords};
@@ -9,14 +9,16 @@ ghost use Rattle.mqtt_routes.specs.routing.Subscriptions.{Subscriber};
 ghost use Rattle.mqtt_rules.specs.step.Contents.{IsWilled};
 ghost use Rattle.mqtt_rules.specs.step.Laws.{IsCoherent};
 ghost use Rattle.mqtt_rules.specs.step.Routing.{subscribers};
-ghost use Rattle.mqtt_rules.specs.step.Step.{opening};
+ghost use Rattle.mqtt_rules.specs.step.Closing.{settle};
+ghost use Rattle.mqtt_rules.specs.step.Step.{connected_in, opening, shuts};
+ghost use Rattle.mqtt_broker_step.specs.Stepping.{Did, IsLeft};
 ghost use Rattle.mqtt_broker_queue.specs.publications.Choosing.{DoesSome, LeavesSome};
 ghost use Rattle.mqtt_broker_acts.specs.closing.Wills.{will_at};
 ghost use Rattle.mqtt_broker_acts.specs.calls.Ready.{AreSourcesStored};
 ghost use Rattle.mqtt_broker_queue.specs.subscribers.Following.{CanAllBeFollowed, CanBeIndexed, CanGoAlongAll};
 ghost use Rattle.mqtt_broker_queue.specs.subscribers.Indexing.{Serves};
 ghost use Rattle.mqtt_broker.specs.stored.Closing.{DidSome, LeftSome};
-ghost use Rattle.mqtt_broker.specs.stored.Sessions.{IsThere, closes, connected_in};
+ghost use Rattle.mqtt_broker.specs.stored.Sessions.{IsThere};
 
 use mqtt_broker_acts::closing::settle;
 use mqtt_broker_queue::subscribers::Index;
@@ -56,20 +58,15 @@ fn connected(alloc: Global, step: &Step) -> Result<Vec<u64>, StepFault>
     }
 }
 
-/// A session is closed at the moment, and settled: its Will is published and it ends, if that is due.
-fn close(alloc: Global, index: &mut Index, step: &mut Step, birth: u64) -> Result<(), StepFault>
-    requires serves { Serves index.old.sessions (subscribers step.old.broker.records) }
-    requires lawful { IsWilled (will_at birth step.old.broker.records) }
+/// A session is closed at the moment.
+fn shut(step: &mut Step, birth: u64) -> Result<(), StepFault>
     ensures ok { (s : TheSession) → s.birth ≡ birth → IsThere step.old.broker.records s
-        → OnOk result (DoesSome (closes s) step.old step.new) }
+        → OnOk result (Did (shuts s) step.old step.new) }
     ensures left { (s : TheSession) → s.birth ≡ birth → IsThere step.old.broker.records s
-        → IfErr result (λ fault. LeavesSome (closes s) fault step.old step.new) }
-    ensures serves { (sessions : List Subscriber) → Serves index.old.sessions sessions
-        → Serves index.new.sessions sessions }
+        → IfErr result (λ fault. IsLeft (shuts s) fault step.old step.new) }
 {
     let moment = step.moment();
-    step.close(birth, moment)?;
-    settle(alloc, index, step, birth)
+    step.close(birth, moment)
 }
 
 /// The index goes along with the rows of a step from a place on.
@@ -84,30 +81,30 @@ fn follow(index: &mut Index, rows: &[Change], from: usize) -> Result<(), StepFau
     index.follow_all(&rows[from..])
 }
 
-/// A session is closed, and the index goes along with the rows of that, so that the next Will is routed by it.
-fn close_next(
+/// A session is settled: its Will is published and it ends, if that is due. The index goes along with
+/// the rows of that, so that the next Will is routed by it.
+fn settle_next(
     alloc: Global,
     index: &mut Index,
     step: &mut Step,
     birth: u64,
 ) -> Result<(), StepFault>
-    requires there { (s : TheSession) × (s.birth ≡ birth) × IsThere step.old.broker.records s }
     requires serves { Serves index.old.sessions (subscribers step.old.broker.records) }
     requires indexed { CanBeIndexed step.old.broker.records }
     requires lawful { IsWilled (will_at birth step.old.broker.records) }
-    ensures ok { (s : TheSession) → s.birth ≡ birth → IsThere step.old.broker.records s
-        → OnOk result (DoesSome (closes s) step.old step.new) }
-    ensures left { (s : TheSession) → s.birth ≡ birth → IsThere step.old.broker.records s
-        → IfErr result (λ fault. LeavesSome (closes s) fault step.old step.new) }
+    ensures ok { OnOk result (DoesSome (λ env. settle env birth) step.old step.new) }
+    ensures left { IfErr result (λ fault.
+        LeavesSome (λ env. settle env birth) fault step.old step.new) }
     ensures serves { OnOk result (Serves index.new.sessions (subscribers step.new.broker.records)) }
     ensures indexed { OnOk result (CanBeIndexed step.new.broker.records) }
 {
     let from = step.rows().len();
-    close(alloc, index, step, birth)?;
+    settle(alloc, index, step, birth)?;
     follow(index, step.rows(), from)
 }
 
-/// The sessions that the records show as connected, which have these births, are closed in order.
+/// The sessions that the records show as connected, which have these births, are closed; then each is
+/// settled, in the same order. So none of them counts as connected for the Will of another.
 fn close_each(
     alloc: Global,
     index: &mut Index,
@@ -123,13 +120,16 @@ fn close_each(
     ensures left { IfErr result (λ fault. LeftSome opening fault step.old step.new) }
     ensures serves { OnOk result (Serves index.new.sessions (subscribers step.new.broker.records)) }
 {
+    for connected in births.as_slice() {
+        shut(step, *connected)?;
+    }
     for birth in births {
-        close_next(alloc, index, step, birth)?;
+        settle_next(alloc, index, step, birth)?;
     }
     Ok(())
 }
 
-/// The sessions that the records show as connected are closed, in the order of births.
+/// The sessions that the records show as connected are closed, and then settled, in the order of births.
 pub(crate) fn close_all(alloc: Global, index: &mut Index, step: &mut Step) -> Result<(), StepFault>
     requires coherent { IsCoherent step.old.broker.records }
     requires sources { AreSourcesStored step.old.broker.records }

@@ -2,6 +2,7 @@
 ghost use Rattle.std.specs.Prelude.{◌≡◌, ℕ, IfOk, IfErr, OnOk};
 ghost use Rattle.mqtt_records.specs.state.PassedOn.{StoresPassedOn};
 ghost use Rattle.mqtt_records.specs.declared.state.records.Records.{Records as TheRecords};
+ghost use Rattle.mqtt_rules.specs.spelling.Sending.{HaveSentPhases};
 ghost use Rattle.mqtt_rules.specs.step.Laws.{AreWithin};
 ghost use Rattle.mqtt_rules.specs.step.Routing.{subscribers};
 ghost use Rattle.mqtt_rules.specs.declared.step.Limits.{Limits as TheLimits};
@@ -13,6 +14,7 @@ ghost use Rattle.mqtt_broker.specs.stored.Opening.{IsBegun, Opened};
 
 use crate::stored::closing::close_all;
 use crate::stored::engine::Engine;
+use crate::stored::identifiers::have_two_bytes;
 use mqtt_base::LAST_NUMBER;
 use mqtt_broker_queue::subscribers::Index;
 use mqtt_broker_step::{Step, StepFault, commit_kept};
@@ -101,7 +103,7 @@ fn open_with<K: Keep>(
         × IsUnopened K.Keep limits now whole keep step }
     requires serves { Serves index.sessions (subscribers step.broker.records) }
     ensures { (first : K) (limits : TheLimits) (now : ℕ) (whole : TheRecords)
-        → IsUnopened K.Keep limits now whole keep step → StoresPassedOn whole
+        → IsUnopened K.Keep limits now whole keep step → StoresPassedOn whole → HaveSentPhases whole
         → IsBegun K.Keep first whole keep → Opened K.Keep limits now first result }
 {
     match store(alloc, &mut keep, &mut index, &mut step) {
@@ -124,7 +126,7 @@ fn open_step<K: Keep>(
     requires begun { (limits : TheLimits) × (now : ℕ) × (whole : TheRecords)
         × IsUnopened K.Keep limits now whole keep step }
     ensures { (first : K) (limits : TheLimits) (now : ℕ) (whole : TheRecords)
-        → IsUnopened K.Keep limits now whole keep step → StoresPassedOn whole
+        → IsUnopened K.Keep limits now whole keep step → StoresPassedOn whole → HaveSentPhases whole
         → IsBegun K.Keep first whole keep → Opened K.Keep limits now first result }
 {
     match Index::over(alloc, hasher, &step) {
@@ -152,10 +154,13 @@ pub fn open<K: Keep>(
     ensures { Opened K.Keep limits now keep result }
 {
     match keep.load(alloc) {
-        Ok(records) => match unopened(alloc, records, now, limits) {
-            Ok(step) => open_step(alloc, keep, step, hasher),
-            Err(error) => Err((keep, error)),
-        },
+        Ok(records) => {
+            have_two_bytes(&records);
+            match unopened(alloc, records, now, limits) {
+                Ok(step) => open_step(alloc, keep, step, hasher),
+                Err(error) => Err((keep, error)),
+            }
+        }
         Err(error) => Err((keep, error)),
     }
 }

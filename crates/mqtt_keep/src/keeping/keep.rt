@@ -23,8 +23,8 @@ pub enum KeepError {
     /// 2: the device failed. The records are those before or those after: open the store again.
     #[error("the device failed")]
     Disk = 2,
-    /// 3: the device is full. Nothing changed.
-    #[error("the device is full")]
+    /// 3: a value or a row is larger than the store takes. Nothing changed.
+    #[error("larger than the store takes")]
     Size = 3,
     /// 4: at `load`, what is kept breaks its own rules.
     #[error("the records break their rules")]

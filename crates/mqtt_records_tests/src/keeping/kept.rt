@@ -653,7 +653,7 @@ fn limits_and_numbers_of_faults_are_fixed(rt: HostRuntime) -> Result<(), Fail> {
     let faults = [
         (KeepError::Memory, 1, "want of memory"),
         (KeepError::Disk, 2, "the device failed"),
-        (KeepError::Size, 3, "the device is full"),
+        (KeepError::Size, 3, "larger than the store takes"),
         (KeepError::Corrupt, 4, "the records break their rules"),
         (KeepError::Schema, 5, "the records are of another schema"),
     ];

@@ -18,7 +18,6 @@ use Rattle.mqtt_script.specs.Lines.{IsLineOf, is_passed_over}
 use Rattle.mqtt_script.specs.Telling.{bad_text, publisher_text, receiver_text, broker_text}
 use Rattle.mqtt_world.specs.script_laws.Scripted.{IsBad, RunsTo}
 use Rattle.mqtt_world.proofs.script_drains_lemmas.Done.{delivers_once}
-use Rattle.mqtt_rules.specs.spelling.Sending.{HaveSentPhases}
 use Rattle.mqtt_world_laws.specs.acceptance.Fair.{opened_world}
 use Rattle.mqtt_script.specs.declared.replay_fault.Played.{Played}
 use Rattle.mqtt_script.specs.declared.replay_fault.Played.TheVariants.{Whole, Bad}
@@ -153,12 +152,13 @@ module _ {K : Type 0} (g : Ghosts K) where
 
     -- over the store that events left
     opens_left : (Holds : World → Type 0) (es : List Event) (ts : List Telling) (new : Lasting K) (s : Staged K) → (h : Happen g es ts w new)
-        → (IsSoundAt g s → IsSoundAt g h.to) → (IsSoundAt g s → HaveSentPhases starts.records → Holds begun) → OpensOver g limits keep Holds
+        → (IsSoundAt g s → IsSoundAt g h.to) → (IsSoundAt g s → Holds begun) → OpensOver g limits keep Holds
     opens_left Holds es ts new s h was holds = record {
       loaded = starts.loaded;
       records = starts.records;
       load = starts.load;
       lawful = starts.lawful;
+      identifiers = starts.identifiers;
       choice = starts.choice;
       unspent = starts.unspent;
       left = s.played.engine.running.keep;
@@ -166,41 +166,40 @@ module _ {K : Type 0} (g : Ghosts K) where
       holds = holds;
     }
 
-    module _ (phases : HaveSentPhases starts.records) where
-      has_come : HasCome g begun w
-      has_come = starts.comes phases
+    has_come : HasCome g begun w
+    has_come = starts.comes
 
-      runs_of : (es : List Event) (ts : List Telling) (new : Lasting K) → (h : Happen g es ts w new) → IsSoundAt g h.to → RunsTo limits es ts begun (world_at h.to)
-      runs_of es ts new h sound =
-          let same : h.from ≡ starts.at = ok_is w.stage h.from starts.at h.was starts.stage in
-          let came = has_come h.from h.was (h.runs.sound sound) in
-          let limits_are : h.from.limits ≡ limits = ap (λ (s : Staged K). s.limits) same ∙ starts.limits_are in
-          let world_is : world_at h.from ≡ begun = ap (λ (s : Staged K). world_at s) same ∙ starts.world (from_sound es ts new h sound) in
-          subst (λ (x : World). RunsTo limits es ts x (world_at h.to)) world_is
-          (subst (λ (l : Limits). RunsTo l es ts (world_at h.from) (world_at h.to)) limits_are (h.runs.runs sound came.reached came.knowing))
+    runs_of : (es : List Event) (ts : List Telling) (new : Lasting K) → (h : Happen g es ts w new) → IsSoundAt g h.to → RunsTo limits es ts begun (world_at h.to)
+    runs_of es ts new h sound =
+        let same : h.from ≡ starts.at = ok_is w.stage h.from starts.at h.was starts.stage in
+        let came = has_come h.from h.was (h.runs.sound sound) in
+        let limits_are : h.from.limits ≡ limits = ap (λ (s : Staged K). s.limits) same ∙ starts.limits_are in
+        let world_is : world_at h.from ≡ begun = ap (λ (s : Staged K). world_at s) same ∙ starts.world (from_sound es ts new h sound) in
+        subst (λ (x : World). RunsTo limits es ts x (world_at h.to)) world_is
+        (subst (λ (l : Limits). RunsTo l es ts (world_at h.from) (world_at h.to)) limits_are (h.runs.runs sound came.reached came.knowing))
 
-      runs_lines : (lines : List (List ℕ)) (text : List ℕ) (end : Standing (Lasting K)) → (c : Comes g lines (start w) text end)
-          → IsSoundAt g c.happen.to → RunsLines limits lines begun text c.events (world_at c.happen.to)
-      runs_lines lines text end c sound =
-          let came = has_come starts.at starts.stage (from_sound c.events c.tells end.world c.happen sound) in
-          let runs = runs_of c.events c.tells end.world c.happen sound in
-          record {
-            are = c.are;
-            tells = c.tells;
-            runs = runs;
-            told = c.told;
-            delivers = λ begins. delivers_once limits c.events c.tells begun (world_at c.happen.to) begins runs;
-          }
+    runs_lines : (lines : List (List ℕ)) (text : List ℕ) (end : Standing (Lasting K)) → (c : Comes g lines (start w) text end)
+        → IsSoundAt g c.happen.to → RunsLines limits lines begun text c.events (world_at c.happen.to)
+    runs_lines lines text end c sound =
+        let came = has_come starts.at starts.stage (from_sound c.events c.tells end.world c.happen sound) in
+        let runs = runs_of c.events c.tells end.world c.happen sound in
+        record {
+          are = c.are;
+          tells = c.tells;
+          runs = runs;
+          told = c.told;
+          delivers = λ begins. delivers_once limits c.events c.tells begun (world_at c.happen.to) begins runs;
+        }
 
-      -- an event that can't happen there is bad in the definitions' world: nobody was there at first, and the broker sent well
-      cant_here : (e : Event) (end after : Lasting K) (es : List Event) (ts : List Telling) → (h : Happen g es ts w end) → (cant : CantHappen g e end after)
-          → IsSoundAt g cant.nothing.to → IsBad e (world_at h.to)
-      cant_here e end after es ts h cant sound =
-          let from = cant.nothing.from in
-          let same : from ≡ h.to = ok_is end.stage from h.to cant.nothing.was h.is in
-          let come : HasCome g begun end = come_on g begun es ts w end h has_come in
-          subst (λ (s : Staged K). IsBad e (world_at s)) same
-          (cant.is_bad begun come sound starts.alone (starts.sends phases))
+    -- an event that can't happen there is bad in the definitions' world: nobody was there at first, and the broker sent well
+    cant_here : (e : Event) (end after : Lasting K) (es : List Event) (ts : List Telling) → (h : Happen g es ts w end) → (cant : CantHappen g e end after)
+        → IsSoundAt g cant.nothing.to → IsBad e (world_at h.to)
+    cant_here e end after es ts h cant sound =
+        let from = cant.nothing.from in
+        let same : from ≡ h.to = ok_is end.stage from h.to cant.nothing.was h.is in
+        let come : HasCome g begun end = come_on g begun es ts w end h has_come in
+        subst (λ (s : Staged K). IsBad e (world_at s)) same
+        (cant.is_bad begun come sound starts.alone starts.sends)
 
     -- what a bad line leaves of the store
     abbrev left_by : (bad : List ℕ) (end : Standing (Lasting K)) → Staged K → IsBadLine (play_of g) bad end → Staged K
@@ -214,23 +213,23 @@ module _ {K : Type 0} (g : Ghosts K) where
         subst (λ (s : Staged K). IsSoundAt g s) (ok_is end.world.stage cant.nothing.from h.to cant.nothing.was h.is) (cant.nothing.runs.sound sound)
 
     -- a bad line is one in the definitions' world
-    bad_here : HaveSentPhases starts.records → (bad : List ℕ) (end : Standing (Lasting K)) (es : List Event) (ts : List Telling) → (h : Happen g es ts w end.world)
+    bad_here : (bad : List ℕ) (end : Standing (Lasting K)) (es : List Event) (ts : List Telling) → (h : Happen g es ts w end.world)
         → (isbad : IsBadLine (play_of g) bad end) → IsSoundAt g (left_by bad end h.to isbad) → IsBadLineIn bad (world_at h.to)
-    bad_here phases bad end es ts h (kept, inl none) sound = (kept, inl none)
-    bad_here phases bad end es ts h (kept, inr (e, is, (after, cant))) sound = (kept, inr (e, is, cant_here phases e end.world after es ts h cant sound))
+    bad_here bad end es ts h (kept, inl none) sound = (kept, inl none)
+    bad_here bad end es ts h (kept, inr (e, is, (after, cant))) sound = (kept, inr (e, is, cant_here e end.world after es ts h cant sound))
 
     text_of : (lines : List (List ℕ)) (before after : Option (List ℕ)) (played : Played) → Shows (play_of g) lines (start w) before after played
         → OpensOver g limits keep (λ v. Wrote (λ text. ReplayText limits v lines text played) before after)
     text_of lines before after Whole (front, end, plays, wrote) =
         let c = comes lines (start w) end front starts.at starts.stage plays in
         opens_left (λ v. Wrote (λ text. ReplayText limits v lines text Whole) before after) c.events c.tells end.world c.happen.to c.happen (λ sound. sound)
-        (λ sound phases. (
+        (λ sound. (
           front ++ last_lines (play_of g) end,
           (
             front,
             c.events,
             world_at c.happen.to,
-            runs_lines phases lines front end c sound,
+            runs_lines lines front end c sound,
             ap (λ (l : List ℕ). front ++ l) (last_seen end c.happen.to c.events c.happen.is (c.happen.kept ∙ ap (λ (es : List Event). es ++ c.events) starts.events) c.ends),
           ),
           wrote,
@@ -239,7 +238,7 @@ module _ {K : Type 0} (g : Ghosts K) where
         let c = comes good (start w) end front starts.at starts.stage plays in
         let was = left_sound bad end c.events c.tells c.happen isbad in
         opens_left (λ v. Wrote (λ text. ReplayText limits v lines text Bad) before after) c.events c.tells end.world (left_by bad end c.happen.to isbad) c.happen was
-        (λ sound phases. (
+        (λ sound. (
           front ++ bad_text (end.number + 1),
           (
             good,
@@ -249,8 +248,8 @@ module _ {K : Type 0} (g : Ghosts K) where
             c.events,
             world_at c.happen.to,
             are,
-            runs_lines phases good front end c (was sound),
-            bad_here phases bad end c.events c.tells c.happen isbad sound,
+            runs_lines good front end c (was sound),
+            bad_here bad end c.events c.tells c.happen isbad sound,
             ap (λ (n : ℕ). front ++ bad_text (n + 1)) (from_none end.number (length c.events) c.number),
           ),
           wrote,
@@ -261,9 +260,9 @@ module _ {K : Type 0} (g : Ghosts K) where
     front_of lines before after (good, rest, front, end, are, plays, wrote) =
         let c = comes good (start w) end front starts.at starts.stage plays in
         opens_left (λ v. Wrote (λ text. FrontText limits v lines text) before after) c.events c.tells end.world c.happen.to c.happen (λ sound. sound)
-        (λ sound phases. (
+        (λ sound. (
           front,
-          (good, rest, c.events, world_at c.happen.to, are, runs_lines phases good front end c sound),
+          (good, rest, c.events, world_at c.happen.to, are, runs_lines good front end c sound),
           wrote,
         ))
 
@@ -319,7 +318,7 @@ module _ {K : Type 0} (g : Ghosts K) (sound : (keep : K) → g.is_sound keep) (l
   from_nothing Holds opens =
       let none : opens.records ≡ nothing = records_none opens.records opens.loaded opens.load in
       subst (λ (r : Records). Holds (opened_world limits opens.choice 0 r)) none
-      (opens.holds (sound opens.left) (subst (λ (r : Records). HaveSentPhases r) (sym none) tt))
+      (opens.holds (sound opens.left))
 
   -- over an empty store the text is that of a new world
   pub written : (input : Option (List ℕ)) (before after : Option (List ℕ)) (played : Played)

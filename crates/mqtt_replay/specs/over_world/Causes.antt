@@ -1,10 +1,6 @@
 -- Why a replay ends for its store (MQTT 5.0, 4.1).
-use Rattle.std.specs.Prelude.{◌⊎◌, ⊤, ℕ}
-use Rattle.mqtt_keep.specs.lawful.Lawful.{IsLawful}
+use Rattle.std.specs.Prelude.{⊤}
 use Rattle.mqtt_keep.specs.declared.keeping.keep.Keep.{Ghosts}
-use Rattle.mqtt_records.specs.declared.state.records.Records.{Records}
-use Rattle.mqtt_rules.specs.step.State.{Broker}
-use Rattle.mqtt_rules.specs.step.Step.{Call, SpentOpening, SpentStep}
 use Rattle.mqtt_rules.specs.declared.step.Limits.{Limits}
 use Rattle.mqtt_script.specs.declared.replay_fault.ReplayFault.{ReplayFault}
 use Rattle.mqtt_script.specs.declared.replay_fault.ReplayFault.TheVariants.{Read, Write, Memory, Store}
@@ -32,16 +28,3 @@ IsReplayDue g limits keep Read = ⊤
 IsReplayDue g limits keep Write = ⊤
 IsReplayDue g limits keep Memory = ⊤
 IsReplayDue g limits keep Store = HasStoreCause g limits keep
-
--- ---- from nothing stored, in memory: no failure is counted there, and its broker is opened; so what is left is that a call
--- needs a number above 2^62, or that a broker is not opened again, for what its records are
-
-pub data HasNumberCause : Type 0 where
-  call_spends : (limits : Limits) (b : Broker) (now : ℕ) (call : Call) → SpentStep limits b now call → HasNumberCause
-  none_opens : (limits : Limits) (r : Records) (now : ℕ) → (IsLawful r → ⊥) ⊎ SpentOpening limits r now → HasNumberCause
-
-abbrev pub IsNumberDue : ReplayFault → Type 0
-IsNumberDue Read = ⊤
-IsNumberDue Write = ⊤
-IsNumberDue Memory = ⊤
-IsNumberDue Store = HasNumberCause

@@ -94,20 +94,21 @@ FrontText limits w lines text =
 abbrev pub Wrote : (List ℕ → Type 0) → Option (List ℕ) → Option (List ℕ) → Type 0
 Wrote IsText before after = (text : List ℕ) × IsText text × Appends before after text
 
--- ---- over a store: the broker is opened at moment 0 on lawful records that its load answered; and this holds of the world in
--- which it stands, if the device, as the store was left, has returned what was written, and what was in flight has identifiers of
--- two bytes (2.2.1, 4.1)
+-- ---- over a store: the broker is opened at moment 0 on lawful records that its load answered, in which what was in flight has
+-- packet identifiers from 1, of two bytes; and this holds of the world in which it stands, if the device, as the store was left,
+-- has returned what was written (2.2.1, 4.1)
 
 pub record OpensOver {K : Type 0} (g : Ghosts K) (limits : Limits) (keep : K) (Holds : World → Type 0) : Type 0 where
   pub loaded : K
   pub records : Records
   pub load : IsLoad g keep records loaded
   pub lawful : IsLawful records
+  pub identifiers : HaveSentPhases records
   pub choice : MemberChoice
   pub unspent : is_opening_spent limits choice 0 records ≡ false
   pub left : K
   pub sound : g.is_sound left → g.is_sound loaded
-  pub holds : g.is_sound left → HaveSentPhases records → Holds (opened_world limits choice 0 records)
+  pub holds : g.is_sound left → Holds (opened_world limits choice 0 records)
 
 abbrev pub ReplaysOver : {K : Type 0} → Ghosts K → Limits → K → List (List ℕ) → Option (List ℕ) → Option (List ℕ) → Played → Type 0
 ReplaysOver g limits keep lines before after played =

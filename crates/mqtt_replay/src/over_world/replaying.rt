@@ -6,7 +6,7 @@ ghost use Rattle.mqtt_rules.specs.step.Laws.{AreWithin};
 ghost use Rattle.mqtt_world_laws.specs.headline.Lives.{BeginsWell};
 ghost use Rattle.mqtt_world_model.specs.model.World.{start};
 ghost use Rattle.mqtt_replay.specs.playing.Replaying.{lines_of};
-ghost use Rattle.mqtt_replay.specs.over_world.Causes.{IsNumberDue, IsReplayDue, ends_as};
+ghost use Rattle.mqtt_replay.specs.over_world.Causes.{IsReplayDue, ends_as};
 ghost use Rattle.mqtt_replay.specs.over_world.Texts.{FrontOver, FrontText, ReplayText, ReplaysOver, Wrote};
 
 use crate::over_world::playing::Playing;
@@ -58,7 +58,8 @@ pub fn replay_over<K: Keep, R: Read, W: Write>(
     }
 }
 
-/// The same from nothing stored, in memory.
+/// The same from nothing stored, in memory, where no store fails: that it ends for its store only if a number would be spent no
+/// contract says here.
 pub fn replay<R: Read, W: Write>(
     alloc: Global,
     hasher: RandomState,
@@ -73,9 +74,6 @@ pub fn replay<R: Read, W: Write>(
     ensures err { IfErr result (λ fault. fault ≢ ReplayFault.Write
         → IfSome (R.remaining reader.old) (λ input. Wrote (λ text. FrontText limits start (lines_of input) text)
         (W.contents writer.old) (W.contents writer.new))) }
-
-    // `Store` has a cause: no store fails here, so a number would be spent, or a broker was not opened again.
-    ensures cause { IfErr result IsNumberDue }
 
     // Nobody is there at first, so exactly-once delivery holds of whatever is replayed.
     ensures untouched { BeginsWell limits start }

@@ -1,6 +1,7 @@
 -- Calls and openings of brokers that are alike.
-use Rattle.std.proofs.Common.{◌≡◌, ℕ, Bool, true, false, List, [], ◌∷◌, map, Option, Some, None, refl, ap, subst}
+use Rattle.std.proofs.Common.{◌≡◌, ℕ, Bool, true, false, List, [], ◌∷◌, filter, map, Option, Some, None, refl, sym, ap, subst, ◌∙◌, inl, inr}
 use Rattle.std.specs.Prelude.{⊤, flat_map, find, option_map}
+use Rattle.std.proofs.lemmas.Bool.{cases_Bool}
 use Rattle.mqtt_base.specs.Codes.{keep_alive_timeout, protocol_error}
 use Rattle.mqtt_props.specs.declared.table.PropName.TheVariants.{SessionExpiryInterval}
 use Rattle.mqtt_packet.specs.declared.codec.packet.Packet.{Packet}
@@ -21,7 +22,7 @@ use Rattle.mqtt_rules.specs.step.Packets.{connack}
 use Rattle.mqtt_rules.specs.step.State.{Line, Broker, Env, line_at, is_connected}
 use Rattle.mqtt_rules.specs.step.Deeds.{whose, Close, Hear, Forget, On, Send, At, Act, always, series}
 use Rattle.mqtt_rules.specs.step.Tick.{is_silent, silence, lapses, are_some, has_lapsed, lapse_deeds, is_stale, first_due, due, on_tick}
-use Rattle.mqtt_rules.specs.step.Step.{Call, NewLine, Input, BadInput, Lost, Pump, Tick, first_packet, next_packet, on_packet, late_code, on_fault, on_pump, deeds_of, close_if, opening}
+use Rattle.mqtt_rules.specs.step.Step.{Call, NewLine, Input, BadInput, Lost, Pump, Tick, first_packet, next_packet, on_packet, late_code, on_fault, on_pump, deeds_of, connected_in, shuts, settles, shuts_all, settles_all, opening}
 use Rattle.mqtt_rules.specs.alike.Alike.{Each, AlikeRows, AlikeSessions, AlikeDeeds, with_queue}
 use Rattle.mqtt_rules.proofs.alike_lemmas.Pairs.{Both, both_map, both_found}
 use Rattle.mqtt_rules.proofs.alike_lemmas.States.{by_queue, like}
@@ -50,6 +51,18 @@ module _ (P : Type 0) where
   -- a test of sessions that doesn't look at the queue
   rest_same : (test : Session → Bool) → ((s : Session) (q : List CopyRow) → Each AlikeRows s.queue q → test s ≡ test (with_queue q s)) → (s t : Session) → AlikeSessions s t → test s ≡ test t
   rest_same test k s t h = by_queue (λ (x : Session). test s ≡ test x) s (k s) t h
+
+  -- those that stand connected are the same ones
+  connected_alike : (ss ts : List Session) → Each AlikeSessions ss ts → Each AlikeSessions (filter is_connected ss) (filter is_connected ts)
+  connected_alike [] [] h = tt
+  connected_alike [] (t ∷ ts) h = absurd h
+  connected_alike (s ∷ ss) [] h = absurd h
+  connected_alike (s ∷ ss) (t ∷ ts) h =
+      let same : is_connected s ≡ is_connected t = rest_same is_connected (λ x q k. refl) s t h.0 in
+      elim (cases_Bool (is_connected s)) [
+        | inl on ↦ rw on (rw (sym same ∙ on) (h.0, connected_alike ss ts h.1))
+        | inr off ↦ rw off (rw (sym same ∙ off) (connected_alike ss ts h.1))
+      ]
 
   first_alike : (os ps : List (Option Act)) → Each (Both (AlikeActs P)) os ps → Both (AlikeActs P) (first_due os) (first_due ps)
   first_alike [] [] h = tt
@@ -177,19 +190,28 @@ module _ (P : Type 0) where
 
     -- ---- an opening
 
-    close_if_alike : (t : Bool) (s : Session) (q : List CopyRow) → AlikeActs P (close_if t env s) (close_if t (beside env old) (with_queue q s))
-    close_if_alike false s q = record { does = λ b ss h. tt }
-    close_if_alike true s q = record { does = λ b ss h. (two_alike P (always_same P (At (whose s) (Close b.now) ∷ [])) (settle_alike P env old s.birth)).does b ss h }
+    shut_alike : (s : Session) (q : List CopyRow) → AlikeActs P (shuts s) (shuts (with_queue q s))
+    shut_alike s q = record { does = λ b ss h. (always_same P (At (whose s) (Close b.now) ∷ [])).does b ss h }
 
-    closes_alike : (ss ts : List Session) → Each AlikeSessions ss ts → Each (AlikeActs P) (map (λ s. close_if (is_connected s) env s) ss) (map (λ s. close_if (is_connected s) (beside env old) s) ts)
-    closes_alike [] [] h = tt
-    closes_alike [] (t ∷ ts) h = absurd h
-    closes_alike (s ∷ ss) [] h = absurd h
-    closes_alike (s ∷ ss) (t ∷ ts) h =
-        (on_session P (λ x. close_if (is_connected x) env x) (λ x. close_if (is_connected x) (beside env old) x) (λ x q k. close_if_alike (is_connected x) x q) s t h.0, closes_alike ss ts h.1)
+    shuts_alike : (ss ts : List Session) → Each AlikeSessions ss ts → Each (AlikeActs P) (map shuts ss) (map shuts ts)
+    shuts_alike [] [] h = tt
+    shuts_alike [] (t ∷ ts) h = absurd h
+    shuts_alike (s ∷ ss) [] h = absurd h
+    shuts_alike (s ∷ ss) (t ∷ ts) h = (on_session P shuts shuts (λ x q k. shut_alike x q) s t h.0, shuts_alike ss ts h.1)
+
+    settles_alike : (ss ts : List Session) → Each AlikeSessions ss ts → Each (AlikeActs P) (map (settles env) ss) (map (settles (beside env old)) ts)
+    settles_alike [] [] h = tt
+    settles_alike [] (t ∷ ts) h = absurd h
+    settles_alike (s ∷ ss) [] h = absurd h
+    settles_alike (s ∷ ss) (t ∷ ts) h = (on_session P (settles env) (settles (beside env old)) (λ x q k. settle_alike P env old x.birth) s t h.0, settles_alike ss ts h.1)
 
     -- an opening does alike
     pub opening_alike : AlikeActs P (opening env) (opening (beside env old))
     opening_alike = record {
-      does = λ b ss h. (series_alike P (map (λ s. close_if (is_connected s) env s) b.records.sessions) (map (λ s. close_if (is_connected s) (beside env old) s) ss) (closes_alike b.records.sessions ss h)).does b ss h;
+      does = λ b ss h.
+          let mine = filter is_connected b.records.sessions in
+          let theirs = filter is_connected ss in
+          let each = connected_alike b.records.sessions ss h in
+          (two_alike P (series_alike P (map shuts mine) (map shuts theirs) (shuts_alike mine theirs each))
+          (series_alike P (map (settles env) mine) (map (settles (beside env old)) theirs) (settles_alike mine theirs each))).does b ss h;
     }

@@ -68,7 +68,7 @@ use Rattle.mqtt_rules.specs.step.Routing.{CopyTo, accepted_copies, is_queued, is
 use Rattle.mqtt_rules.specs.step.State.{Broker, Env, Line, is_connected, line_at, line_of, queue_on, session_at, session_named, told_on}
 use Rattle.mqtt_rules.specs.step.Laws.{HasTables, IsOrdered}
 use Rattle.mqtt_rules.specs.step.Piece.{code_of}
-use Rattle.mqtt_rules.specs.step.Step.{Call, NewLine, Input, BadInput, Lost, Pump, Tick, can_link, close_if, deeds_of, first_packet, late_code, next_packet, on_fault, on_packet, on_pump, opening}
+use Rattle.mqtt_rules.specs.step.Step.{Call, NewLine, Input, BadInput, Lost, Pump, Tick, can_link, connected_in, deeds_of, first_packet, late_code, next_packet, on_fault, on_packet, on_pump, opening, settles, settles_all, shuts, shuts_all}
 use Rattle.mqtt_rules.specs.step.Subscribe as sub
 use Rattle.mqtt_rules.specs.step.Tick.{due, first_due, has_lapsed, is_silent, is_stale, lapse_deeds, lapses, on_tick, silence}
 use Rattle.mqtt_rules.proofs.step_lemmas.acts.Acts.{brought_to}
@@ -655,9 +655,8 @@ module _ (env : Env) where
 
   -- ---- openings
 
-  closed_if : (t : Bool) (s : Session) → SaysAct (close_if t env s)
-  closed_if false s b = saying [] b tt
-  closed_if true s b = acts (always (At (whose s) (Close b.now) ∷ []) ∷ settle env s.birth ∷ []) (always_said (At (whose s) (Close b.now) ∷ []) (tt, tt), (settling s.birth, tt)) b
+  shutting : (s : Session) → SaysAct (shuts s)
+  shutting s b = saying (At (whose s) (Close b.now) ∷ []) b (tt, tt)
 
   each_act : {X : Type 0} (f : X → Act) → ((x : X) → SaysAct (f x)) → (xs : List X) → AllByRecursion SaysAct (map f xs)
   each_act f h [] = tt
@@ -665,4 +664,6 @@ module _ (env : Env) where
 
   -- what an opening sends has a spelling
   pub opening_said : SaysAct (opening env)
-  opening_said b = acts (map (λ s. close_if (is_connected s) env s) b.records.sessions) (each_act (λ (s : Session). close_if (is_connected s) env s) (λ s. closed_if (is_connected s) s) b.records.sessions) b
+  opening_said b =
+      let ss = connected_in b.records in
+      acts (shuts_all ss ∷ settles_all env ss ∷ []) (acts (map shuts ss) (each_act shuts shutting ss), (acts (map (settles env) ss) (each_act (settles env) (λ s. settling s.birth) ss), tt)) b

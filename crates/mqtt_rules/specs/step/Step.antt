@@ -1,5 +1,5 @@
 -- One call of the broker is one step: the state after it, and what it answers (MQTT 5.0, 3 and 4).
-use Rattle.std.specs.Prelude.{◌≡◌, ℕ, suc, max, Bool, true, false, cond, ◌&&◌, List, [], ◌∷◌, ◌++◌, length, filter_map, map, nat_eq, nat_lt, Option, Some, None, option_map}
+use Rattle.std.specs.Prelude.{◌≡◌, ℕ, suc, max, Bool, true, false, cond, ◌&&◌, List, [], ◌∷◌, ◌++◌, length, filter, filter_map, map, nat_eq, nat_lt, Option, Some, None, option_map}
 use Rattle.std.specs.List.{list_any}
 use Rattle.mqtt_base.specs.Phases.{order_of}
 use Rattle.mqtt_base.specs.declared.limits.TheConstants.{LINE_LIMIT, PUMP_LIMIT, LAST_NUMBER}
@@ -217,14 +217,30 @@ pub record SpentStep (limits : Limits) (old : Broker) (now : ℕ) (call : Call) 
   pub choice : MemberChoice
   pub spent : is_step_spent limits choice now call old ≡ true
 
--- ---- opening: each session that was connected is closed, in the order of births
+-- ---- opening: no session is connected from then on. All that the records show as connected are closed, and then each of them is settled,
+-- both in the order of births: so where a Will is published, none of them counts as connected any longer
 
-abbrev pub close_if : Bool → Env → Session → Act
-close_if false env s b = []
-close_if true env s b = series (always (At (whose s) (Close b.now) ∷ []) ∷ settle env s.birth ∷ []) b
+-- the sessions that the records show as connected, in the order of births
+abbrev pub connected_in : Records → List Session
+connected_in r = filter is_connected r.sessions
+
+abbrev pub shuts : Session → Act
+shuts s b = At (whose s) (Close b.now) ∷ []
+
+abbrev pub settles : Env → Session → Act
+settles env s = settle env s.birth
+
+abbrev pub shuts_all : List Session → Act
+shuts_all ss = series (map shuts ss)
+
+abbrev pub settles_all : Env → List Session → Act
+settles_all env ss = series (map (settles env) ss)
+
+abbrev pub closes_all : Env → List Session → Act
+closes_all env ss = series (shuts_all ss ∷ settles_all env ss ∷ [])
 
 abbrev pub opening : Env → Act
-opening env b = series (map (λ s. close_if (is_connected s) env s) b.records.sessions) b
+opening env b = closes_all env (connected_in b.records) b
 
 abbrev pub unopened : ℕ → Records → Broker
 unopened now r = record { records = r; lines = []; given = 0; now = max (capped r.moment) (capped now); tellings = [] }

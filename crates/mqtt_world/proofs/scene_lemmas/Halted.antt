@@ -4,7 +4,7 @@ use Rattle.std.specs.Prelude.{IfErr, Result, Ok, Err}
 use Rattle.mqtt_keep.specs.declared.keeping.keep.Keep.{Ghosts}
 use Rattle.mqtt_keep.specs.declared.keeping.keep.KeepError.{KeepError}
 use Rattle.mqtt_keep.specs.declared.keeping.keep.KeepError.TheVariants as refusal
-use Rattle.mqtt_rules.specs.step.Step.{Call, Tick}
+use Rattle.mqtt_rules.specs.step.Step.{Call}
 use Rattle.mqtt_rules.specs.declared.step.Limits.{Limits}
 use Rattle.mqtt_world_ends.specs.declared.peers.told.RunFault.{RunFault}
 use Rattle.mqtt_broker_step.specs.declared.call.EngineError.{EngineError}
@@ -15,7 +15,7 @@ use Rattle.mqtt_broker.specs.engine.Opening.{running_in}
 use Rattle.mqtt_broker.specs.engine.Piece.{IsSpentBy, PieceCalled, call_by}
 use Rattle.mqtt_broker.specs.engine.Serving.{Served, Serving}
 use Rattle.mqtt_world.specs.clients.Ends.{Ends}
-use Rattle.mqtt_world.specs.scene.Halting.{IsErrorDue, IsNoStart, IsStoreDue, IsUnbegun, fault_of, not_opened, numbers_spent, over_for, store_failed}
+use Rattle.mqtt_world.specs.scene.Halting.{IsErrorDue, IsLeftRefused, IsNoStart, IsStoreDue, IsUnbegun, by_call, by_piece, device_lied, fault_of, not_opened, numbers_spent, over_for, store_failed}
 use Rattle.mqtt_world.specs.scene.Scenes.{IsPlayable, Played}
 use Rattle.mqtt_world.specs.declared.scene.over.Over.{Over}
 use Rattle.mqtt_world.specs.declared.scene.over.Over.TheVariants as over
@@ -38,20 +38,21 @@ module _ {K : Type 0} (g : Ghosts K) where
   abbrev scene_of : Serving K → Ends → Played K
   scene_of engine ends = record { engine = engine; ends = ends }
 
-  -- a store that failed is a cause; of one whose device isn't sound nothing is said, so any call will do
-  stopped_due : (s : Played K) (left : K) (now : ℕ) → IsPlayable g s
-      → (g.counted left ≢ g.counted s.engine.running.keep) ⊎ (g.is_sound left → ⊥) → IsStoreDue g
-  stopped_due s left now playable (inl failed) = store_failed s left playable failed
-  stopped_due s left now playable (inr lied) = numbers_spent s left now Tick playable (λ sound. absurd (lied sound))
+  -- a store that failed in a call is a cause, and a device that isn't sound after it
+  stopped_due : (s : Played K) (left : Serving K) → IsPlayable g s → IsLeftRefused g s.engine Stopped left
+      → (g.counted left.running.keep ≢ g.counted s.engine.running.keep) ⊎ (g.is_sound left.running.keep → ⊥) → IsStoreDue g
+  stopped_due s left playable refused (inl failed) = store_failed s left playable refused failed
+  stopped_due s left playable refused (inr lied) = device_lied s Stopped left playable refused lied
 
   -- ---- a call of the broker
 
   call_due_at : (s : Played K) (now : ℕ) (call : Call) (error : EngineError) (mid : Serving K) → IsPlayable g s
       → Served g now call s.engine (Err error) mid → IsErrorDue g error
   call_due_at s now call Memory mid playable served = tt
-  call_due_at s now call Stopped mid playable served = stopped_due s mid.running.keep now playable (served.called.cause refl playable.runs)
+  call_due_at s now call Stopped mid playable served =
+      stopped_due s mid playable (by_call now call served) (served.called.cause refl playable.runs)
   call_due_at s now call Spent mid playable served =
-      numbers_spent s mid.running.keep now call playable (λ sound. (served.called.truly sound).spent refl)
+      numbers_spent s mid now call playable (by_call now call served) (λ sound. (served.called.truly sound).spent refl)
 
   -- as a scene is seen
   pub call_due : (now : ℕ) (call : Call) (old : Played K) (engine mid : Serving K) (ends : Ends) (error : EngineError) (result : Result Outcome EngineError)
@@ -62,18 +63,19 @@ module _ {K : Type 0} (g : Ghosts K) where
 
   -- ---- a piece
 
-  -- if nothing was asked no number was spent, so the device was not sound, and any call will do
-  spent_due : (s : Played K) (left : K) (now : ℕ) (call : Option Call) → IsPlayable g s
-      → (g.is_sound left → IsSpentBy s.engine.running.limits s.engine.running.broker now call) → IsStoreDue g
-  spent_due s left now None playable spent = numbers_spent s left now Tick playable (λ sound. absurd (spent sound))
-  spent_due s left now (Some call) playable spent = numbers_spent s left now call playable spent
+  -- if nothing was asked no number was spent, so the device is not sound
+  spent_due : (s : Played K) (left : Serving K) (now : ℕ) (call : Option Call) → IsPlayable g s → IsLeftRefused g s.engine Spent left
+      → (g.is_sound left.running.keep → IsSpentBy s.engine.running.limits s.engine.running.broker now call) → IsStoreDue g
+  spent_due s left now None playable refused spent = device_lied s Spent left playable refused spent
+  spent_due s left now (Some call) playable refused spent = numbers_spent s left now call playable refused spent
 
   piece_due_at : (s : Played K) (now line : ℕ) (piece : List ℕ) (error : EngineError) (mid : Serving K) → IsPlayable g s
       → PieceCalled g now line piece s.engine (Err error) mid → IsErrorDue g error
   piece_due_at s now line piece Memory mid playable called = tt
-  piece_due_at s now line piece Stopped mid playable called = stopped_due s mid.running.keep now playable (called.cause refl playable.runs)
+  piece_due_at s now line piece Stopped mid playable called =
+      stopped_due s mid playable (by_piece now line piece called) (called.cause refl playable.runs)
   piece_due_at s now line piece Spent mid playable called =
-      spent_due s mid.running.keep now (call_by line piece s.engine) playable (λ sound. (called.truly sound).spent refl)
+      spent_due s mid now (call_by line piece s.engine) playable (by_piece now line piece called) (λ sound. (called.truly sound).spent refl)
 
   -- if a piece of bytes is answered with an error, there is a cause for it
   pub piece_due : (now line : ℕ) (piece : List ℕ) (old : Played K) (engine mid : Serving K) (ends : Ends) (error : EngineError) (result : Result Outcome EngineError)

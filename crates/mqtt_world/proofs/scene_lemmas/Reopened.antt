@@ -74,6 +74,7 @@ begins g limits now moment keep engine ends result moment_is is begun held none 
       sound = o.sound;
       lawful = o.lawful;
       passed = o.passed;
+      identifiers = o.identifiers;
       opens = opens g limits now keep (record { engine = engine; ends = ends }) o (none_held engine result is held);
       ends = none;
     }

@@ -4,7 +4,7 @@ use Rattle.mqtt_world_model.specs.model.Run.{Turn, are_beginnings_clean, run}
 use Rattle.mqtt_world_model.specs.model.Tellings.{Telling}
 use Rattle.mqtt_world_model.specs.model.World.{World, start}
 use Rattle.mqtt_world_laws.specs.headline.Lives.{BeginsWell}
-use Rattle.mqtt_world_laws.proofs.headline_lemmas.Delivered.{run_delivers_all}
+use Rattle.mqtt_world_laws.proofs.headline_lemmas.Delivered.{ends_all, enters_all, run_delivers_all}
 use Rattle.mqtt_world_laws.proofs.headline_lemmas.Lives.{start_begins}
 use Rattle.mqtt_world.proofs.script_laws_lemmas.Scripts.{runs_by_turns}
 use Rattle.mqtt_rules.specs.step.Laws.{AreWithin}
@@ -12,6 +12,7 @@ use Rattle.mqtt_rules.specs.step.State.{MemberChoice}
 use Rattle.mqtt_rules.specs.declared.step.Limits.{Limits}
 use Rattle.mqtt_script.specs.declared.event.Event.{Event}
 use Rattle.std.specs.List.{AllByRecursion}
+use Rattle.mqtt_world_laws.proofs.acceptance_lemmas.copies.Walks.{counted}
 use Rattle.mqtt_world_laws.specs.acceptance.Fair.{IsFair}
 use Rattle.mqtt_world_laws.specs.acceptance.Spending.{run_spends}
 use Rattle.mqtt_world_laws.specs.receiver.Drains.{after_round, drain_by, drain_turns, drained, enough_rounds, is_bad_drain, is_over, round_turns}
@@ -142,7 +143,7 @@ module _ (limits : Limits) (es : List Event) (client : List ℕ) (w v : World) (
         unspent = spent_joined limits before turns w comes.fair.unspent (subst (λ (u : World). run_spends limits turns u ≡ false) comes.is unspent);
         clean = carry_joined limits before turns w comes.fair.clean (subst (λ (u : World). are_beginnings_clean limits turns u ≡ true) comes.is same.clean);
       } in
-      let caused : EachHasItsCause limits (before ++ turns) w = run_caused limits (before ++ turns) w untouched.new all in
+      let caused : EachHasItsCause limits (before ++ turns) w = run_caused limits (before ++ turns) w untouched.new (counted limits (before ++ turns) w all) in
       let causes = (parts HasCause (ends_over limits before w) (ends_over limits turns (run limits before w)) (subst (AllByRecursion HasCause) (ends_append limits before turns w) caused)).1 in
       with_causes client (moment_of v) (ends_over limits turns v) (all_his turns x unspent) (subst (λ (u : World). AllByRecursion HasCause (ends_over limits turns u)) (sym comes.is) causes)
 
@@ -200,6 +201,8 @@ pub delivers_once : (limits : Limits) (es : List Event) (tells : List Telling) (
 delivers_once limits es tells w after begins runs = record {
   is_run = runs_by_turns limits es tells w after runs;
   all = λ turns are fair. run_delivers_all limits turns w begins fair;
+  enters = λ turns are counts. enters_all limits turns w begins counts;
+  ends = λ turns are counts. ends_all limits turns w begins counts;
   drained = λ before rest client v turns is comes are unspent. leave_none limits before client w v begins.untouched comes turns are unspent;
 }
 

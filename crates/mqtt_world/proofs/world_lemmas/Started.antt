@@ -89,6 +89,7 @@ module _ {K : Type 0} (g : Ghosts K) (limits : Limits) (keep : K) (s : Played K)
     records = b.records;
     load = b.load;
     lawful = b.lawful;
+    identifiers = b.identifiers;
     choice = b.opens.choice;
     unspent = b.opens.unspent;
     at = staged s [] 0 limits;
@@ -99,12 +100,12 @@ module _ {K : Type 0} (g : Ghosts K) (limits : Limits) (keep : K) (s : Played K)
     nobody = nobody_there b.ends;
     world = world_began g limits b.records s b.opens b.ends;
     events = nothing;
-    comes = λ phases t is sound.
+    comes = λ t is sound.
         let at : staged s [] 0 limits ≡ t = ok_is (Ok (staged s [] 0 limits)) (staged s [] 0 limits) t refl is in
         subst (Came (opened_world limits b.opens.choice 0 b.records) events) at
-        (came_first g limits b.records s events b.opens b.ends (subst (λ (x : Staged K). IsSoundAt g x) (sym at) sound) nothing within b.lawful phases b.passed);
+        (came_first g limits b.records s events b.opens b.ends (subst (λ (x : Staged K). IsSoundAt g x) (sym at) sound) nothing within b.lawful b.identifiers b.passed);
     alone = alone_at_first limits b.opens.choice 0 b.records;
-    sends = λ phases. well_begun limits b.opens.choice 0 b.records b.opens.unspent b.lawful phases;
+    sends = well_begun limits b.opens.choice 0 b.records b.opens.unspent b.lawful b.identifiers;
   }
 
   -- a world that just began, without strangers, can go on

@@ -1,5 +1,5 @@
 -- Why a world that runs is over (MQTT 5.0, 4.1).
-use Rattle.std.specs.Prelude.{◌≢◌, ⊤, ℕ}
+use Rattle.std.specs.Prelude.{◌≢◌, ⊤, ℕ, List, Err}
 use Rattle.mqtt_keep.specs.declared.keeping.keep.Keep.{Ghosts}
 use Rattle.mqtt_keep.specs.declared.keeping.keep.KeepError.{KeepError}
 use Rattle.mqtt_keep.specs.declared.keeping.keep.KeepError.TheVariants as refusal
@@ -10,6 +10,8 @@ use Rattle.mqtt_rules.specs.declared.step.Limits.{Limits}
 use Rattle.mqtt_broker_step.specs.declared.call.EngineError.{EngineError}
 use Rattle.mqtt_broker_step.specs.declared.call.EngineError.TheVariants.{Memory, Stopped, Spent}
 use Rattle.mqtt_broker.specs.stored.Opening.{IsRefused}
+use Rattle.mqtt_broker.specs.engine.Piece.{PieceCalled}
+use Rattle.mqtt_broker.specs.engine.Serving.{Served, Serving}
 use Rattle.mqtt_world.specs.scene.Scenes.{IsPlayable, Played}
 use Rattle.mqtt_world.specs.declared.scene.over.Over.{Over}
 use Rattle.mqtt_world.specs.declared.scene.over.Over.TheVariants as over
@@ -53,12 +55,21 @@ over_for refusal.Schema = over.Store
 -- ---- why Store is answered, by what a store promises alone, whichever it is: over one that counts no failure, and whose device
 -- is sound, only for numbers that are spent, or for what it holds if a broker is opened
 
+-- a call of a broker, or a piece of bytes on a line of it, was refused so, and left this
+pub data IsLeftRefused {K : Type 0} (g : Ghosts K) (s : Serving K) (error : EngineError) (left : Serving K) : Type 0 where
+  by_call : (now : ℕ) (call : Call) → Served g now call s (Err error) left → IsLeftRefused g s error left
+  by_piece : (now line : ℕ) (piece : List ℕ) → PieceCalled g now line piece s (Err error) left → IsLeftRefused g s error left
+
 pub data IsStoreDue {K : Type 0} (g : Ghosts K) : Type 0 where
-  -- in a call of a broker that ran, its store counted a failure
-  store_failed : (s : Played K) (left : K) → IsPlayable g s → g.counted left ≢ g.counted s.engine.running.keep → IsStoreDue g
-  -- a call of a broker that ran needs a number above 2^62, if the device of its store, as the call left that, is sound
-  numbers_spent : (s : Played K) (left : K) (now : ℕ) (call : Call) → IsPlayable g s
-      → (g.is_sound left → SpentStep s.engine.running.limits s.engine.running.broker now call) → IsStoreDue g
+  -- in a call that a broker which ran refused, its store counted a failure
+  store_failed : (s : Played K) (left : Serving K) → IsPlayable g s → IsLeftRefused g s.engine Stopped left
+      → g.counted left.running.keep ≢ g.counted s.engine.running.keep → IsStoreDue g
+  -- such a call left a store whose device isn't sound
+  device_lied : (s : Played K) (error : EngineError) (left : Serving K) → IsPlayable g s → IsLeftRefused g s.engine error left
+      → (g.is_sound left.running.keep → ⊥) → IsStoreDue g
+  -- such a call needs a number above 2^62, if the device of the store that it left is sound
+  numbers_spent : (s : Played K) (left : Serving K) (now : ℕ) (call : Call) → IsPlayable g s → IsLeftRefused g s.engine Spent left
+      → (g.is_sound left.running.keep → SpentStep s.engine.running.limits s.engine.running.broker now call) → IsStoreDue g
   -- the opening of a broker was refused, and not for want of memory
   not_opened : (limits : Limits) (now : ℕ) (keep : K) → IsUnopened g limits now keep → IsStoreDue g
 

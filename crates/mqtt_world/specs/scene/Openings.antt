@@ -6,6 +6,7 @@ use Rattle.mqtt_records.specs.declared.state.records.Records.{Records}
 use Rattle.mqtt_broker.specs.stored.Opening.{IsLoad}
 use Rattle.mqtt_world_model.specs.model.World.{publisher_restarted, receiver_restarted}
 use Rattle.mqtt_records.specs.state.PassedOn.{StoresPassedOn}
+use Rattle.mqtt_rules.specs.spelling.Sending.{HaveSentPhases}
 use Rattle.mqtt_rules.specs.step.State.{MemberChoice}
 use Rattle.mqtt_rules.specs.step.Step.{is_opening_spent, opened}
 use Rattle.mqtt_rules.specs.declared.step.Limits.{Limits}
@@ -33,6 +34,7 @@ pub record Begins {K : Type 0} (g : Ghosts K) (limits : Limits) (now : ℕ) (kee
   pub sound : g.is_sound s.engine.running.keep → g.is_sound loaded
   pub lawful : IsLawful records
   pub passed : StoresPassedOn records
+  pub identifiers : HaveSentPhases records
   pub opens : Opens g limits now records s
   pub ends : s.ends ≡ no_ends
 

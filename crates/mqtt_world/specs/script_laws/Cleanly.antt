@@ -7,8 +7,8 @@ use Rattle.mqtt_rules.specs.declared.step.Limits.{Limits}
 use Rattle.mqtt_world_model.specs.model.Run.{Turn, run}
 use Rattle.mqtt_world_model.specs.model.World as world
 use Rattle.mqtt_world_model.specs.model.World.{World}
-use Rattle.mqtt_world_laws.specs.headline.Delivery.{DeliversExactlyOnce}
-use Rattle.mqtt_world_laws.specs.acceptance.Fair.{IsFair}
+use Rattle.mqtt_world_laws.specs.headline.Delivery.{DeliversExactlyOnce, EndsAllOnce, EntersAllOnce}
+use Rattle.mqtt_world_laws.specs.acceptance.Fair.{IsCounted, IsFair}
 use Rattle.mqtt_world_laws.specs.drain_causes.DrainEnds.{AreOfDrain}
 use Rattle.mqtt_world_laws.specs.drain_causes.Fitting.{NoneTooLarge}
 use Rattle.mqtt_world_laws.specs.drains.Emptied.{waiting_for}
@@ -109,11 +109,14 @@ pub record LeaveNone (limits : Limits) (client : List ℕ) (turns : List Turn) (
   pub ends : AreOfDrain client limits turns w
   pub fit : NoneTooLarge limits turns w
 
--- the events come to turns that lead there and spend no number. Whatever turns they come to, if these are fair, of those all is
--- true that is proved of every run; and each drain among the events leaves none of its receiver's copies, if it spends no number
+-- The events come to turns that lead there and spend no number. Whatever turns they come to, if these are fair, of those all is
+-- true that is proved of every run; and each drain among the events leaves none of its receiver's copies, if it spends no number.
+-- If they spend no number, copies enter and end as they do in every run, whatever ends do, fair or not
 pub record ScriptDelivers (limits : Limits) (es : List Event) (w after : World) : Type 0 where
   pub is_run : IsRunOf limits es w after
   pub all : (turns : List Turn) → AreTurnsOf limits es turns w → IsFair limits turns w → DeliversExactlyOnce limits turns w
+  pub enters : (turns : List Turn) → AreTurnsOf limits es turns w → IsCounted limits turns w → EntersAllOnce limits turns w
+  pub ends : (turns : List Turn) → AreTurnsOf limits es turns w → IsCounted limits turns w → EndsAllOnce limits turns w
   pub drained : (before rest : List Event) (client : List ℕ) (v : World) (turns : List Turn) → es ≡ before ++ Drain client ∷ rest
       → ComesFairly limits before w v → AreTurnsOfDrain limits client turns v → run_spends limits turns v ≡ false
       → LeaveNone limits client turns v

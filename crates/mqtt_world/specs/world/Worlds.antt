@@ -176,6 +176,8 @@ pub record Starts {K : Type 0} (g : Ghosts K) (limits : Limits) (keep : K) (w : 
   pub records : Records
   pub load : IsLoad g keep records loaded
   pub lawful : IsLawful records
+  -- what was in flight has packet identifiers from 1, of two bytes (2.2.1)
+  pub identifiers : HaveSentPhases records
   pub choice : MemberChoice
   pub unspent : is_opening_spent limits choice 0 records ≡ false
   pub at : Staged K
@@ -186,11 +188,11 @@ pub record Starts {K : Type 0} (g : Ghosts K) (limits : Limits) (keep : K) (w : 
   pub nobody : IsUninhabited (world_at at)
   pub world : IsSoundAt g at → world_at at ≡ opened_world limits choice 0 records
   pub events : w.events ≡ []
-  -- its runs have all that is proved of every run, if what was in flight has identifiers of two bytes (2.2.1)
-  pub comes : HaveSentPhases records → HasCome g (opened_world limits choice 0 records) w
+  -- its runs have all that is proved of every run
+  pub comes : HasCome g (opened_world limits choice 0 records) w
   -- nobody is there, and then its broker sends well
   pub alone : IsUninhabited (opened_world limits choice 0 records)
-  pub sends : HaveSentPhases records → SendsWell (opened_world limits choice 0 records).broker
+  pub sends : SendsWell (opened_world limits choice 0 records).broker
 
 -- ---- what is seen of a world; of one that is over there is nothing to see
 

@@ -20,8 +20,9 @@ ghost use Rattle.mqtt_world_laws.specs.acceptance.Fair.{opened_world};
 /// it came to: each message of a publisher was accepted once, with what it carries; of each publication exactly the intended
 /// copies entered queues, each once, and wait or have one end, for its cause; and each receiver was handed its copies once and
 /// in order; and each drain in it left none of its receiver's copies. That is so of all turns that the events may have come to in
-/// which each Clean Start is carried through until its CONNACK is read, and no session of an end's name stands when it is made.
-/// From nothing stored nothing else is asked (3.1.2.4, 3.3.4, 4.3, 4.4, 4.6, 4.8, 4.9).
+/// which each Clean Start is carried through until its CONNACK is read, and no session of an end's name stands when it is made;
+/// that copies enter and end so is true of the others too. From nothing stored nothing else is asked (3.1.2.4, 3.3.4, 4.3, 4.4,
+/// 4.6, 4.8, 4.9).
 pub fn scripts_deliver_exactly_once()
     ensures delivers { (limits : Limits) (es : List Event) (tells : List Telling) (w after : World)
         → BeginsWell limits w → RunsTo limits es tells w after → ScriptDelivers limits es w after }

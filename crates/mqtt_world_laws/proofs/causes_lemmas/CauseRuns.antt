@@ -14,7 +14,7 @@ use Rattle.mqtt_rules.proofs.step_lemmas.fit.StandLaw.{stands_call, stands_openi
 use Rattle.mqtt_world_model.specs.model.World.{World, Setting, Event, publisher, receiver, connect_end, give_up, publish, subscribe, to_end, clock, ask, restart, stop_before, stop_after, Asking, to_broker, old_to_broker, break, pump, tick, stranger, stranger_named, calls_if, comes, next_held, call_of_stranger, held_count, before, call_of, first_step, is_bad}
 use Rattle.mqtt_world_model.specs.model.Run.{End, Turn, setting, turned, deeds_over, ended_in, read_if, read_rest, read_first, read_asked, read_opening, read_in, read_at, the_deeds}
 use Rattle.mqtt_world_laws.specs.acceptance.Spending.{run_spends, spending}
-use Rattle.mqtt_world_laws.specs.acceptance.Fair.{IsSteady, IsNew, IsFair}
+use Rattle.mqtt_world_laws.specs.acceptance.Fair.{IsSteady, IsNew, IsCounted}
 use Rattle.mqtt_world_laws.specs.acceptance.Steps.{step_called, opening_step}
 use Rattle.mqtt_world_laws.proofs.acceptance_lemmas.copies.Walks.{Walk, before_goes, first_goes, if_goes, same_cost, comes_goes, turn_goes}
 use Rattle.mqtt_world_laws.proofs.acceptance_lemmas.publishers.Runs.{either}
@@ -126,7 +126,7 @@ joined [] h = tt
 joined (x ∷ xs) h = each_append HasCause (ends_in x) (flat_map ends_in xs) h.0 (joined xs h.1)
 
 -- each end of a run has its cause
-pub run_caused : (limits : Limits) (ts : List Turn) (w : World) → IsNew w → IsFair limits ts w → EachHasItsCause limits ts w
+pub run_caused : (limits : Limits) (ts : List Turn) (w : World) → IsNew w → IsCounted limits ts w → EachHasItsCause limits ts w
 run_caused limits ts w new fair = joined (asked_over limits ts w) (all_steps limits ts w fair.within new.steady fair.unspent)
 
 -- ---- and these are all ends: the deeds are those of the steps

@@ -44,8 +44,8 @@ use Rattle.mqtt_rules.specs.step.Outbound.{all_turn_deeds, room}
 use Rattle.mqtt_rules.specs.step.Packets.{connack, disconnect, publish_of, size_of, suback, unsuback}
 use Rattle.mqtt_records.specs.messages.PassedOn.{number_at}
 use Rattle.mqtt_rules.specs.step.Routing.{CopyTo, accepted_copies, is_queued, is_wanted, publish}
-use Rattle.mqtt_rules.specs.step.State.{Broker, Env, Line, is_connected, line_at, line_of, queue_on, session_at, session_named}
-use Rattle.mqtt_rules.specs.step.Step.{Call, NewLine, Input, BadInput, Lost, Pump, Tick, can_link, close_if, deeds_of, first_packet, late_code, next_packet, on_fault, on_packet, on_pump, opening}
+use Rattle.mqtt_rules.specs.step.State.{Broker, Env, Line, line_at, line_of, queue_on, session_at, session_named}
+use Rattle.mqtt_rules.specs.step.Step.{Call, NewLine, Input, BadInput, Lost, Pump, Tick, can_link, connected_in, deeds_of, first_packet, late_code, next_packet, on_fault, on_packet, on_pump, opening, settles, settles_all, shuts, shuts_all}
 use Rattle.mqtt_rules.specs.step.Subscribe as sub
 use Rattle.mqtt_rules.specs.step.Tick.{due, first_due, has_lapsed, is_silent, is_stale, lapse_deeds, on_tick, silence}
 use Rattle.mqtt_rules.proofs.step_lemmas.acts.Acts.{brought_to}
@@ -462,10 +462,11 @@ module _ (m : Asked) where
   call_caused (Pump n) asked h = let b = m.step.broker in on_a_line (line_at n b) (λ l. on_pump l l.session) b (λ l there. pumping n l l.session b h asked there there refl)
   call_caused Tick asked h = let b = m.step.broker in ticking (due env b) b (due_caused b h asked)
 
-  closed_if : (t : Bool) (s : Session) → CausedAct (close_if t env s)
-  closed_if false s b h = nothing b
-  closed_if true s b h = acts (always (At (whose s) (Close b.now) ∷ []) ∷ settle env s.birth ∷ []) (quiet (At (whose s) (Close b.now) ∷ []) (tt, tt), (settling s.birth, tt)) b h
+  shutting : (s : Session) → CausedAct (shuts s)
+  shutting s b h = quietly m (At (whose s) (Close b.now) ∷ []) b (tt, tt)
 
   -- each copy that ends in an opening has its cause
   pub opening_caused : CausedAct (opening env)
-  opening_caused b h = acts (map (λ s. close_if (is_connected s) env s) b.records.sessions) (each_act (λ (s : Session). close_if (is_connected s) env s) (λ s. closed_if (is_connected s) s) b.records.sessions) b h
+  opening_caused b h =
+      let ss = connected_in b.records in
+      acts (shuts_all ss ∷ settles_all env ss ∷ []) (acts (map shuts ss) (each_act shuts shutting ss), (acts (map (settles env) ss) (each_act (settles env) (λ (s : Session). settling s.birth) ss), tt)) b h

@@ -20,6 +20,7 @@ use Rattle.mqtt_rules.specs.declared.step.Limits.{Limits}
 use Rattle.mqtt_world_model.specs.model.Ends.{Back, Publisher, Receiver, wire_back}
 use Rattle.mqtt_world_model.specs.model.Run.{Turn, are_beginnings_clean, begins_clean, read_at, read_if, read_in, run, setting, turned}
 use Rattle.mqtt_world_model.specs.model.World.{Event, Setting, View, World, ask, before, calls, calls_if, input_on, is_bad, pump, pump_on, receiver_named, start, to_broker, to_end, view_by, view_of}
+use Rattle.mqtt_world_laws.proofs.acceptance_lemmas.copies.Walks.{counted}
 use Rattle.mqtt_world_laws.specs.acceptance.Fair.{IsFair}
 use Rattle.mqtt_world_laws.specs.acceptance.Spending.{run_spends, spending}
 use Rattle.mqtt_world_laws.specs.acceptance.Steps.{step_called}
@@ -336,7 +337,7 @@ drain_ends limits ts choice client most w u fair unspent =
     let v = run limits ts w in
     let turns = drain_turns limits choice client most v in
     let all : IsFair limits (ts ++ turns) w = record { within = fair.within; unspent = spent_joined limits ts turns w fair.unspent unspent; clean = clean_joined limits ts turns w fair.clean (drain_clean limits choice client most v) } in
-    let caused = run_caused limits (ts ++ turns) w u.new all in
+    let caused = run_caused limits (ts ++ turns) w u.new (counted limits (ts ++ turns) w all) in
     let causes = last_of (ends_over limits ts w) (ends_over limits turns v) (subst (AllByRecursion HasCause) (ends_append limits ts turns w) caused) in
     let its = joined_its ⊤ client (moment_of v) (asked_over limits turns v)
     (drain_its ⊤ client limits (any_fit client limits) choice (moment_of v) most v (fair_run_kept limits ts w u fair client) (run_say limits ts w (none_say w u.new.receivers)) refl unspent) in

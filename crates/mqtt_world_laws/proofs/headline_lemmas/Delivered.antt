@@ -8,12 +8,17 @@ use Rattle.mqtt_world_model.specs.model.Ends.{Content, Receiver}
 use Rattle.mqtt_world_model.specs.model.Laws.{AcceptedOnce, CarriesFrom, contents_by}
 use Rattle.mqtt_world_model.specs.model.Run.{Turn, from_over, run}
 use Rattle.mqtt_world_model.specs.model.World.{World, publisher_named, receiver_named, start}
-use Rattle.mqtt_world_laws.specs.acceptance.Fair.{IsFair}
+use Rattle.mqtt_world_laws.proofs.acceptance_lemmas.copies.CopyRuns.{run_balances, run_numbers}
+use Rattle.mqtt_world_laws.proofs.acceptance_lemmas.copies.OnceRuns.{ends_once, enters_once, waits_or_has_ended}
+use Rattle.mqtt_world_laws.proofs.acceptance_lemmas.copies.Routed.{run_routed}
+use Rattle.mqtt_world_laws.proofs.acceptance_lemmas.copies.StepRuns.{run_enters, run_goes_out}
+use Rattle.mqtt_world_laws.proofs.acceptance_lemmas.copies.Walks.{counted}
+use Rattle.mqtt_world_laws.specs.acceptance.Fair.{IsCounted, IsFair}
 use Rattle.mqtt_world_laws.specs.acceptance.Once.{CarriesIn}
 use Rattle.mqtt_world_laws.proofs.acceptance_lemmas.publishers.Carried.{all_carried}
 use Rattle.mqtt_world_laws.proofs.acceptance_lemmas.publishers.Runs.{accepts_once, few_open, start_new}
 use Rattle.mqtt_world_laws.proofs.routing_lemmas.Intended.{all_enter}
-use Rattle.mqtt_world_laws.proofs.routing_lemmas.Members.{all_find_lines}
+use Rattle.mqtt_world_laws.proofs.routing_lemmas.Members.{all_have_lines}
 use Rattle.mqtt_world_laws.proofs.causes_lemmas.CauseRuns.{all_ends, run_caused}
 use Rattle.mqtt_world_laws.specs.receiver.Drains.{Doing, all_turns}
 use Rattle.mqtt_world_laws.proofs.receiver_lemmas.drains.DrainRuns.{drains_are_runs, run_append}
@@ -25,10 +30,35 @@ use Rattle.mqtt_world_laws.proofs.drains_lemmas.Emptied.{script_empties}
 use Rattle.mqtt_world_laws.proofs.drain_causes_lemmas.DrainRuns.{script_ends}
 use Rattle.mqtt_world_laws.specs.drain_causes.Fitting.{AllDrainsFit}
 use Rattle.mqtt_world_laws.proofs.drain_causes_lemmas.Fitting.{drains_fit}
-use Rattle.mqtt_world_laws.specs.headline.Delivery.{DeliversExactlyOnce, DoingsDeliver, HandsOverOnce}
+use Rattle.mqtt_world_laws.specs.headline.Delivery.{DeliversExactlyOnce, DoingsDeliver, EndsAllOnce, EntersAllOnce, HandsOverOnce}
 use Rattle.mqtt_world_laws.specs.headline.Lives.{AreFairLives, BeginsWell, BrokerLife, IsFairScript, after_lives}
 use Rattle.mqtt_world_laws.proofs.headline_lemmas.Drained.{each_drains}
 use Rattle.mqtt_world_laws.proofs.headline_lemmas.Lives.{lives_begin}
+
+-- ---- what the broker does, whatever ends do
+
+module _ (limits : Limits) (ts : List Turn) (w : World) (m : BeginsWell limits w) (h : IsCounted limits ts w) where
+  -- in every run that spends no number exactly the intended copies enter, each once
+  pub enters_all : EntersAllOnce limits ts w
+  enters_all = record {
+    routed = run_routed limits ts w;
+    numbered = run_numbers limits ts w m.untouched.new h;
+    intended = all_enter limits ts w m.untouched.new h;
+    brought = run_enters limits ts w m.untouched.new h;
+    once = enters_once limits ts w m.untouched.new h m.apart;
+    at_once = run_goes_out limits ts w m.untouched.new h;
+    lines = all_have_lines limits ts w m.untouched.new h;
+  }
+
+  -- and each waits or has one end, for its cause
+  pub ends_all : EndsAllOnce limits ts w
+  ends_all = record {
+    once = ends_once limits ts w m.untouched.new h m.apart;
+    waits_or_has_ended = waits_or_has_ended limits ts w m.untouched.new h m.apart;
+    balanced = run_balances limits ts w m.untouched.new h;
+    causes = run_caused limits ts w m.untouched.new h;
+    all = all_ends limits ts w;
+  }
 
 -- ---- a run
 
@@ -63,22 +93,8 @@ module _ (limits : Limits) (ts : List Turn) (w : World) (m : BeginsWell limits w
   pub run_delivers_all : DeliversExactlyOnce limits ts w
   run_delivers_all = record {
     messages = record { each = all.accepted; carried = all.carried; few_open = all.few_open };
-    entering = record {
-      routed = all.routed;
-      numbered = all.numbered;
-      intended = all_enter limits ts w m.untouched.new fair;
-      brought = all.entered;
-      once = all.enters;
-      at_once = all.goes_out;
-      lines = all_find_lines limits ts w m.untouched.new fair;
-    };
-    ending = record {
-      once = all.ends;
-      waits_or_has_ended = all.waits_or_has_ended;
-      balanced = all.balanced;
-      causes = run_caused limits ts w m.untouched.new fair;
-      all = all_ends limits ts w;
-    };
+    entering = enters_all limits ts w m (counted limits ts w fair);
+    ending = ends_all limits ts w m (counted limits ts w fair);
     receivers = hands_over;
   }
 

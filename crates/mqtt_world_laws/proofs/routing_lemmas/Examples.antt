@@ -153,8 +153,8 @@ pub that_one_is_not_of_the_routing : filter (is_own 1) (entered_from usual (turn
 unfolding varint is_utf8 chars encode
 that_one_is_not_of_the_routing = refl
 
--- ---- a stranger's Will goes to a group whose only member has QoS 0: the member stands on a line, but not while the broker
--- is opened
+-- ---- a stranger's Will goes to a group whose only member has QoS 0: the member stands on a line; but while the broker is opened
+-- it is not connected, and gets none
 
 abbrev s1 : List ℕ
 s1 = codes "s1"
@@ -178,7 +178,16 @@ pub its_member_stands_on_a_line : lines_over (willed ++ ask (stranger s1 (bytes 
 unfolding varint first_of size_at packet_at frame_at versioned_at lawful_at body_at connect_at fields_at will_at user_name_at password_at publish_at delivery_at layout_at block_at items_at items_in text_at blob_at is_utf8 chars encode varint_at groups_at prop_at value_at
 its_member_stands_on_a_line = refl
 
--- and none behind a restart
-pub none_stands_while_it_is_opened : lines_over (willed ++ restart ∷ []) ≡ ((2, false) ∷ []) ∷ []
+-- as the broker restarts it is not connected, and nobody gets one
+pub nobody_gets_one_while_it_is_opened : lines_over (willed ++ restart ∷ []) ≡ [] ∷ []
 unfolding varint first_of size_at packet_at frame_at versioned_at lawful_at body_at connect_at fields_at will_at user_name_at password_at publish_at delivery_at layout_at block_at items_at items_in text_at blob_at is_utf8 chars encode varint_at groups_at prop_at value_at
-none_stands_while_it_is_opened = refl
+nobody_gets_one_while_it_is_opened = refl
+
+-- r2 is a member too, born later, and of QoS 1
+abbrev willed_two : List Event
+willed_two = willed ++ receiver r2 10 0 ∷ joins_group r2 AtLeastOnce
+
+-- it is eligible though no line stands, and so it gets the copy
+pub who_needs_no_line_gets_it : entered_from usual (turns (willed_two ++ restart ∷ [])) start ≡ for_group 3 ∷ []
+unfolding varint first_of size_at packet_at frame_at versioned_at lawful_at body_at connect_at fields_at will_at user_name_at password_at publish_at delivery_at layout_at block_at items_at items_in text_at blob_at is_utf8 chars encode varint_at groups_at prop_at value_at
+who_needs_no_line_gets_it = refl

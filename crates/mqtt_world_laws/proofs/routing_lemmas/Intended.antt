@@ -20,7 +20,7 @@ use Rattle.mqtt_world_model.specs.model.Run.{Turn, run, Acceptance, acceptances_
 use Rattle.mqtt_world_model.specs.model.Laws.{count_of, is_copy, is_own, standing, EnteredOnce, CopiesOnce}
 use Rattle.mqtt_world_laws.specs.acceptance.Copies.{entered_from, ended_from}
 use Rattle.mqtt_world_laws.specs.acceptance.Entries.{queued_ids, ids_if, brought_in}
-use Rattle.mqtt_world_laws.specs.acceptance.Fair.{IsNew, IsFair}
+use Rattle.mqtt_world_laws.specs.acceptance.Fair.{IsNew, IsCounted}
 use Rattle.mqtt_world_laws.specs.acceptance.Steps.{Step, steps_over}
 use Rattle.mqtt_world_laws.proofs.acceptance_lemmas.copies.CopiesApart.{accepted_differ, queued_differ}
 use Rattle.mqtt_world_laws.proofs.acceptance_lemmas.copies.CopyRuns.{run_balances, run_numbers}
@@ -82,7 +82,7 @@ births_in_order (s ∷ ss) h = (behind_births s.birth ss h.0, births_in_order ss
 
 -- ---- a run
 
-module _ (limits : Limits) (ts : List Turn) (w : World) (new : IsNew w) (fair : IsFair limits ts w) where
+module _ (limits : Limits) (ts : List Turn) (w : World) (new : IsNew w) (fair : IsCounted limits ts w) where
   it : Accepts (deeds_over limits ts w) (steps_over limits ts w) (acceptances_over limits ts w)
   it = run_accepts limits ts w new fair
 
@@ -134,14 +134,14 @@ module _ (limits : Limits) (ts : List Turn) (w : World) (new : IsNew w) (fair : 
           ∙ ap (count_by (is_groups a.number s.group)) entered_are
           ∙ one_each a.number a.broker.now a.message r (served_differ (answers a.env a.broker.records) (publication_of a.message) choices (subscribers a.broker.records) order r routed.routing_is) s stands
 
-  -- in a fair run from nothing the copies of each publication enter as they were meant
+  -- in a run that spends no number from nothing the copies of each publication enter as they were meant
   pub all_enter : AllEnterAsIntended limits ts w
   all_enter = each_among (EntersAsIntended limits ts w) (acceptances_over limits ts w) (λ a among. of_acceptance a among (next a among))
 
 -- ---- from nothing stored
 
--- in every fair run the copies of a publication are those that were meant
-pub copies_once : (limits : Limits) (ts : List Turn) → IsFair limits ts start → CopiesOnce limits ts
+-- in every run that spends no number the copies of a publication are those that were meant
+pub copies_once : (limits : Limits) (ts : List Turn) → IsCounted limits ts start → CopiesOnce limits ts
 copies_once limits ts fair = record {
   entered = All-from_recursion (EnteredOnce limits ts) (acceptances_over limits ts start)
       (each_more (EntersAsIntended limits ts start) (EnteredOnce limits ts) (λ a x. record { copies = intended_for a x.routing; routed_is = x.copies_are; entered_is = x.entered_is })

@@ -16,9 +16,9 @@ use Rattle.mqtt_records.specs.declared.state.session.Session.{Session}
 use Rattle.mqtt_records.specs.lists.Order.{IsAscending, row_at}
 use Rattle.mqtt_topic.specs.names.Names.{is_empty}
 use Rattle.mqtt_rules.specs.declared.step.Limits.{Limits}
-use Rattle.mqtt_rules.specs.step.Closing.{end_session, settle, is_due, end_due, has_due_end}
+use Rattle.mqtt_rules.specs.step.Closing.{end_session, is_due, end_due, has_due_end}
 use Rattle.mqtt_rules.specs.step.Connect.{expiry_of, will_of, greet, begin_named, connack_properties}
-use Rattle.mqtt_rules.specs.step.Deeds.{Whose, whose, Message, Origin, Subscribe, Part, Resume, Open, Close, Leave, SetAlias, Hear, Deed, Accept, Begin, Name, Count, At, Finish, Forget, RefuseWill, Link, On, Send, Gone, on_line, without_place, rows_of_all, after, after_all, series, always}
+use Rattle.mqtt_rules.specs.step.Deeds.{Whose, whose, Message, Origin, Subscribe, Part, Resume, Open, Close, Leave, SetAlias, Hear, Deed, Accept, Name, Count, At, Finish, Forget, RefuseWill, Link, On, Send, rows_of_all, after, after_all, series}
 use Rattle.mqtt_rules.specs.step.Fitting.{pump_turns}
 use Rattle.mqtt_rules.specs.step.Inbound.{pump_deeds}
 use Rattle.mqtt_rules.specs.step.Laws.{IsAmong, AreWithin}
@@ -26,8 +26,8 @@ use Rattle.mqtt_rules.specs.step.Lines.{closed_at, HasUniqueLines}
 use Rattle.mqtt_rules.specs.step.Outbound.{of_entry, leave_deeds, turn_deeds}
 use Rattle.mqtt_rules.specs.step.Packets.{connack}
 use Rattle.mqtt_rules.specs.step.Routing.{CopyTo, is_queued, deliver, next_publication, retain_by, publish}
-use Rattle.mqtt_rules.specs.step.State.{Line, Broker, Env, session_at, is_connected, MemberChoice}
-use Rattle.mqtt_rules.specs.step.Step.{Call, deeds, env_of, at_moment, with_moment, is_step_spent, close_if, opening}
+use Rattle.mqtt_rules.specs.step.State.{Line, Broker, Env, session_at, MemberChoice}
+use Rattle.mqtt_rules.specs.step.Step.{Call, deeds, env_of, at_moment, with_moment, is_step_spent}
 use Rattle.mqtt_rules.specs.step.Subscribe as sub
 use Rattle.mqtt_rules.specs.step.Tick.{lapses, lapse_deeds}
 use Rattle.mqtt_rules.proofs.step_lemmas.acts.Acts.{is_alone, closing_session, closing_on, closing, brought_to, MayEnd, IsPrepared, Law, leads_call}
@@ -35,12 +35,12 @@ use Rattle.mqtt_rules.proofs.step_lemmas.acts.ByDeeds.{by_deeds, turn_law}
 use Rattle.mqtt_rules.proofs.step_lemmas.fit.Coherent.{Coheres, IsFit}
 use Rattle.mqtt_rules.proofs.step_lemmas.numbers.Copies.{each_append, each_flat}
 use Rattle.mqtt_rules.proofs.step_lemmas.fit.FitLaw.{Keeps, naming, fit_law, fit_mark, autos_grow}
-use Rattle.mqtt_rules.proofs.step_lemmas.acts.Goods.{AreGood, good_append, good_two}
+use Rattle.mqtt_rules.proofs.step_lemmas.acts.Goods.{AreGood}
 use Rattle.mqtt_rules.proofs.step_lemmas.acts.Leads.{Leads}
-use Rattle.mqtt_rules.proofs.step_lemmas.lines.LineActs.{quiet_turn, quiet_pump, quiet_lapses, quiet_publish, quiet_grants, still_settle}
+use Rattle.mqtt_rules.proofs.step_lemmas.lines.LineActs.{quiet_turn, quiet_pump, quiet_lapses, quiet_publish, quiet_grants}
 use Rattle.mqtt_rules.proofs.step_lemmas.lines.LineLaw.{here, unique_quiet, unique_linked, unique_closes, unique_ended, unique_resumed, unique_begun}
 use Rattle.mqtt_rules.proofs.step_lemmas.lines.LinePrepared.{cleared_shut, prepared_shut, named_is, named_stands}
-use Rattle.mqtt_rules.proofs.step_lemmas.lines.LineRows.{IsStill, IsQuiet}
+use Rattle.mqtt_rules.proofs.step_lemmas.lines.LineRows.{IsQuiet}
 use Rattle.mqtt_rules.proofs.step_lemmas.lines.LineSteps.{Keep}
 use Rattle.mqtt_rules.proofs.step_lemmas.numbers.Counters.{Counts, counts_deed}
 use Rattle.mqtt_rules.proofs.step_lemmas.fit.RowsFit.{made_of, naming_call, moment_last, step_coherent}
@@ -271,39 +271,3 @@ call_unique limits choice now call b within s unspent =
     let autos : (after_all ds c).records.autos ≤ LAST_NUMBER =
     subst (λ (n : ℕ). n ≤ LAST_NUMBER) (stamped_autos (rows_of_all ds c.records) (after_all ds c)) (step_coherent limits choice now call b within s.coherent s.timed s.moment unspent).counters.autos in
     accepted_unique env ds c all.0 autos
-
--- ---- an opening: no line stands
-
-still_close_if : (t : Bool) (env : Env) (s : Session) (b : Broker) → AreGood IsStill (close_if t env s b) b
-still_close_if false env s b = tt
-still_close_if true env s b =
-    good_two IsStill (always (At (whose s) (Close b.now) ∷ [])) (settle env s.birth) b (tt, tt) (still_settle env s.birth (after (At (whose s) (Close b.now)) b))
-
-still_opening : (env : Env) (ss : List Session) (b : Broker) → AreGood IsStill (series (map (λ s. close_if (is_connected s) env s) ss) b) b
-still_opening env [] b = tt
-still_opening env (s ∷ ss) b =
-    let first = close_if (is_connected s) env s b in
-    let c = after_all first b in
-    good_append IsStill first (series (map (λ s. close_if (is_connected s) env s) ss) c) b (still_close_if (is_connected s) env s b) (still_opening env ss c)
-
-no_line : (d : Deed) (b : Broker) → IsStill d b → b.lines ≡ [] → (after d b).lines ≡ []
-no_line (Begin row will) b q none = absurd q
-no_line (Name n) b q none = absurd q
-no_line (Link n) b q none = absurd q
-no_line (Gone n) b q none = absurd q
-no_line (On n part) b q none = ap (on_line b.now n part) none
-no_line (At who (Leave e ending)) b q none = ap (map (without_place who.birth e.place)) none
-no_line (At who part) b q none = none
-no_line d b q none = none
-
-abbrev pub HasNoLine : Acceptance → Type 0
-HasNoLine a = a.broker.lines ≡ []
-
-none_stand : (env : Env) (ds : List Deed) (b : Broker) → AreGood IsStill ds b → b.lines ≡ [] → AllByRecursion HasNoLine (acceptances_of env ds b)
-none_stand env [] b h none = tt
-none_stand env (Accept number origin m ∷ ds) b h none = (none, none_stand env ds (after (Accept number origin m) b) h.1 (no_line (Accept number origin m) b h.0 none))
-none_stand env (d ∷ ds) b h none = none_stand env ds (after d b) h.1 (no_line d b h.0 none)
-
--- while a broker opens there are no lines
-pub opening_lineless : (env : Env) (b : Broker) → b.lines ≡ [] → AllByRecursion HasNoLine (acceptances_of env (opening env b) b)
-opening_lineless env b none = none_stand env (opening env b) b (still_opening env b.records.sessions b) none

@@ -17,13 +17,13 @@ use Rattle.mqtt_rules.proofs.step_lemmas.numbers.Copies.{each_append}
 use Rattle.mqtt_rules.proofs.step_lemmas.lines.LineLaw.{line_found}
 use Rattle.mqtt_world_model.specs.model.Run.{Turn, Acceptance, acceptances_over}
 use Rattle.mqtt_world_model.specs.model.World.{World}
-use Rattle.mqtt_world_laws.specs.acceptance.Fair.{IsNew, IsFair}
+use Rattle.mqtt_world_laws.specs.acceptance.Fair.{IsNew, IsCounted}
 use Rattle.mqtt_world_laws.specs.routing.Groups.{IsServedOnce, AreServedOnce}
 use Rattle.mqtt_world_laws.specs.routing.Intended.{intended_for, EntersAsIntended}
-use Rattle.mqtt_world_laws.specs.routing.Members.{HasLine, HaveLines, FindLines, AllFindLines}
+use Rattle.mqtt_world_laws.specs.routing.Members.{HasLine, HaveLines, AllHaveLines}
 use Rattle.mqtt_world_laws.proofs.routing_lemmas.Intended.{all_enter}
 use Rattle.mqtt_world_laws.proofs.routing_lemmas.OwnCounts.{queued_quality}
-use Rattle.mqtt_world_laws.proofs.routing_lemmas.OwnRuns.{IsLinedUp, run_accepts}
+use Rattle.mqtt_world_laws.proofs.routing_lemmas.OwnRuns.{AreLinedUp, run_accepts}
 
 module _ (env : Env) (b : Broker) (unique : HasUniqueLines b) where
   -- who is connected stands on a line
@@ -87,13 +87,10 @@ have_lines limits ts w a x unique ds e =
     (direct_lines a.env a.broker unique a.number a.broker.now a.message x.routing.direct)
     (groups_line a.env a.broker unique p all x.routing.direct a.number a.broker.now a.message [] (groups all) x.routing.served x.each.served))
 
-all_find : (limits : Limits) (ts : List Turn) (w : World) (accepted : List Acceptance) → AllByRecursion (EntersAsIntended limits ts w) accepted → AllByRecursion IsLinedUp accepted → AllByRecursion FindLines accepted
-all_find limits ts w [] p q = tt
-all_find limits ts w (a ∷ rest) p q = (
-  elim q.0 [ inl unique ↦ inl (have_lines limits ts w a p.0 unique) | inr none ↦ inr none ],
-  all_find limits ts w rest p.1 q.1,
-)
+all_have : (limits : Limits) (ts : List Turn) (w : World) (accepted : List Acceptance) → AllByRecursion (EntersAsIntended limits ts w) accepted → AreLinedUp accepted → AllByRecursion HaveLines accepted
+all_have limits ts w [] p q = tt
+all_have limits ts w (a ∷ rest) p q = (have_lines limits ts w a p.0 q.0, all_have limits ts w rest p.1 q.1)
 
--- in every fair run the members that are asked for stand as they were found
-pub all_find_lines : (limits : Limits) (ts : List Turn) (w : World) → IsNew w → IsFair limits ts w → AllFindLines limits ts w
-all_find_lines limits ts w new fair = all_find limits ts w (acceptances_over limits ts w) (all_enter limits ts w new fair) (run_accepts limits ts w new fair).lined
+-- in every run that spends no number the members that are asked for stand as they were found
+pub all_have_lines : (limits : Limits) (ts : List Turn) (w : World) → IsNew w → IsCounted limits ts w → AllHaveLines limits ts w
+all_have_lines limits ts w new fair = all_have limits ts w (acceptances_over limits ts w) (all_enter limits ts w new fair) (run_accepts limits ts w new fair).lined

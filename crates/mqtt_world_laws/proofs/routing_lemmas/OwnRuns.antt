@@ -1,5 +1,5 @@
 -- Over a run: its acceptances are those of its steps, numbered as its deeds number them, and each comes with the next number on tables in order.
-use Rattle.std.proofs.Common.{◌⊎◌, inl, inr, ◌≡◌, ℕ, zero, suc, Bool, true, false, cond, List, [], ◌∷◌, ◌++◌, map, Option, Some, None, refl, sym, ap, ◌∙◌, append-nil}
+use Rattle.std.proofs.Common.{◌≡◌, ℕ, zero, suc, Bool, true, false, cond, List, [], ◌∷◌, ◌++◌, map, Option, Some, None, refl, sym, ap, ◌∙◌, append-nil}
 use Rattle.std.specs.Prelude.{⊤, flat_map, filter_map}
 use Rattle.std.specs.List.{AllByRecursion}
 use Rattle.std.proofs.lemmas.Grind.{flat_map-append}
@@ -11,16 +11,16 @@ use Rattle.mqtt_rules.specs.step.Deeds.{Deed, Link}
 use Rattle.mqtt_rules.specs.step.Laws.{AreWithin}
 use Rattle.mqtt_rules.specs.step.Numbers.{publication_given}
 use Rattle.mqtt_rules.specs.step.Step.{Call, NewLine, can_link, env_of, at_moment, deeds, unopened}
-use Rattle.mqtt_rules.specs.step.Lines.{HasUniqueLines}
-use Rattle.mqtt_rules.proofs.step_lemmas.numbers.Copies.{each_append, each_more}
+use Rattle.mqtt_rules.proofs.step_lemmas.numbers.Copies.{each_append}
 use Rattle.mqtt_world_model.specs.model.World.{World, Setting, Event, publisher, receiver, connect_end, give_up, publish, subscribe, to_end, clock, ask, restart, stop_before, stop_after, Asking, to_broker, old_to_broker, break, pump, tick, stranger, stranger_named, calls_if, comes, next_held, call_of_stranger, held_count, before, call_of, first_step, is_bad}
 use Rattle.mqtt_world_model.specs.model.Run.{Turn, setting, turned, deeds_at, deeds_over, read_if, read_rest, read_first, read_asked, read_opening, read_in, read_at, the_deeds, Acceptance, acceptances_of, acceptances_over, the_acceptances}
 use Rattle.mqtt_world_laws.specs.acceptance.Spending.{run_spends, spending}
-use Rattle.mqtt_world_laws.specs.acceptance.Fair.{IsSteady, IsNew, IsFair}
+use Rattle.mqtt_world_laws.specs.acceptance.Fair.{IsSteady, IsNew, IsCounted}
 use Rattle.mqtt_world_laws.specs.acceptance.Steps.{Step, step_called, opening_step, steps_over, the_steps}
 use Rattle.mqtt_world_laws.proofs.acceptance_lemmas.copies.Walks.{Walk, before_goes, first_goes, if_goes, same_cost, comes_goes, turn_goes}
 use Rattle.mqtt_world_laws.proofs.acceptance_lemmas.publishers.Runs.{either}
-use Rattle.mqtt_world_laws.proofs.routing_lemmas.LinesStand.{IsUnique, HasNoLine, call_unique, opening_lineless}
+use Rattle.mqtt_world_laws.proofs.routing_lemmas.LinesStand.{IsUnique, call_unique}
+use Rattle.mqtt_world_laws.proofs.routing_lemmas.OpeningLines.{opening_lined}
 use Rattle.mqtt_world_laws.proofs.routing_lemmas.OwnSteps.{AreNext, call_next, opening_next, numbers_are}
 
 -- steps that keep the tables in order, of which nothing else is said
@@ -43,12 +43,9 @@ number_of a = a.number
 abbrev pub accepted_in : Step → List Acceptance
 accepted_in x = acceptances_of x.env x.deeds x.broker
 
--- lines are unique if a publication is accepted, or none stands
-abbrev pub IsLinedUp : Acceptance → Type 0
-IsLinedUp a = HasUniqueLines a.broker ⊎ (a.broker.lines ≡ [])
-
+-- lines are unique where each publication is accepted
 abbrev pub AreLinedUp : List Acceptance → Type 0
-AreLinedUp accepted = AllByRecursion IsLinedUp accepted
+AreLinedUp accepted = AllByRecursion IsUnique accepted
 
 -- these deeds are done in these steps, and these are what they accept
 pub record Accepts (ds : List Deed) (xs : List Step) (accepted : List Acceptance) : Type 0 where
@@ -69,7 +66,7 @@ both_accept ds es xs ys accepted cs p q = record {
       ∙ sym (map-append number_of accepted cs);
   accepted_are = ap (λ (zs : List Acceptance). zs ++ cs) p.accepted_are ∙ ap (λ (zs : List Acceptance). flat_map accepted_in xs ++ zs) q.accepted_are ∙ sym (flat_map-append accepted_in xs ys);
   each = each_append (λ (x : Step). AreNext (accepted_in x)) xs ys p.each q.each;
-  lined = each_append IsLinedUp accepted cs p.lined q.lined;
+  lined = each_append IsUnique accepted cs p.lined q.lined;
 }
 
 module _ (set : Setting) (within : AreWithin set.limits) where
@@ -77,7 +74,7 @@ module _ (set : Setting) (within : AreWithin set.limits) where
   if_accepts None w s unspent = none_accept
   if_accepts (Some call) w s unspent =
       one_accepts (step_called set call w) (call_next (env_of set.limits set.choice w.broker) call (at_moment w.now w.broker) s.coherent.ordered)
-      (each_more IsUnique IsLinedUp (λ a unique. inl unique) (accepted_in (step_called set call w)) (call_unique set.limits set.choice w.now call w.broker within s unspent))
+      (call_unique set.limits set.choice w.now call w.broker within s unspent)
 
   -- a new line accepts nothing
   line_accepts : (w : World) → Accepts (deeds set.limits set.choice w.now NewLine w.broker) (step_called set NewLine w ∷ []) []
@@ -94,7 +91,7 @@ module _ (set : Setting) (within : AreWithin set.limits) where
   opening_accepts w s =
       let b = unopened w.now w.broker.records in
       one_accepts (opening_step set w) (opening_next (env_of set.limits set.choice b) b s.coherent.ordered)
-      (each_more HasNoLine IsLinedUp (λ a none. inr none) (accepted_in (opening_step set w)) (opening_lineless (env_of set.limits set.choice b) b refl))
+      (opening_lined (env_of set.limits set.choice b) b refl)
 
   first_accepts : (a : Asking) (w : World) → IsSteady w.broker → read_first spending set a w ≡ false → Accepts (read_first the_deeds set a w) (read_first the_steps set a w) (read_first the_acceptances set a w)
   first_accepts a w s unspent = if_accepts (call_of set a w) (before set a w) (before_goes Any set (anything set.limits) within a w s).steady unspent
@@ -163,6 +160,6 @@ all_accept limits (t ∷ ts) w within s unspent =
     both_accept (deeds_at (setting limits t) t.event w) (deeds_over limits ts v) (read_at the_steps (setting limits t) t.event w) (steps_over limits ts v)
     (read_at the_acceptances (setting limits t) t.event w) (acceptances_over limits ts v) (turn_accepts limits t w within s costs.0) (all_accept limits ts v within next.steady costs.1)
 
--- in every fair run what entered is what acceptances meant
-pub run_accepts : (limits : Limits) (ts : List Turn) (w : World) → IsNew w → IsFair limits ts w → Accepts (deeds_over limits ts w) (steps_over limits ts w) (acceptances_over limits ts w)
+-- in every run that spends no number what entered is what acceptances meant
+pub run_accepts : (limits : Limits) (ts : List Turn) (w : World) → IsNew w → IsCounted limits ts w → Accepts (deeds_over limits ts w) (steps_over limits ts w) (acceptances_over limits ts w)
 run_accepts limits ts w new fair = all_accept limits ts w fair.within new.steady fair.unspent

@@ -22,7 +22,7 @@ use Rattle.mqtt_world_laws.specs.acceptance.Identities.{TellsApart, may_come, qu
 use Rattle.mqtt_world_laws.proofs.acceptance_lemmas.copies.CopyRuns.{run_balances}
 use Rattle.mqtt_world_laws.proofs.acceptance_lemmas.copies.Counting.{E, count_append}
 use Rattle.mqtt_world_laws.proofs.acceptance_lemmas.copies.Entries.{AreKept, Enters, U, call_counted, enters_next, opening_counted}
-use Rattle.mqtt_world_laws.proofs.acceptance_lemmas.copies.Walks.{Walk, run_walks}
+use Rattle.mqtt_world_laws.proofs.acceptance_lemmas.copies.Walks.{Walk, run_walks, counted}
 use Rattle.mqtt_world_laws.proofs.receiver_lemmas.queue.Handed.{copy_itself}
 use Rattle.mqtt_world_laws.proofs.unsent_lemmas.Rows.{AreSent, IsSent, QueueSent}
 
@@ -68,11 +68,11 @@ module _ (x : CopyId) where
         given = each_more (IsCoherentMessage r.publications) (λ k. k.publication ≤ r.publications) (λ k q. q.0) r.retained new.steady.coherent.retained;
         differ = apart.retained;
       } in
-      let all = run_walks Counts limits ts w (counts limits) new fair begun in
-      let counted : count_of x (entered_from limits ts w) + U x (kinds (run limits ts w).broker.records) ≤ U x (kinds r) = all.counted in
+      let all = run_walks Counts limits ts w (counts limits) new (counted limits ts w fair) begun in
+      let few : count_of x (entered_from limits ts w) + U x (kinds (run limits ts w).broker.records) ≤ U x (kinds r) = all.counted in
       let first : count_of x (standing w.broker) + U x (kinds r) ≤ 1 = one_or_other r apart in
-      let even : count_of x (standing (run limits ts w).broker) + count_of x (ended_from limits ts w) ≡ count_of x (standing w.broker) + count_of x (entered_from limits ts w) = run_balances limits ts w new fair x in
-      record { once = omega (arith, counted, first, even); kept = all.kept }
+      let even : count_of x (standing (run limits ts w).broker) + count_of x (ended_from limits ts w) ≡ count_of x (standing w.broker) + count_of x (entered_from limits ts w) = run_balances limits ts w new (counted limits ts w fair) x in
+      record { once = omega (arith, few, first, even); kept = all.kept }
 
   -- ---- rows of one copy
 

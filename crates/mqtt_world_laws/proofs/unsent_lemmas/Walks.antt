@@ -27,7 +27,7 @@ use Rattle.mqtt_world_laws.specs.acceptance.Fair.{IsFair, IsNew, IsSteady}
 use Rattle.mqtt_world_laws.specs.acceptance.Spending.{run_spends, spending}
 use Rattle.mqtt_world_laws.proofs.acceptance_lemmas.copies.Counting.{E, e_append}
 use Rattle.mqtt_world_laws.proofs.acceptance_lemmas.copies.Entries.{AreKept, U, call_counted, opening_counted}
-use Rattle.mqtt_world_laws.proofs.acceptance_lemmas.copies.Walks.{Walk, run_walks, turn_goes}
+use Rattle.mqtt_world_laws.proofs.acceptance_lemmas.copies.Walks.{Walk, run_walks, turn_goes, counted}
 use Rattle.mqtt_world_laws.proofs.acceptance_lemmas.publishers.Runs.{either}
 use Rattle.mqtt_world_laws.proofs.receiver_lemmas.queue.Handed.{copy_itself}
 use Rattle.mqtt_world_laws.specs.causes.Causes.{HasCause, IsCause}
@@ -94,7 +94,7 @@ late limits = record {
 
 -- in every run
 pub run_late : (limits : Limits) (ts : List Turn) (w : World) → IsNew w → IsFair limits ts w → AreLate (deeds_over limits ts w)
-run_late limits ts w new fair = run_walks (λ ds b d. AreLate ds) limits ts w (late limits) new fair
+run_late limits ts w new fair = run_walks (λ ds b d. AreLate ds) limits ts w (late limits) new (counted limits ts w fair)
 
 -- ---- a copy that was sent
 

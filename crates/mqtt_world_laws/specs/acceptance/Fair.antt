@@ -42,6 +42,12 @@ pub record MayOpen (limits : Limits) (choice : MemberChoice) (now : ℕ) (r : Re
   pub coherent : IsCoherent r
   pub unspent : is_opening_spent limits choice now r ≡ false
 
+-- what is asked of a run where nothing is said of ends, whatever they do: the limits are within those of the tables, and no
+-- number is spent
+pub record IsCounted (limits : Limits) (ts : List Turn) (w : World) : Type 0 where
+  pub within : AreWithin limits
+  pub unspent : run_spends limits ts w ≡ false
+
 -- what is asked of a run: the limits are within those of the tables, no number is spent, no session of an end's name
 -- stands when it is made, and each Clean Start is carried through (3.1.2.4, ours); whatever else its events are
 pub record IsFair (limits : Limits) (ts : List Turn) (w : World) : Type 0 where

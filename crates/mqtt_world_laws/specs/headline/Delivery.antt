@@ -15,7 +15,7 @@ use Rattle.mqtt_world_laws.specs.acceptance.Entries.{IsEntered}
 use Rattle.mqtt_world_laws.specs.acceptance.Identities.{EndsOnce, EntersOnce, WaitsOrHasEnded}
 use Rattle.mqtt_world_laws.specs.acceptance.Once.{HasCarried, IsAcceptedOnce}
 use Rattle.mqtt_world_laws.specs.routing.Intended.{AllEnterAsIntended}
-use Rattle.mqtt_world_laws.specs.routing.Members.{AllFindLines}
+use Rattle.mqtt_world_laws.specs.routing.Members.{AllHaveLines}
 use Rattle.mqtt_world_laws.specs.causes.Causes.{EachHasItsCause}
 use Rattle.mqtt_world_laws.specs.causes.Endings.{AreAllEnds}
 use Rattle.mqtt_world_laws.specs.receiver.Drains.{Doing, after_doings, all_turns, copies_left, drain_turns, drains, enough_rounds, happens}
@@ -47,7 +47,7 @@ pub record EntersAllOnce (limits : Limits) (ts : List Turn) (w : World) : Type 0
   pub brought : IsEntered limits ts w
   pub once : (copy : CopyId) → EntersOnce copy limits ts w
   pub at_once : AllGoOut limits ts w
-  pub lines : AllFindLines limits ts w
+  pub lines : AllHaveLines limits ts w
 
 -- ---- copies end once
 

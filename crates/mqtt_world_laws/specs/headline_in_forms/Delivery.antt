@@ -20,7 +20,7 @@ use Rattle.mqtt_world_laws.specs.acceptance.Entries.{brought_in, queued_ids}
 use Rattle.mqtt_world_laws.specs.acceptance.Once.{CarriesIn, carriers}
 use Rattle.mqtt_world_laws.specs.routing.Groups.{EachGetsOne}
 use Rattle.mqtt_world_laws.specs.routing.Intended.{enters_queue, intended_for, is_groups, is_intended}
-use Rattle.mqtt_world_laws.specs.routing.Members.{FindLines}
+use Rattle.mqtt_world_laws.specs.routing.Members.{HaveLines}
 use Rattle.mqtt_world_laws.specs.causes.Causes.{HasCause}
 use Rattle.mqtt_world_laws.specs.causes.Endings.{end_of}
 use Rattle.mqtt_world_laws.specs.receiver.Drains.{Doing, copies_left, drains, enough_rounds, happens, is_bad_drain}
@@ -82,7 +82,7 @@ pub record EntersAllOnce (c : Course) : Type 0 where
   pub brought : entered c ≡ flat_map brought_in c.steps
   pub once : (copy : CopyId) → count_of copy (entered c) ≤ 1
   pub at_once : AllByRecursion GoesOut c.steps
-  pub lines : AllByRecursion FindLines c.acceptances
+  pub lines : AllByRecursion HaveLines c.acceptances
 
 -- ---- copies end once
 

@@ -1,6 +1,6 @@
--- A copy of QoS 0 for a member of a group always has a line to go out on, but while the broker is opened, when none
--- stands (MQTT 5.0, 4.1, 4.3.1, 4.8.2).
-use Rattle.std.specs.Prelude.{◌≡◌, ◌⊎◌, false, List, [], Some}
+-- A copy of QoS 0 for a member of a group always has a line to go out on (MQTT 5.0, 4.3.1, 4.8.2). Nor is there one without a line
+-- while the broker opens: nobody is connected then (4.1).
+use Rattle.std.specs.Prelude.{◌≡◌, false, List, Some}
 use Rattle.std.specs.List.{AllByRecursion}
 use Rattle.mqtt_rules.specs.declared.step.Limits.{Limits}
 use Rattle.mqtt_rules.specs.step.State.{Broker, Line, line_of}
@@ -17,9 +17,5 @@ HasLine b d = is_queued d ≡ false → is_direct d.copy.id.cause ≡ false → 
 abbrev pub HaveLines : Acceptance → Type 0
 HaveLines a = (ds : List CopyTo) → accepted_copies a.env a.message a.broker ≡ Some ds → AllByRecursion (HasLine a.broker) ds
 
--- or no line stands at all, since the broker is being opened
-abbrev pub FindLines : Acceptance → Type 0
-FindLines a = HaveLines a ⊎ (a.broker.lines ≡ [])
-
-abbrev pub AllFindLines : Limits → List Turn → World → Type 0
-AllFindLines limits ts w = AllByRecursion FindLines (acceptances_over limits ts w)
+abbrev pub AllHaveLines : Limits → List Turn → World → Type 0
+AllHaveLines limits ts w = AllByRecursion HaveLines (acceptances_over limits ts w)

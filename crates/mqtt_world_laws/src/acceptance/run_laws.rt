@@ -12,7 +12,7 @@ ghost use Rattle.mqtt_world_model.specs.model.Run.{Turn, run};
 ghost use Rattle.mqtt_world_laws.specs.acceptance.AtOnce.{AllGoOut, Arrives, IsKeptBack};
 ghost use Rattle.mqtt_world_laws.specs.acceptance.Copies.{AreCountedOn, AreRouted, IsBalanced};
 ghost use Rattle.mqtt_world_laws.specs.acceptance.Entries.{IsEntered};
-ghost use Rattle.mqtt_world_laws.specs.acceptance.Fair.{IsFair, IsNew, MayOpen, opened_world};
+ghost use Rattle.mqtt_world_laws.specs.acceptance.Fair.{IsCounted, IsFair, IsNew, MayOpen, opened_world};
 ghost use Rattle.mqtt_world_laws.specs.acceptance.Identities.{EndsOnce, EntersOnce, TellsApart, WaitsOrHasEnded};
 ghost use Rattle.mqtt_world_laws.specs.acceptance.Once.{HasCarried, IsAcceptedOnce};
 
@@ -34,7 +34,7 @@ pub fn every_run_accepts_once()
 /// queue waits there or has ended, as often as it entered; none is lost by a restart or a stop, and none ends
 /// more often than it entered (4.3, 4.4, 4.6).
 pub fn every_copy_waits_or_has_ended()
-    ensures balance { (limits : Limits) (ts : List Turn) (w : World) → IsNew w → IsFair limits ts w
+    ensures balance { (limits : Limits) (ts : List Turn) (w : World) → IsNew w → IsCounted limits ts w
         → (c : CopyId) → IsBalanced c limits ts w }
 {}
 
@@ -43,20 +43,20 @@ pub fn every_copy_waits_or_has_ended()
 /// one end with its cause, never both. One that stood there at the beginning never ends twice either (3.3.1.3,
 /// 3.3.4, 4.3, 4.4, 4.6).
 pub fn each_copy_enters_and_ends_once()
-    ensures enters { (limits : Limits) (ts : List Turn) (w : World) → IsNew w → IsFair limits ts w
+    ensures enters { (limits : Limits) (ts : List Turn) (w : World) → IsNew w → IsCounted limits ts w
         → TellsApart w.broker.records → (c : CopyId) → EntersOnce c limits ts w }
-    ensures ends { (limits : Limits) (ts : List Turn) (w : World) → IsNew w → IsFair limits ts w
+    ensures ends { (limits : Limits) (ts : List Turn) (w : World) → IsNew w → IsCounted limits ts w
         → TellsApart w.broker.records → (c : CopyId) → EndsOnce c limits ts w }
-    ensures either { (limits : Limits) (ts : List Turn) (w : World) → IsNew w → IsFair limits ts w
+    ensures either { (limits : Limits) (ts : List Turn) (w : World) → IsNew w → IsCounted limits ts w
         → TellsApart w.broker.records → (c : CopyId) → WaitsOrHasEnded c limits ts w }
 {}
 
 /// Each publication that is accepted, of a client or a Will, was routed to the sessions and subscriptions that
-/// stood as it was accepted, with the members that the broker chose, in every run whatever; and in a fair run
-/// publications are numbered one after the other, so that no two have one number (3.3.4, 4.8).
+/// stood as it was accepted, with the members that the broker chose, in every run whatever; and in a run that
+/// spends no number publications are numbered one after the other, so that no two have one number (3.3.4, 4.8).
 pub fn every_publication_is_routed()
     ensures routed { (limits : Limits) (ts : List Turn) (w : World) → AreRouted limits ts w }
-    ensures numbered { (limits : Limits) (ts : List Turn) (w : World) → IsNew w → IsFair limits ts w
+    ensures numbered { (limits : Limits) (ts : List Turn) (w : World) → IsNew w → IsCounted limits ts w
         → AreCountedOn limits ts w }
 {}
 
@@ -64,7 +64,7 @@ pub fn every_publication_is_routed()
 /// publication that is accepted those of its routing on the state on which it was accepted, and for each
 /// filter that is granted those of the retained messages it brings (3.3.1.3, 3.3.4, 3.8.4, 4.8).
 pub fn exactly_the_intended_copies_enter()
-    ensures entries { (limits : Limits) (ts : List Turn) (w : World) → IsNew w → IsFair limits ts w
+    ensures entries { (limits : Limits) (ts : List Turn) (w : World) → IsNew w → IsCounted limits ts w
         → IsEntered limits ts w }
 {}
 
@@ -73,7 +73,7 @@ pub fn exactly_the_intended_copies_enter()
 /// for a receiver's line is under way to it right after, behind what was; a stop after the commit keeps it back
 /// (3.1.2.11.4, 3.3.4, 4.3.1).
 pub fn copies_of_qos_0_go_out_at_once()
-    ensures outputs { (limits : Limits) (ts : List Turn) (w : World) → IsNew w → IsFair limits ts w
+    ensures outputs { (limits : Limits) (ts : List Turn) (w : World) → IsNew w → IsCounted limits ts w
         → AllGoOut limits ts w }
     ensures arrive { (set : Setting) (call : Call) (w : World) (client : List ℕ) → Arrives set call w client }
     ensures kept_back { (set : Setting) (a : Asking) (w : World) (client : List ℕ) → IsKeptBack set a w client }

@@ -7,10 +7,15 @@ ghost use Rattle.mqtt_rules.specs.declared.step.Limits.{Limits};
 ghost use Rattle.mqtt_world_model.specs.model.Laws.{AcceptedOnce, AllHandedOnce, CopiesOnce};
 ghost use Rattle.mqtt_world_model.specs.model.Run.{Turn, run};
 ghost use Rattle.mqtt_world_model.specs.model.World.{World, start};
-ghost use Rattle.mqtt_world_laws.specs.acceptance.Fair.{IsFair, opened_world};
+ghost use Rattle.mqtt_world_laws.specs.acceptance.Fair.{IsCounted, IsFair, opened_world};
 ghost use Rattle.mqtt_world_laws.specs.receiver.Drains.{Doing};
 ghost use Rattle.mqtt_world_laws.specs.drain_causes.Fitting.{AllDrainsFit};
-ghost use Rattle.mqtt_world_laws.specs.headline.Delivery.{DeliversExactlyOnce, DoingsDeliver};
+ghost use Rattle.mqtt_world_laws.specs.headline.Delivery.{
+  DeliversExactlyOnce,
+  DoingsDeliver,
+  EndsAllOnce,
+  EntersAllOnce,
+};
 ghost use Rattle.mqtt_world_laws.specs.headline.Lives.{
   AreFairLives,
   BeginsWell,
@@ -42,8 +47,18 @@ pub fn messages_are_delivered_exactly_once()
 
     // From nothing stored, in the words of the run.
     ensures messages { (limits : Limits) (ts : List Turn) → IsFair limits ts start → AcceptedOnce limits ts }
-    ensures copies { (limits : Limits) (ts : List Turn) → IsFair limits ts start → CopiesOnce limits ts }
+    ensures copies { (limits : Limits) (ts : List Turn) → IsCounted limits ts start → CopiesOnce limits ts }
     ensures receivers { (limits : Limits) (ts : List Turn) → IsFair limits ts start → AllHandedOnce limits ts }
+{}
+
+/// What the broker does with copies holds of every run that spends no number, whatever its ends do: also where one gives a
+/// Clean Start up before its CONNACK. Of each publication exactly the intended copies enter queues, each once; each waits or
+/// has one end, for its cause (3.3.4, 4.3, 4.4, 4.8).
+pub fn copies_enter_and_end_once_whatever_ends_do()
+    ensures entering { (limits : Limits) (ts : List Turn) (w : World) → BeginsWell limits w
+        → IsCounted limits ts w → EntersAllOnce limits ts w }
+    ensures ending { (limits : Limits) (ts : List Turn) (w : World) → BeginsWell limits w
+        → IsCounted limits ts w → EndsAllOnce limits ts w }
 {}
 
 /// So a run may begin: with nothing stored, or when the broker is opened on what any fair run has left that began so, under

@@ -7,10 +7,10 @@ ghost use Rattle.mqtt_routes.specs.routing.Acceptance.{Routed, routed};
 ghost use Rattle.mqtt_routes.specs.routing.Intended.{Answers, Publication};
 ghost use Rattle.mqtt_routes.specs.routing.Subscriptions.{AreInOrder, Subscriber};
 ghost use Rattle.mqtt_rules.specs.declared.step.Limits.{Limits};
-ghost use Rattle.mqtt_world_laws.specs.acceptance.Fair.{IsFair, IsNew};
+ghost use Rattle.mqtt_world_laws.specs.acceptance.Fair.{IsCounted, IsNew};
 ghost use Rattle.mqtt_world_laws.specs.routing.Groups.{EachGetsOne};
 ghost use Rattle.mqtt_world_laws.specs.routing.Intended.{AllEnterAsIntended};
-ghost use Rattle.mqtt_world_laws.specs.routing.Members.{AllFindLines};
+ghost use Rattle.mqtt_world_laws.specs.routing.Members.{AllHaveLines};
 
 /// Whoever is chosen among the members of groups: each session with a subscription of its own that matches gets one
 /// direct copy, and no other session gets any; and each group with a matching subscription is served once, one after
@@ -26,17 +26,17 @@ pub fn each_session_and_each_group_gets_one_copy()
 /// of them once, and no other copy of this publication but those that a later SUBSCRIBE brings of it as a retained
 /// message. So for each group one copy enters, or none if no member got one of QoS 1 or 2 (3.3.4, 4.3, 4.8.2).
 pub fn each_publication_enters_exactly_its_copies()
-    ensures enters { (limits : Limits) (ts : List Turn) (w : World) → IsNew w → IsFair limits ts w
+    ensures enters { (limits : Limits) (ts : List Turn) (w : World) → IsNew w → IsCounted limits ts w
         → AllEnterAsIntended limits ts w }
 
     // From nothing stored: so entered, at most once, and waits or has ended once, in the words of the run.
-    ensures every { (limits : Limits) (ts : List Turn) → IsFair limits ts start → CopiesOnce limits ts }
+    ensures every { (limits : Limits) (ts : List Turn) → IsCounted limits ts start → CopiesOnce limits ts }
 {}
 
-/// A member of a group gets a copy of QoS 0 only if its session is connected; and whoever is connected as a call of
-/// the broker accepts a publication stands on a line. So that copy goes out at once, or it is too large for its
-/// client; but while the broker is opened no line stands at all, and nothing goes out (4.1, 4.3.1, 4.8.2).
+/// A member of a group gets a copy of QoS 0 only if its session is connected; and whoever is connected as a
+/// publication is accepted stands on a line. So that copy goes out at once, or it is too large for its client. A Will
+/// that is published as the broker opens goes to no such member: nobody is connected then (4.1, 4.3.1, 4.8.2).
 pub fn copies_of_members_find_a_line()
-    ensures { (limits : Limits) (ts : List Turn) (w : World) → IsNew w → IsFair limits ts w
-        → AllFindLines limits ts w }
+    ensures { (limits : Limits) (ts : List Turn) (w : World) → IsNew w → IsCounted limits ts w
+        → AllHaveLines limits ts w }
 {}

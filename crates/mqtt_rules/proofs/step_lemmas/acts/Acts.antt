@@ -1,6 +1,7 @@
 -- The one induction over all acts: what a law has to say of each unit of deeds, so that it holds of every call and opening.
 use Rattle.std.proofs.Common.{◌≡◌, ℕ, Bool, true, false, cond, not, ◌&&◌, ◌||◌, List, [], ◌∷◌, ◌++◌, ◌⊎◌, length, filter, map, Option, Some, None, nat_eq, bytes_eq, refl, sym, ap, subst, ◌∙◌, inl, inr}
 use Rattle.std.specs.Prelude.{⊤, suc, nat_lt, nat_le, flat_map, find, option_map, is_none, Ok, Err}
+use Rattle.std.proofs.lemmas.Bool.{cases_Bool}
 use Rattle.std.proofs.lemmas.Slice.Eq.{bytes_eq-Decides}
 use Rattle.mqtt_props.specs.declared.table.PropName.TheVariants.{SessionExpiryInterval, SubscriptionIdentifier, TopicAlias}
 use Rattle.mqtt_packet.specs.declared.connect.connect.Connect.{Connect as Greeting}
@@ -43,7 +44,7 @@ use Rattle.mqtt_rules.specs.step.Connect.{largest_of, refusal, refused, of_clien
 use Rattle.mqtt_rules.specs.step.Inbound.{Meaning, Means, Wrong, meaning, sets_alias, standing, answer, opens, code_again, code_accepted, publish_new, publish_by, message_of, publish_meant, release_by, on_answer, pump_deeds, is_late_expiry, leave_by}
 use Rattle.mqtt_rules.specs.step.Subscribe as sub
 use Rattle.mqtt_rules.specs.step.Tick.{is_silent, silence, has_lapsed, lapse_deeds, is_stale, first_due, due, on_tick}
-use Rattle.mqtt_rules.specs.step.Step.{Call, NewLine, Input, BadInput, Lost, Pump, Tick, first_packet, next_packet, on_packet, on_fault, late_code, on_pump, can_link, deeds_of, close_if, opening}
+use Rattle.mqtt_rules.specs.step.Step.{Call, NewLine, Input, BadInput, Lost, Pump, Tick, first_packet, next_packet, on_packet, on_fault, late_code, on_pump, can_link, deeds_of, connected_in, shuts, settles, shuts_all, settles_all, opening}
 use Rattle.mqtt_rules.proofs.step_lemmas.acts.Offers.{of_offer, of_offer_if}
 use Rattle.mqtt_rules.proofs.step_lemmas.acts.OnLines.{IsOn, found_number, found_on, stays_on}
 use Rattle.mqtt_rules.proofs.step_lemmas.flight.FlightRows.{found_key}
@@ -51,7 +52,7 @@ use Rattle.mqtt_rules.proofs.step_lemmas.numbers.Counters.{now_stays}
 use Rattle.mqtt_rules.specs.step.Laws.{IsAmong}
 use Rattle.mqtt_base.specs.declared.session.SubscriptionOptions.{SubscriptionOptions}
 use Rattle.mqtt_packet.specs.subscribe.Options.{options_of}
-use Rattle.mqtt_rules.proofs.step_lemmas.acts.Leads.{found_among, found_passes, row_among, Leads, Leading, leads_append, leads_series, leads_two, leads_flat, leads_map, leads_cond, leads_of_session, leads_of_client, leads_with_line}
+use Rattle.mqtt_rules.proofs.step_lemmas.acts.Leads.{found_among, found_passes, row_among, Leads, Leading, AllLeading, leads_append, leads_series, leads_two, leads_flat, leads_map, leads_cond, leads_of_session, leads_of_client, leads_with_line}
 
 -- ---- whom a step concerns
 
@@ -745,10 +746,12 @@ module _ (env : Env) (about : About) (Keep : Broker → Type 0) (Good : Deed →
   abbrev pub Shuts : Type 0
   Shuts = (s : Session) (b : Broker) → Keep b → s.closed ≡ None → Led (At (whose s) (Close b.now) ∷ []) b
 
-  leads_close_if : Shuts → (t : Bool) (s : Session) (b : Broker) → is_connected s ≡ t → about.session s.birth → Keep b → Led (close_if t env s b) b
-  leads_close_if shuts false s b is own k = (tt, k)
-  leads_close_if shuts true s b is own k =
-      leads_two Keep Good (always (At (whose s) (Close b.now) ∷ [])) (settle env s.birth) b (shuts s b k (none_is s.closed is)) (λ h. leads_settle s.birth (after (At (whose s) (Close b.now)) b) h own)
+  leads_shuts : Shuts → (ss : List Session) → AllLeading Keep Good (map shuts (filter is_connected ss))
+  leads_shuts closes [] = tt
+  leads_shuts closes (s ∷ ss) = elim (cases_Bool (is_connected s)) [
+    | inl on ↦ rw on (λ b k. closes s b k (none_is s.closed on), leads_shuts closes ss)
+    | inr off ↦ rw off (leads_shuts closes ss)
+  ]
     where
       none_is : (o : Option ℕ) → is_none o ≡ true → o ≡ None
       none_is None h = refl
@@ -756,6 +759,8 @@ module _ (env : Env) (about : About) (Keep : Broker → Type 0) (Good : Deed →
 
   -- all deeds of an opening lead, if closing each session that stood connected does
   pub leads_opening : Shuts → ((birth : ℕ) → about.session birth) → (b : Broker) → Keep b → Led (opening env b) b
-  leads_opening shuts all b k =
-      leads_series Keep Good (map (λ s. close_if (is_connected s) env s) b.records.sessions)
-      (leads_map Keep Good (λ s. close_if (is_connected s) env s) (λ s c h. leads_close_if shuts (is_connected s) s c refl (all s.birth) h) b.records.sessions) b k
+  leads_opening closes all b k =
+      let ss = connected_in b.records in
+      leads_two Keep Good (shuts_all ss) (settles_all env ss) b
+      (leads_series Keep Good (map shuts ss) (leads_shuts closes b.records.sessions) b k)
+      (λ h. leads_series Keep Good (map (settles env) ss) (leads_map Keep Good (settles env) (λ s c h. leads_settle s.birth c h (all s.birth)) ss) (after_all (shuts_all ss b) b) h)

@@ -1,5 +1,5 @@
 -- Lines stay unique in every step, and are none after an opening.
-use Rattle.std.proofs.Common.{◌≡◌, ℕ, suc, ◌≤◌, Bool, true, false, cond, List, [], ◌∷◌, ◌++◌, map, Option, Some, None, refl, sym, ap, subst, ◌∙◌, arith, inl, inr}
+use Rattle.std.proofs.Common.{◌≡◌, ℕ, suc, ◌≤◌, Bool, true, false, cond, List, [], ◌∷◌, ◌++◌, filter, map, Option, Some, None, refl, sym, ap, subst, ◌∙◌, arith, inl, inr}
 use Rattle.std.specs.Prelude.{option_map, is_none, decimal}
 use Rattle.mqtt_base.specs.declared.limits.TheConstants.{LAST_NUMBER}
 use Rattle.mqtt_packet.specs.declared.connect.connect.Connect.{Connect as Greeting}
@@ -25,8 +25,9 @@ use Rattle.mqtt_rules.specs.step.Tick.{lapse_deeds}
 use Rattle.mqtt_rules.specs.step.Laws.{IsAmong, IsCoherent, AreWithin, blank}
 use Rattle.mqtt_rules.specs.step.Lines.{closed_at, HasUniqueLines}
 use Rattle.mqtt_rules.specs.step.Numbers.{IsTimed}
-use Rattle.mqtt_rules.specs.step.Step.{Call, deeds, env_of, at_moment, with_moment, stepped, is_step_spent, close_if, opening, unopened, opened}
-use Rattle.mqtt_rules.proofs.step_lemmas.acts.Goods.{AreGood, after_append, good_append, good_two}
+use Rattle.mqtt_rules.specs.step.Step.{Call, deeds, env_of, at_moment, with_moment, stepped, is_step_spent, connected_in, shuts, settles, shuts_all, settles_all, opening, unopened, opened}
+use Rattle.mqtt_rules.proofs.step_lemmas.acts.Goods.{AreGood, after_append, good_append, good_two, good_series, good_acts}
+use Rattle.std.proofs.lemmas.Bool.{cases_Bool}
 use Rattle.std.proofs.lemmas.Cmp.{nat_eq_equiv}
 use Rattle.mqtt_rules.proofs.step_lemmas.flight.FlightRows.{found_key}
 use Rattle.mqtt_rules.proofs.step_lemmas.acts.Leads.{Leads, row_among}
@@ -177,71 +178,87 @@ step_unique limits choice now call b within h timed last e u =
 
 -- ---- an opening: no line stands, and each session that was connected is closed
 
-still_close_if : (t : Bool) (env : Env) (s : Session) (b : Broker) → AreGood IsStill (close_if t env s b) b
-still_close_if false env s b = tt
-still_close_if true env s b =
-    good_two IsStill (always (At (whose s) (Close b.now) ∷ [])) (settle env s.birth) b (tt, tt) (still_settle env s.birth (after (At (whose s) (Close b.now)) b))
+still_shuts : (ss : List Session) (b : Broker) → AreGood IsStill (shuts_all ss b) b
+still_shuts ss b = good_series IsStill (map shuts ss) (good_acts IsStill shuts (λ s c. (tt, tt)) ss) b
 
--- one that is closed here is connected no longer
-closed_here : (t : Bool) (env : Env) (s : Session) (b : Broker) → t ≡ true → closed_at s.birth (after_all (close_if t env s b) b).records ≡ Some None → ⊥
-closed_here false env s b is e = absurd cc
-closed_here true env s b is e =
-    let y = after (At (whose s) (Close b.now)) b in
-    let still = good_append IsStill (settle env s.birth y) [] y (still_settle env s.birth y) tt in
-    let left : closed_at s.birth y.records ≡ Some None = (leaves (settle env s.birth y ++ []) y still).falls s.birth e in
-    let was : closed_at s.birth b.records ≡ Some None = (leaves (At (whose s) (Close b.now) ∷ []) b (tt, tt)).falls s.birth left in
+still_settles : (env : Env) (ss : List Session) (b : Broker) → AreGood IsStill (settles_all env ss b) b
+still_settles env ss b = good_series IsStill (map (settles env) ss) (good_acts IsStill (settles env) (λ s. still_settle env s.birth) ss) b
+
+-- an opening links no line, and connects no session
+pub still_opening : (env : Env) (b : Broker) → AreGood IsStill (opening env b) b
+still_opening env b =
+    let ss = connected_in b.records in
+    good_two IsStill (shuts_all ss) (settles_all env ss) b (still_shuts ss b) (still_settles env ss (after_all (shuts_all ss b) b))
+
+-- one that is shut is connected no longer
+shut_here : (s : Session) (b : Broker) → closed_at s.birth (after_all (shuts s b) b).records ≡ Some None → ⊥
+shut_here s b e =
+    let y = after_all (shuts s b) b in
+    let was : closed_at s.birth b.records ≡ Some None = (leaves (shuts s b) b (tt, tt)).falls s.birth e in
     let now_is = closed_by_close (whose s) b.now s.birth b.records None was in
     let closed : closed_at s.birth y.records ≡ Some (Some b.now) = now_is ∙ ap (λ (t : Bool). cond t (Some (Some b.now)) (closed_at s.birth b.records)) (nat_eq_equiv.refl s.birth) in
-    let clash : Some (Some b.now) ≡ Some None = sym closed ∙ left in
+    let clash : Some (Some b.now) ≡ Some None = sym closed ∙ e in
     absurd cc
 
-abbrev shuts : Env → Session → Act
-shuts env s b = close_if (is_connected s) env s b
-
--- who is connected in the end was connected before, and is none of those who were gone over
-still_connected : (env : Env) (ss : List Session) (b : Broker) (k : ℕ) → closed_at k (after_all (series (map (shuts env) ss) b) b).records ≡ Some None
-    → (closed_at k b.records ≡ Some None) × ((s : Session) → IsAmong s ss → s.birth ≡ k → is_connected s ≡ true → ⊥)
-still_connected env [] b k e = (e, λ s among is yes_. among)
-still_connected env (s ∷ ss) b k e =
-    let first = shuts env s b in
+-- who is connected once some were shut was connected before, and is none of them
+still_connected : (ss : List Session) (b : Broker) (k : ℕ) → closed_at k (after_all (shuts_all ss b) b).records ≡ Some None
+    → (closed_at k b.records ≡ Some None) × ((s : Session) → IsAmong s ss → s.birth ≡ k → ⊥)
+still_connected [] b k e = (e, λ s among is. among)
+still_connected (s ∷ ss) b k e =
+    let first = shuts s b in
     let c = after_all first b in
-    let rest = series (map (shuts env) ss) c in
-    let more = still_connected env ss c k (subst (λ (x : Broker). closed_at k x.records ≡ Some None) (after_append first rest b) e) in (
-      (leaves first b (still_close_if (is_connected s) env s b)).falls k more.0,
-      λ t among is on. elim among [
+    let more = still_connected ss c k (subst (λ (x : Broker). closed_at k x.records ≡ Some None) (after_append first (shuts_all ss c) b) e) in (
+      (leaves first b (tt, tt)).falls k more.0,
+      λ t among is. elim among [
         | inl it ↦
             let its : s.birth ≡ k = ap (λ (x : Session). x.birth) it ∙ is in
-            let was : is_connected s ≡ true = ap is_connected it ∙ on in
-            closed_here (is_connected s) env s b was (ap (λ (n : ℕ). closed_at n c.records) its ∙ more.0)
-        | inr further ↦ more.1 t further is on
+            shut_here s b (ap (λ (n : ℕ). closed_at n c.records) its ∙ more.0)
+        | inr further ↦ more.1 t further is
       ],
     )
 
-still_opening : (env : Env) (ss : List Session) (b : Broker) → AreGood IsStill (series (map (shuts env) ss) b) b
-still_opening env [] b = tt
-still_opening env (s ∷ ss) b =
-    good_append IsStill (shuts env s b) (series (map (shuts env) ss) (after_all (shuts env s b) b)) b (still_close_if (is_connected s) env s b) (still_opening env ss (after_all (shuts env s b) b))
+among_connected : (s : Session) (ss : List Session) → IsAmong s ss → is_connected s ≡ true → IsAmong s (filter is_connected ss)
+among_connected s [] among on = among
+among_connected s (x ∷ ss) among on = elim (cases_Bool (is_connected x)) [
+  | inl its ↦ rw its (elim among [
+      | inl it ↦ inl it
+      | inr further ↦ inr (among_connected s ss further on)
+    ])
+  | inr other ↦ rw other (elim among [
+      | inl it ↦
+          let on_too : is_connected x ≡ true = ap is_connected it ∙ on in
+          absurd cc
+      | inr further ↦ among_connected s ss further on
+    ])
+]
+
+-- once all that stood connected are shut, none is
+pub none_connected : (b : Broker) (k : ℕ) → closed_at k (after_all (shuts_all (connected_in b.records) b) b).records ≡ Some None → ⊥
+none_connected b k e =
+    let r = b.records in
+    let h = still_connected (connected_in r) b k e in
+    let x = mapped_some (λ (s : Session). s.closed) (session_at k r) None h.0 in
+    h.1 x.0 (among_connected x.0 r.sessions (row_among birth_of k x.0 r.sessions x.1) (ap is_none x.2)) (found_key birth_of k x.0 r.sessions x.1)
 
 -- behind an opening nobody stands on a line
 pub opening_unique : (limits : Limits) (choice : MemberChoice) (now : ℕ) (r : Records) → HasUniqueLines (opened limits choice now r)
 opening_unique limits choice now r =
     let b = unopened now r in
     let env = env_of limits choice b in
+    let ss = connected_in r in
     let ds = opening env b in
     let c = after_all ds b in
-    let left = leaves ds b (still_opening env r.sessions b) in
+    let left = leaves ds b (still_opening env b) in
+    let y = after_all (shuts_all ss b) b in
+    let rest = settles_all env ss y ++ [] in
+    let from = leaves rest y (good_append IsStill (settles_all env ss y) [] y (still_settles env ss y) tt) in
     unique_stamped (rows_of_all ds b.records) c (record {
       ascending = left.ascending tt;
       given = left.below (suc c.given) tt;
       once = λ n m birth p q. let clash : None ≡ Some (Some birth) = sym (left.lines n) ∙ p in absurd cc;
       stands = λ n birth p. let clash : None ≡ Some (Some birth) = sym (left.lines n) ∙ p in absurd cc;
-      connected = λ birth e. absurd (nobody env b birth (still_connected env r.sessions b birth e));
+      connected = λ birth e. absurd (none_connected b birth (from.falls birth (subst (λ (x : Broker). closed_at birth x.records ≡ Some None) (after_append (shuts_all ss b) rest b) e)));
     })
-  where
-    nobody : (env : Env) (b : Broker) (k : ℕ) → (closed_at k r ≡ Some None) × ((s : Session) → IsAmong s r.sessions → s.birth ≡ k → is_connected s ≡ true → ⊥) → ⊥
-    nobody env b k h =
-        let x = mapped_some (λ (s : Session). s.closed) (session_at k r) None h.0 in
-        h.1 x.0 (row_among birth_of k x.0 r.sessions x.1) (found_key birth_of k x.0 r.sessions x.1) (ap is_none x.2)
 
 -- before the first event
 pub blank_unique : HasUniqueLines blank

@@ -18,7 +18,7 @@ use Rattle.mqtt_rules.proofs.step_lemmas.fit.StandLaw.{stands_call, stands_openi
 use Rattle.mqtt_world_model.specs.model.World.{World}
 use Rattle.mqtt_world_model.specs.model.Run.{Turn, run}
 use Rattle.mqtt_world_model.proofs.model_lemmas.seats.Seeing.{done_sessions}
-use Rattle.mqtt_world_laws.specs.acceptance.Fair.{IsSteady, IsNew, IsFair}
+use Rattle.mqtt_world_laws.specs.acceptance.Fair.{IsSteady, IsNew, IsCounted}
 use Rattle.mqtt_world_laws.specs.acceptance.Copies.{IsBalanced, publications_from}
 use Rattle.mqtt_world_laws.proofs.acceptance_lemmas.copies.Here.{here_call, here_opening}
 use Rattle.mqtt_rules.specs.step.Numbers.{CountsOn, publication_given}
@@ -67,8 +67,8 @@ module _ (c : CopyId) (limits : Limits) (within : AreWithin limits) where
     open_again = λ choice now b s unspent. opening_balances choice now b s.coherent.ordered;
   }
 
--- in every fair run what entered stands or has ended
-pub run_balances : (limits : Limits) (ts : List Turn) (w : World) → IsNew w → IsFair limits ts w → (c : CopyId) → IsBalanced c limits ts w
+-- in every run that spends no number what entered stands or has ended
+pub run_balances : (limits : Limits) (ts : List Turn) (w : World) → IsNew w → IsCounted limits ts w → (c : CopyId) → IsBalanced c limits ts w
 run_balances limits ts w new fair c = run_walks (Balances c) limits ts w (balances c limits fair.within) new fair
 
 -- ---- publications are numbered one after the other
@@ -92,6 +92,6 @@ numbers limits = record {
 }
 
 -- and publications are numbered one by one
-pub run_numbers : (limits : Limits) (ts : List Turn) (w : World) → IsNew w → IsFair limits ts w
+pub run_numbers : (limits : Limits) (ts : List Turn) (w : World) → IsNew w → IsCounted limits ts w
     → CountsOn w.broker.records.publications (publications_from limits ts w) (run limits ts w).broker.records.publications
 run_numbers limits ts w new fair = run_walks Numbers limits ts w (numbers limits) new fair

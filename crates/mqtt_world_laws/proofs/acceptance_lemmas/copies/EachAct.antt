@@ -46,8 +46,8 @@ use Rattle.mqtt_rules.specs.step.Outbound.{all_turn_deeds, turn_deeds}
 use Rattle.mqtt_rules.specs.step.Packets.{connack, disconnect, suback, unsuback}
 use Rattle.mqtt_records.specs.messages.PassedOn.{number_at}
 use Rattle.mqtt_rules.specs.step.Routing.{CopyTo, accepted_copies, is_queued, is_wanted, publish}
-use Rattle.mqtt_rules.specs.step.State.{Broker, Env, Line, is_connected, line_at, line_of, queue_on, session_at, session_named}
-use Rattle.mqtt_rules.specs.step.Step.{Call, NewLine, Input, BadInput, Lost, Pump, Tick, can_link, close_if, deeds_of, first_packet, late_code, next_packet, on_fault, on_packet, on_pump, opening}
+use Rattle.mqtt_rules.specs.step.State.{Broker, Env, Line, line_at, line_of, queue_on, session_at, session_named}
+use Rattle.mqtt_rules.specs.step.Step.{Call, NewLine, Input, BadInput, Lost, Pump, Tick, can_link, connected_in, deeds_of, first_packet, late_code, next_packet, on_fault, on_packet, on_pump, opening, settles, settles_all, shuts, shuts_all}
 use Rattle.mqtt_rules.specs.step.Subscribe as sub
 use Rattle.mqtt_rules.specs.step.Tick.{due, first_due, has_lapsed, is_silent, is_stale, lapse_deeds, lapses, on_tick, silence}
 use Rattle.mqtt_rules.proofs.step_lemmas.acts.Acts.{brought_to}
@@ -459,10 +459,11 @@ module _ (env : Env) (came : Came) (Keeps : Broker → Type 0) (R : List Deed �
   call_says (Pump n) took b h = on_a_line (line_at n b) (λ l. on_pump l l.session) (λ l. pumping l l.session) b h
   call_says Tick took b h = ticking (due env b) (due_told b) b h
 
-  closed_if : (t : Bool) (s : Session) → SaysAct (close_if t env s)
-  closed_if false s b h = nothing b
-  closed_if true s b h = acts (always (At (whose s) (Close b.now) ∷ []) ∷ settle env s.birth ∷ []) (calm (At (whose s) (Close b.now) ∷ []) (tt, tt), (settling s.birth, tt)) b h
+  shutting : (s : Session) → SaysAct (shuts s)
+  shutting s b h = calmly (At (whose s) (Close b.now) ∷ []) b (tt, tt)
 
   -- what is said of them is said of an opening
   pub opening_says : SaysAct (opening env)
-  opening_says b h = acts (map (λ s. close_if (is_connected s) env s) b.records.sessions) (each_act (λ (s : Session). close_if (is_connected s) env s) (λ s. closed_if (is_connected s) s) b.records.sessions) b h
+  opening_says b h =
+      let ss = connected_in b.records in
+      acts (shuts_all ss ∷ settles_all env ss ∷ []) (acts (map shuts ss) (each_act shuts shutting ss), (acts (map (settles env) ss) (each_act (settles env) (λ (s : Session). settling s.birth) ss), tt)) b h

@@ -14,7 +14,7 @@ use Rattle.mqtt_world_model.specs.model.Laws.{count_of}
 use Rattle.mqtt_world_model.specs.model.Run.{Turn, run}
 use Rattle.mqtt_world_model.specs.model.World.{World, start}
 use Rattle.mqtt_world_laws.specs.acceptance.Copies.{entered_from}
-use Rattle.mqtt_world_laws.specs.acceptance.Fair.{IsNew, IsFair, MayOpen, opened_world}
+use Rattle.mqtt_world_laws.specs.acceptance.Fair.{IsNew, IsCounted, MayOpen, opened_world}
 use Rattle.mqtt_world_laws.specs.acceptance.Identities.{may_come, queued_in, TellsApart, EntersOnce, EndsOnce, WaitsOrHasEnded}
 use Rattle.mqtt_world_laws.proofs.acceptance_lemmas.copies.CopyRuns.{opening_balances, run_balances}
 use Rattle.mqtt_world_laws.proofs.acceptance_lemmas.copies.Counting.{E}
@@ -59,15 +59,15 @@ one_or_other c r apart = elim (cases_Bool (may_come c r)) [
 
 -- ---- a run
 
-module _ (limits : Limits) (ts : List Turn) (w : World) (new : IsNew w) (fair : IsFair limits ts w) (apart : TellsApart w.broker.records) (c : CopyId) where
+module _ (limits : Limits) (ts : List Turn) (w : World) (new : IsNew w) (fair : IsCounted limits ts w) (apart : TellsApart w.broker.records) (c : CopyId) where
   counted : count_of c (entered_from limits ts w) + U c (kinds (run limits ts w).broker.records) ≤ U c (kinds w.broker.records)
   counted = (run_walks (Counts c) limits ts w (counts c limits) new fair (coherent_kept w.broker.records new.steady.coherent apart)).counted
 
-  -- in a fair run a copy enters at most once
+  -- in a run that spends no number a copy enters at most once
   pub enters_once : EntersOnce c limits ts w
   enters_once = let all = counted in let first = one_or_other c w.broker.records apart in omega (arith, all, first)
 
-  -- in a fair run a copy ends at most once
+  -- in a run that spends no number a copy ends at most once
   pub ends_once : EndsOnce c limits ts w
   ends_once =
       let all = counted in
@@ -75,7 +75,7 @@ module _ (limits : Limits) (ts : List Turn) (w : World) (new : IsNew w) (fair : 
       let even = run_balances limits ts w new fair c in
       omega (arith, all, first, even)
 
-  -- in a fair run a copy that entered waits or has one end
+  -- in a run that spends no number a copy that entered waits or has one end
   pub waits_or_has_ended : WaitsOrHasEnded c limits ts w
   waits_or_has_ended entered =
       let all = counted in

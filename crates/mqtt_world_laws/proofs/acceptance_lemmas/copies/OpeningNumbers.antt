@@ -4,11 +4,11 @@ use Rattle.mqtt_base.specs.declared.session.Ending.TheVariants.{SessionEnded}
 use Rattle.mqtt_records.specs.messages.Queue.{CopyRow}
 use Rattle.mqtt_records.specs.declared.messages.message.Will.{Will}
 use Rattle.mqtt_records.specs.declared.state.session.Session.{Session}
-use Rattle.mqtt_rules.specs.step.State.{Broker, Env, session_at, is_connected}
-use Rattle.mqtt_rules.specs.step.Deeds.{Whose, whose, FromWill, Close, DropWill, Leave, Deed, At, Finish, after, after_all, Act, series, always, only_if, with_session, of_session}
+use Rattle.mqtt_rules.specs.step.State.{Broker, Env, session_at}
+use Rattle.mqtt_rules.specs.step.Deeds.{Whose, whose, FromWill, DropWill, Leave, Deed, At, Finish, after_all, Act, always, only_if, with_session, of_session}
 use Rattle.mqtt_rules.specs.step.Routing.{CopyTo, accepted_copies}
 use Rattle.mqtt_rules.specs.step.Closing.{will_message, publish_or_refuse, will_deeds, publish_will, end_session, settle, has_due_will, has_due_end}
-use Rattle.mqtt_rules.specs.step.Step.{close_if, opening}
+use Rattle.mqtt_rules.specs.step.Step.{connected_in, opening, settles, settles_all, shuts, shuts_all}
 use Rattle.mqtt_world_model.proofs.model_lemmas.others.Quiet.{numbers, calm, copies_of, quiet_copies}
 use Rattle.mqtt_world_model.proofs.model_lemmas.own.Publishes.{numbers_append}
 
@@ -59,19 +59,21 @@ module _ (env : Env) where
       (none_with (session_at k b.records) will b (λ s. none_if (has_due_will b.now s) (publish_will env s) b (none_will (whose s) s.will b)))
       (none_append second [] (none_with (session_at k c.records) ends c (λ s. none_if (has_due_end b.now s) (always (end_session s)) c (none_end s))) refl)
 
-  none_closed : (t : Bool) (x : Session) (b : Broker) → AcceptsNone (close_if t env x b)
-  none_closed false x b = refl
-  none_closed true x b =
-      let c = after (At (whose x) (Close b.now)) b in
-      none_append (settle env x.birth c) [] (none_settle x.birth c) refl
+  none_shuts : (xs : List Session) (b : Broker) → AcceptsNone (shuts_all xs b)
+  none_shuts [] b = refl
+  none_shuts (x ∷ xs) b = none_shuts xs (after_all (shuts x b) b)
 
-  none_each : (xs : List Session) (b : Broker) → AcceptsNone (series (map (λ x. close_if (is_connected x) env x) xs) b)
-  none_each [] b = refl
-  none_each (x ∷ xs) b =
-      let first = close_if (is_connected x) env x b in
+  none_settles : (xs : List Session) (b : Broker) → AcceptsNone (settles_all env xs b)
+  none_settles [] b = refl
+  none_settles (x ∷ xs) b =
+      let first = settles env x b in
       let c = after_all first b in
-      none_append first (series (map (λ y. close_if (is_connected y) env y) xs) c) (none_closed (is_connected x) x b) (none_each xs c)
+      none_append first (settles_all env xs c) (none_settle x.birth b) (none_settles xs c)
 
   -- an opening accepts nothing of a client
   pub opening_none : (b : Broker) → AcceptsNone (opening env b)
-  opening_none b = none_each b.records.sessions b
+  opening_none b =
+      let ss = connected_in b.records in
+      let first = shuts_all ss b in
+      let c = after_all first b in
+      none_append first (settles_all env ss c ++ []) (none_shuts ss b) (none_append (settles_all env ss c) [] (none_settles ss c) refl)

@@ -14,7 +14,7 @@ use Rattle.mqtt_rules.proofs.step_lemmas.fit.StandLaw.{Orders}
 use Rattle.mqtt_world_model.specs.model.World.{World, Setting, Event, publisher, receiver, connect_end, give_up, publish, subscribe, to_end, clock, ask, restart, stop_before, stop_after, Asking, to_broker, old_to_broker, break, pump, tick, stranger, stranger_named, calls_if, comes, next_held, call_of_stranger, held_count, before, call_of, first_step, is_bad}
 use Rattle.mqtt_world_model.specs.model.Run.{Turn, setting, turned, deeds_at, deeds_over, read_if, read_rest, read_first, read_asked, read_opening, read_in, read_at, the_deeds}
 use Rattle.mqtt_world_laws.specs.acceptance.Spending.{run_spends, spending}
-use Rattle.mqtt_world_laws.specs.acceptance.Fair.{IsSteady, IsNew, IsFair}
+use Rattle.mqtt_world_laws.specs.acceptance.Fair.{IsSteady, IsNew, IsCounted}
 use Rattle.mqtt_world_laws.specs.acceptance.Steps.{Step, step_called, opening_step, steps_over, the_steps}
 use Rattle.mqtt_world_laws.specs.acceptance.Entries.{IsEntered, brought_in}
 use Rattle.mqtt_world_laws.specs.acceptance.AtOnce.{AllGoOut}
@@ -133,7 +133,7 @@ module _ (R : Env → List Deed → Broker → Type 0) (says : (env : Env) → S
       both_are (deeds_at (setting limits t) t.event w) (deeds_over limits ts v) (read_at the_steps (setting limits t) t.event w) (steps_over limits ts v)
       (turn_is limits t w within s costs.0) (all_are limits ts v within next.steady costs.1)
 
-  run_are : (limits : Limits) (ts : List Turn) (w : World) → IsNew w → IsFair limits ts w → Are (deeds_over limits ts w) (steps_over limits ts w)
+  run_are : (limits : Limits) (ts : List Turn) (w : World) → IsNew w → IsCounted limits ts w → Are (deeds_over limits ts w) (steps_over limits ts w)
   run_are limits ts w new fair = all_are limits ts w fair.within new.steady fair.unspent
 
 -- ---- exactly the copies that its deeds bring enter
@@ -147,8 +147,8 @@ entered_all (x ∷ xs) h =
     entered_append x.deeds (flat_map (λ (y : Step). y.deeds) xs) ∙ ap (λ (cs : List CopyId). cs ++ entered (flat_map (λ (y : Step). y.deeds) xs)) h.0
     ∙ ap (λ (cs : List CopyId). brought_in x ++ cs) (entered_all xs h.1)
 
--- in every fair run each copy that is told of entered
-pub run_enters : (limits : Limits) (ts : List Turn) (w : World) → IsNew w → IsFair limits ts w → IsEntered limits ts w
+-- in every run that spends no number each copy that is told of entered
+pub run_enters : (limits : Limits) (ts : List Turn) (w : World) → IsNew w → IsCounted limits ts w → IsEntered limits ts w
 run_enters limits ts w new fair =
     let x = run_are Tells telling limits ts w new fair in
     ap entered x.deeds_are ∙ entered_all (steps_over limits ts w) x.each
@@ -156,5 +156,5 @@ run_enters limits ts w new fair =
 -- ---- and what is due at once goes out
 
 -- and each that is due at once goes out
-pub run_goes_out : (limits : Limits) (ts : List Turn) (w : World) → IsNew w → IsFair limits ts w → AllGoOut limits ts w
+pub run_goes_out : (limits : Limits) (ts : List Turn) (w : World) → IsNew w → IsCounted limits ts w → AllGoOut limits ts w
 run_goes_out limits ts w new fair = (run_are Gives giving limits ts w new fair).each

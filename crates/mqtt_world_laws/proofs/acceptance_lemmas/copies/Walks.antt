@@ -9,7 +9,7 @@ use Rattle.mqtt_rules.specs.step.Step.{Call, NewLine, can_link, env_of, deeds, s
 use Rattle.mqtt_world_model.specs.model.World.{World, Setting, Event, publisher, receiver, connect_end, give_up, publish, subscribe, to_end, clock, ask, restart, stop_before, stop_after, Asking, to_broker, old_to_broker, break, pump, tick, stranger, stranger_named, calls, calls_if, restarts, links, linked_at, comes, next_held, call_of_stranger, answers_rest, held_count, before, call_of, first_step, asks, is_bad, happens}
 use Rattle.mqtt_world_model.specs.model.Run.{Turn, setting, turned, run, deeds_at, deeds_over, read_if, read_rest, read_first, read_asked, read_opening, read_in, read_at, the_deeds}
 use Rattle.mqtt_world_laws.specs.acceptance.Spending.{run_spends, spending}
-use Rattle.mqtt_world_laws.specs.acceptance.Fair.{IsSteady, IsNew, IsFair}
+use Rattle.mqtt_world_laws.specs.acceptance.Fair.{IsSteady, IsNew, IsCounted, IsFair}
 use Rattle.mqtt_world_laws.proofs.acceptance_lemmas.copies.Steady.{steady_step, steady_again, linking_spends_none}
 use Rattle.mqtt_world_laws.proofs.acceptance_lemmas.publishers.Runs.{either}
 
@@ -178,6 +178,10 @@ run_goes R limits walk (t ∷ ts) w within s unspent =
     let ys = deeds_over limits ts v in
     record { steady = rest.steady; said = walk.next xs ys w.broker v.broker (run limits ts v).broker first.said rest.said }
 
--- what each step keeps, every fair run keeps
-pub run_walks : (R : List Deed → Broker → Broker → Type 0) (limits : Limits) (ts : List Turn) (w : World) → Walk limits R → IsNew w → IsFair limits ts w → R (deeds_over limits ts w) w.broker (run limits ts w).broker
+-- a fair run spends no number
+pub counted : (limits : Limits) (ts : List Turn) (w : World) → IsFair limits ts w → IsCounted limits ts w
+counted limits ts w fair = record { within = fair.within; unspent = fair.unspent }
+
+-- what each step keeps, every run keeps that spends no number
+pub run_walks : (R : List Deed → Broker → Broker → Type 0) (limits : Limits) (ts : List Turn) (w : World) → Walk limits R → IsNew w → IsCounted limits ts w → R (deeds_over limits ts w) w.broker (run limits ts w).broker
 run_walks R limits ts w walk new fair = (run_goes R limits walk ts w fair.within new.steady fair.unspent).said

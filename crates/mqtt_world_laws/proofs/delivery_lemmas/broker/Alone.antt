@@ -9,7 +9,7 @@ use Rattle.mqtt_rules.specs.step.State.{Broker}
 use Rattle.mqtt_rules.specs.declared.step.Limits.{Limits}
 use Rattle.mqtt_world_laws.specs.acceptance.Fair.{IsFair, IsNew, IsSteady}
 use Rattle.mqtt_world_laws.specs.acceptance.Spending.{spending}
-use Rattle.mqtt_world_laws.proofs.acceptance_lemmas.copies.Walks.{Walk, run_walks, turn_goes}
+use Rattle.mqtt_world_laws.proofs.acceptance_lemmas.copies.Walks.{Walk, run_walks, turn_goes, counted}
 use Rattle.mqtt_world_laws.specs.delivery.Alone.{Carries, IsKept}
 
 -- what each step keeps is carried along a run
@@ -35,7 +35,7 @@ event_keeps P e set w k within s good unspent h =
 -- so does a run
 pub run_keeps : (P : Broker → Type 0) (limits : Limits) (ts : List Turn) (w : World) → IsKept limits P → IsNew w → IsFair limits ts w
     → P w.broker → P (run limits ts w).broker
-run_keeps P limits ts w k new fair h = run_walks (Carries P) limits ts w (carrying P limits k) new fair h
+run_keeps P limits ts w k new fair h = run_walks (Carries P) limits ts w (carrying P limits k) new (counted limits ts w fair) h
 
 -- ---- packet identifiers
 

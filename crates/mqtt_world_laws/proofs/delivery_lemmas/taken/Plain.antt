@@ -54,8 +54,8 @@ use Rattle.mqtt_rules.specs.step.Outbound.{all_turn_deeds, enter_deeds, leave_de
 use Rattle.mqtt_rules.specs.step.Packets.{connack, disconnect, publish_of, suback, unsuback}
 use Rattle.mqtt_records.specs.messages.PassedOn.{number_at}
 use Rattle.mqtt_rules.specs.step.Routing.{CopyTo, accepted_copies, deliver, deliver_by, forgets, is_queued, is_queued_at, is_wanted, next_publication, publish, retain_by, retained_of}
-use Rattle.mqtt_rules.specs.step.State.{Broker, Env, Line, MemberChoice, is_connected, line_at, line_of, queue_on, session_at, session_named, told_on}
-use Rattle.mqtt_rules.specs.step.Step.{Call, NewLine, Input, BadInput, Lost, Pump, Tick, at_moment, can_link, close_if, deeds, deeds_of, env_of, first_packet, late_code, next_packet, on_fault, on_packet, on_pump, opening}
+use Rattle.mqtt_rules.specs.step.State.{Broker, Env, Line, MemberChoice, line_at, line_of, queue_on, session_at, session_named, told_on}
+use Rattle.mqtt_rules.specs.step.Step.{Call, NewLine, Input, BadInput, Lost, Pump, Tick, at_moment, can_link, connected_in, deeds, deeds_of, env_of, first_packet, late_code, next_packet, on_fault, on_packet, on_pump, opening, settles, settles_all, shuts, shuts_all}
 use Rattle.mqtt_rules.specs.step.Subscribe as sub
 use Rattle.mqtt_rules.specs.step.Tick.{due, first_due, has_lapsed, is_silent, is_stale, lapse_deeds, lapses, on_tick, silence}
 use Rattle.mqtt_rules.specs.declared.step.Limits.{Limits}
@@ -525,16 +525,18 @@ module _ (env : Env) where
   plain_call (Pump n) h b = absurd h
   plain_call Tick h b = ticking (due env b) (due_plain b) b
 
-  closed_if : (t : Bool) (s : Session) → Plainly (close_if t env s)
-  closed_if false s b = tt
-  closed_if true s b = plain_series (always (At (whose s) (Close b.now) ∷ []) ∷ settle env s.birth ∷ []) ((λ a. (tt, tt)), (settling s.birth, tt)) b
+  each_shut : (ss : List Session) → AllByRecursion Plainly (map shuts ss)
+  each_shut [] = tt
+  each_shut (s ∷ ss) = ((λ b. (tt, tt)), each_shut ss)
 
-  each_closed : (ss : List Session) → AllByRecursion Plainly (map (λ s. close_if (is_connected s) env s) ss)
-  each_closed [] = tt
-  each_closed (s ∷ ss) = (closed_if (is_connected s) s, each_closed ss)
+  each_settled : (ss : List Session) → AllByRecursion Plainly (map (settles env) ss)
+  each_settled [] = tt
+  each_settled (s ∷ ss) = (settling s.birth, each_settled ss)
 
   plain_opening : Plainly (opening env)
-  plain_opening b = plain_series (map (λ s. close_if (is_connected s) env s) b.records.sessions) (each_closed b.records.sessions) b
+  plain_opening b =
+      let ss = connected_in b.records in
+      plain_series (shuts_all ss ∷ settles_all env ss ∷ []) (plain_series (map shuts ss) (each_shut ss), (plain_series (map (settles env) ss) (each_settled ss), tt)) b
 
 -- ---- a receiver's answers send no copy
 

@@ -4,6 +4,7 @@ use Rattle.mqtt_world_model.specs.model.Run.{Turn, are_beginnings_clean, run}
 use Rattle.mqtt_world_model.specs.model.World.{World, receiver_named, start}
 use Rattle.mqtt_rules.specs.step.State.{MemberChoice}
 use Rattle.mqtt_rules.specs.declared.step.Limits.{Limits}
+use Rattle.mqtt_world_laws.proofs.acceptance_lemmas.copies.Walks.{counted}
 use Rattle.mqtt_world_laws.specs.acceptance.Fair.{IsFair}
 use Rattle.mqtt_world_laws.specs.acceptance.Identities.{TellsApart}
 use Rattle.mqtt_world_laws.specs.acceptance.Spending.{run_spends}
@@ -31,20 +32,20 @@ run_delivers limits ts w u apart fair = record {
   carried = all_carried limits ts w u.new fair;
   few_open = few_open limits ts w u.new fair;
   routed = run_routed limits ts w;
-  numbered = run_numbers limits ts w u.new fair;
-  entered = run_enters limits ts w u.new fair;
-  enters = enters_once limits ts w u.new fair apart;
-  ends = ends_once limits ts w u.new fair apart;
-  waits_or_has_ended = waits_or_has_ended limits ts w u.new fair apart;
-  balanced = run_balances limits ts w u.new fair;
-  goes_out = run_goes_out limits ts w u.new fair;
+  numbered = run_numbers limits ts w u.new (counted limits ts w fair);
+  entered = run_enters limits ts w u.new (counted limits ts w fair);
+  enters = enters_once limits ts w u.new (counted limits ts w fair) apart;
+  ends = ends_once limits ts w u.new (counted limits ts w fair) apart;
+  waits_or_has_ended = waits_or_has_ended limits ts w u.new (counted limits ts w fair) apart;
+  balanced = run_balances limits ts w u.new (counted limits ts w fair);
+  goes_out = run_goes_out limits ts w u.new (counted limits ts w fair);
   handed = run_hands limits ts w u fair;
   carries = run_carries limits ts w u fair;
   for_good = λ xs ys is c q r e f. run_for_good limits xs ys w u (subst (λ (zs : List Turn). IsFair limits zs w) (sym is) fair) c q r e (ap (λ (zs : List Turn). receiver_named c (run limits zs w)) is ∙ f);
   in_order = λ xs ys is c q r e f. run_in_order limits xs ys w u (subst (λ (zs : List Turn). IsFair limits zs w) (sym is) fair) c q r e (ap (λ (zs : List Turn). receiver_named c (run limits zs w)) is ∙ f);
   taken = λ xs ys is c q r e f. run_takes limits xs ys w u (subst (λ (zs : List Turn). IsFair limits zs w) (sym is) fair) c q e r (ap (λ (zs : List Turn). receiver_named c (run limits zs w)) is ∙ f);
   as_entered = run_hands_all limits ts w u fair;
-  carries_each = λ numbers c r e. run_reads limits ts w u numbers (run_numbers limits ts w u.new fair) fair c r e;
+  carries_each = λ numbers c r e. run_reads limits ts w u numbers (run_numbers limits ts w u.new (counted limits ts w fair)) fair c r e;
 }
 
 -- ---- a drain

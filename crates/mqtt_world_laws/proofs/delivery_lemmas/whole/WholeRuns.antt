@@ -16,7 +16,7 @@ use Rattle.mqtt_world_laws.specs.acceptance.Copies.{entered_from}
 use Rattle.mqtt_world_laws.specs.acceptance.Fair.{IsFair}
 use Rattle.mqtt_world_laws.proofs.acceptance_lemmas.copies.CopyRuns.{run_balances, run_numbers}
 use Rattle.mqtt_world_laws.proofs.acceptance_lemmas.copies.Counting.{count_append}
-use Rattle.mqtt_world_laws.proofs.acceptance_lemmas.copies.Walks.{run_walks}
+use Rattle.mqtt_world_laws.proofs.acceptance_lemmas.copies.Walks.{run_walks, counted}
 use Rattle.mqtt_world_laws.proofs.receiver_lemmas.drains.DrainRuns.{run_append}
 use Rattle.mqtt_world_laws.proofs.receiver_lemmas.queue.Handed.{copy_itself}
 use Rattle.mqtt_world_laws.specs.delivery.HandedOnce.{WasHanded}
@@ -74,10 +74,10 @@ ended_upto : (limits : Limits) (xs : List Turn) → IsUntouched limits start →
 ended_upto limits xs u fair =
     let ends = filter_map ended_in (deeds_over limits xs start) in
     let last = (run limits xs start).broker.records.births in
-    let entered : Enters (deeds_over limits xs start) start.broker (run limits xs start).broker = run_walks Enters limits xs start (entering limits) u.new fair in
+    let entered : Enters (deeds_over limits xs start) start.broker (run limits xs start).broker = run_walks Enters limits xs start (entering limits) u.new (counted limits xs start fair) in
     each_more (λ (e : End). is_among (copies_of ends) e.copy ≡ true) (λ (e : End). e.copy.birth ≤ last) (λ e among.
     let some = counts_once e.copy (copies_of ends) among in
-    let balance = run_balances limits xs start u.new fair e.copy in
+    let balance = run_balances limits xs start u.new (counted limits xs start fair) e.copy in
     let none : count_of e.copy (standing start.broker) ≡ 0 = refl in
     let here : 1 ≤ count_of e.copy (entered_from limits xs start) = omega (arith, some, balance, none) in
     all_one (λ (c : CopyId). c.birth ≤ last) e.copy (entered_from limits xs start) entered.each (counted_among e.copy (entered_from limits xs start) here)) ends (each_ended ends)
@@ -140,7 +140,7 @@ module _ (limits : Limits) (ts : List Turn) (fair : IsFair limits ts start) (r :
         in_order = run_hands_all limits ts start u fair r.client r found;
         released = handed.released;
         taken = all_taken;
-        carried = run_reads limits ts start u (tt, tt) (run_numbers limits ts start u.new fair) fair r.client r found;
+        carried = run_reads limits ts start u (tt, tt) (run_numbers limits ts start u.new (counted limits ts start fair)) fair r.client r found;
       }
 
 -- ---- each of them

@@ -1,6 +1,6 @@
 -- The broker restarts: its lines are gone, what it opens with is what was stored, and each session that was connected is
 -- closed; what a receiver and its session see of it is a run of their hop.
-use Rattle.std.proofs.Common.{◌≡◌, ℕ, ◌≤◌, Bool, true, false, List, [], ◌∷◌, ◌++◌, map, Option, Some, None, nat_eq, refl, sym, ap, subst, ◌∙◌, append-nil, arith, inl, inr}
+use Rattle.std.proofs.Common.{◌≡◌, ℕ, ◌≤◌, false, List, [], ◌∷◌, ◌++◌, map, Option, Some, None, nat_eq, refl, sym, ap, subst, ◌∙◌, append-nil, arith, inl, inr}
 use Rattle.std.specs.List.{AllByRecursion, starts_with}
 use Rattle.std.specs.Prelude.{is_some}
 use Rattle.std.proofs.lemmas.Bool.{cases_Bool, eqb-true}
@@ -24,9 +24,9 @@ use Rattle.mqtt_rules.proofs.step_lemmas.numbers.Counters.{Counts, counts_deed}
 use Rattle.mqtt_rules.proofs.step_lemmas.fit.RowsFit.{queues_short}
 use Rattle.mqtt_rules.proofs.step_lemmas.order.OrderedEnters.{still_short}
 use Rattle.mqtt_rules.specs.step.Closing.{end_session, has_due_end, has_due_will, publish_will, settle}
-use Rattle.mqtt_rules.specs.step.Deeds.{Act, At, Close, Deed, after, after_all, always, of_session, only_if, part_rows_of, rows_of_all, series, whose, with_session}
-use Rattle.mqtt_rules.specs.step.State.{Broker, Env, MemberChoice, is_connected, session_at, session_named}
-use Rattle.mqtt_rules.specs.step.Step.{close_if, env_of, opened, opening, unopened}
+use Rattle.mqtt_rules.specs.step.Deeds.{Act, At, Close, Deed, after, after_all, always, of_session, only_if, part_rows_of, rows_of_all, whose, with_session}
+use Rattle.mqtt_rules.specs.step.State.{Broker, Env, MemberChoice, session_at, session_named}
+use Rattle.mqtt_rules.specs.step.Step.{connected_in, env_of, opened, opening, settles, settles_all, shuts, shuts_all, unopened}
 use Rattle.mqtt_rules.specs.declared.step.Limits.{Limits}
 use Rattle.mqtt_world_laws.specs.receiver.Entering.{IsReceiving}
 use Rattle.mqtt_world_laws.specs.receiver.Handing.{IsRun, RunsOn}
@@ -132,53 +132,73 @@ settles_none env client birth ns k b (Some s) e same v =
     let is : s.birth ≡ birth = found_key birth_of k s b.records.sessions e ∙ same in
     settles_nothing env k s b e (its.no_will is) (its.no_end is)
 
--- ---- each session that was connected, its own or another
+-- ---- each session that was connected is closed, and then settled, its own or another
 
 module _ (largest : ℕ) (env : Env) (small : env.limits.queue ≤ QUEUE_LIMIT) (r : Receiver) (birth : ℕ) (ns : List ℕ) (ids : List CopyId) (has : HasLines ns r) (plain : starts_with nat_eq r.client auto ≡ false) where
   abbrev Stays : Broker → Type 0
   Stays b = Kept largest env small r birth ns ids has b
 
-  -- another's Will may be published, and bring the receiver a copy; another session may end
-  other_closed : (x : Session) (b : Broker) → nat_eq x.birth birth ≡ false → Stays b → Stays (after_all (close_if true env x b) b)
-  other_closed x b q k =
-      let d = At (whose x) (Close b.now) in
-      let y = after d b in
-      let one = theirs_led largest env small r birth ns ids has (d ∷ []) b ((q, tt), tt) (still_short QUEUE_LIMIT d b.records tt k.queues) k in
-      let two = leads_settle env (others r.client birth ns) Stays (IsMuteHere ns) (served_law largest env small r birth ns ids has plain) x.birth y one.1 q in
-      subst Stays (sym (after_append (settle env x.birth y) [] y)) two.1
+  -- another session is closed; as it is settled its Will may be published, and bring the receiver a copy, and it may end
+  other_shut : (x : Session) (b : Broker) → nat_eq x.birth birth ≡ false → Stays b → Stays (after_all (shuts x b) b)
+  other_shut x b q k =
+      (theirs_led largest env small r birth ns ids has (shuts x b) b ((q, tt), tt) (still_short QUEUE_LIMIT (At (whose x) (Close b.now)) b.records tt k.queues) k).1
 
-  own_closed : (x : Session) (b : Broker) → x.birth ≡ birth → Stays b → Stays (after_all (close_if true env x b) b)
-  own_closed x b same k =
+  other_settled : (x : Session) (b : Broker) → nat_eq x.birth birth ≡ false → Stays b → Stays (after_all (settles env x b) b)
+  other_settled x b q k =
+      (leads_settle env (others r.client birth ns) Stays (IsMuteHere ns) (served_law largest env small r birth ns ids has plain) x.birth b k q).1
+
+  -- its own is closed, and then has nothing to settle
+  own_shut : (x : Session) (b : Broker) → x.birth ≡ birth → Stays b → Stays (after_all (shuts x b) b)
+  own_shut x b same k =
       let d = At (whose x) (Close b.now) in
       let y = after d b in
-      let served = kept_part r.client birth ns (whose x) (Close b.now) b tt k.served in
-      let nothing : settle env x.birth y ≡ [] = settles_none env r.client birth ns x.birth y (session_at x.birth y.records) refl same served in
-      let are : close_if true env x b ≡ d ∷ [] = ap (λ (xs : List Deed). d ∷ (xs ++ [])) nothing in
       let numbers : y.records.publications ≡ b.records.publications = ap (λ (c : Counts). c.publications) (counts_deed d b.records) in
-      subst (λ (xs : List Deed). Stays (after_all xs b)) (sym are) (record {
-        served = served;
+      record {
+        served = kept_part r.client birth ns (whose x) (Close b.now) b tt k.served;
         queues = still_short QUEUE_LIMIT d b.records tt k.queues;
         grown = let g = k.grown in omega (arith, g, numbers);
         more = k.more;
         new = new_still largest env small r birth ns ids has b y k.more (omega (arith, numbers)) k.new;
         differ = k.differ;
         runs = λ number n. closed_all number largest (ids ++ k.more) birth r x b same (k.runs number n);
-      })
+      }
 
-  one_closed : (t : Bool) (x : Session) (b : Broker) → Stays b → Stays (after_all (close_if t env x b) b)
-  one_closed false x b k = k
-  one_closed true x b k = elim (cases_Bool (nat_eq x.birth birth)) [
-    | inl same ↦ own_closed x b (eqb-true x.birth birth same) k
-    | inr other ↦ other_closed x b other k
+  own_settled : (x : Session) (b : Broker) → x.birth ≡ birth → Stays b → Stays (after_all (settles env x b) b)
+  own_settled x b same k =
+      let nothing : settles env x b ≡ [] = settles_none env r.client birth ns x.birth b (session_at x.birth b.records) refl same k.served in
+      subst (λ (ds : List Deed). Stays (after_all ds b)) (sym nothing) k
+
+  one_shut : (x : Session) (b : Broker) → Stays b → Stays (after_all (shuts x b) b)
+  one_shut x b k = elim (cases_Bool (nat_eq x.birth birth)) [
+    | inl same ↦ own_shut x b (eqb-true x.birth birth same) k
+    | inr other ↦ other_shut x b other k
   ]
 
-  -- closing the sessions that stood connected, one after the other, leaves all as the receiver needs it
-  pub sessions_closed : (xs : List Session) (b : Broker) → Stays b → Stays (after_all (series (map (λ x. close_if (is_connected x) env x) xs) b) b)
-  sessions_closed [] b k = k
-  sessions_closed (x ∷ xs) b k =
-      let first = close_if (is_connected x) env x b in
+  all_shut : (xs : List Session) (b : Broker) → Stays b → Stays (after_all (shuts_all xs b) b)
+  all_shut [] b k = k
+  all_shut (x ∷ xs) b k = all_shut xs (after_all (shuts x b) b) (one_shut x b k)
+
+  one_settled : (x : Session) (b : Broker) → Stays b → Stays (after_all (settles env x b) b)
+  one_settled x b k = elim (cases_Bool (nat_eq x.birth birth)) [
+    | inl same ↦ own_settled x b (eqb-true x.birth birth same) k
+    | inr other ↦ other_settled x b other k
+  ]
+
+  all_settled : (xs : List Session) (b : Broker) → Stays b → Stays (after_all (settles_all env xs b) b)
+  all_settled [] b k = k
+  all_settled (x ∷ xs) b k =
+      let first = settles env x b in
       let c = after_all first b in
-      subst Stays (sym (after_append first (series (map (λ y. close_if (is_connected y) env y) xs) c) b)) (sessions_closed xs c (one_closed (is_connected x) x b k))
+      subst Stays (sym (after_append first (settles_all env xs c) b)) (all_settled xs c (one_settled x b k))
+
+  -- closing the sessions that stood connected, and then settling each, leaves all as the receiver needs it
+  pub sessions_closed : (b : Broker) → Stays b → Stays (after_all (opening env b) b)
+  sessions_closed b k =
+      let ss = connected_in b.records in
+      let first = shuts_all ss b in
+      let c = after_all first b in
+      let second = settles_all env ss c in
+      subst Stays (sym (after_append first (second ++ []) b ∙ after_append second [] c)) (all_settled ss c (all_shut ss b k))
 
 -- ---- the restart
 
@@ -201,7 +221,7 @@ restart_goes_on largest ids limits choice now birth ns r b f v tidy plain =
       runs = λ number n. lost_all number largest (ids ++ []) birth r now b (subst (λ (all : List CopyId). RunsWithAll number largest all birth r b) (sym (append-nil ids)) (f number (subst (AreNumbered number) (append-nil ids) n)));
     } in
     let ds = opening env first in
-    let last = sessions_closed largest env tidy.within q birth [] ids has plain b.records.sessions first kept in
+    let last = sessions_closed largest env tidy.within q birth [] ids has plain first kept in
     let rows = rows_of_all ds first.records in
     let c = after_all ds first in
     record {

@@ -10,11 +10,11 @@ use Rattle.mqtt_records.specs.messages.Queue.{CopyRow}
 use Rattle.mqtt_records.specs.declared.messages.message.Will.{Will}
 use Rattle.mqtt_records.specs.declared.state.session.Session.{Session}
 use Rattle.mqtt_rules.specs.declared.step.Limits.{Limits}
-use Rattle.mqtt_rules.specs.step.State.{Broker, Env, MemberChoice, session_at, session_named, is_connected}
-use Rattle.mqtt_rules.specs.step.Deeds.{Whose, whose, FromWill, Close, DropWill, Leave, Deed, Accept, Begin, Name, Count, At, Finish, Keep, Forget, RefuseWill, Link, On, Send, Gone, rows_of_all, after, after_all, Act, always, series, only_if, with_session, of_session}
+use Rattle.mqtt_rules.specs.step.State.{Broker, Env, MemberChoice, session_at, session_named}
+use Rattle.mqtt_rules.specs.step.Deeds.{Whose, whose, FromWill, DropWill, Leave, Deed, Accept, Begin, Name, Count, At, Finish, Keep, Forget, RefuseWill, Link, On, Send, Gone, rows_of_all, after_all, Act, always, only_if, with_session, of_session}
 use Rattle.mqtt_rules.specs.step.Routing.{CopyTo, accepted_copies}
 use Rattle.mqtt_rules.specs.step.Closing.{has_due_will, has_due_end, will_message, publish_or_refuse, will_deeds, publish_will, end_session, settle}
-use Rattle.mqtt_rules.specs.step.Step.{env_of, close_if, opening, unopened, opened}
+use Rattle.mqtt_rules.specs.step.Step.{env_of, connected_in, shuts, settles, shuts_all, settles_all, opening, unopened, opened}
 use Rattle.mqtt_world_model.specs.model.Ends.{Publisher}
 use Rattle.mqtt_world_model.specs.model.World.{publisher_restarted}
 use Rattle.mqtt_world_model.specs.model.Seen.{open_in, seen}
@@ -87,19 +87,24 @@ module _ (env : Env) (client : List ℕ) (birth : ℕ) where
       (begin_with (session_at k b.records) will b (λ s. begin_if (has_due_will b.now s) (publish_will env s) b (begin_will (whose s) s.will b)))
       (begin_append client birth second [] (begin_with (session_at k c.records) ends c (λ s. begin_if (has_due_end b.now s) (always (end_session s)) c (begin_end s))) tt)
 
-  begin_closed : (t : Bool) (x : Session) (b : Broker) → BeginsNobody (close_if t env x b)
-  begin_closed false x b = tt
-  begin_closed true x b =
-      let c = after (At (whose x) (Close b.now)) b in
-      (tt, begin_append client birth (settle env x.birth c) [] (begin_settle x.birth c) tt)
+  begin_shuts : (xs : List Session) (b : Broker) → BeginsNobody (shuts_all xs b)
+  begin_shuts [] b = tt
+  begin_shuts (x ∷ xs) b = (tt, begin_shuts xs (after_all (shuts x b) b))
+
+  begin_settles : (xs : List Session) (b : Broker) → BeginsNobody (settles_all env xs b)
+  begin_settles [] b = tt
+  begin_settles (x ∷ xs) b =
+      let first = settles env x b in
+      let c = after_all first b in
+      begin_append client birth first (settles_all env xs c) (begin_settle x.birth b) (begin_settles xs c)
 
   -- an opening begins no session
-  pub begin_opening : (xs : List Session) (b : Broker) → BeginsNobody (series (map (λ x. close_if (is_connected x) env x) xs) b)
-  begin_opening [] b = tt
-  begin_opening (x ∷ xs) b =
-      let first = close_if (is_connected x) env x b in
+  pub begin_opening : (b : Broker) → BeginsNobody (opening env b)
+  begin_opening b =
+      let ss = connected_in b.records in
+      let first = shuts_all ss b in
       let c = after_all first b in
-      begin_append client birth first (series (map (λ y. close_if (is_connected y) env y) xs) c) (begin_closed (is_connected x) x b) (begin_opening xs c)
+      begin_append client birth first (settles_all env ss c ++ []) (begin_shuts ss b) (begin_append client birth (settles_all env ss c) [] (begin_settles ss c) tt)
 
 -- ---- no session has the name, if each that has it would have two births
 
@@ -123,7 +128,7 @@ empty_restart_is_hop limits choice now p b accepted none =
     let ds = opening env start in
     let new = opened limits choice now b.records in
     let end = after_all ds start in
-    let only = λ (k : ℕ). only_deeds p.client k ds start (begin_opening env p.client k b.records.sessions start) (only_none p.client k b.records.sessions none) in
+    let only = λ (k : ℕ). only_deeds p.client k ds start (begin_opening env p.client k start) (only_none p.client k b.records.sessions none) in
     let sessions : new.records.sessions ≡ end.records.sessions = done_sessions (rows_of_all ds start.records) end in
     let after_is : session_named p.client new.records ≡ session_named p.client b.records =
     ap (λ (ss : List Session). find (λ (x : Session). bytes_eq x.client p.client) ss) sessions ∙ (none_of p.client end.records.sessions (only 0) (only 1) ∙ sym none) in

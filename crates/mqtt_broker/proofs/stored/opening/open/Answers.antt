@@ -3,6 +3,7 @@ use Rattle.std.specs.Prelude.{Err}
 use Rattle.mqtt_keep.specs.declared.keeping.keep.KeepError.{KeepError}
 use Rattle.mqtt_broker.specs.stored.Opening.{Opened}
 use Rattle.mqtt_broker.proofs.stored_lemmas.Answering.{load_begun, refused_first, refused_load}
+use Rattle.mqtt_broker.proofs.stored_lemmas.Identifiers.{sent_phases}
 use Rattle.mqtt_broker.proofs.stored_lemmas.Over.{slim_alike}
 use Rattle.mqtt_broker.proofs.stored.opening.open.Goals as goal
 
@@ -31,7 +32,7 @@ returns-in-Ok-unopened g c =
       over = record { alike = slim_alike c.in-Ok.records read.whole read.slim_is; lawful = read.lawful; loaded = c.in-Ok.ensures.loaded; holds = read.stands };
       within = c.requires.within;
       is = c.in-Ok-unopened.ensures.step;
-    }) read.passed
+    }) read.passed (sent_phases c.in-Ok.records read.whole read.slim_is read.lawful c.have_two_bytes.ensures)
     (load_begun g.K.Keep c.args.keep c.load.new.self read.whole (λ h holds sound. read.exact sound h holds) read.found c.load.ensures.sound c.load.ensures.same c.load.ensures.crash)
 
 pub returns-in-Err-unopened : goal.returns-in-Err-unopened

@@ -9,4 +9,4 @@ over-requires g c =
     indexed_alike c.args.step.broker.records (begun_lawful g.K.Keep h.0 h.1 h.2 c.args.keep c.args.step h.3)
 
 pub returns-in-Err : goal.returns-in-Err
-returns-in-Err g c = λ first limits now whole u passed begun. refused_first g.K.Keep limits now first whole c.args.keep begun
+returns-in-Err g c = λ first limits now whole u passed identifiers begun. refused_first g.K.Keep limits now first whole c.args.keep begun

@@ -20,13 +20,13 @@ over-requires-clause-whole g c =
     (held.after, subst (λ (l : Limits). HoldsWhole g.K.Keep c.store.new.keep l c.store.new.step.broker held.after) (sym (ap (λ (t : Stepping). t.limits) held.rest)) held.its)
 
 pub returns-in-Ok : goal.returns-in-Ok
-returns-in-Ok g c = λ first limits now whole u passed begun.
+returns-in-Ok g c = λ first limits now whole u passed identifiers begun.
     let told = c.in-Ok.ensures.told limits now whole u in
     opened_as g.K.Keep g.met.K.Keep.tells g.met.K.Keep.leaves_held limits now first whole c.args.keep c.store.new.keep c.store.new.step told.held c.over.result c.over.ensures
-    begun u.over.lawful passed told.sound
+    begun u.over.lawful passed identifiers told.sound
 
 pub returns-in-Err : goal.returns-in-Err
-returns-in-Err g c = λ first limits now whole u passed begun.
+returns-in-Err g c = λ first limits now whole u passed identifiers begun.
     let told = c.in-Err.ensures.told limits now whole u in
     refused_store g.K.Keep limits now first whole c.args.keep c.store.new.keep c.in-Err.error begun
     (λ e. told.spent (ap Err e)) (λ e. told.schema (ap Err e))

@@ -1,8 +1,7 @@
-use Rattle.std.proofs.Common.{ap, refl, inl, inr}
+use Rattle.std.proofs.Common.{ap}
 use Rattle.std.proofs.lemmas.Result.{IfErr-weaker, IfOk-weaker}
 use Rattle.mqtt_keep.specs.keeping.InMemory.{InMemory}
 use Rattle.mqtt_world_laws.proofs.headline_lemmas.Lives.{start_begins}
-use Rattle.mqtt_replay.proofs.over_world_lemmas.Caused.{number_due}
 use Rattle.mqtt_replay.proofs.over_world_lemmas.Texted.{any_fault, front_kept, written, written_front}
 use Rattle.mqtt_replay.proofs.over_world.replaying.replay.Goals as goal
 
@@ -17,12 +16,6 @@ returns-clause-err g c =
     IfErr-weaker c.replay_over.result _ _
     (λ fault front n. written_front _ (λ keep. tt) c.args.limits c.requires.within _ (ap (λ (k : InMemory). k.records) c.in_ok-keep.ensures) _ _ _ (front n))
     c.replay_over.ensures.err
-
-pub returns-clause-cause : goal.returns-clause-cause
-returns-clause-cause g c =
-    IfErr-weaker c.replay_over.result _ _
-    (λ fault due. number_due _ (λ a b. refl) (λ keep. tt) (λ keep e is. elim is [ inl memory ↦ inl memory | inr corrupt ↦ inr (corrupt.0, record { records = keep.records; is = λ h holds. holds; unlawful = corrupt.1 }) ]) c.args.limits _ (ap (λ (k : InMemory). k.records) c.in_ok-keep.ensures) fault due)
-    c.replay_over.ensures.cause
 
 pub returns-in_err-keep-clause-err : goal.returns-in_err-keep-clause-err
 returns-in_err-keep-clause-err g c =
