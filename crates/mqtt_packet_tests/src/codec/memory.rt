@@ -7,10 +7,10 @@ use mqtt_packet::Fault;
 use std::alloc::Global;
 use std::process::Abort;
 
-/// Whether the packet of the frame is encoded as it was spelled, or why there is none.
-fn is_spelled_again(alloc: Global, frame: &[u8]) -> Result<bool, Fault> {
+/// Whether the packet of the frame is encoded so, or why there is none.
+fn is_encoded_as(alloc: Global, frame: &[u8], want: &[u8]) -> Result<bool, Fault> {
     let bytes = encoded_again(alloc, frame)?;
-    let found = &bytes[..] == frame;
+    let found = &bytes[..] == want;
     drop(bytes);
     Ok(found)
 }
@@ -19,7 +19,7 @@ fn is_spelled_again(alloc: Global, frame: &[u8]) -> Result<bool, Fault> {
 /// is refused for what it is.
 fn assert_memory_alone_is_told(rt: &impl Abort, alloc: Global, frame: &[u8]) {
     let want = fault_of(frame).unwrap_or(Fault::Memory);
-    match is_spelled_again(alloc, frame) {
+    match is_encoded_as(alloc, frame, frame) {
         Ok(is_same) => assert!(rt; is_same, "{frame:?}"),
         Err(fault) => assert_eq!(rt; fault, want),
     }
@@ -30,6 +30,19 @@ fn assert_nothing_is_left(rt: &impl Abort, alloc: Global, frame: &[u8]) {
     match is_written(alloc, frame) {
         Ok(is_written) => assert!(rt; is_written, "{frame:?}"),
         Err(fault) => assert_eq!(rt; fault, Fault::Memory),
+    }
+}
+
+/// Three spellings of one PUBACK, which is encoded as the first (3.4).
+#[test]
+fn spellings_of_one_puback_are_read_as_it_or_memory_is_wanting(rt: HostRuntime) {
+    let shortest: &[u8] = &[0x40, 2, 0, 10];
+    let frames: [&[u8]; 3] = [shortest, &[0x40, 3, 0, 10, 0], &[0x40, 4, 0, 10, 0, 0]];
+    for frame in frames {
+        match is_encoded_as(rt.alloc(), frame, shortest) {
+            Ok(is_same) => assert!(rt; is_same, "{frame:?}"),
+            Err(fault) => assert_eq!(rt; fault, Fault::Memory),
+        }
     }
 }
 

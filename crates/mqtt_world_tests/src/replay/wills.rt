@@ -42,6 +42,8 @@ const ONE_EACH: Limits = Limits { queue: 1, ..LIMITS };
 fn a_will_at_a_restart_goes_to_a_member_that_waits(rt: HostRuntime) -> Result<(), Fail> {
     let hasher = RandomState::new(&rt)?;
     assert!(rt; is_so_within(rt.alloc(), hasher, LIMITS, MEMBER, MEMBER_TEXT) == Ok(true));
-    assert!(rt; is_so_within(rt.alloc(), hasher, ONE_EACH, FULL_MEMBER, FULL_MEMBER_TEXT) == Ok(true));
+    assert!(rt;
+        is_so_within(rt.alloc(), hasher, ONE_EACH, FULL_MEMBER, FULL_MEMBER_TEXT) == Ok(true)
+    );
     Ok(())
 }
