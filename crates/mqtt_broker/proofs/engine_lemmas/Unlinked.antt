@@ -427,6 +427,7 @@ un_call env Tick b old = un_on_tick (due env b) (un_due env b) b
 pub un_opening : (env : Env) (b : Broker) → AreGood IsUnlinked (opening env b) b
 un_opening env b =
     let ss = connected_in b.records in
-    good_series IsUnlinked (shuts_all ss ∷ settles_all env ss ∷ [])
-    (good_series IsUnlinked (map shuts ss) (good_acts IsUnlinked shuts (λ s c. (tt, tt)) ss),
-    (good_series IsUnlinked (map (settles env) ss) (good_acts IsUnlinked (settles env) (λ s. un_settle env s.birth) ss), tt)) b
+    good_series IsUnlinked (shuts_all ss ∷ settles_all env ss ∷ []) (
+      good_series IsUnlinked (map shuts ss) (good_acts IsUnlinked shuts (λ s c. (tt, tt)) ss),
+      (good_series IsUnlinked (map (settles env) ss) (good_acts IsUnlinked (settles env) (λ s. un_settle env s.birth) ss), tt),
+    ) b

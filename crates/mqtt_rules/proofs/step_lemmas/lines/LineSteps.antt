@@ -221,15 +221,15 @@ among_connected : (s : Session) (ss : List Session) → IsAmong s ss → is_conn
 among_connected s [] among on = among
 among_connected s (x ∷ ss) among on = elim (cases_Bool (is_connected x)) [
   | inl its ↦ rw its (elim among [
-      | inl it ↦ inl it
-      | inr further ↦ inr (among_connected s ss further on)
-    ])
+    | inl it ↦ inl it
+    | inr further ↦ inr (among_connected s ss further on)
+  ])
   | inr other ↦ rw other (elim among [
-      | inl it ↦
-          let on_too : is_connected x ≡ true = ap is_connected it ∙ on in
-          absurd cc
-      | inr further ↦ among_connected s ss further on
-    ])
+    | inl it ↦
+        let on_too : is_connected x ≡ true = ap is_connected it ∙ on in
+        absurd cc
+    | inr further ↦ among_connected s ss further on
+  ])
 ]
 
 -- once all that stood connected are shut, none is
