@@ -32,7 +32,7 @@ use Rattle.mqtt_records.specs.lists.Order.{row_at}
 use Rattle.mqtt_topic.specs.names.Names.{is_empty}
 use Rattle.mqtt_records.specs.messages.PassedOn.{number_at}
 use Rattle.mqtt_rules.specs.step.Packets.{publish_of, suback, unsuback, connack, disconnect}
-use Rattle.mqtt_rules.specs.step.State.{Line, Broker, Env, session_at, session_named, line_at, line_of, is_connected, queue_on}
+use Rattle.mqtt_rules.specs.step.State.{Line, Broker, Env, session_at, session_named, line_at, line_of, queue_on}
 use Rattle.mqtt_rules.specs.step.Deeds.{Whose, whose, Message, Origin, FromClient, FromWill, Resume, Close, DropWill, Enter, Leave, Hear, Deed, Accept, Begin, Name, Count, At, Finish, Forget, RefuseWill, Link, On, Send, Gone, Act, after_all, always, series, only_if, of_session, with_line, offer}
 use Rattle.mqtt_rules.specs.step.Deeds as deeds
 use Rattle.mqtt_rules.specs.step.Fitting.{has_form, offer_copy, pump_turns}

@@ -17,7 +17,6 @@ use Rattle.mqtt_broker_step.specs.Stepping.{Stepping, Did, IsLeft, env_in}
 use Rattle.mqtt_broker_step.proofs.Doing.{did_none}
 use Rattle.mqtt_broker_step.proofs.Then.{did_then, left_first, left_then, same_act, same_left}
 use Rattle.mqtt_broker_queue.proofs.publications_lemmas.Leading.{same_env}
-use Rattle.mqtt_broker_queue.proofs.publications_lemmas.Some.{alone}
 use Rattle.mqtt_broker_queue.specs.publications.Choosing.{DoesSome, LeavesSome}
 use Rattle.mqtt_broker_acts.specs.closing.Wills.{will_at}
 use Rattle.mqtt_broker_queue.specs.subscribers.Following.{CanBeIndexed}

@@ -1,5 +1,5 @@
 -- The deeds by which a session is closed or settled: none begins or ends another session, or subscribes.
-use Rattle.std.proofs.Common.{◌≡◌, ℕ, Bool, true, false, List, [], ◌∷◌, ◌++◌, map, Option, Some, None, refl, inl, inr}
+use Rattle.std.proofs.Common.{◌≡◌, ℕ, Bool, true, false, List, [], ◌∷◌, ◌++◌, map, Option, Some, None, inl, inr}
 use Rattle.std.specs.Prelude.{⊤, ◌⊎◌, flat_map}
 use Rattle.mqtt_base.specs.declared.session.Ending.TheVariants.{SessionEnded}
 use Rattle.mqtt_topic.specs.names.Names.{is_empty}

@@ -22,7 +22,7 @@ use Rattle.mqtt_rules.specs.step.Packets.{connack}
 use Rattle.mqtt_rules.specs.step.State.{Line, Broker, Env, line_at, is_connected}
 use Rattle.mqtt_rules.specs.step.Deeds.{whose, Close, Hear, Forget, On, Send, At, Act, always, series}
 use Rattle.mqtt_rules.specs.step.Tick.{is_silent, silence, lapses, are_some, has_lapsed, lapse_deeds, is_stale, first_due, due, on_tick}
-use Rattle.mqtt_rules.specs.step.Step.{Call, NewLine, Input, BadInput, Lost, Pump, Tick, first_packet, next_packet, on_packet, late_code, on_fault, on_pump, deeds_of, connected_in, shuts, settles, shuts_all, settles_all, opening}
+use Rattle.mqtt_rules.specs.step.Step.{Call, NewLine, Input, BadInput, Lost, Pump, Tick, first_packet, next_packet, on_packet, late_code, on_fault, on_pump, deeds_of, shuts, settles, opening}
 use Rattle.mqtt_rules.specs.alike.Alike.{Each, AlikeRows, AlikeSessions, AlikeDeeds, with_queue}
 use Rattle.mqtt_rules.proofs.alike_lemmas.Pairs.{Both, both_map, both_found}
 use Rattle.mqtt_rules.proofs.alike_lemmas.States.{by_queue, like}

@@ -45,7 +45,7 @@ use Rattle.mqtt_rules.specs.step.Inbound.{Meaning, Means, Wrong, answer, code_ac
 use Rattle.mqtt_rules.specs.step.Outbound.{turn_deeds}
 use Rattle.mqtt_rules.specs.step.Packets.{connack, disconnect, suback, unsuback}
 use Rattle.mqtt_rules.specs.step.Routing.{CopyTo, accepted_copies, is_queued, is_wanted, publish}
-use Rattle.mqtt_rules.specs.step.State.{Broker, Env, Line, is_connected, line_at, line_of, queue_on, session_at, session_named}
+use Rattle.mqtt_rules.specs.step.State.{Broker, Env, Line, line_at, line_of, queue_on, session_at, session_named}
 use Rattle.mqtt_rules.specs.step.Step.{BadInput, Call, Input, Lost, NewLine, Pump, Tick, can_link, connected_in, deeds_of, first_packet, late_code, next_packet, on_fault, on_packet, on_pump, opening, settles, settles_all, shuts, shuts_all}
 use Rattle.mqtt_rules.specs.step.Subscribe as sub
 use Rattle.mqtt_rules.specs.step.Tick.{due, first_due, has_lapsed, is_silent, is_stale, lapse_deeds, lapses, on_tick, silence}

@@ -65,7 +65,7 @@ use Rattle.mqtt_rules.specs.step.Outbound.{turn_deeds, way_of}
 use Rattle.mqtt_rules.specs.step.Packets.{connack, disconnect, suback, unsuback}
 use Rattle.mqtt_records.specs.messages.PassedOn.{number_at}
 use Rattle.mqtt_rules.specs.step.Routing.{CopyTo, accepted_copies, is_queued, is_wanted, publish}
-use Rattle.mqtt_rules.specs.step.State.{Broker, Env, Line, is_connected, line_at, line_of, queue_on, session_at, session_named, told_on}
+use Rattle.mqtt_rules.specs.step.State.{Broker, Env, Line, line_at, line_of, queue_on, session_at, session_named, told_on}
 use Rattle.mqtt_rules.specs.step.Laws.{HasTables, IsOrdered}
 use Rattle.mqtt_rules.specs.step.Piece.{code_of}
 use Rattle.mqtt_rules.specs.step.Step.{Call, NewLine, Input, BadInput, Lost, Pump, Tick, can_link, connected_in, deeds_of, first_packet, late_code, next_packet, on_fault, on_packet, on_pump, opening, settles, settles_all, shuts, shuts_all}

@@ -12,8 +12,8 @@ use Rattle.mqtt_records.specs.state.Session.{birth_of, auto}
 use Rattle.mqtt_records.specs.lists.Order.{IsAscending}
 use Rattle.mqtt_rules.specs.declared.step.Limits.{Limits}
 use Rattle.mqtt_rules.specs.step.State.{Line, Broker, Env, stored, session_at, is_connected, MemberChoice}
-use Rattle.mqtt_rules.specs.step.Deeds.{Whose, whose, Part, Resume, Open, Close, Act, SetAlias, Hear, Deed, Name, At, Forget, RefuseWill, Link, On, Send, rows_of_all, after, after_all, series, always}
-use Rattle.mqtt_rules.specs.step.Closing.{end_session, settle, is_due, end_due, has_due_end}
+use Rattle.mqtt_rules.specs.step.Deeds.{Whose, whose, Part, Resume, Open, Close, SetAlias, Hear, Deed, Name, At, Forget, RefuseWill, Link, On, Send, rows_of_all, after, after_all}
+use Rattle.mqtt_rules.specs.step.Closing.{end_session, is_due, end_due, has_due_end}
 use Rattle.mqtt_base.specs.Codes.{success}
 use Rattle.mqtt_rules.specs.step.Packets.{connack}
 use Rattle.mqtt_rules.specs.step.Connect.{expiry_of, will_of, greet, begin_named, connack_properties}
