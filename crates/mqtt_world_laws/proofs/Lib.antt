@@ -10,6 +10,7 @@ pub mod delivery_lemmas
 pub mod drains_lemmas
 pub mod drain_causes_lemmas
 pub mod unsent_lemmas
+pub mod published_lemmas
 pub mod fitting_lemmas
 pub mod headline_lemmas
 pub mod headline_in_forms_lemmas

@@ -9,6 +9,7 @@ pub mod delivery
 pub mod drains
 pub mod drain_causes
 pub mod unsent
+pub mod published
 pub mod fitting
 pub mod headline
 pub mod headline_in_forms

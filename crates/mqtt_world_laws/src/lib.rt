@@ -11,6 +11,7 @@ pub mod granting;
 pub mod headline;
 pub mod headline_in_forms;
 pub mod knowing;
+pub mod published;
 pub mod reading;
 pub mod receiver;
 pub mod routing;

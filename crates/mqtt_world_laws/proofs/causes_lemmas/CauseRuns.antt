@@ -38,7 +38,7 @@ anything limits = record {
 }
 
 -- the ends of some steps have their causes
-abbrev AreCaused : List Asked → Type 0
+abbrev pub AreCaused : List Asked → Type 0
 AreCaused xs = AllByRecursion (λ (x : Asked). AllByRecursion HasCause (ends_in x)) xs
 
 both_caused : (xs ys : List Asked) → AreCaused xs → AreCaused ys → AreCaused (xs ++ ys)
@@ -112,7 +112,8 @@ turn_caused limits t w within s unspent = by (is_bad t.event w) unspent
     by true u = tt
     by false u = happened set within t.event w s u
 
-all_steps : (limits : Limits) (ts : List Turn) (w : World) → AreWithin limits → IsSteady w.broker → run_spends limits ts w ≡ false → AreCaused (asked_over limits ts w)
+-- from whatever world, if its tables are in order
+pub all_steps : (limits : Limits) (ts : List Turn) (w : World) → AreWithin limits → IsSteady w.broker → run_spends limits ts w ≡ false → AreCaused (asked_over limits ts w)
 all_steps limits [] w within s unspent = tt
 all_steps limits (t ∷ ts) w within s unspent =
     let v = turned limits t w in
@@ -121,7 +122,8 @@ all_steps limits (t ∷ ts) w within s unspent =
     both_caused (read_at the_asked (setting limits t) t.event w) (asked_over limits ts v)
     (turn_caused limits t w within s costs.0) (all_steps limits ts v within next.steady costs.1)
 
-joined : (xs : List Asked) → AreCaused xs → AllByRecursion HasCause (flat_map ends_in xs)
+-- so each of them has
+pub joined : (xs : List Asked) → AreCaused xs → AllByRecursion HasCause (flat_map ends_in xs)
 joined [] h = tt
 joined (x ∷ xs) h = each_append HasCause (ends_in x) (flat_map ends_in xs) h.0 (joined xs h.1)
 

@@ -163,7 +163,8 @@ run_empties limits ts choice c most w u fair unspent good = empties_if c limits 
 
 -- ---- in a script
 
-doing_empties : (limits : Limits) (d : Doing) (w : World) → ((c : List ℕ) → IsKept [] c limits w) → run_spends limits (turns_of limits d w) w ≡ false → EmptiesWhere limits d w
+-- a drain that is not bad does, where no number is spent
+pub doing_empties : (limits : Limits) (d : Doing) (w : World) → ((c : List ℕ) → IsKept [] c limits w) → run_spends limits (turns_of limits d w) w ≡ false → EmptiesWhere limits d w
 doing_empties limits (happens t) w k u = tt
 doing_empties limits (drains choice c most) w k u = λ good.
     let goes : run_spends limits (drain_turns limits choice c most w) w ≡ false = subst (λ (bad : Bool). run_spends limits (cond bad [] (drain_turns limits choice c most w)) w ≡ false) good u in

@@ -33,7 +33,8 @@ use Rattle.mqtt_world_laws.proofs.routing_lemmas.OwnSteps.{its_ids, own_ids}
 
 -- ---- numbers that count on differ
 
-above : (n m : ℕ) (xs : List ℕ) → CountsOn n xs m → AllByRecursion (λ x. n < x) xs
+-- each is above the one that they count on from
+pub above : (n m : ℕ) (xs : List ℕ) → CountsOn n xs m → AllByRecursion (λ x. n < x) xs
 above n m [] h = tt
 above n m (x ∷ xs) h =
     let next = h.0 in
@@ -52,7 +53,8 @@ others_none n (a ∷ accepted) h =
     let other : nat_eq a.number n ≡ false = apart a.number n (λ e. h.0 (sym e)) in
     rw other (others_none n accepted h.1)
 
-among_numbers : (P : ℕ → Type 0) (a : Acceptance) (accepted : List Acceptance) → AllByRecursion P (map number_of accepted) → IsAmong a accepted → P a.number
+-- what holds of all numbers of acceptances holds of one's
+pub among_numbers : (P : ℕ → Type 0) (a : Acceptance) (accepted : List Acceptance) → AllByRecursion P (map number_of accepted) → IsAmong a accepted → P a.number
 among_numbers P a [] h among = absurd among
 among_numbers P a (x ∷ xs) h among = elim among [
   | inl same ↦ subst (λ (y : Acceptance). P y.number) same h.0

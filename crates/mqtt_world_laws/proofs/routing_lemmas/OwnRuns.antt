@@ -1,19 +1,19 @@
 -- Over a run: its acceptances are those of its steps, numbered as its deeds number them, and each comes with the next number on tables in order.
 use Rattle.std.proofs.Common.{◌≡◌, ℕ, zero, suc, Bool, true, false, cond, List, [], ◌∷◌, ◌++◌, map, Option, Some, None, refl, sym, ap, ◌∙◌, append-nil}
 use Rattle.std.specs.Prelude.{⊤, flat_map, filter_map}
-use Rattle.std.specs.List.{AllByRecursion}
+use Rattle.std.specs.List.{AllByRecursion, cons_option}
 use Rattle.std.proofs.lemmas.Grind.{flat_map-append}
 use Rattle.std.proofs.lemmas.List.{map-append}
 use Rattle.std.proofs.lemmas.List.Elements.{filter_map-append}
 use Rattle.mqtt_rules.specs.declared.step.Limits.{Limits}
-use Rattle.mqtt_rules.specs.step.State.{Broker}
-use Rattle.mqtt_rules.specs.step.Deeds.{Deed, Link}
+use Rattle.mqtt_rules.specs.step.State.{Broker, Env}
+use Rattle.mqtt_rules.specs.step.Deeds.{Accept, Deed, Link, Message, after}
 use Rattle.mqtt_rules.specs.step.Laws.{AreWithin}
 use Rattle.mqtt_rules.specs.step.Numbers.{publication_given}
 use Rattle.mqtt_rules.specs.step.Step.{Call, NewLine, can_link, env_of, at_moment, deeds, unopened}
 use Rattle.mqtt_rules.proofs.step_lemmas.numbers.Copies.{each_append}
 use Rattle.mqtt_world_model.specs.model.World.{World, Setting, Event, publisher, receiver, connect_end, give_up, publish, subscribe, to_end, clock, ask, restart, stop_before, stop_after, Asking, to_broker, old_to_broker, break, pump, tick, stranger, stranger_named, calls_if, comes, next_held, call_of_stranger, held_count, before, call_of, first_step, is_bad}
-use Rattle.mqtt_world_model.specs.model.Run.{Turn, setting, turned, deeds_at, deeds_over, read_if, read_rest, read_first, read_asked, read_opening, read_in, read_at, the_deeds, Acceptance, acceptances_of, acceptances_over, the_acceptances}
+use Rattle.mqtt_world_model.specs.model.Run.{Turn, setting, turned, deeds_at, deeds_over, read_if, read_rest, read_first, read_asked, read_opening, read_in, read_at, the_deeds, Acceptance, accepted_by, acceptances_of, acceptances_over, the_acceptances}
 use Rattle.mqtt_world_laws.specs.acceptance.Spending.{run_spends, spending}
 use Rattle.mqtt_world_laws.specs.acceptance.Fair.{IsSteady, IsNew, IsCounted}
 use Rattle.mqtt_world_laws.specs.acceptance.Steps.{Step, step_called, opening_step, steps_over, the_steps}
@@ -24,10 +24,11 @@ use Rattle.mqtt_world_laws.proofs.routing_lemmas.OpeningLines.{opening_lined}
 use Rattle.mqtt_world_laws.proofs.routing_lemmas.OwnSteps.{AreNext, call_next, opening_next, numbers_are}
 
 -- steps that keep the tables in order, of which nothing else is said
-abbrev Any : List Deed → Broker → Broker → Type 0
+abbrev pub Any : List Deed → Broker → Broker → Type 0
 Any ds b d = ⊤
 
-anything : (limits : Limits) → Walk limits Any
+-- every walk takes such steps
+pub anything : (limits : Limits) → Walk limits Any
 anything limits = record {
   none = λ b. tt;
   next = λ xs ys a b d p q. tt;
@@ -40,6 +41,26 @@ anything limits = record {
 abbrev pub number_of : Acceptance → ℕ
 number_of a = a.number
 
+-- a publication with the number that it was given
+abbrev pub Said : Type 0
+Said = ℕ × Message
+
+abbrev pub said_of : Acceptance → Said
+said_of a = (a.number, a.message)
+
+abbrev pub said_in : Deed → Option Said
+said_in (Accept number origin m) = Some (number, m)
+said_in d = None
+
+-- what the deeds of a step accept is what its acceptances are
+said_are : (env : Env) (ds : List Deed) (b : Broker) → filter_map said_in ds ≡ map said_of (acceptances_of env ds b)
+said_are env [] b = refl
+said_are env (d ∷ ds) b = one d (acceptances_of env ds (after d b)) (said_are env ds (after d b))
+  where
+    one : (d : Deed) (xs : List Acceptance) → filter_map said_in ds ≡ map said_of xs → cons_option (said_in d) (filter_map said_in ds) ≡ map said_of (cons_option (accepted_by env d b) xs)
+    one (Accept number origin m) xs h = ap (λ (ss : List Said). (number, m) ∷ ss) h
+    one d xs h = h
+
 abbrev pub accepted_in : Step → List Acceptance
 accepted_in x = acceptances_of x.env x.deeds x.broker
 
@@ -50,20 +71,23 @@ AreLinedUp accepted = AllByRecursion IsUnique accepted
 -- these deeds are done in these steps, and these are what they accept
 pub record Accepts (ds : List Deed) (xs : List Step) (accepted : List Acceptance) : Type 0 where
   pub numbers : filter_map publication_given ds ≡ map number_of accepted
+  pub said : filter_map said_in ds ≡ map said_of accepted
   pub accepted_are : accepted ≡ flat_map accepted_in xs
   pub each : AllByRecursion (λ (x : Step). AreNext (accepted_in x)) xs
   pub lined : AreLinedUp accepted
 
 none_accept : Accepts [] [] []
-none_accept = record { numbers = refl; accepted_are = refl; each = tt; lined = tt }
+none_accept = record { numbers = refl; said = refl; accepted_are = refl; each = tt; lined = tt }
 
 one_accepts : (x : Step) → AreNext (accepted_in x) → AreLinedUp (accepted_in x) → Accepts x.deeds (x ∷ []) (accepted_in x)
-one_accepts x h up = record { numbers = numbers_are x.env x.deeds x.broker; accepted_are = sym (append-nil (accepted_in x)); each = (h, tt); lined = up }
+one_accepts x h up = record { numbers = numbers_are x.env x.deeds x.broker; said = said_are x.env x.deeds x.broker; accepted_are = sym (append-nil (accepted_in x)); each = (h, tt); lined = up }
 
 both_accept : (ds es : List Deed) (xs ys : List Step) (accepted cs : List Acceptance) → Accepts ds xs accepted → Accepts es ys cs → Accepts (ds ++ es) (xs ++ ys) (accepted ++ cs)
 both_accept ds es xs ys accepted cs p q = record {
   numbers = filter_map-append publication_given ds es ∙ ap (λ (ns : List ℕ). ns ++ filter_map publication_given es) p.numbers ∙ ap (λ (ns : List ℕ). map number_of accepted ++ ns) q.numbers
       ∙ sym (map-append number_of accepted cs);
+  said = filter_map-append said_in ds es ∙ ap (λ (ss : List Said). ss ++ filter_map said_in es) p.said ∙ ap (λ (ss : List Said). map said_of accepted ++ ss) q.said
+      ∙ sym (map-append said_of accepted cs);
   accepted_are = ap (λ (zs : List Acceptance). zs ++ cs) p.accepted_are ∙ ap (λ (zs : List Acceptance). flat_map accepted_in xs ++ zs) q.accepted_are ∙ sym (flat_map-append accepted_in xs ys);
   each = each_append (λ (x : Step). AreNext (accepted_in x)) xs ys p.each q.each;
   lined = each_append IsUnique accepted cs p.lined q.lined;
@@ -84,8 +108,8 @@ module _ (set : Setting) (within : AreWithin set.limits) where
       of_deeds ds = record { env = env_of set.limits set.choice w.broker; deeds = ds; broker = at_moment w.now w.broker }
 
       by : (t : Bool) → Accepts (cond t (Link (suc w.broker.given) ∷ []) []) (of_deeds (cond t (Link (suc w.broker.given) ∷ []) []) ∷ []) []
-      by true = record { numbers = refl; accepted_are = refl; each = (tt, tt); lined = tt }
-      by false = record { numbers = refl; accepted_are = refl; each = (tt, tt); lined = tt }
+      by true = record { numbers = refl; said = refl; accepted_are = refl; each = (tt, tt); lined = tt }
+      by false = record { numbers = refl; said = refl; accepted_are = refl; each = (tt, tt); lined = tt }
 
   opening_accepts : (w : World) → IsSteady w.broker → Accepts (read_opening the_deeds set w) (opening_step set w ∷ []) (read_opening the_acceptances set w)
   opening_accepts w s =
@@ -151,7 +175,8 @@ turn_accepts limits t w within s unspent = by (is_bad t.event w) unspent
     by true u = none_accept
     by false u = event_accepts set within t.event w s u
 
-all_accept : (limits : Limits) (ts : List Turn) (w : World) → AreWithin limits → IsSteady w.broker → run_spends limits ts w ≡ false → Accepts (deeds_over limits ts w) (steps_over limits ts w) (acceptances_over limits ts w)
+-- from whatever world, if its tables are in order
+pub all_accept : (limits : Limits) (ts : List Turn) (w : World) → AreWithin limits → IsSteady w.broker → run_spends limits ts w ≡ false → Accepts (deeds_over limits ts w) (steps_over limits ts w) (acceptances_over limits ts w)
 all_accept limits [] w within s unspent = none_accept
 all_accept limits (t ∷ ts) w within s unspent =
     let v = turned limits t w in

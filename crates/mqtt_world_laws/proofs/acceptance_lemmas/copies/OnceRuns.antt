@@ -45,7 +45,7 @@ coherent_kept r h apart = record {
 }
 
 -- a copy stands there, or it can come yet, not both
-one_or_other : (c : CopyId) (r : Records) → TellsApart r → count_of c (queued_in r) + U c (kinds r) ≤ 1
+pub one_or_other : (c : CopyId) (r : Records) → TellsApart r → count_of c (queued_in r) + U c (kinds r) ≤ 1
 one_or_other c r apart = elim (cases_Bool (may_come c r)) [
   | inl yes_ ↦
       let none = apart.numbered c yes_ in
@@ -60,7 +60,8 @@ one_or_other c r apart = elim (cases_Bool (may_come c r)) [
 -- ---- a run
 
 module _ (limits : Limits) (ts : List Turn) (w : World) (new : IsNew w) (fair : IsCounted limits ts w) (apart : TellsApart w.broker.records) (c : CopyId) where
-  counted : count_of c (entered_from limits ts w) + U c (kinds (run limits ts w).broker.records) ≤ U c (kinds w.broker.records)
+  -- a copy that may come yet has not entered, and it could come at the beginning
+  pub counted : count_of c (entered_from limits ts w) + U c (kinds (run limits ts w).broker.records) ≤ U c (kinds w.broker.records)
   counted = (run_walks (Counts c) limits ts w (counts c limits) new fair (coherent_kept w.broker.records new.steady.coherent apart)).counted
 
   -- in a run that spends no number a copy enters at most once

@@ -166,7 +166,8 @@ turn_goes R limits walk t w within s unspent = by (is_bad t.event w) unspent
     by true u = record { steady = s; said = walk.none w.broker }
     by false u = event_goes R set walk within t.event w s u
 
-run_goes : (R : List Deed → Broker → Broker → Type 0) (limits : Limits) (walk : Walk limits R) (ts : List Turn) (w : World) → AreWithin limits → IsSteady w.broker → run_spends limits ts w ≡ false
+-- what each step does, every run does, from whatever world, if its tables are in order
+pub run_goes : (R : List Deed → Broker → Broker → Type 0) (limits : Limits) (walk : Walk limits R) (ts : List Turn) (w : World) → AreWithin limits → IsSteady w.broker → run_spends limits ts w ≡ false
     → Steps limits R (deeds_over limits ts w) w (run limits ts w)
 run_goes R limits walk [] w within s unspent = record { steady = s; said = walk.none w.broker }
 run_goes R limits walk (t ∷ ts) w within s unspent =
