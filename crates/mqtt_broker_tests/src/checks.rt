@@ -1,11 +1,15 @@
-//! All that is asked of the broker over stores in memory, in SQL, and over stores whose device fails (MQTT 5.0, 2.1, 3, 4).
+//! All that is asked of the broker over stores in memory, in SQL, and over stores of which a call fails (MQTT 5.0, 2.1, 3, 4).
 
 use crate::costly::judge_costly;
 use crate::drained::judge_drained;
+use crate::failing::{Counts, Sweep, sweep_all};
 use crate::judging::{How, judge_all};
-use crate::scripts::{clients, closing, filters, publishing, receiving, refusing, turning};
+use crate::scripts::{
+    clients, closing, filters, publishing, receiving, refusing, reopening, turning,
+};
 use crate::sql::judge_spent;
 use crate::sweeps::judge_sweeps;
+use crate::tables::judge_tables;
 use crate::taken::judge_taken;
 use crate::telling::Telling;
 use std::alloc::{AllocError, Global};
@@ -19,12 +23,10 @@ pub enum What {
     Scripts,
     /// Whether what is refused changes nothing else.
     Refusals,
-    /// Whether a device that fails leaves whole steps.
-    Failures,
-    /// Whether a store that can't be read is given back as it was.
-    Unread,
     /// Whether scripts tell what they say over a store in SQL, and leave the rows that they leave in memory.
     InSql,
+    /// Whether a broker's steps leave the rows in the tables that they should, and changed tables are refused.
+    Tables,
     /// Whether a broker that is opened over a store of schema 1 goes on as over any other, and the store is taken over.
     TakenOver,
     /// Whether nothing changes in a store in SQL, if no publication can be numbered any more.
@@ -67,6 +69,7 @@ fn judge_subjects(wrong: &mut Telling, alloc: Global, hasher: RandomState, how: 
     judge_all(wrong, alloc, hasher, filters(), how);
     judge_all(wrong, alloc, hasher, publishing(), how);
     judge_all(wrong, alloc, hasher, receiving(), how);
+    judge_all(wrong, alloc, hasher, reopening(), how);
     judge_all(wrong, alloc, hasher, turning(), how);
 }
 
@@ -81,12 +84,11 @@ fn judge_what(
     match what {
         What::Scripts => judge_subjects(wrong, alloc, hasher, How::InMemory),
         What::Refusals => judge_all(wrong, alloc, hasher, refusing(), How::WithRefusals),
-        What::Failures => judge_subjects(wrong, alloc, hasher, How::WithFailures),
-        What::Unread => judge_subjects(wrong, alloc, hasher, How::Unread),
         What::InSql => {
             judge_subjects(wrong, alloc, hasher, How::InSql);
             judge_all(wrong, alloc, hasher, refusing(), How::InSql);
         }
+        What::Tables => judge_tables(wrong, alloc, hasher),
         What::TakenOver => judge_taken(wrong, alloc, hasher),
         What::Spent => judge_spent(wrong, alloc, hasher),
         What::Wanting => judge_subjects(wrong, alloc, hasher, How::Twice(SHORT)),
@@ -116,4 +118,28 @@ pub fn check(alloc: Global, hasher: RandomState, what: What) -> Result<(), Fail>
     let verdict = verdict_of(&wrong);
     drop(wrong);
     verdict
+}
+
+/// Plays all scripts over stores of which a call fails, each in turn, and fails like `check`; answers how many failed so.
+pub(crate) fn sweep(alloc: Global, hasher: RandomState, how: Sweep) -> Result<Counts, Fail> {
+    let mut wrong = Telling::new(alloc);
+    let mut counts = Counts::none();
+    for scripts in [
+        clients(),
+        closing(),
+        filters(),
+        publishing(),
+        receiving(),
+        reopening(),
+        refusing(),
+        turning(),
+    ] {
+        sweep_all(&mut wrong, &mut counts, alloc, hasher, scripts, how);
+    }
+    let verdict = verdict_of(&wrong);
+    drop(wrong);
+    match verdict {
+        Ok(()) => Ok(counts),
+        Err(fail) => Err(fail),
+    }
 }

@@ -1,10 +1,13 @@
 //! The engine as a broker of scripts, and what its calls tell.
+ghost use Rattle.std.specs.Prelude.{◌↔◌, IsTrue};
+ghost use Rattle.mqtt_rules.specs.step.Contents.{IsTaken};
 
 use crate::broker::{Answer, Broker, Call};
 use crate::telling::Telling;
 use bytes::Bytes;
-use mqtt_base::Ending;
-use mqtt_broker::{Engine, EngineError, Keep, Outcome};
+use mqtt_base::{Ending, PACKET_LIMIT};
+use mqtt_broker::{Engine, EngineError, Keep, Outcome, Packet};
+use mqtt_packet::{lawful, spelled_len};
 use mqtt_rules::Report;
 
 /// CONNACK of a new session with an identifier of its client's own (3.2).
@@ -47,6 +50,67 @@ fn answer<K: Keep>(
         Call::Lost { line } => lost(engine, line, moment),
         Call::Tick => tick(engine, moment),
     }
+}
+
+/// Whether a broker takes a packet.
+fn is_taken(packet: &Packet) -> bool
+    ensures { IsTrue result ↔ IsTaken packet.now }
+{
+    if !lawful(packet) {
+        return false;
+    }
+    let lent = packet.lend();
+    spelled_len(&lent) <= PACKET_LIMIT
+}
+
+/// A packet is given by itself, if a broker takes it.
+fn input<K: Keep>(
+    engine: &mut Engine<K>,
+    line: u64,
+    packet: &Packet,
+    moment: u64,
+) -> Result<Outcome, EngineError> {
+    if !is_taken(packet) {
+        return Err(EngineError::Memory);
+    }
+    engine.input(line, packet, moment)
+}
+
+/// PINGREQ (3.12), given by itself.
+fn ping<K: Keep>(engine: &mut Engine<K>, line: u64, moment: u64) -> Result<Outcome, EngineError> {
+    let packet = Packet::Pingreq;
+    let answer = input(engine, line, &packet, moment);
+    drop(packet);
+    answer
+}
+
+/// Whether a call is answered so that the store has failed.
+fn is_stopped(answer: Result<Outcome, EngineError>) -> bool {
+    match answer {
+        Ok(outcome) => {
+            drop(outcome);
+            false
+        }
+        Err(error) => error == EngineError::Stopped,
+    }
+}
+
+/// Whether all that is asked for on a line is answered so.
+fn refuses_on<K: Keep>(engine: &mut Engine<K>, line: u64, moment: u64) -> bool {
+    is_stopped(piece(engine, line, b"\xc0\x00", moment))
+        && is_stopped(ping(engine, line, moment))
+        && is_stopped(pump(engine, line, moment))
+        && is_stopped(lost(engine, line, moment))
+}
+
+/// Whether a broker answers so to each call that gives a result: on lines that are linked, and on line 0, which isn't.
+pub(crate) fn refuses_all<K: Keep>(engine: &mut Engine<K>, moment: u64) -> bool {
+    for line in 0..4 {
+        if !refuses_on(engine, line, moment) {
+            return false;
+        }
+    }
+    is_stopped(tick(engine, moment))
 }
 
 /// A packet on a line: `1:c000`; `1:connected` and `1:resumed` for the CONNACKs above.

@@ -1,5 +1,5 @@
 //! Tests of the broker over its public calls, as scripts: what it tells, what it refuses, streams that are cut, changed or made
-//! to cost much, want of memory, a store that fails or can't be read, a store in SQL (MQTT 5.0, 2.1, 3, 4).
+//! to cost much, want of memory, a store of which each call fails in turn, a store in SQL (MQTT 5.0, 2.1, 3, 4).
 #![tactic(auto)]
 
 #[cfg(test)]
@@ -9,9 +9,13 @@ mod checks;
 #[cfg(test)]
 mod costly;
 #[cfg(test)]
+mod counted;
+#[cfg(test)]
 mod drained;
 #[cfg(test)]
 mod engine;
+#[cfg(test)]
+mod failing;
 #[cfg(test)]
 mod faults;
 #[cfg(test)]
@@ -37,8 +41,8 @@ mod streams;
 #[cfg(test)]
 mod sweeps;
 #[cfg(test)]
+mod tables;
+#[cfg(test)]
 mod taken;
 #[cfg(test)]
 mod telling;
-#[cfg(test)]
-mod unread;

@@ -15,6 +15,35 @@ const LIMITS: Limits = Limits {
     retained: 1000,
 };
 
+/// How many calls a broker is asked for, openings among them, and whether its store has failed.
+#[derive(Clone, Copy)]
+pub(crate) struct Asking {
+    /// How many were made.
+    pub(crate) asked: u64,
+    /// How many are made at most.
+    pub(crate) most: u64,
+    /// Whether one was answered so that no further one is made.
+    pub(crate) is_stopped: bool,
+    /// How many were answered so that memory was wanting.
+    pub(crate) wanted: u64,
+}
+
+impl Asking {
+    /// Counts a further call; answers whether it is made.
+    pub(crate) fn goes_on(&mut self) -> bool {
+        if self.is_stopped || self.asked >= self.most {
+            return false;
+        }
+        self.asked = self.asked.wrapping_add(1);
+        true
+    }
+
+    /// Counts an answer by which memory was wanting.
+    pub(crate) fn want(&mut self) {
+        self.wanted = self.wanted.wrapping_add(1);
+    }
+}
+
 /// Why no further line is played.
 #[derive(Clone, Copy)]
 pub(crate) enum Stop {
@@ -51,6 +80,9 @@ pub(crate) struct Play {
     pub(crate) lines: usize,
     pub(crate) moment: u64,
     pub(crate) limits: Limits,
+    pub(crate) asking: Asking,
+    /// Whether a broker whose store had failed refused all that it was asked for then.
+    pub(crate) refuses_all: bool,
     /// The most bytes of a piece.
     size: usize,
     /// Lines behind this are passed over.
@@ -58,11 +90,38 @@ pub(crate) struct Play {
 }
 
 /// Makes a call, and once more if memory was wanting.
-fn ask<B: Broker>(told: &mut Telling, broker: &mut B, call: Call<'_>, moment: u64) -> Answer {
+fn ask<B: Broker>(
+    told: &mut Telling,
+    asking: &mut Asking,
+    broker: &mut B,
+    call: Call<'_>,
+    moment: u64,
+) -> Answer {
     match broker.call(told, call, moment) {
-        Answer::Refused(EngineError::Memory) => broker.call(told, call, moment),
+        Answer::Refused(EngineError::Memory) => {
+            asking.want();
+            broker.call(told, call, moment)
+        }
         answer => answer,
     }
+}
+
+/// The same unless as many were made, or the store has failed.
+fn ask_on<B: Broker>(
+    told: &mut Telling,
+    asking: &mut Asking,
+    broker: &mut B,
+    call: Call<'_>,
+    moment: u64,
+) -> Answer {
+    if !asking.goes_on() {
+        return Answer::Refused(EngineError::Stopped);
+    }
+    let answer = ask(told, asking, broker, call, moment);
+    if let Answer::Refused(EngineError::Stopped) = answer {
+        asking.is_stopped = true;
+    }
+    answer
 }
 
 fn tell_error(told: &mut Telling, error: EngineError) {
@@ -74,10 +133,17 @@ fn tell_error(told: &mut Telling, error: EngineError) {
 }
 
 /// Gives bytes until all are taken and nothing more is whole, or the broker refuses.
-fn offer<B: Broker>(told: &mut Telling, broker: &mut B, line: u64, bytes: &[u8], moment: u64) {
+fn offer<B: Broker>(
+    told: &mut Telling,
+    asking: &mut Asking,
+    broker: &mut B,
+    line: u64,
+    bytes: &[u8],
+    moment: u64,
+) {
     let mut bytes = bytes;
     for _ in 0..=bytes.len() {
-        match ask(told, broker, Call::Piece { line, bytes }, moment) {
+        match ask_on(told, asking, broker, Call::Piece { line, bytes }, moment) {
             Answer::Done { taken, again } => {
                 bytes = bytes.get(taken..).unwrap_or(&[]);
                 if !again && (bytes.is_empty() || taken == 0) {
@@ -107,14 +173,21 @@ fn is_wanted(told: &str, want: &str) -> bool {
 }
 
 impl Play {
-    /// Nothing was played yet. Lines behind a word are passed over.
-    pub(crate) fn new(alloc: Global, passed_over: &'static str) -> Play {
+    /// Nothing was played yet. Lines behind a word are passed over, and so many calls are made at most.
+    pub(crate) fn new(alloc: Global, passed_over: &'static str, most: u64) -> Play {
         Play {
             told: Telling::new(alloc),
             bytes: Vec::new(alloc),
             lines: 0,
             moment: 0,
             limits: LIMITS,
+            asking: Asking {
+                asked: 0,
+                most,
+                is_stopped: false,
+                wanted: 0,
+            },
+            refuses_all: false,
             size: usize::MAX,
             passed_over,
         }
@@ -128,6 +201,8 @@ impl Play {
             lines,
             moment: _,
             limits: _,
+            asking: _,
+            refuses_all: _,
             size: _,
             passed_over: _,
         } = self;
@@ -156,7 +231,8 @@ impl Play {
         }
         let line = number(line);
         for piece in self.bytes.chunks(self.size.max(1)) {
-            offer(&mut self.told, broker, line, piece, self.moment);
+            let (told, asking) = (&mut self.told, &mut self.asking);
+            offer(told, asking, broker, line, piece, self.moment);
         }
     }
 
@@ -174,7 +250,8 @@ impl Play {
 
     /// A turn of sending, of the clock, or a loss.
     fn turn<B: Broker>(&mut self, broker: &mut B, call: Call<'_>) {
-        match ask(&mut self.told, broker, call, self.moment) {
+        let (told, asking) = (&mut self.told, &mut self.asking);
+        match ask_on(told, asking, broker, call, self.moment) {
             Answer::Done { again: true, .. } => self.told.word(" again"),
             Answer::Done { .. } => {}
             Answer::Refused(error) => tell_error(&mut self.told, error),

@@ -1,6 +1,7 @@
 //! What is asked of the broker by scripts (MQTT 5.0, 2.1, 3 and 4).
 
-use crate::checks::{What, check};
+use crate::checks::{What, check, sweep};
+use crate::failing::Sweep;
 use std::hash::RandomState;
 use std::test::Fail;
 
@@ -16,22 +17,48 @@ fn what_is_refused_changes_nothing_else(rt: HostRuntime) -> Result<(), Fail> {
     check(rt.alloc(), hasher, What::Refusals)
 }
 
+/// Prints how many calls failed so.
 #[test]
-fn a_device_that_fails_leaves_whole_steps(rt: HostRuntime) -> Result<(), Fail> {
+fn a_device_that_fails_stops_the_broker_and_leaves_whole_steps(
+    rt: HostRuntime,
+) -> Result<(), Fail> {
     let hasher = RandomState::new(&rt)?;
-    check(rt.alloc(), hasher, What::Failures)
+    let counts = sweep(rt.alloc(), hasher, Sweep::Device)?;
+    println!(rt;
+        "sweep: {} scripts; a store's call fails in {} loads, {} steps twice, {} reads of contents; {} alike left out",
+        counts.scripts, counts.loads, counts.applies, counts.contents, counts.alike
+    )?;
+    assert!(rt; counts.are_all(), "nothing of a kind failed");
+    Ok(())
 }
 
+/// Prints how many calls were refused so.
 #[test]
-fn a_store_that_cannot_be_read_is_given_back_as_it_was(rt: HostRuntime) -> Result<(), Fail> {
+fn what_a_store_refuses_for_want_of_memory_is_done_when_it_is_asked_again(
+    rt: HostRuntime,
+) -> Result<(), Fail> {
     let hasher = RandomState::new(&rt)?;
-    check(rt.alloc(), hasher, What::Unread)
+    let counts = sweep(rt.alloc(), hasher, Sweep::Memory)?;
+    println!(rt;
+        "sweep: {} scripts; a store's call wants memory in {} loads, {} steps, {} reads of contents; {} alike left out",
+        counts.scripts, counts.loads, counts.applies, counts.contents, counts.alike
+    )?;
+    assert!(rt; counts.are_all(), "nothing of a kind was refused");
+    Ok(())
 }
 
 #[test]
 fn scripts_leave_the_same_rows_in_a_store_in_sql(rt: HostRuntime) -> Result<(), Fail> {
     let hasher = RandomState::new(&rt)?;
     check(rt.alloc(), hasher, What::InSql)
+}
+
+#[test]
+fn steps_leave_their_rows_in_the_tables_and_changed_tables_are_refused(
+    rt: HostRuntime,
+) -> Result<(), Fail> {
+    let hasher = RandomState::new(&rt)?;
+    check(rt.alloc(), hasher, What::Tables)
 }
 
 #[test]

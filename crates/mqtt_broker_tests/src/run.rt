@@ -1,5 +1,6 @@
 //! A script is played by a broker that is opened over a store, and what the store has then is told.
 
+use crate::engine::refuses_all;
 use crate::kept::{tell_contents, tell_records};
 use crate::play::{Play, Stop};
 use crate::telling::Telling;
@@ -15,6 +16,8 @@ pub struct Part {
     pub count: usize,
     /// Those behind this word aren't.
     pub passed_over: &'static str,
+    /// How many calls of the broker are made at most, openings among them.
+    pub calls: u64,
 }
 
 impl Part {
@@ -28,6 +31,25 @@ impl Part {
         Part {
             count,
             passed_over: "-",
+            calls: u64::MAX,
+        }
+    }
+
+    /// As much of it as so many calls of the broker do.
+    pub fn of_calls(calls: u64) -> Part {
+        Part {
+            count: usize::MAX,
+            passed_over: "-",
+            calls,
+        }
+    }
+
+    /// The script without what is refused.
+    pub fn without() -> Part {
+        Part {
+            count: usize::MAX,
+            passed_over: "+",
+            calls: u64::MAX,
         }
     }
 }
@@ -45,6 +67,12 @@ pub struct Played {
     pub kept: Telling,
     /// How many failures the store had counted by then.
     pub failures: u64,
+    /// How many calls of the broker were made, openings among them.
+    pub asked: u64,
+    /// Whether a broker whose store had failed refused all that it was asked for then.
+    pub refuses_all: bool,
+    /// How many calls were answered so that memory was wanting.
+    pub wanted: u64,
 }
 
 /// Opens a broker over a store.
@@ -63,17 +91,38 @@ fn open<K: Keep>(
     Engine::open(alloc, keep, play.moment, limits, hasher)
 }
 
-/// And once more if memory was wanting.
+/// And once more if memory was wanting; not if as many calls were made.
 fn opened<K: Keep>(
     alloc: Global,
     hasher: RandomState,
     keep: K,
-    play: &Play,
+    play: &mut Play,
 ) -> Result<Engine<K>, (K, KeepError)> {
+    if !play.asking.goes_on() {
+        return Err((keep, KeepError::Disk));
+    }
     match open(alloc, hasher, keep, play) {
-        Err((keep, KeepError::Memory)) => open(alloc, hasher, keep, play),
+        Err((keep, KeepError::Memory)) => {
+            play.asking.want();
+            open(alloc, hasher, keep, play)
+        }
         answer => answer,
     }
+}
+
+/// Plays by a broker that is opened, and asks it for everything if its store has failed.
+fn play_by<K: Keep>(
+    engine: &mut Engine<K>,
+    play: &mut Play,
+    turned: &mut Telling,
+    script: &str,
+    count: usize,
+) -> Stop {
+    let stop = play.play(engine, turned, script, count);
+    if play.asking.is_stopped {
+        play.refuses_all = refuses_all(engine, play.moment);
+    }
+    stop
 }
 
 fn tell_fault(told: &mut Telling, fault: KeepError) {
@@ -100,7 +149,7 @@ fn play_once<K: Keep>(
     match opened(alloc, hasher, keep, play) {
         Ok(engine) => {
             let mut engine = engine;
-            let stop = play.play(&mut engine, turned, script, count);
+            let stop = play_by(&mut engine, play, turned, script, count);
             (engine.close(), stop)
         }
         Err((keep, fault)) => {
@@ -169,15 +218,31 @@ pub fn tell_kept<K: Keep>(alloc: Global, told: &mut Telling, keep: &mut K) {
     }
 }
 
-/// Plays a script by a broker that is opened over a store at the moment 0; gives the store back.
-pub fn play_over<K: Keep>(
+/// How a play ended, by which so many failures were counted. What the store has is not told.
+fn end(alloc: Global, play: Play, is_right: bool, failures: u64) -> Played {
+    let (asking, refuses_all) = (play.asking, play.refuses_all);
+    let (lines, told) = play.end();
+    Played {
+        lines,
+        is_right,
+        told,
+        kept: Telling::new(alloc),
+        failures,
+        asked: asking.asked,
+        refuses_all,
+        wanted: asking.wanted,
+    }
+}
+
+/// Plays a script by a broker that is opened over a store at the moment 0; gives the store back. What it has is not told.
+pub fn play_untold<K: Keep>(
     alloc: Global,
     hasher: RandomState,
     keep: K,
     script: &str,
     part: Part,
 ) -> (K, Played) {
-    let mut play = Play::new(alloc, part.passed_over);
+    let mut play = Play::new(alloc, part.passed_over, part.calls);
     let mut turned = Telling::new(alloc);
     let (keep, is_right) = play_all(
         alloc,
@@ -192,17 +257,20 @@ pub fn play_over<K: Keep>(
         play.told.shorten();
     }
     drop(turned);
-    let mut keep = keep;
     let failures = keep.failures();
-    let mut kept = Telling::new(alloc);
-    tell_kept(alloc, &mut kept, &mut keep);
-    let (lines, told) = play.end();
-    let played = Played {
-        lines,
-        is_right,
-        told,
-        kept,
-        failures,
-    };
+    (keep, end(alloc, play, is_right, failures))
+}
+
+/// The same, and what the store has is told.
+pub fn play_over<K: Keep>(
+    alloc: Global,
+    hasher: RandomState,
+    keep: K,
+    script: &str,
+    part: Part,
+) -> (K, Played) {
+    let (keep, played) = play_untold(alloc, hasher, keep, script, part);
+    let (mut keep, mut played) = (keep, played);
+    tell_kept(alloc, &mut played.kept, &mut keep);
     (keep, played)
 }

@@ -6,6 +6,7 @@ mod connects;
 mod publishes;
 mod receives;
 mod refusals;
+mod reopened;
 mod subscribes;
 mod turns;
 
@@ -14,5 +15,6 @@ pub use connects::clients;
 pub use publishes::publishing;
 pub use receives::receiving;
 pub use refusals::refusing;
+pub use reopened::reopening;
 pub use subscribes::filters;
 pub use turns::turning;

@@ -133,11 +133,7 @@ pump 1
 
 /// Says if a client that comes when the last publication is numbered isn't refused each of its own, or changes a row by it.
 pub(crate) fn judge_spent(wrong: &mut Telling, alloc: Global, hasher: RandomState) {
-    let without = Part {
-        count: usize::MAX,
-        passed_over: "+",
-    };
-    match play_in_sql(alloc, hasher, spent(), without, LAST_NUMBER) {
+    match play_in_sql(alloc, hasher, spent(), Part::without(), LAST_NUMBER) {
         Ok(played) => {
             judge(wrong, spent(), &played);
             let kept = played.kept.as_str();

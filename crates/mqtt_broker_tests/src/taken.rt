@@ -151,7 +151,7 @@ fn first_store(alloc: Global, rows: &str) -> Result<SqlKeep<MemStore>, KeepError
 }
 
 /// The number that a query finds.
-fn number<S: Alter>(conn: &mut Connection<S>, sql: &str) -> Result<i64, Error> {
+pub(crate) fn number<S: Alter>(conn: &mut Connection<S>, sql: &str) -> Result<i64, Error> {
     conn.query_row(sql, &[])?.get(0)
 }
 

@@ -42,6 +42,22 @@ times 1000 link; connect # c#; lost # -> closed=1000
 link -> 1002
 connect 1002 c7 -> 1002:resumed
 
+-- a CONNECT in whose step a session ends with its Will, while more sessions stand than may: the group's turn is given back
+times 3 link -> 3
+connect 1 b -> 1:connected
+on 1 8210 0001 00 000a2473686172652f672f77 02 -> 1:900400010002
+connect 2 a -> 2:connected
+on 2 8210 0001 00 000a2473686172652f672f77 02 -> 2:900400010002
+connect 3 p1 -> 3:connected
+limits refuse 1000 1 1000
+times 4 link -> 4
+on 1 1015 00044d515454 05 0c 0000 00 000162 00 000177 000121 -> 1:resumed
+connect 3 p1 -> 3:resumed
+on 3 3207 000177 0001 00 21 -> accepted=1 entered=1>b 3:40020001
++ on 4 1015 00044d515454 05 0c 0000 00 000162 00 000177 000121 -> 4:2003009700 closed=4
+on 3 3207 000177 0002 00 21 -> accepted=2 entered=2>a 3:40020002
+on 1 c000 -> 1:d000
+
 -- a new client under a name like those that are given
 link -> 1
 + connect 1 auto-9 -> 1:2003008500 closed=1
