@@ -1,4 +1,5 @@
 pub mod Called
+pub mod Crashed
 pub mod Own
 pub mod Faces
 pub mod Followed
@@ -25,4 +26,5 @@ pub mod Answering
 pub mod Over
 pub mod Identifiers
 pub mod Begun
+pub mod Settled
 pub mod Holders

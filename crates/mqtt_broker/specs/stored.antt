@@ -1,6 +1,7 @@
 pub mod Running
 pub mod Viewing
 pub mod Calling
+pub mod Settling
 pub mod Finishing
 pub mod Pumping
 pub mod Sessions

@@ -6,7 +6,9 @@ mod engine;
 pub mod reopening;
 pub mod stored;
 
-pub use engine::{Asked, Engine, Framers, streams_may_come_in_any_pieces};
+pub use engine::{
+    Asked, Engine, Framers, a_call_over_a_settled_store, streams_may_come_in_any_pieces,
+};
 pub use mqtt_base::CopyId;
 pub use mqtt_broker_step::EngineError;
 pub use mqtt_keep::{Keep, KeepError};

@@ -13,6 +13,7 @@ mod opening;
 mod outcome;
 mod parts;
 mod pumping;
+mod settling;
 
 pub use self::engine::Engine;
 pub use self::opening::open;

@@ -164,9 +164,9 @@ pub fn commit_kept<K: Keep>(keep: &mut K, step: &mut Step) -> Result<Outcome, Ke
     ensures cause { IsErrOf result KeepError.Disk ⊎ IsErrOf result KeepError.Size
         → K.counted keep.new ≢ K.counted keep.old }
 
-    // A crash leaves what the store held before the step or after it.
+    // A crash leaves what it left before the step, or what the store holds after it.
     ensures crash { (r left : Records) → K.holds keep.old r → CanStore step.old.rows r
-        → K.leaves keep.new left → (left ≡ r) ⊎ (left ≡ changed_all step.old.rows r) }
+        → K.leaves keep.new left → K.leaves keep.old left ⊎ (left ≡ changed_all step.old.rows r) }
     ensures sound { K.is_sound keep.new → K.is_sound keep.old }
 
     // The store isn't asked what copies say.

@@ -194,7 +194,7 @@ impl Keep for CountedKeep {
         self.reads
     }
 
-    ghost leaves_held = { λ store left r has found. found ∙ has };
+    ghost leaves_held = { λ store left r settled has found. found ∙ has };
 
     ghost tells = { λ store r sound loaded has birth place e found.
         ap (λ r. told_by r birth place) has ∙ ap filling_in found };

@@ -13,6 +13,6 @@ pub use contents::{
     change_shares_contents, changes_share_contents, nothing_shares_contents, shares_contents,
 };
 pub use keeping::faulty::{Failure, FaultyKeep};
-pub use keeping::{Keep, KeepError, MemKeep, slim_if_lawful};
+pub use keeping::{Keep, KeepError, MemKeep, Settles, slim_if_lawful};
 pub use lawful::{is_lawful, nothing_is_lawful};
 pub use payloads::payloads_may_be_others;

@@ -21,7 +21,7 @@ use Rattle.mqtt_store_database.specs.committing.Making.{MakeAll, NeedAll, MayCom
 use Rattle.mqtt_store_database.specs.committing.Settled.{IsSettled}
 use Rattle.mqtt_store_database.proofs.committing_lemmas.Kept.{step_needs, step_keeps}
 use Rattle.mqtt_store_database.proofs.committing_lemmas.Catalog.{steps_keep}
-use Rattle.mqtt_store_database.specs.loading.Keeping.{AreOrdered, Keeps, Saves}
+use Rattle.mqtt_store_database.specs.loading.Keeping.{AreOrdered, Saves}
 use Rattle.mqtt_store_database.specs.loading.Loading.{HasKept}
 use Rattle.mqtt_store_database.proofs.loading_lemmas.One.{second_keeps}
 use Rattle.mqtt_store_database.proofs.loading_lemmas.Order.{shaped_in, second_order, behind, laid_out}
@@ -130,7 +130,7 @@ module _ (old : State) (changes : List Change) (r : Records) (ready : HasCleanDi
         × (NeedAll (ready clean).making (shortened changes) old.now.trees → MakeAll (ready clean).making (shortened changes) old.now.trees new.now.trees))
 
     -- a step that changes nothing or makes all that is written is one from the records to the changed ones
-    pub only_steps : (new : State) → ((making : Making) → Survives old new (MayCommit making old (shortened changes))) → ((clean : HasCleanDisk old) → HasCleanDisk new → IsTrue new.is_open → IsEither clean new) → OnlySteps old new r (changed_all changes r)
+    pub only_steps : (new : State) → ((making : Making) → Survives old new (MayCommit making old (shortened changes))) → ((clean : HasCleanDisk old) → HasCleanDisk new → IsTrue new.is_open → IsEither clean new) → OnlySteps old new (changed_all changes r)
     only_steps new it either =
         let one = it New in
         let less = one.clean in
@@ -150,9 +150,11 @@ module _ (old : State) (changes : List Change) (r : Records) (ready : HasCleanDi
                 ];
           };
           left = λ now up.
-              let clean = before now in
-              elim (either clean now up) [
-                | inl same ↦ inl (subst (λ (d : Database). Keeps d r) (sym same) ((holds clean).keeps (ready clean).is_open))
-                | inr made ↦ inr (inr (inl ((ready clean).making, made.0, keeps_made clean new.now.trees (made.1 (needs_old clean)))))
-              ];
+              let clean = before now in (
+                (ready clean).is_open,
+                elim (either clean now up) [
+                  | inl same ↦ inl same
+                  | inr made ↦ inr (inr (inl ((ready clean).making, made.0, keeps_made clean new.now.trees (made.1 (needs_old clean)))))
+                ],
+              );
         }

@@ -2,7 +2,7 @@
 use Rattle.std.proofs.Common.{◌≡◌, ◌⊎◌, IsTrue, ap, sym, subst, ◌∙◌, inl, inr, arith}
 use Rattle.sqlite_trees.specs.Tree.{Trees}
 use Rattle.sqlite.specs.Effect.{Database}
-use Rattle.sqlite.specs.State.{State}
+use Rattle.sqlite.specs.State.{HasCleanDisk, State}
 use Rattle.mqtt_records.specs.declared.state.records.Records.{Records}
 use Rattle.mqtt_store_database.specs.loading.Keeping.{FindsIn, Keeps, Saves}
 use Rattle.mqtt_store_database.specs.loading.Loading.{HasKept, IsLeft, OnlyLoads}
@@ -66,19 +66,19 @@ load_leaves old new r it found =
 
 -- ---- steps
 
--- what a crash after a step may leave is what was stored before it, or after it
-pub step_leaves : (old new : State) (r after left : Records) → OnlySteps old new r after → Holds old r → Leaves new left → (left ≡ r) ⊎ (left ≡ after)
-step_leaves old new r after left it holds found =
+-- what a crash after a step may leave is what one before it may, or what is stored after it
+pub step_leaves : (old new : State) (after left : Records) → OnlySteps old new after → Leaves new left → Leaves old left ⊎ (left ≡ after)
+step_leaves old new after left it found =
     let less = it.survives.clean in
     let clean = found.clean in
-    let had : Has old r = holds (omega (arith, less, clean)) in
+    let before : HasCleanDisk old = omega (arith, less, clean) in
     elim found.may [
       | inl crash ↦ elim (it.survives.crash clean crash.0 crash.1) [
-        | inl before ↦ inl (had.left crash.0 left before crash.2)
+        | inl first ↦ inl (record { clean = before; may = inl (crash.0, first, crash.2) })
         | inr made ↦ inr (saved_once crash.0 left after crash.2 made)
       ]
-      | inr shown ↦ elim (it.left clean shown.0) [
-        | inl same ↦ inl (has_kept new.now left r shown.1 same)
+      | inr shown ↦ let was = it.left clean shown.0 in elim was.1 [
+        | inl same ↦ inl (record { clean = before; may = inr (was.0, subst (λ (db : Database). FindsIn db left) same shown.1) })
         | inr done ↦ inr (has_kept new.now left after shown.1 done)
       ]
     ]

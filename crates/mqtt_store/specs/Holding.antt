@@ -32,8 +32,8 @@ pub record IsReady (s : State) : Type 0 where
 abbrev pub IsLoaded : State → Type 0
 IsLoaded s = HasCleanDisk s → IsReady s
 
--- a step from these records to those after it commits the rows of those at the most; if it is open then, it keeps the one
--- or the other
-pub record OnlySteps (old new : State) (r after : Records) : Type 0 where
+-- a step to these records commits the rows of those at the most; if it is open then, it was open before, and nothing is
+-- changed or it keeps those
+pub record OnlySteps (old new : State) (after : Records) : Type 0 where
   pub survives : Survives old new (λ db. Saves db after)
-  pub left : HasCleanDisk new → IsTrue new.is_open → Keeps new.now r ⊎ Keeps new.now after
+  pub left : HasCleanDisk new → IsTrue new.is_open → IsTrue old.is_open × ((new.now ≡ old.now) ⊎ Keeps new.now after)

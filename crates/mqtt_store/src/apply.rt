@@ -51,10 +51,11 @@ pub(crate) fn apply_all<S: Alter>(
         → IsLoaded (state S.Store conn.new)
         × ((r : Kept) → Holds (state S.Store conn.old) r → Holds (state S.Store conn.new) r) }
 
-    // A crash leaves the records before or after, never some of the changes.
+    // A crash leaves what it left before, or the records after, never some of the changes.
     ensures crash { (r left : Kept) → Holds (state S.Store conn.old) r → FitAll changes.now r
         → FitContents changes.now r → AllSayable changes.now
-        → Leaves (state S.Store conn.new) left → (left ≡ r) ⊎ (left ≡ changed_all changes.now r) }
+        → Leaves (state S.Store conn.new) left
+        → Leaves (state S.Store conn.old) left ⊎ (left ≡ changed_all changes.now r) }
     ensures sound { HasCleanDisk (state S.Store conn.new) → HasCleanDisk (state S.Store conn.old) }
     ensures refused { IfErr result (λ fault. (fault ≡ KeepError.Memory)
         ⊎ ((fault ≡ KeepError.Size) ⊎ (fault ≡ KeepError.Disk))) }

@@ -156,7 +156,7 @@ impl<S: Alter + Drop> Keep for SqlKeep<S> {
         self.reads
     }
 
-    ghost leaves_held = { λ keep left r has found. held _ left r has found };
+    ghost leaves_held = { λ keep left r settled has found. held _ left r has found };
 
     ghost tells = { λ keep r sound loaded has. copies_say _ r has loaded sound };
 }

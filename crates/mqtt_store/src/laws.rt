@@ -36,7 +36,7 @@ pub fn load_leaves_no_more<S: Alter>()
 /// After a step, whatever became of it, a crash leaves the records before it or those after it.
 pub fn step_leaves_one_of_two<S: Alter>()
     ensures { (old new : Held S) (r after left : Records)
-        → OnlySteps (state S.Store old) (state S.Store new) r after
+        → OnlySteps (state S.Store old) (state S.Store new) after
         → Holds (state S.Store old) r → Leaves (state S.Store new) left → (left ≡ r) ⊎ (left ≡ after) }
 {}
 

@@ -7,6 +7,7 @@ mod keep;
 mod laws;
 mod load;
 mod opening;
+mod settling;
 
 pub use keep::SqlKeep;
 pub use laws::{

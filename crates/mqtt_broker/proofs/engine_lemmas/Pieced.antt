@@ -9,7 +9,7 @@ use Rattle.mqtt_records.specs.declared.state.records.Records.{Records}
 use Rattle.mqtt_records.specs.lists.Order.{IsBelow, has_row}
 use Rattle.mqtt_rules.specs.declared.step.Limits.{Limits}
 use Rattle.mqtt_rules.specs.step.Piece.{Front, begins_connect, bytes_taken, call_by, call_on, code_of, fed, first_call, held_on, is_spent_if, is_whole, pieced, stepped_if, taken_on, told_if, without_first}
-use Rattle.mqtt_rules.specs.step.State.{Broker, Line, MemberChoice, line_at}
+use Rattle.mqtt_rules.specs.step.State.{Broker, Line, MemberChoice, line_at, stored}
 use Rattle.mqtt_rules.specs.step.Step.{BadInput, Call, Input, at_moment, bytes_out, nothing_told, Outcome as Told}
 use Rattle.mqtt_rules.proofs.step_lemmas.acts.OnLines.{found_number}
 use Rattle.mqtt_broker_step.specs.declared.call.EngineError.{EngineError}
@@ -218,8 +218,7 @@ module _ {K : Type 0} (g : Ghosts K) (now line : ℕ) (piece : List ℕ) (old ne
         ends = a.ends;
       }
 
-  module _ (running : old.stopped ≡ false) (holds : g.is_sound old.keep → g.holds old.keep old.broker.records)
-      (found : g.is_sound old.keep → (left : Records) → g.leaves old.keep left → left ≡ old.broker.records) where
+  module _ (running : old.stopped ≡ false) (holds : g.is_sound old.keep → g.holds old.keep old.broker.records) where
     sound_if : (call : Option Call) (r : Result Outcome EngineError) → CalledIf g now call old r new → g.is_sound new.keep → g.is_sound old.keep
     sound_if None (Ok told) h s = subst (λ (r : Running K). g.is_sound r.keep) h.told.1 s
     sound_if None (Err e) h s = subst (λ (r : Running K). g.is_sound r.keep) h.memory.1 s
@@ -240,9 +239,9 @@ module _ {K : Type 0} (g : Ghosts K) (now line : ℕ) (piece : List ℕ) (old ne
     limits_if (Some c) r h = h.limits
 
     crash_if : (call : Option Call) (r : Result Outcome EngineError) → CalledIf g now call old r new → g.is_sound new.keep → (left : Records) → g.leaves new.keep left
-        → IsLeftByAny old.limits old.broker now call left
-    crash_if None (Ok told) h sound left may = found (sound_if None (Ok told) h sound) left (subst (λ (r : Running K). g.leaves r.keep left) h.told.1 may)
-    crash_if None (Err e) h sound left may = found (sound_if None (Err e) h sound) left (subst (λ (r : Running K). g.leaves r.keep left) h.memory.1 may)
+        → g.leaves old.keep left ⊎ IsLeftByAny old.limits old.broker now call left
+    crash_if None (Ok told) h sound left may = inl (subst (λ (r : Running K). g.leaves r.keep left) h.told.1 may)
+    crash_if None (Err e) h sound left may = inl (subst (λ (r : Running K). g.leaves r.keep left) h.memory.1 may)
     crash_if (Some c) r h sound left may = (h.truly sound).crash running left may
 
     not_running : {X : Type 0} → old.stopped ≡ true → X
@@ -264,7 +263,7 @@ module _ {K : Type 0} (g : Ghosts K) (now line : ℕ) (piece : List ℕ) (old ne
             same = λ other. tt;
             kept = λ other. tt;
             spent = λ e. absurd (not_refused out Spent e);
-            crash = λ run left may. subst (λ (o : Option Call). IsLeftByAny old.limits old.broker now o left) (sym same) (crash_if call (Ok told) h sound left may);
+            crash = λ run left may. subst (λ (o : Option Call). g.leaves old.keep left ⊎ IsLeftByAny old.limits old.broker now o left) (sym same) (crash_if call (Ok told) h sound left may);
           };
           answered = for_lines call told count again same is h taken whole;
           lines = tt;
@@ -317,7 +316,7 @@ module _ {K : Type 0} (g : Ghosts K) (now line : ℕ) (piece : List ℕ) (old ne
         same = same_if call error h sound;
         kept = kept_if call error h sound;
         spent = λ e. subst (λ (o : Option Call). IsSpentBy old.limits old.broker now o) (sym same) (spent_if call error h sound e);
-        crash = λ run left may. subst (λ (o : Option Call). IsLeftByAny old.limits old.broker now o left) (sym same) (crash_if call (Err error) h sound left may);
+        crash = λ run left may. subst (λ (o : Option Call). g.leaves old.keep left ⊎ IsLeftByAny old.limits old.broker now o left) (sym same) (crash_if call (Err error) h sound left may);
       };
       answered = tt;
       lines = same_lines_if call error h;
@@ -341,8 +340,7 @@ module _ {K : Type 0} (g : Ghosts K) (now line : ℕ) (piece : List ℕ) (old ne
 
 -- ---- want of memory before anything was asked, and a line that isn't linked
 
-module _ {K : Type 0} (g : Ghosts K) (now : ℕ) (old : Running K) (running : old.stopped ≡ false) (holds : g.is_sound old.keep → g.holds old.keep old.broker.records)
-    (found : g.is_sound old.keep → (left : Records) → g.leaves old.keep left → left ≡ old.broker.records) where
+module _ {K : Type 0} (g : Ghosts K) (now : ℕ) (old : Running K) (running : old.stopped ≡ false) (holds : g.is_sound old.keep → g.holds old.keep old.broker.records) where
   -- whatever is asked
   pub memory_refuses : (call : Option Call) → CalledIf g now call old (Err Memory) old
   memory_refuses None = record { told = tt; memory = (refl, refl) }
@@ -353,7 +351,7 @@ module _ {K : Type 0} (g : Ghosts K) (now : ℕ) (old : Running K) (running : ol
       same = λ other. refl;
       kept = λ other. holds sound;
       spent = λ e. absurd cc;
-      crash = λ run left may. inl (found sound left may);
+      crash = λ run left may. inl may;
     };
     answered = tt;
     lines = (refl, refl);
@@ -377,7 +375,6 @@ taken_fits piece f count taken = subst (λ (n : ℕ). n ≤ length piece) (sym t
 
 module _ {K : Type 0} (g : Ghosts K) (now line : ℕ) (piece : List ℕ) (old new : Running K) (held lent put : List HeldLine) (f last : Framing)
     (lines : IsOfLines held old.broker) (linked : has_row line_of line held ≡ true) (running : old.stopped ≡ false) (holds : g.is_sound old.keep → g.holds old.keep old.broker.records)
-    (found : g.is_sound old.keep → (left : Records) → g.leaves old.keep left → left ≡ old.broker.records)
     (was : framing_at line held ≡ f) (lent_as : lent ≡ changed_at line (λ x. empty) held) (put_as : put ≡ changed_at line (λ x. last) lent) where
   abbrev asked : Option Call
   asked = first_call line (fed piece f).held
@@ -403,11 +400,11 @@ module _ {K : Type 0} (g : Ghosts K) (now line : ℕ) (piece : List ℕ) (old ne
       ∙ ap (λ (x : Framing). changed_at line (λ y. x) held) (last_as ∙ ap (λ (x : Framing). without_first (fed piece x)) (sym was)) in
       let rest_as : rest ≡ all = left_as ∙ ap (without_closed told.closed.items) put_is in
       let again = is_whole (first_of (framing_at line rest).held) in
-      let main = piece_ok g now line piece old new held lines linked running holds found asked told count again asked_as asked_so called
+      let main = piece_ok g now line piece old new held lines linked running holds asked told count again asked_as asked_so called
       (taken ∙ ap (λ (x : Framing). bytes_taken x.held piece) (sym was)) (ap (λ (hs : List HeldLine). is_whole (first_of (framing_at line hs).held)) rest_as) in (
         subst (λ (hs : List HeldLine). PieceCalled g now line piece (serving old held) (Ok out) (serving new hs)) (sym rest_as)
             (subst (λ (o : Outcome). PieceCalled g now line piece (serving old held) (Ok o) (serving new all)) (sym out_as) main),
-        subst (λ (hs : List HeldLine). IsOfLines hs new.broker) (sym rest_as) (lines_ok g now line piece old new held lines linked running holds found asked told asked_so called),
+        subst (λ (hs : List HeldLine). IsOfLines hs new.broker) (sym rest_as) (lines_ok g now line piece old new held lines linked running holds asked told asked_so called),
       )
 
   -- a refused piece leaves what each line held, and the same lines
@@ -415,15 +412,15 @@ module _ {K : Type 0} (g : Ghosts K) (now line : ℕ) (piece : List ℕ) (old ne
       → PieceCalled g now line piece (serving old held) (Err error) (serving new put) × IsOfLines put new.broker
   piece_refused error called last_as =
       let kept : put ≡ held = returned_same line last held lent put lent_as put_as (last_as ∙ sym was) in (
-        piece_err g now line piece old new held lines linked running holds found asked error put asked_as called kept,
-        lines_err g now line piece old new held lines linked running holds found asked error put called kept,
+        piece_err g now line piece old new held lines linked running holds asked error put asked_as called kept,
+        lines_err g now line piece old new held lines linked running holds asked error put called kept,
       )
 
 -- ---- a piece on a line that isn't
 
 module _ {K : Type 0} (g : Ghosts K) (now line : ℕ) (piece : List ℕ) (old : Running K) (held : List HeldLine)
     (running : old.stopped ≡ false) (holds : g.is_sound old.keep → g.holds old.keep old.broker.records)
-    (found : g.is_sound old.keep → (left : Records) → g.leaves old.keep left → left ≡ old.broker.records) (none : line_at line old.broker ≡ None) where
+    (none : line_at line old.broker ≡ None) where
   abbrev no_members : MemberChoice
   no_members = λ number sender. []
 
@@ -435,10 +432,6 @@ module _ {K : Type 0} (g : Ghosts K) (now line : ℕ) (piece : List ℕ) (old : 
 
   abbrev its_rest : Running K
   its_rest = record old { broker = at_moment now old.broker }
-
-  no_left : (o : Option Call) → o ≡ None → (left : Records) → left ≡ old.broker.records → IsLeftByAny old.limits old.broker now o left
-  no_left None e left is = is
-  no_left (Some c) e left is = absurd cc
 
   passed_answer : (out : Outcome) → Tells nothing_told out → IsPieceAnswered now line piece (serving old held) out (serving its_rest held)
   passed_answer out told =
@@ -476,7 +469,7 @@ module _ {K : Type 0} (g : Ghosts K) (now line : ℕ) (piece : List ℕ) (old : 
       same = λ other. tt;
       kept = λ other. tt;
       spent = λ e. absurd (not_refused out Spent e);
-      crash = λ run left may. no_left unasked unasked_is left (found sound left may);
+      crash = λ run left may. inl may;
     };
     answered = for_its_lines now line piece (serving old held) out (serving its_rest held) (passed_answer out told);
     lines = tt;
@@ -488,3 +481,10 @@ module _ {K : Type 0} (g : Ghosts K) (now line : ℕ) (piece : List ℕ) (old : 
     still = λ s. let clash : true ≡ false = sym s ∙ running in absurd cc;
     sound = λ s. s;
   })
+
+-- ---- what a crash leaves
+
+-- what was stored before is what whatever is asked may leave
+pub left_before : (limits : Limits) (b : Broker) (now : ℕ) (call : Option Call) (left : Records) → left ≡ stored b → IsLeftByAny limits b now call left
+left_before limits b now None left is = is
+left_before limits b now (Some call) left is = inl is

@@ -41,8 +41,7 @@ linked_line line held b h e none = let clash : true ≡ false = sym e ∙ is_lin
 pub not_refused : (out : Outcome) (error : EngineError) → IsErrOf {T = Outcome} (Ok out) error → ⊥
 not_refused out error e = absurd cc
 
-module _ {K : Type 0} (g : Ghosts K) (now : ℕ) (old : Running K) (running : old.stopped ≡ false) (holds : g.is_sound old.keep → g.holds old.keep old.broker.records)
-    (found : g.is_sound old.keep → (left : Records) → g.leaves old.keep left → left ≡ old.broker.records) where
+module _ {K : Type 0} (g : Ghosts K) (now : ℕ) (old : Running K) (running : old.stopped ≡ false) (holds : g.is_sound old.keep → g.holds old.keep old.broker.records) where
   abbrev rested : Running K
   rested = record old { broker = at_moment now old.broker }
 
@@ -56,7 +55,7 @@ module _ {K : Type 0} (g : Ghosts K) (now : ℕ) (old : Running K) (running : ol
           same = λ other. tt;
           kept = λ other. tt;
           spent = λ e. absurd (not_refused out Spent e);
-          crash = λ run left may. inl (found sound left may);
+          crash = λ run left may. inl may;
         };
         answered = answered_for_lines old.limits old.broker now call out (at_moment now old.broker) its;
         lines = tt;

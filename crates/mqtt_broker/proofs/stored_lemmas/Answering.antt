@@ -9,7 +9,7 @@ use Rattle.mqtt_rules.specs.declared.step.Limits.{Limits}
 use Rattle.mqtt_rules.specs.step.Step.{SpentOpening}
 use Rattle.mqtt_broker_step.specs.Stepping.{Stepping, at_rest}
 use Rattle.mqtt_broker.specs.stored.Closing.{IsStoredAfter, resting}
-use Rattle.mqtt_broker.specs.stored.Opening.{IsBegun, IsDue, IsRefused, Opened}
+use Rattle.mqtt_broker.specs.stored.Opening.{IsBegun, IsDue, IsRefused, IsStoredOpening, Opened}
 
 -- ---- results
 
@@ -84,18 +84,22 @@ module _ {K : Type 0} (g : Ghosts K) (limits : Limits) (now : ℕ) (first : K) w
   store_due r loaded left Corrupt begun spent schema cause = inr (record { loaded = loaded; records = r; load = begun.load; spent = spent refl })
   store_due r loaded left Schema begun spent schema cause = absurd (schema refl)
 
+  -- what a crash leaves of an opening
+  pub opening_left : (r : Records) (loaded : K) → IsBegun g first r loaded → (after : Records) → g.is_sound loaded
+      → g.leaves loaded after ⊎ ((after ≡ r) ⊎ IsStoredAfter limits now r after) → g.leaves first after ⊎ IsStoredOpening g limits now first after
+  opening_left r loaded begun after device (inl before) = inl (begun.crash after before)
+  opening_left r loaded begun after device (inr (inl is)) = inl (subst (λ (x : Records). g.leaves first x) (sym is) (begun.load.found device))
+  opening_left r loaded begun after device (inr (inr stored)) = inr (record { loaded = loaded; records = r; load = begun.load; is = stored })
+
   -- or the store refuses the opening
   pub refused_store : (r : Records) (loaded left : K) (error : KeepError) → IsBegun g first r loaded → (error ≡ Corrupt → SpentOpening limits r now) → (error ≡ Schema → ⊥)
       → ((error ≡ Disk) ⊎ (error ≡ Size) → g.counted left ≢ g.counted loaded) → ((error ≡ Disk → ⊥) → g.holds left r)
-      → ((after : Records) → g.leaves left after → (after ≡ r) ⊎ IsStoredAfter limits now r after) → (g.is_sound left → g.is_sound loaded)
+      → ((after : Records) → g.leaves left after → g.leaves loaded after ⊎ ((after ≡ r) ⊎ IsStoredAfter limits now r after)) → (g.is_sound left → g.is_sound loaded)
       → Opened g limits now first (Err (left, error))
   refused_store r loaded left error begun spent schema cause same crash sound = opened_err error left (record {
     due = store_due r loaded left error begun spent schema cause;
     same = λ fine h held true_device. subst (λ (x : Records). g.holds left x) (begun.load.exact h held (sound true_device)) (same fine);
-    crash = λ after may true_device. elim (crash after may) [
-      | inl is ↦ inl (subst (λ (x : Records). g.leaves first x) (sym is) (begun.load.found (sound true_device)))
-      | inr stored ↦ inr (record { loaded = loaded; records = r; load = begun.load; is = stored })
-    ];
+    crash = λ after may true_device. opening_left r loaded begun after (sound true_device) (crash after may);
   })
 
 -- ---- what was loaded

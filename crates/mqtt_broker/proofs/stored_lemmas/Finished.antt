@@ -1,5 +1,5 @@
 -- How a call is finished over a store that has what waiting copies say.
-use Rattle.std.proofs.Common.{◌≡◌, ℕ, Bool, true, false, refl, ap, sym, subst, ◌∙◌, inl}
+use Rattle.std.proofs.Common.{◌≡◌, ◌⊎◌, ℕ, Bool, true, false, refl, ap, sym, subst, ◌∙◌, inl, inr}
 use Rattle.std.specs.Prelude.{Result, Ok, Err, ⊤}
 use Rattle.mqtt_keep.specs.declared.keeping.keep.Keep.{Ghosts}
 use Rattle.mqtt_records.specs.declared.state.records.Records.{Records}
@@ -26,6 +26,7 @@ use Rattle.mqtt_broker_acts.specs.calls.Doing.{DidCall}
 use Rattle.mqtt_broker_acts.specs.calls.Ready.{IsReady}
 use Rattle.mqtt_broker_acts.proofs.calls_lemmas.Sources.{sound_ready}
 use Rattle.mqtt_broker.proofs.alike_lemmas.Ready.{ready_alike}
+use Rattle.mqtt_broker.proofs.stored_lemmas.Crashed.{left_or}
 use Rattle.mqtt_broker.specs.declared.stored.outcome.Outcome.{Outcome}
 use Rattle.mqtt_broker.specs.stored.Calling.{Called, IsLeftBy, IsTrulyCalled}
 use Rattle.mqtt_broker.specs.stored.Running.{Running}
@@ -52,10 +53,10 @@ pub goes_slim : {K : Type 0} (b : Broker) (p : EngineParts K) → GoesAlong b p 
 goes_slim b p goes = goes_alike b (slim_broker b) p (broker_back (slim_broker b) b (slim_through b b (broker_itself b))) goes
 
 -- a step that the index can't follow for want of memory is taken back before the store is told of it
-pub untold : {K : Type 0} (g : Ghosts K) → ((keep : K) (left r : Records) → g.holds keep r → g.leaves keep left → left ≡ r) → (p : EngineParts K) (index : HeldSessions) (again : Bool)
+pub untold : {K : Type 0} (g : Ghosts K) → (p : EngineParts K) (index : HeldSessions) (again : Bool)
     → is_spent p.step.rows ≡ false → g.is_loaded p.keep → p.stopped ≡ false → GoesAlong p.step.start p
     → IsCommitted g p again (Err Memory) (record p { step = at_rest p.step.limits (slim_broker p.step.start); index = index; is_stale = true })
-untold g held p index again unspent loaded runs goes = record {
+untold g p index again unspent loaded runs goes = record {
   unspent = unspent;
   told = tt;
   done = tt;
@@ -68,7 +69,7 @@ untold g held p index again unspent loaded runs goes = record {
   cause = λ is. absurd cc;
   stopped = λ is. absurd cc;
   runs = λ not. runs;
-  crash = λ r left holds can may. inl (held p.keep left r holds may);
+  crash = λ r left holds can may. inl may;
   device = λ sound. sound;
   reads = refl;
   goes = record { serves = λ fresh. absurd cc; quiet = (goes_slim p.step.start p goes).quiet };
@@ -90,8 +91,7 @@ under_way_follows g now call again p u =
     can_follow now call again p.step u.called u.whole u.its.alike u.its.sound u.taken
 
 module _ {K : Type 0} (g : Ghosts K)
-    (tells : (keep : K) (r : Records) → g.is_sound keep → g.is_loaded keep → g.holds keep r → AreTold (g.fillings keep) r)
-    (held : (keep : K) (left r : Records) → g.holds keep r → g.leaves keep left → left ≡ r) where
+    (tells : (keep : K) (r : Records) → g.is_sound keep → g.is_loaded keep → g.holds keep r → AreTold (g.fillings keep) r) where
   -- what the store has fills what is alike to what it holds: that is the whole broker
   pub view_is : (keep : K) (limits : Limits) (some whole : Broker) → HoldsWhole g keep limits some whole → g.is_sound keep → filled (g.fillings keep) some ≡ whole
   view_is keep limits some whole h sound =
@@ -136,7 +136,7 @@ module _ {K : Type 0} (g : Ghosts K)
         same = λ not. refl;
         kept = λ not. u.its.holds;
         spent = λ is. spent cc;
-        crash = λ runs left may. inl (held old.keep left u.whole.records u.its.holds may);
+        crash = λ runs left may. inl may;
       }
 
       -- a step that was taken back is a call that was refused
@@ -196,7 +196,7 @@ module _ {K : Type 0} (g : Ghosts K)
           same = λ not. tt;
           kept = λ not. tt;
           spent = λ e. absurd cc;
-          crash = λ runs left may. whole_left now call again s did u.whole u.its.alike left h.unspent (h.crash u.whole.records left u.its.holds (can (Ok out) new h) may);
+          crash = λ runs left may. left_or (g.leaves old.keep left) (λ is. whole_left now call again s did u.whole u.its.alike left h.unspent (inr is)) (h.crash u.whole.records left u.its.holds (can (Ok out) new h) may);
         }
 
       goes_on : (new : EngineParts K) (b : Broker) → GoesAlong b new → GoesAlong b (record new { step = at_rest s.limits b })
@@ -236,8 +236,8 @@ module _ {K : Type 0} (g : Ghosts K)
             let its = h.memory u.whole.records u.its.holds (can (Err e) new h) (ap Err is) in
             record { alike = slim_through s.start u.whole u.its.alike; sound = u.its.sound; loaded = its.0; holds = its.1 }
 
-        left_by : (left : Records) → g.leaves new.keep left → IsLeftBy s.limits u.whole now call left
-        left_by left may = whole_left now call again s did u.whole u.its.alike left h.unspent (h.crash u.whole.records left u.its.holds (can (Err e) new h) may)
+        left_by : (left : Records) → g.leaves new.keep left → g.leaves old.keep left ⊎ IsLeftBy s.limits u.whole now call left
+        left_by left may = left_or (g.leaves old.keep left) (λ is. whole_left now call again s did u.whole u.its.alike left h.unspent (inr is)) (h.crash u.whole.records left u.its.holds (can (Err e) new h) may)
 
       refused_view : (e : EngineError) (new : EngineParts K) → IsCommitted g stamped again (Err e) new → g.is_sound new.keep
           → IsTrulyCalled g now call (running old old.keep old.stopped u.whole) (Err e) (running old new.keep new.stopped (filled (g.fillings new.keep) (slim_broker s.start)))

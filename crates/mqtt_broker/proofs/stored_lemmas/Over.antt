@@ -16,6 +16,7 @@ use Rattle.mqtt_rules.proofs.filling_lemmas.Steps.{opening_spent}
 use Rattle.mqtt_broker_step.specs.Stepping.{CanStore, Stepping, at_rest}
 use Rattle.mqtt_broker_step.specs.declared.fault.StepFault.{StepFault}
 use Rattle.mqtt_broker_step.specs.declared.fault.StepFault.TheVariants.{Spent}
+use Rattle.mqtt_broker.proofs.stored_lemmas.Crashed.{left_or}
 use Rattle.mqtt_broker.specs.stored.Closing.{DidOpen, IsLeftOpen, IsStoredAfter}
 use Rattle.mqtt_broker.specs.stored.Finishing.{HoldsWhole}
 use Rattle.mqtt_broker.specs.stored.Over.{AreOfLawful, HasOpened, IsOpeningTold, IsUnopened}
@@ -53,43 +54,43 @@ module _ {K : Type 0} (g : Ghosts K) (limits : Limits) (now : ℕ) (whole : Reco
       record { choice = spent.choice; spent = sym (opening_spent limits spent.choice now u.some whole u.over.alike) ∙ spent.spent }
 
   -- a refusal before the store is told leaves the store as it is
-  pub untold_refused : ((keep : K) (left r : Records) → g.holds keep r → g.leaves keep left → left ≡ r) → (error : KeepError) (t : Stepping) → (error ≡ Memory) ⊎ (error ≡ Corrupt)
+  pub untold_refused : (error : KeepError) (t : Stepping) → (error ≡ Memory) ⊎ (error ≡ Corrupt)
       → (error ≡ Corrupt → SpentOpening limits whole now) → IsOpeningTold g limits now whole old (Err error) old t
-  untold_refused held Memory t which spent = record {
+  untold_refused Memory t which spent = record {
     held = tt;
     same = λ fine. u.over.holds;
     spent = λ is. absurd cc;
     schema = λ is. absurd cc;
     cause = λ is. elim is [ inl e ↦ absurd cc | inr e ↦ absurd cc ];
-    crash = λ after may. inl (held old after whole u.over.holds may);
+    crash = λ after may. inl may;
     sound = λ sound. sound;
   }
-  untold_refused held Corrupt t which spent = record {
+  untold_refused Corrupt t which spent = record {
     held = tt;
     same = λ fine. u.over.holds;
     spent = λ is. spent refl;
     schema = λ is. absurd cc;
     cause = λ is. elim is [ inl e ↦ absurd cc | inr e ↦ absurd cc ];
-    crash = λ after may. inl (held old after whole u.over.holds may);
+    crash = λ after may. inl may;
     sound = λ sound. sound;
   }
-  untold_refused held Disk t (inl e) spent = absurd cc
-  untold_refused held Disk t (inr e) spent = absurd cc
-  untold_refused held Size t (inl e) spent = absurd cc
-  untold_refused held Size t (inr e) spent = absurd cc
-  untold_refused held Schema t (inl e) spent = absurd cc
-  untold_refused held Schema t (inr e) spent = absurd cc
+  untold_refused Disk t (inl e) spent = absurd cc
+  untold_refused Disk t (inr e) spent = absurd cc
+  untold_refused Size t (inl e) spent = absurd cc
+  untold_refused Size t (inr e) spent = absurd cc
+  untold_refused Schema t (inl e) spent = absurd cc
+  untold_refused Schema t (inr e) spent = absurd cc
 
 -- ---- the store is told
 
 module _ {K : Type 0} (g : Ghosts K) (limits : Limits) (now : ℕ) (whole : Records) (old : K) (s : Stepping) (o : HasOpened g limits now whole old s) (unspent : is_spent s.rows ≡ false)
-    (keep : K) (t : Stepping) (left : (r after : Records) → g.holds old r → CanStore s.rows r → g.leaves keep after → (after ≡ r) ⊎ (after ≡ changed_all s.rows r))
+    (keep : K) (t : Stepping) (left : (r after : Records) → g.holds old r → CanStore s.rows r → g.leaves keep after → g.leaves old after ⊎ (after ≡ changed_all s.rows r))
     (sound : g.is_sound keep → g.is_sound old) where
   can : CanStore s.rows whole
   can = open_can_store limits now o.some whole o.over.alike s o.did o.within o.over.lawful unspent
 
-  crash : (after : Records) → g.leaves keep after → (after ≡ whole) ⊎ IsStoredAfter limits now whole after
-  crash after may = open_left limits now o.some whole o.over.alike s o.did after unspent (left whole after o.over.holds can may)
+  crash : (after : Records) → g.leaves keep after → g.leaves old after ⊎ ((after ≡ whole) ⊎ IsStoredAfter limits now whole after)
+  crash after may = left_or (g.leaves old after) (λ is. open_left limits now o.some whole o.over.alike s o.did after unspent (inr is)) (left whole after o.over.holds can may)
 
   -- it has stored the opening
   pub told_held : ((r : Records) → g.holds old r → CanStore s.rows r → g.is_loaded keep × g.holds keep (changed_all s.rows r)) → t ≡ at_rest s.limits s.broker

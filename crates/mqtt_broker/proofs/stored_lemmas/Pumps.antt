@@ -1,5 +1,5 @@
 -- A pump on a line with a session: what it sends is read, rows are filled with it, and the step begins on them.
-use Rattle.std.proofs.Common.{◌≡◌, ℕ, Bool, true, false, List, Option, Some, None, refl, ap, sym, subst, ◌∙◌, inr}
+use Rattle.std.proofs.Common.{◌≡◌, ◌⊎◌, ℕ, Bool, true, false, List, Option, Some, None, refl, ap, sym, subst, ◌∙◌, inl, inr}
 use Rattle.std.specs.Prelude.{Result, Err, ⊤}
 use Rattle.std.specs.List.{AllByRecursion}
 use Rattle.mqtt_records.specs.messages.Content.{CopyContent}
@@ -53,7 +53,7 @@ queue_in_order birth r ordered = by (row_at birth_of birth r.sessions) refl
 
 module _ {K : Type 0} (g : Ghosts K)
     (tells : (keep : K) (r : Records) → g.is_sound keep → g.is_loaded keep → g.holds keep r → AreTold (g.fillings keep) r)
-    (held : (keep : K) (left r : Records) → g.holds keep r → g.leaves keep left → left ≡ r) (now line birth : ℕ) (p : EngineParts K)
+    (now line birth : ℕ) (p : EngineParts K)
     (rest : IsAtRest g p) (runs : p.stopped ≡ false) (on : session_on line p.step.broker ≡ Some (Some birth)) where
   abbrev call : Call
   call = Pump line
@@ -72,14 +72,14 @@ module _ {K : Type 0} (g : Ghosts K)
   pub unplaced_called : Called g now call (viewed g p) (Err Memory) (viewed g p)
   unplaced_called =
       subst (λ (t : Bool). Called g now call (seen p.keep t) (Err Memory) (seen p.keep t)) (sym runs)
-      (read_refused g tells held now call p.keep p.keep p.hand p.step.limits p.step.broker had (λ sound. sound) (λ left may. may) had.its)
+      (read_refused g tells now call p.keep p.keep p.hand p.step.limits p.step.broker had (λ sound. sound) (λ r left holds may. inl may) had.its)
 
   in_order : IsQueueInOrder birth had.whole.records
   in_order = queue_in_order birth had.whole.records had.its.sound.coherent.ordered
 
   -- ---- after the store was asked
 
-  module _ (read : K) (hand : Hand) (device : g.is_sound read → g.is_sound p.keep) (crash : (left : Records) → g.leaves read left → g.leaves p.keep left)
+  module _ (read : K) (hand : Hand) (device : g.is_sound read → g.is_sound p.keep) (crash : (r left : Records) → g.holds p.keep r → g.leaves read left → g.leaves p.keep left ⊎ (left ≡ r))
       (says : (r : Records) → g.holds p.keep r → IsQueueInOrder birth r → SayWhatIsStored p.hand r → g.is_sound read → SayWhatIsStored hand r) where
     hand_says : SaysAtHand g read hand had.whole.records
     hand_says sound = says had.whole.records had.its.holds in_order (had.at_hand (device sound)) sound
@@ -97,7 +97,7 @@ module _ {K : Type 0} (g : Ghosts K)
       pub unread_called : Called g now call (viewed g p) (Err refusal) (viewed g (record p { keep = read; hand = hand; stopped = stopped }))
       unread_called =
           of_running (Err refusal) (seen read stopped)
-          (read_failed g tells held now call p.keep read p.hand p.step.limits p.step.broker had device crash e refusal stopped failed.refused left_holds failed.cause memory disk stops stays)
+          (read_failed g tells now call p.keep read p.hand p.step.limits p.step.broker had device crash e refusal stopped failed.refused left_holds failed.cause memory disk stops stays)
 
       -- the engine is at rest then
       pub unread_rest : IsAtRest g (record p { keep = read; hand = hand; stopped = stopped })
@@ -105,7 +105,7 @@ module _ {K : Type 0} (g : Ghosts K)
         rest = rest.rest;
         slim = rest.slim;
         sound = rest.sound;
-        its = failed_holds g tells held now call p.keep read p.hand p.step.limits p.step.broker had device crash hand hand_says e refusal stopped failed.refused left_holds disk stops;
+        its = failed_holds g tells now call p.keep read p.hand p.step.limits p.step.broker had device crash hand hand_says e refusal stopped failed.refused left_holds disk stops;
         goes = record { serves = rest.goes.serves; quiet = rest.goes.quiet };
       }
 
@@ -126,7 +126,7 @@ module _ {K : Type 0} (g : Ghosts K)
       pub read_called : Called g now call (viewed g p) (Err Memory) (viewed g after)
       read_called =
           subst (λ (t : Bool). Called g now call (seen p.keep t) (Err Memory) (seen read t)) (sym runs)
-          (read_refused g tells held now call p.keep read p.hand p.step.limits p.step.broker had device crash (read_holds p.step.broker (broker_itself p.step.broker)))
+          (read_refused g tells now call p.keep read p.hand p.step.limits p.step.broker had device crash (read_holds p.step.broker (broker_itself p.step.broker)))
 
       -- the engine is at rest once contents were read
       pub read_rest : IsAtRest g after
@@ -157,7 +157,7 @@ module _ {K : Type 0} (g : Ghosts K)
         pub unfilled_called : is_filled ≡ false → Called g now call (viewed g p) (Err Stopped) (viewed g (record after { stopped = true }))
         unfilled_called unfilled =
             of_running (Err Stopped) (seen read true)
-            (read_stops g tells held now call p.keep read p.hand p.step.limits p.step.broker had device crash p.step.broker refl refl
+            (read_stops g tells now call p.keep read p.hand p.step.limits p.step.broker had device crash p.step.broker refl refl
             (inr (λ sound. let yes = (truly_filled sound).0 in absurd cc)))
 
         -- the engine is at rest if what was read was not taken in
@@ -203,6 +203,6 @@ module _ {K : Type 0} (g : Ghosts K)
             pub pump_called : (result : Result Outcome EngineError) (new : Running K) → Called g now call (viewed_before g (record after { step = s })) result new → Called g now call (viewed g p) result new
             pump_called result new called =
                 of_running result new
-                (called_before g tells held now call p.keep read p.hand p.step.limits p.step.broker had device crash t.broker result new (read_holds t.broker alike) alike asked.uncounted
+                (called_before g tells now call p.keep read p.hand p.step.limits p.step.broker had device crash t.broker result new (read_holds t.broker alike) alike asked.uncounted
                 (subst (λ (b : Bool). Called g now call (record { keep = read; limits = p.step.limits; broker = filled (g.fillings read) t.broker; stopped = b }) result new) runs
                 (called_of g now call again done after p.index t.broker p.step.limits s result new start same_limits called)))

@@ -22,9 +22,10 @@ use Rattle.mqtt_broker_looks.specs.at_hand.Reading.{AskedAtMost}
 use Rattle.mqtt_broker_step.specs.declared.call.EngineError.{EngineError}
 use Rattle.mqtt_broker_step.specs.declared.call.EngineError.TheVariants.{Memory, Stopped}
 use Rattle.mqtt_broker.specs.declared.stored.outcome.Outcome.{Outcome}
-use Rattle.mqtt_broker.specs.stored.Calling.{Called, IsAnsweredForLines, IsTrulyCalled, KeepsLines}
+use Rattle.mqtt_broker.specs.stored.Calling.{Called, IsAnsweredForLines, IsLeftBy, IsTrulyCalled, KeepsLines}
 use Rattle.mqtt_broker.specs.stored.Running.{Running}
 use Rattle.mqtt_broker.specs.stored.Finishing.{HasWhole, HoldsWhole, SaysAtHand}
+use Rattle.mqtt_broker.proofs.stored_lemmas.Crashed.{left_or}
 use Rattle.mqtt_broker.proofs.stored_lemmas.Finished.{view_is}
 
 -- the birth on a line with a session
@@ -66,13 +67,16 @@ few_asked line b places before after found h =
 -- ---- a call after a read
 
 module _ {K : Type 0} (g : Ghosts K)
-    (tells : (keep : K) (r : Records) → g.is_sound keep → g.is_loaded keep → g.holds keep r → AreTold (g.fillings keep) r)
-    (held : (keep : K) (left r : Records) → g.holds keep r → g.leaves keep left → left ≡ r) where
+    (tells : (keep : K) (r : Records) → g.is_sound keep → g.is_loaded keep → g.holds keep r → AreTold (g.fillings keep) r) where
   abbrev on : K → Limits → Bool → Broker → Running K
   on keep limits stopped some = record { keep = keep; limits = limits; broker = filled (g.fillings keep) some; stopped = stopped }
 
   module _ (now : ℕ) (call : Call) (keep read : K) (hand : Hand) (limits : Limits) (some : Broker) (h : HasWhole g keep hand limits some)
-      (device : g.is_sound read → g.is_sound keep) (crash : (left : Records) → g.leaves read left → g.leaves keep left) where
+      (device : g.is_sound read → g.is_sound keep) (crash : (r left : Records) → g.holds keep r → g.leaves read left → g.leaves keep left ⊎ (left ≡ r)) where
+    -- what could be left before the read, or what is stored
+    read_left : g.is_sound keep → (left : Records) → g.leaves read left → g.leaves keep left ⊎ (left ≡ (filled (g.fillings keep) some).records)
+    read_left there left may = left_or (g.leaves keep left) (λ is. is ∙ ap (λ (b : Broker). b.records) (sym (view_is g tells keep limits some h.whole h.its there))) (crash h.whole.records left h.its.holds may)
+
     -- what was called after the read was called before it
     pub called_before : (ready : Broker) (result : Result Outcome EngineError) (new : Running K) → HoldsWhole g read limits ready h.whole → AlikeBrokers ready some → g.counted read ≡ g.counted keep
         → Called g now call (on read limits false ready) result new → Called g now call (on keep limits false some) result new
@@ -80,10 +84,10 @@ module _ {K : Type 0} (g : Ghosts K)
       truly = λ sound.
           let there = called.sound sound in
           let same : filled (g.fillings read) ready ≡ filled (g.fillings keep) some =
-          view_is g tells held read limits ready h.whole its there ∙ sym (view_is g tells held keep limits some h.whole h.its (device there)) in
+          view_is g tells read limits ready h.whole its there ∙ sym (view_is g tells keep limits some h.whole h.its (device there)) in
           let t : IsTrulyCalled g now call (record { keep = read; limits = limits; broker = filled (g.fillings keep) some; stopped = false }) result new =
           subst (λ (b : Broker). IsTrulyCalled g now call (record { keep = read; limits = limits; broker = b; stopped = false }) result new) same (called.truly sound) in
-          record { step = t.step; stored = t.stored; same = t.same; kept = t.kept; spent = t.spent; crash = t.crash };
+          record { step = t.step; stored = t.stored; same = t.same; kept = t.kept; spent = t.spent; crash = λ runs left may. crash_before (device there) left (t.crash runs left may) };
       answered = answered_before result called.answered;
       runs = called.runs;
       limits = called.limits;
@@ -94,6 +98,10 @@ module _ {K : Type 0} (g : Ghosts K)
       sound = λ sound. device (called.sound sound);
     }
       where
+        crash_before : g.is_sound keep → (left : Records) → g.leaves read left ⊎ IsLeftBy limits (filled (g.fillings keep) some) now call left → g.leaves keep left ⊎ IsLeftBy limits (filled (g.fillings keep) some) now call left
+        crash_before there left (inl may) = left_or (g.leaves keep left) (λ is. inl is) (read_left there left may)
+        crash_before there left (inr by) = inr by
+
         answered_before : (result : Result Outcome EngineError) → IfOk result (λ out. IsAnsweredForLines limits (filled (g.fillings read) ready) now call out new.broker)
             → IfOk result (λ out. IsAnsweredForLines limits (filled (g.fillings keep) some) now call out new.broker)
         answered_before (Ok out) k = record {
@@ -120,10 +128,10 @@ module _ {K : Type 0} (g : Ghosts K)
       truly = λ sound. record {
         step = tt;
         stored = tt;
-        same = λ not. view_is g tells held read limits some h.whole its sound ∙ sym (view_is g tells held keep limits some h.whole h.its (device sound));
-        kept = λ not. subst (λ (b : Broker). g.holds read b.records) (sym (view_is g tells held keep limits some h.whole h.its (device sound))) its.holds;
+        same = λ not. view_is g tells read limits some h.whole its sound ∙ sym (view_is g tells keep limits some h.whole h.its (device sound));
+        kept = λ not. subst (λ (b : Broker). g.holds read b.records) (sym (view_is g tells keep limits some h.whole h.its (device sound))) its.holds;
         spent = λ is. absurd cc;
-        crash = λ runs left may. inl (held keep left h.whole.records h.its.holds (crash left may) ∙ ap (λ (b : Broker). b.records) (sym (view_is g tells held keep limits some h.whole h.its (device sound))));
+        crash = λ runs left may. left_or (g.leaves keep left) (λ is. inl is) (read_left (device sound) left may);
       };
       answered = tt;
       runs = λ not. refl;
@@ -145,7 +153,7 @@ module _ {K : Type 0} (g : Ghosts K)
         same = λ not. absurd (not refl);
         kept = λ not. absurd (not refl);
         spent = λ is. absurd cc;
-        crash = λ runs left may. inl (held keep left h.whole.records h.its.holds (crash left may) ∙ ap (λ (b : Broker). b.records) (sym (view_is g tells held keep limits some h.whole h.its (device sound))));
+        crash = λ runs left may. left_or (g.leaves keep left) (λ is. inl is) (read_left (device sound) left may);
       };
       answered = tt;
       runs = λ not. absurd (not refl);

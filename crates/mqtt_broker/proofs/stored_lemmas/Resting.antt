@@ -66,7 +66,7 @@ called_stopped g now call old result e gives is stopped = subst (λ (r : Result 
 
 module _ {K : Type 0} (g : Ghosts K)
     (tells : (keep : K) (r : Records) → g.is_sound keep → g.is_loaded keep → g.holds keep r → AreTold (g.fillings keep) r)
-    (held : (keep : K) (left r : Records) → g.holds keep r → g.leaves keep left → left ≡ r) (now : ℕ) (call : Call) (p : EngineParts K) (rest : IsAtRest g p) where
+    (now : ℕ) (call : Call) (p : EngineParts K) (rest : IsAtRest g p) where
   -- for want of memory nothing changed
   pub called_stale : (old : Running K) (result : Result Outcome EngineError) (e : EngineError) → result ≡ Err e → e ≡ Memory → viewed g p ≡ old → old.stopped ≡ false
       → Called g now call old result (viewed g p)
@@ -77,7 +77,7 @@ module _ {K : Type 0} (g : Ghosts K)
       (subst (λ (r : Result Outcome EngineError). Called g now call (viewed g p) r (viewed g p)) (sym (gives ∙ ap Err is))
       (subst (λ (t : Bool). Called g now call (record { keep = p.keep; limits = p.step.limits; broker = filled (g.fillings p.keep) p.step.broker; stopped = t }) (Err Memory)
       (record { keep = p.keep; limits = p.step.limits; broker = filled (g.fillings p.keep) p.step.broker; stopped = t })) (sym runs)
-      (read_refused g tells held now call p.keep p.keep p.hand p.step.limits p.step.broker h (λ sound. sound) (λ left may. may) h.its)))
+      (read_refused g tells now call p.keep p.keep p.hand p.step.limits p.step.broker h (λ sound. sound) (λ r left holds may. inl may) h.its)))
 
   -- ---- a call on a line that isn't linked: time goes on
 
@@ -92,14 +92,14 @@ module _ {K : Type 0} (g : Ghosts K)
       let its : IsAnswered p.step.limits b now call out (at_moment now b) = passed_over p.step.limits now line b (at_moment now b) out none refl tells_nothing call on in
       record {
         truly = λ sound.
-            let view = view_is g tells held p.keep p.step.limits p.step.broker h.whole h.its sound in
+            let view = view_is g tells p.keep p.step.limits p.step.broker h.whole h.its sound in
             record {
               step = its;
               stored = subst (λ (x : Broker). g.holds p.keep x.records) (sym view) h.its.holds;
               same = λ not. tt;
               kept = λ not. tt;
               spent = λ is. absurd cc;
-              crash = λ was left may. inl (held p.keep left h.whole.records h.its.holds may ∙ ap (λ (x : Broker). x.records) (sym view));
+              crash = λ was left may. inl may;
             };
         answered = answered_for_lines p.step.limits b now call out (at_moment now b) its;
         lines = tt;

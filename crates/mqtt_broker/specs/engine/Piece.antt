@@ -62,9 +62,9 @@ pub record IsTrulyPieceCalled {K : Type 0} (g : Ghosts K) (now line : ℕ) (piec
   pub same : (IsErrOf result Stopped → ⊥) → OnErr result (new.running.broker ≡ old.running.broker)
   pub kept : (IsErrOf result Stopped → ⊥) → OnErr result (g.holds new.running.keep old.running.broker.records)
   pub spent : IsErrOf result Spent → IsSpentBy old.running.limits old.running.broker now (call_by line piece old)
-  -- a crash leaves what was stored before the call or after it
+  -- a crash leaves what it could leave before the call, or what was stored before it or is after it
   pub crash : old.running.stopped ≡ false → (left : Records) → g.leaves new.running.keep left
-      → IsLeftByAny old.running.limits old.running.broker now (call_by line piece old) left
+      → g.leaves old.running.keep left ⊎ IsLeftByAny old.running.limits old.running.broker now (call_by line piece old) left
 
 -- a piece comes on a line of an engine over a store
 pub record PieceCalled {K : Type 0} (g : Ghosts K) (now line : ℕ) (piece : List ℕ) (old : Serving K) (result : Result Outcome EngineError) (new : Serving K)

@@ -62,8 +62,9 @@ pub record IsTrulyCalled {K : Type 0} (g : Ghosts K) (now : ℕ) (call : Call) (
   pub same : (IsErrOf result Stopped → ⊥) → OnErr result (new.broker ≡ old.broker)
   pub kept : (IsErrOf result Stopped → ⊥) → OnErr result (g.holds new.keep old.broker.records)
   pub spent : IsErrOf result Spent → SpentStep old.limits old.broker now call
-  -- a crash leaves what was stored before the call or after it
-  pub crash : old.stopped ≡ false → (left : Records) → g.leaves new.keep left → IsLeftBy old.limits old.broker now call left
+  -- a crash leaves what it could leave before the call, or what was stored before it or is after it
+  pub crash : old.stopped ≡ false → (left : Records) → g.leaves new.keep left
+      → g.leaves old.keep left ⊎ IsLeftBy old.limits old.broker now call left
 
 -- a call of an engine over a store
 pub record Called {K : Type 0} (g : Ghosts K) (now : ℕ) (call : Call) (old : Running K) (result : Result Outcome EngineError) (new : Running K)

@@ -111,7 +111,7 @@ pub record IsCommitted {K : Type 0} (g : Ghosts K) (old : EngineParts K) (again 
   pub stopped : IsErrOf result Stopped → new.stopped ≡ true
   pub runs : (IsErrOf result Stopped → ⊥) → new.stopped ≡ false
   pub crash : (r left : Records) → g.holds old.keep r → CanStore old.step.rows r → g.leaves new.keep left
-      → (left ≡ r) ⊎ (left ≡ changed_all old.step.rows r)
+      → g.leaves old.keep left ⊎ (left ≡ changed_all old.step.rows r)
   pub device : g.is_sound new.keep → g.is_sound old.keep
   pub reads : g.read_so_far new.keep ≡ g.read_so_far old.keep
   pub goes : GoesAlong new.step.broker new

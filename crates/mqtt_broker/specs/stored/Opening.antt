@@ -27,6 +27,13 @@ pub record IsBegun {K : Type 0} (g : Ghosts K) (keep : K) (r : Records) (loaded 
   pub same : (h : Records) → g.holds keep h → g.holds loaded h
   pub crash : (after : Records) → g.leaves loaded after → g.leaves keep after
 
+-- what is stored after an opening of what a load answered
+pub record IsStoredOpening {K : Type 0} (g : Ghosts K) (limits : Limits) (now : ℕ) (keep : K) (after : Records) : Type 0 where
+  pub loaded : K
+  pub records : Records
+  pub load : IsLoad g keep records loaded
+  pub is : IsStoredAfter limits now records after
+
 -- ---- Ok: the engine begins with the opening of lawful records that a load answered, and its store holds what that leaves. What
 -- copies say is so while the store's device returns what was written
 
@@ -45,6 +52,8 @@ pub record IsOpened {K : Type 0} (g : Ghosts K) (limits : Limits) (now : ℕ) (k
   pub lines : KeepsLines after engine.broker
   pub whole : g.is_sound engine.keep → engine.broker ≡ after
   pub holds : g.is_sound engine.keep → g.holds engine.keep engine.broker.records
+  -- a crash leaves what was there before, or what is stored after the opening
+  pub crash : (left : Records) → g.leaves engine.keep left → g.is_sound engine.keep → g.leaves keep left ⊎ IsStoredOpening g limits now keep left
   pub sound : g.is_sound engine.keep → g.is_sound loaded
   pub limits_are : engine.limits ≡ limits
   pub runs : engine.stopped ≡ false
@@ -80,13 +89,6 @@ IsDue g limits now keep Disk left = HasFailed g keep left
 IsDue g limits now keep Size left = HasFailed g keep left
 IsDue g limits now keep Corrupt left = IsLoadRefused g keep Corrupt left ⊎ IsUnfit g limits now keep
 IsDue g limits now keep Schema left = IsLoadRefused g keep Schema left
-
--- what is stored after an opening of what a load answered
-pub record IsStoredOpening {K : Type 0} (g : Ghosts K) (limits : Limits) (now : ℕ) (keep : K) (after : Records) : Type 0 where
-  pub loaded : K
-  pub records : Records
-  pub load : IsLoad g keep records loaded
-  pub is : IsStoredAfter limits now records after
 
 pub record IsRefused {K : Type 0} (g : Ghosts K) (limits : Limits) (now : ℕ) (keep : K) (error : KeepError) (left : K) : Type 0 where
   pub due : IsDue g limits now keep error left

@@ -57,6 +57,6 @@ pub record IsOpeningTold {K : Type 0} (g : Ghosts K) (limits : Limits) (now : �
   pub spent : IsErrOf result Corrupt → SpentOpening limits whole now
   pub schema : IsErrOf result Schema → ⊥
   pub cause : IsErrOf result Disk ⊎ IsErrOf result Size → g.counted keep ≢ g.counted old
-  -- a crash leaves what was held, or what is stored after the opening
-  pub crash : (after : Records) → g.leaves keep after → (after ≡ whole) ⊎ IsStoredAfter limits now whole after
+  -- a crash leaves what it left before, or what was held, or what is stored after the opening
+  pub crash : (after : Records) → g.leaves keep after → g.leaves old after ⊎ ((after ≡ whole) ⊎ IsStoredAfter limits now whole after)
   pub sound : g.is_sound keep → g.is_sound old

@@ -7,6 +7,7 @@ ghost use Rattle.mqtt_broker_step.specs.Doing.{next_line};
 ghost use Rattle.mqtt_broker_looks.specs.at_hand.Reading.{AskedAtMost};
 ghost use Rattle.mqtt_broker.specs.engine.Piece.{PieceCalled};
 ghost use Rattle.mqtt_broker.specs.engine.Serving.{IsPassedOver, Served, with_linked};
+ghost use Rattle.mqtt_broker.specs.stored.Settling.{SettleCalled};
 
 use crate::engine::asking::{pass_over, take_piece};
 use crate::engine::framers::Framers;
@@ -14,7 +15,7 @@ use crate::engine::held::end_closed;
 use crate::stored::{Engine as Inner, Outcome};
 use mqtt_base::CopyId;
 use mqtt_broker_step::EngineError;
-use mqtt_keep::Keep;
+use mqtt_keep::{Keep, Settles};
 use mqtt_packet::Packet;
 use std::marker::Model;
 
@@ -175,5 +176,16 @@ impl<K: Keep> Engine<K> {
         let Engine { inner, framers } = self;
         drop(framers);
         inner.close()
+    }
+}
+
+impl<K: Settles> Engine<K> {
+    /// What waits to be written is written: from then on a crash leaves what is stored. What lines hold stays. `Memory` (1):
+    /// nothing changed, and it may be called again. `Stopped` (2): the store has failed, or its device is full.
+    pub fn settle(&mut self) -> Result<(), EngineError>
+        ensures called { SettleCalled K.Keep self.old.running result self.new.running }
+        ensures held { self.new.held ≡ self.old.held }
+    {
+        self.inner.settle()
     }
 }

@@ -1,8 +1,22 @@
-//! However a stream of bytes comes, what is answered is what it is cut into (MQTT 5.0, 2.1).
-ghost use Rattle.std.specs.Prelude.{◌≡◌, ℕ, List};
+//! However a stream of bytes comes, what is answered is what it is cut into; and what a crash leaves of a call over a store that
+//! is settled (MQTT 5.0, 2.1, 4.1).
+ghost use Rattle.std.specs.Prelude.{◌≡◌, ◌⊎◌, ℕ, List, Result};
 ghost use Rattle.mqtt_packet.specs.stream.Stream.{Ending, IsStream, Item};
+ghost use Rattle.mqtt_records.specs.declared.state.records.Records.{Records};
+ghost use Rattle.mqtt_rules.specs.declared.step.Limits.{Limits};
 ghost use Rattle.mqtt_rules.specs.step.State.{Broker};
+ghost use Rattle.mqtt_rules.specs.step.Step.{Call};
+ghost use Rattle.mqtt_broker_step.specs.declared.call.EngineError.{EngineError};
+ghost use Rattle.mqtt_broker.specs.declared.stored.outcome.Outcome.{Outcome};
 ghost use Rattle.mqtt_broker.specs.engine.Cut.{Coming, IsFrontOf, IsGivenOn, IsGivenWhole, after_comings, answered, given_first, there_in};
+ghost use Rattle.mqtt_broker.specs.engine.Piece.{IsLeftByAny, PieceCalled, call_by};
+ghost use Rattle.mqtt_broker.specs.engine.Serving.{Serving};
+ghost use Rattle.mqtt_broker.specs.stored.Calling.{Called, IsLeftBy};
+ghost use Rattle.mqtt_broker.specs.stored.Opening.{IsOpened, IsStoredOpening};
+ghost use Rattle.mqtt_broker.specs.stored.Running.{Running};
+ghost use Rattle.mqtt_broker.specs.stored.Settling.{RunsSettled};
+
+use mqtt_keep::Keep;
 
 /// A stream comes on a line in whatever pieces, each a front of what wasn't taken yet, with whatever calls between them,
 /// until the line closes. What the steps of its pieces answer are the packets that the stream is cut into, and the fault
@@ -16,4 +30,20 @@ pub fn streams_may_come_in_any_pieces()
         → IsStream stream items ending → IsGivenOn line came (given_first stream b)
         → IsGivenWhole line (after_comings line came (given_first stream b))
         → answered line came (given_first stream b) ≡ there_in items ending }
+{}
+
+/// An engine is called whose store has nothing that waits to be written: a crash leaves what was stored before the call or is
+/// after it. So it is of a piece, and of an opening over such a store. A store that writes all at once is always such.
+pub fn a_call_over_a_settled_store<K: Keep>()
+    ensures called { (now : ℕ) (call : Call) (old new : Running K) (result : Result Outcome EngineError) (left : Records)
+        → RunsSettled K.Keep old → Called K.Keep now call old result new → K.is_sound new.keep
+        → K.leaves new.keep left → IsLeftBy old.limits old.broker now call left }
+    ensures piece { (now line : ℕ) (piece : List ℕ) (old new : Serving K) (result : Result Outcome EngineError) (left : Records)
+        → RunsSettled K.Keep old.running → PieceCalled K.Keep now line piece old result new
+        → K.is_sound new.running.keep → K.leaves new.running.keep left
+        → IsLeftByAny old.running.limits old.running.broker now (call_by line piece old) left }
+    ensures opened { (limits : Limits) (now : ℕ) (keep : K) (engine : Running K) (r left : Records)
+        → K.is_settled keep → K.holds keep r → IsOpened K.Keep limits now keep engine
+        → K.is_sound engine.keep → K.leaves engine.keep left
+        → (left ≡ r) ⊎ IsStoredOpening K.Keep limits now keep left }
 {}

@@ -49,13 +49,15 @@ pub(crate) fn commit<K: Keep>(
         → IsErrOf result EngineError.Memory → K.is_loaded keep.new × K.holds keep.new r }
     ensures spent { IsErrOf result EngineError.Spent → ⊥ }
 
-    // It stops only if the store counted a failure.
+    // It stops if the store counted a failure, and only then.
     ensures cause { IsErrOf result EngineError.Stopped
         → K.counted keep.new ≢ K.counted keep.old }
+    ensures uncounted { (IsErrOf result EngineError.Stopped → ⊥)
+        → K.counted keep.new ≡ K.counted keep.old }
 
-    // A crash leaves what the store held before the step or after it.
+    // A crash leaves what it left before the step, or what the store holds after it.
     ensures crash { (r left : Records) → K.holds keep.old r → CanStore step.old.rows r
-        → K.leaves keep.new left → (left ≡ r) ⊎ (left ≡ changed_all step.old.rows r) }
+        → K.leaves keep.new left → K.leaves keep.old left ⊎ (left ≡ changed_all step.old.rows r) }
 
     // A device that is sound after the call was sound before it, and the store wasn't asked for contents.
     ensures sound { K.is_sound keep.new → K.is_sound keep.old }

@@ -1,5 +1,5 @@
 -- Questions to a store one after the other, and what was fetched so far.
-use Rattle.std.proofs.Common.{◌≡◌, ◌≢◌, ◌⊎◌, ℕ, zero, suc, ◌+◌, ◌%◌, ◌^◌, ◌<◌, ◌≤◌, List, [], ◌∷◌, ◌++◌, length, drop, get_or, refl, sym, ap, subst, ◌∙◌, arith, inl, append_assoc, drop-cons}
+use Rattle.std.proofs.Common.{◌≡◌, ◌≢◌, ◌⊎◌, ℕ, zero, suc, ◌+◌, ◌%◌, ◌^◌, ◌<◌, ◌≤◌, List, [], ◌∷◌, ◌++◌, length, drop, get_or, refl, sym, ap, subst, ◌∙◌, arith, inl, inr, append_assoc, drop-cons}
 use Rattle.std.specs.Prelude.{IsSome, Option, Some, None, option_to_list}
 use Rattle.mqtt_flow.specs.ring.AtHand.{content_at}
 use Rattle.mqtt_records.specs.messages.Content.{CopyContent}
@@ -45,7 +45,7 @@ module _ {K : Type 0} (g : Ghosts K) where
   asked_nothing k keep loaded = record {
     same = λ r h. h;
     loaded = loaded;
-    crash = λ r h. h;
+    crash = λ r left holds may. inl may;
     sound = λ h. h;
     uncounted = refl;
     reads = (zero, omega arith, refl);
@@ -56,7 +56,7 @@ module _ {K : Type 0} (g : Ghosts K) where
   asked_then m n k a b c first next within = record {
     same = λ r h. next.same r (first.same r h);
     loaded = next.loaded;
-    crash = λ r h. first.crash r (next.crash r h);
+    crash = λ r left holds may. elim (next.crash r left (first.same r holds) may) [ inl before ↦ first.crash r left holds before | inr is ↦ inr is ];
     sound = λ h. first.sound (next.sound h);
     uncounted = next.uncounted ∙ first.uncounted;
     reads = asked_more m n k _ _ _ first.reads next.reads within;
@@ -78,7 +78,7 @@ module _ {K : Type 0} (g : Ghosts K) where
   fails_then m n k a b c fault first next within = record {
     refused = next.refused;
     memory = λ r h is. next.memory r (first.same r h) is;
-    crash = λ r h. first.crash r (next.crash r h);
+    crash = λ r left holds may. elim (next.crash r left (first.same r holds) may) [ inl before ↦ first.crash r left holds before | inr is ↦ inr is ];
     sound = λ h. first.sound (next.sound h);
     cause = λ is same. next.cause is (same ∙ sym first.uncounted);
     reads = asked_more m n k _ _ _ first.reads next.reads within;
@@ -96,13 +96,13 @@ module _ {K : Type 0} (g : Ghosts K) where
   }
 
   -- one question was answered, or failed
-  pub question_answered : (old new : K) → ((r : Records) → g.holds old r → g.holds new r) → g.is_loaded new → ((r : Records) → g.leaves new r → g.leaves old r) → (g.is_sound new → g.is_sound old)
+  pub question_answered : (old new : K) → ((r : Records) → g.holds old r → g.holds new r) → g.is_loaded new → ((r left : Records) → g.holds old r → g.leaves new left → g.leaves old left ⊎ (left ≡ r)) → (g.is_sound new → g.is_sound old)
       → g.counted new ≡ g.counted old → g.read_so_far new ≡ (g.read_so_far old + 1) % 2 ^ 64 → WasAsked g 1 old new
   question_answered old new same loaded crash sound uncounted read =
       record { same = same; loaded = loaded; crash = crash; sound = sound; uncounted = uncounted; reads = (1, omega arith, read) }
 
   -- a read that is refused leaves what a refusal leaves
-  pub question_failed : (old new : K) (fault : KeepError) → (fault ≡ Memory) ⊎ (fault ≡ Disk) → ((r : Records) → g.holds old r → fault ≡ Memory → g.is_loaded new × g.holds new r) → ((r : Records) → g.leaves new r → g.leaves old r) → (g.is_sound new → g.is_sound old)
+  pub question_failed : (old new : K) (fault : KeepError) → (fault ≡ Memory) ⊎ (fault ≡ Disk) → ((r : Records) → g.holds old r → fault ≡ Memory → g.is_loaded new × g.holds new r) → ((r left : Records) → g.holds old r → g.leaves new left → g.leaves old left ⊎ (left ≡ r)) → (g.is_sound new → g.is_sound old)
       → (fault ≡ Disk → g.counted new ≢ g.counted old) → g.read_so_far new ≡ (g.read_so_far old + 1) % 2 ^ 64 → HasFailed g 1 old new fault
   question_failed old new fault refused memory crash sound cause read =
       record { refused = refused; memory = memory; crash = crash; sound = sound; cause = cause; reads = (1, omega arith, read) }

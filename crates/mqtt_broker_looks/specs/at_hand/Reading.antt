@@ -27,11 +27,11 @@ AreAtHand hand birth (place ∷ places) = IsSome (content_at place (at_hand_of b
 -- ---- what stays
 
 module _ {K : Type 0} (g : Ghosts K) where
-  -- all questions were answered, at most so many: what the store has stays, and a crash finds nothing else than before
+  -- all questions were answered, at most so many: what the store has stays, and a crash finds nothing else than before, or that
   pub record WasAsked (limit : ℕ) (old new : K) : Type 0 where
     pub same : (r : Records) → g.holds old r → g.holds new r
     pub loaded : g.is_loaded new
-    pub crash : (r : Records) → g.leaves new r → g.leaves old r
+    pub crash : (r left : Records) → g.holds old r → g.leaves new left → g.leaves old left ⊎ (left ≡ r)
     pub sound : g.is_sound new → g.is_sound old
     pub uncounted : g.counted new ≡ g.counted old
     pub reads : AskedAtMost limit (g.read_so_far old) (g.read_so_far new)
@@ -40,7 +40,7 @@ module _ {K : Type 0} (g : Ghosts K) where
   pub record HasFailed (limit : ℕ) (old new : K) (fault : KeepError) : Type 0 where
     pub refused : (fault ≡ Memory) ⊎ (fault ≡ Disk)
     pub memory : (r : Records) → g.holds old r → fault ≡ Memory → g.is_loaded new × g.holds new r
-    pub crash : (r : Records) → g.leaves new r → g.leaves old r
+    pub crash : (r left : Records) → g.holds old r → g.leaves new left → g.leaves old left ⊎ (left ≡ r)
     pub sound : g.is_sound new → g.is_sound old
     pub cause : fault ≡ Disk → g.counted new ≢ g.counted old
     pub reads : AskedAtMost limit (g.read_so_far old) (g.read_so_far new)

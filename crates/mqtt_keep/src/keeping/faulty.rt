@@ -1,5 +1,5 @@
 //! A store for tests, whose device fails once.
-ghost use Rattle.std.specs.Prelude.{◌≡◌, ◌≢◌, IfOk, IsTrue, Some};
+ghost use Rattle.std.specs.Prelude.{◌≡◌, ◌≢◌, false, IfOk, IsTrue, Some};
 ghost use Rattle.mqtt_records.specs.state.Records.{nothing};
 
 use crate::keeping::keep::{Keep, KeepError};
@@ -67,6 +67,7 @@ impl FaultyKeep {
         ensures same { self.new.records ≡ self.old.records }
         ensures reads { self.new.reads ≡ self.old.reads }
         ensures counted { IsTrue result → self.new.failures ≢ self.old.failures }
+        ensures uncounted { result ≡ false → self.new.failures ≡ self.old.failures }
     {
         match self.until {
             Some(0) => {
@@ -143,7 +144,7 @@ impl Keep for FaultyKeep {
         self.reads
     }
 
-    ghost leaves_held = { λ keep left r has found. found ∙ has };
+    ghost leaves_held = { λ keep left r settled has found. found ∙ has };
 
     ghost tells = { λ keep r sound loaded has birth place e found.
         ap (λ r. told_by r birth place) has ∙ ap filling_in found };

@@ -56,6 +56,9 @@ pub trait Keep: Drop {
     // What is opened after a crash at this moment may have these records.
     ghost leaves: { Self → Records → Type 0 };
 
+    // Nothing that it has waits to be written, so that a crash leaves what it has. A store that writes all at once is always so.
+    ghost is_settled: { Self → Type 0 } = { λ _. Unit {0} };
+
     // How many failures of its device it has counted, modulo 2^64.
     ghost counted: { Self → ℕ };
 
@@ -102,16 +105,18 @@ pub trait Keep: Drop {
             × ((r : Records) → holds self.old r → FitAll changes.now r → AllSayable changes.now
             → FitContents changes.now r → holds self.new r) }
 
-        // A crash leaves the records before or after, never some of the changes.
+        // A crash leaves what it left before, or the records after, never some of the changes.
         ensures crash { (r left : Records) → holds self.old r → FitAll changes.now r
             → AllSayable changes.now → FitContents changes.now r → leaves self.new left
-            → (left ≡ r) ⊎ (left ≡ changed_all changes.now r) }
+            → leaves self.old left ⊎ (left ≡ changed_all changes.now r) }
         ensures sound { is_sound self.new → is_sound self.old }
 
         ensures refused { (IsErrOf result KeepError.Corrupt → ⊥)
             × (IsErrOf result KeepError.Schema → ⊥) }
         ensures cause { IsErrOf result KeepError.Disk ⊎ IsErrOf result KeepError.Size
             → counted self.new ≢ counted self.old }
+        ensures uncounted { (IsErrOf result KeepError.Disk → ⊥) → (IsErrOf result KeepError.Size → ⊥)
+            → counted self.new ≡ counted self.old }
         ensures reads { read_so_far self.new ≡ read_so_far self.old };
 
     /// What the first copies of a session say from a place on, at most so many, in the order of the queue (3.3); nothing
@@ -127,11 +132,11 @@ pub trait Keep: Drop {
         ensures exact { (r : Records) → holds self.old r
             → IfOk result (λ all. is_sound self.new → all.items ≡ contents_from birth place limit r) }
 
-        // What it has stays, and a crash finds nothing else than before.
+        // What it has stays, and a crash finds nothing else than before, or that.
         ensures same { (r : Records) → holds self.old r → OnOk result (holds self.new r) }
         ensures memory { (r : Records) → holds self.old r → IsErrOf result KeepError.Memory
             → is_loaded self.new × holds self.new r }
-        ensures crash { (r : Records) → leaves self.new r → leaves self.old r }
+        ensures crash { (r left : Records) → holds self.old r → leaves self.new left → leaves self.old left ⊎ (left ≡ r) }
         ensures sound { is_sound self.new → is_sound self.old }
         ensures loaded { OnOk result (is_loaded self.new) }
 
@@ -149,9 +154,9 @@ pub trait Keep: Drop {
     fn reads(&self) -> u64
         ensures { result ≡ read_so_far self.now };
 
-    // A crash leaves what a store has.
+    // A crash leaves what a settled store has.
     ghost leaves_held: { (keep : Self) (left r : Records)
-        → holds keep r → leaves keep left → left ≡ r };
+        → is_settled keep → holds keep r → leaves keep left → left ≡ r };
 
     // What a store has says what it tells: a copy is told by its place.
     ghost tells: { (keep : Self) (r : Records)

@@ -109,7 +109,7 @@ impl Keep for MemKeep {
         self.reads
     }
 
-    ghost leaves_held = { λ keep left r has found. found ∙ has };
+    ghost leaves_held = { λ keep left r settled has found. found ∙ has };
 
     ghost tells = { λ keep r sound loaded has birth place e found.
         ap (λ r. told_by r birth place) has ∙ ap filling_in found };

@@ -80,7 +80,7 @@ impl Keep for FullKeep {
         self.keep.reads()
     }
 
-    ghost leaves_held = { λ store left r has found. found ∙ has };
+    ghost leaves_held = { λ store left r settled has found. found ∙ has };
 
     ghost tells = { λ store r sound loaded has birth place e found.
         ap (λ r. told_by r birth place) has ∙ ap filling_in found };

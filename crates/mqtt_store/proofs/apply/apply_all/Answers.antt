@@ -77,7 +77,7 @@ returns-in-Ok-clause-crash g c =
     let making = (ready before).making in
     let it : IsEither old changes r ready ordered live holds fit agree say before mid = inr ((c.in-Ok.ensures.settled making clean (full before)).schema ∙ sym (laid_out making), λ needs. c.in-Ok.ensures.ok making clean (full before) needs) in
     it in
-    step_leaves old mid r (changed_all changes r) left (only_steps old changes r ready ordered live holds fit agree say mid e.crash either) holds found
+    step_leaves old mid (changed_all changes r) left (only_steps old changes r ready ordered live holds fit agree say mid e.crash either) found
 
 pub returns-in-Ok-probe-clause-same : goal.returns-in-Ok-probe-clause-same
 returns-in-Ok-probe-clause-same g c which =
@@ -145,7 +145,7 @@ returns-in-Ok-probe-clause-crash g c =
     let same = stays.same up (record { committed = err.1.same; autocommit = e.autocommit }) in
     let one : IsEither old changes r ready ordered live holds fit agree say before new = inl (same.0 ∙ err.0) in
     one in
-    step_leaves old new r (changed_all changes r) left (only_steps old changes r ready ordered live holds fit agree say new it either) holds found
+    step_leaves old new (changed_all changes r) left (only_steps old changes r ready ordered live holds fit agree say new it either) found
 
 pub returns-in-Err-probe-clause-ordered : goal.returns-in-Err-probe-clause-ordered
 returns-in-Err-probe-clause-ordered g c clean up =
@@ -189,7 +189,7 @@ returns-in-Err-probe-clause-crash g c =
     let same = stays.same up (record { committed = err.1.same; autocommit = e.autocommit }) in
     let one : IsEither old changes r ready ordered live holds fit agree say before new = inl (same.0 ∙ err.0) in
     one in
-    step_leaves old new r (changed_all changes r) left (only_steps old changes r ready ordered live holds fit agree say new it either) holds found
+    step_leaves old new (changed_all changes r) left (only_steps old changes r ready ordered live holds fit agree say new it either) found
 
 pub returns-in-Ok-clause-sound : goal.returns-in-Ok-clause-sound
 returns-in-Ok-clause-sound g c =

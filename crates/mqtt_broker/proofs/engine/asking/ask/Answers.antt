@@ -22,5 +22,4 @@ returns-in-Ok-None-clause-ok g c =
 pub returns-in-Err-clause-called : goal.returns-in-Err-clause-called
 returns-in-Err-clause-called g c =
     memory_refuses g.K.Keep c.args.moment c.args.engine.now c.requires.running c.requires.stored
-    (λ sound left may. g.met.K.Keep.leaves_held c.args.engine.now.keep left c.args.engine.now.broker.records (c.requires.stored sound) may)
     (first_call c.args.line c.args.held.now.framing.held)

@@ -6,7 +6,7 @@ pub returns-clause-served : goal.returns-clause-served
 returns-clause-served g c = λ line call held none on.
     let running : c.args.engine.now.stopped ≡ false = search rules in
     let holds = c.is_stopped.ensures.stored running in
-    passed_served g.K.Keep c.args.moment c.args.engine.now running holds (λ sound left may. g.met.K.Keep.leaves_held c.args.engine.now.keep left c.args.engine.now.broker.records (holds sound) may)
+    passed_served g.K.Keep c.args.moment c.args.engine.now running holds
     line call held c.rest_at.new.self c.rest_at.result none on c.rest_at.ensures.told c.rest_at.ensures.ok
 
 pub returns-clause-lines : goal.returns-clause-lines

@@ -24,10 +24,8 @@ returns-in_default-feed g c =
     let both =
     piece_refused g.K.Keep c.args.moment c.args.line c.args.piece.now c.args.engine.now c.args.engine.now c.args.framers.now c.lend.new.self c.put_back.new.self c.in-Some.held.framing c.feed.new.self.framing
     c.requires.lines c.requires.linked c.requires.running c.requires.stored
-    (λ sound left may. g.met.K.Keep.leaves_held c.args.engine.now.keep left c.args.engine.now.broker.records (c.requires.stored sound) may)
     (framing_found c.args.line c.in-Some.held c.args.framers.now found) c.lend.ensures.rest c.put_back.ensures
     Memory (memory_refuses g.K.Keep c.args.moment c.args.engine.now c.requires.running c.requires.stored
-    (λ sound left may. g.met.K.Keep.leaves_held c.args.engine.now.keep left c.args.engine.now.broker.records (c.requires.stored sound) may)
     (first_call c.args.line (fed c.args.piece.now c.in-Some.held.framing).held))
     (ap (λ (h : HeldLine). h.framing) c.in_default-feed.ensures.err) in
     record { called = both.0; within = tt; lines = both.1 }
@@ -42,7 +40,6 @@ returns-in-Ok-ask g c =
     let both =
     piece_done g.K.Keep c.args.moment c.args.line c.args.piece.now c.args.engine.now c.ask.new.engine c.args.framers.now c.lend.new.self c.put_back-in-Ok-ask.new.self c.in-Some.held.framing c.ask.new.held.framing
     c.requires.lines c.requires.linked c.requires.running c.requires.stored
-    (λ sound left may. g.met.K.Keep.leaves_held c.args.engine.now.keep left c.args.engine.now.broker.records (c.requires.stored sound) may)
     (framing_found c.args.line c.in-Some.held c.args.framers.now found) c.lend.ensures.rest c.put_back-in-Ok-ask.ensures
     told out c.end_all.new.framers c.in-Ok.taken
     (subst (λ (h : HeldLine). CalledIf g.K.Keep c.args.moment (first_call c.args.line h.framing.held) c.args.engine.now (Ok told) c.ask.new.engine) c.in-Ok.ensures.ok c.in-Ok-ask.ensures.called)
@@ -61,7 +58,6 @@ returns-in-Err g c =
     let both =
     piece_refused g.K.Keep c.args.moment c.args.line c.args.piece.now c.args.engine.now c.ask.new.engine c.args.framers.now c.lend.new.self c.put_back-in-Err.new.self its c.give_back.new.self.framing
     c.requires.lines c.requires.linked c.requires.running c.requires.stored
-    (λ sound left may. g.met.K.Keep.leaves_held c.args.engine.now.keep left c.args.engine.now.broker.records (c.requires.stored sound) may)
     (framing_found c.args.line c.in-Some.held c.args.framers.now found) c.lend.ensures.rest c.put_back-in-Err.ensures
     c.in-Err.error
     (subst (λ (h : HeldLine). CalledIf g.K.Keep c.args.moment (first_call c.args.line h.framing.held) c.args.engine.now (Err c.in-Err.error) c.ask.new.engine) c.in-Ok.ensures.ok c.in-Err.ensures.called)

@@ -22,8 +22,8 @@ over-requires-clause-whole g c =
 pub returns-in-Ok : goal.returns-in-Ok
 returns-in-Ok g c = λ first limits now whole u passed identifiers begun.
     let told = c.in-Ok.ensures.told limits now whole u in
-    opened_as g.K.Keep g.met.K.Keep.tells g.met.K.Keep.leaves_held limits now first whole c.args.keep c.store.new.keep c.store.new.step told.held c.over.result c.over.ensures
-    begun u.over.lawful passed identifiers told.sound
+    opened_as g.K.Keep g.met.K.Keep.tells limits now first whole c.args.keep c.store.new.keep c.store.new.step told.held c.over.result c.over.ensures
+    begun u.over.lawful passed identifiers told.sound told.crash
 
 pub returns-in-Err : goal.returns-in-Err
 returns-in-Err g c = λ first limits now whole u passed identifiers begun.

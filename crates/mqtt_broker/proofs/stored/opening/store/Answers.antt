@@ -30,9 +30,9 @@ returns-in-Ok-clause-serves g c =
 
 pub returns-in-Err-Memory-clause-told : goal.returns-in-Err-Memory-clause-told
 returns-in-Err-Memory-clause-told g c = λ limits now whole u.
-    untold_refused g.K.Keep limits now whole c.args.keep.now c.args.step.now u g.met.K.Keep.leaves_held _ c.open_stamped.new.step (inl refl) (λ is. absurd cc)
+    untold_refused g.K.Keep limits now whole c.args.keep.now c.args.step.now u _ c.open_stamped.new.step (inl refl) (λ is. absurd cc)
 
 pub returns-in-Err-Spent-clause-told : goal.returns-in-Err-Spent-clause-told
 returns-in-Err-Spent-clause-told g c = λ limits now whole u.
-    untold_refused g.K.Keep limits now whole c.args.keep.now c.args.step.now u g.met.K.Keep.leaves_held _ c.open_stamped.new.step (inr refl)
+    untold_refused g.K.Keep limits now whole c.args.keep.now c.args.step.now u _ c.open_stamped.new.step (inr refl)
     (λ is. begun_spent g.K.Keep limits now whole c.args.keep.now c.args.step.now u _ c.open_stamped.new.step (c.in-Err-Spent.ensures.left limits now u.some u.is) (search rules))

@@ -1,3 +1,4 @@
+use Rattle.std.proofs.Common.{inl}
 use Rattle.mqtt_store.proofs.Asked.{on_ok}
 use Rattle.mqtt_store.proofs.keep.SqlKeepKeep.contents.Goals as goal
 
@@ -11,7 +12,7 @@ pub returns-clause-memory : goal.returns-clause-memory
 returns-clause-memory g c r has told = rw c.note.ensures.conn (c.read_contents-answer.ensures.memory told, c.read_contents-answer.ensures.same r has)
 
 pub returns-clause-crash : goal.returns-clause-crash
-returns-clause-crash g c = rw c.note.ensures.conn c.read_contents-answer.ensures.crash
+returns-clause-crash g c = rw c.note.ensures.conn (λ r left has may. inl (c.read_contents-answer.ensures.crash left may))
 
 pub returns-clause-sound : goal.returns-clause-sound
 returns-clause-sound g c = rw c.note.ensures.conn c.read_contents-answer.ensures.sound

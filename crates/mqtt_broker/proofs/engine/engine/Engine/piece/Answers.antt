@@ -19,7 +19,6 @@ returns-then-not-has-clause-called g c =
     let running : c.self.inside.inner.stopped ≡ false = search rules in
     subst (λ (s : Serving _). PieceCalled g.K.Keep c.args.moment c.args.line c.args.piece.now s (Ok c.rest_at.result) (serving c.rest_at.new.self c.self.inside.framers)) (sym same)
     (passed_piece g.K.Keep c.args.moment c.args.line c.args.piece.now c.self.inside.inner c.self.inside.framers running (c.is_stopped.ensures.stored running)
-    (λ sound left may. g.met.K.Keep.leaves_held c.self.inside.inner.keep left c.self.inside.inner.broker.records (c.is_stopped.ensures.stored running sound) may)
     (unlinked_line c.args.line c.self.inside.framers c.self.inside.inner.broker c.self.invariant none) c.rest_at.result c.rest_at.new.self c.rest_at.ensures.told c.rest_at.ensures.ok)
 
 pub returns-clause-unlinked : goal.returns-clause-unlinked

@@ -13,7 +13,7 @@ use Rattle.mqtt_broker.proofs.stored.engine.Engine.bad_input_on.Goals as goal
 
 pub returns-in_err-renew : goal.returns-in_err-renew
 returns-in_err-renew g c =
-    called_stale g.K.Keep g.met.K.Keep.tells g.met.K.Keep.leaves_held c.args.moment (BadInput c.args.line c.args.is_connect c.args.code.0) c.renew.new.self c.renew.ensures.rest c.args.self.now _ c.in_err-renew.field-0.0 (search rules) c.in_err-renew.ensures.fault
+    called_stale g.K.Keep g.met.K.Keep.tells c.args.moment (BadInput c.args.line c.args.is_connect c.args.code.0) c.renew.new.self c.renew.ensures.rest c.args.self.now _ c.in_err-renew.field-0.0 (search rules) c.in_err-renew.ensures.fault
     (c.renew.ensures.same ∙ c.self.view_is) c.requires.running
 
 pub fault_at-done-requires-clause-rest : goal.fault_at-done-requires-clause-rest

@@ -13,7 +13,7 @@ use Rattle.mqtt_broker.proofs.stored.engine.Engine.input_on.Goals as goal
 
 pub returns-in_err-renew : goal.returns-in_err-renew
 returns-in_err-renew g c =
-    called_stale g.K.Keep g.met.K.Keep.tells g.met.K.Keep.leaves_held c.args.moment (Input c.args.line c.args.packet.now) c.renew.new.self c.renew.ensures.rest c.args.self.now _ c.in_err-renew.field-0.0 (search rules) c.in_err-renew.ensures.fault
+    called_stale g.K.Keep g.met.K.Keep.tells c.args.moment (Input c.args.line c.args.packet.now) c.renew.new.self c.renew.ensures.rest c.args.self.now _ c.in_err-renew.field-0.0 (search rules) c.in_err-renew.ensures.fault
     (c.renew.ensures.same ∙ c.self.view_is) c.requires.running
 
 pub input_at-done-requires-clause-rest : goal.input_at-done-requires-clause-rest

@@ -11,4 +11,4 @@ returns-clause-stored g c =
     (λ runs sound.
     let h = c.self.invariant.its runs in
     subst (λ (b : Broker). g.K.Keep.holds p.keep b.records)
-    (sym (view_is g.K.Keep g.met.K.Keep.tells g.met.K.Keep.leaves_held p.keep p.step.limits p.step.broker h.whole h.its sound)) h.its.holds)
+    (sym (view_is g.K.Keep g.met.K.Keep.tells p.keep p.step.limits p.step.broker h.whole h.its sound)) h.its.holds)

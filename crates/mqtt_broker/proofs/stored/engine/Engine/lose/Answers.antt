@@ -10,7 +10,7 @@ use Rattle.mqtt_broker.proofs.stored.engine.Engine.lose.Goals as goal
 
 pub returns-in_err-renew : goal.returns-in_err-renew
 returns-in_err-renew g c =
-    called_stale g.K.Keep g.met.K.Keep.tells g.met.K.Keep.leaves_held c.args.moment (Lost c.args.line) c.renew.new.self c.renew.ensures.rest c.args.self.now _ c.in_err-renew.field-0.0 (search rules) c.in_err-renew.ensures.fault
+    called_stale g.K.Keep g.met.K.Keep.tells c.args.moment (Lost c.args.line) c.renew.new.self c.renew.ensures.rest c.args.self.now _ c.in_err-renew.field-0.0 (search rules) c.in_err-renew.ensures.fault
     (c.renew.ensures.same ∙ c.self.view_is) c.requires.running
 
 pub lost_at-done-requires-clause-rest : goal.lost_at-done-requires-clause-rest

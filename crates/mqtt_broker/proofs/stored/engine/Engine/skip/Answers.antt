@@ -3,7 +3,7 @@ use Rattle.mqtt_broker.proofs.stored.engine.Engine.skip.Goals as goal
 
 pub returns-clause-called : goal.returns-clause-called
 returns-clause-called g c = λ call on.
-    skipped g.K.Keep g.met.K.Keep.tells g.met.K.Keep.leaves_held c.args.moment call c.self.inside.parts c.self.invariant c.args.line c.args.self.now c.nothing.result c.rest_at.new.self c.self.view_is c.requires.running c.requires.unlinked c.nothing.ensures on
+    skipped g.K.Keep g.met.K.Keep.tells c.args.moment call c.self.inside.parts c.self.invariant c.args.line c.args.self.now c.nothing.result c.rest_at.new.self c.self.view_is c.requires.running c.requires.unlinked c.nothing.ensures on
     c.rest_at.ensures
 
 pub invariant_of-self : goal.invariant_of-self

@@ -10,7 +10,7 @@ use Rattle.mqtt_broker.proofs.stored.engine.Engine.tick.Goals as goal
 
 pub returns-in_err-renew : goal.returns-in_err-renew
 returns-in_err-renew g c =
-    called_stale g.K.Keep g.met.K.Keep.tells g.met.K.Keep.leaves_held c.args.moment (Tick) c.renew.new.self c.renew.ensures.rest c.args.self.now _ c.in_err-renew.field-0.0 (search rules) c.in_err-renew.ensures.fault
+    called_stale g.K.Keep g.met.K.Keep.tells c.args.moment (Tick) c.renew.new.self c.renew.ensures.rest c.args.self.now _ c.in_err-renew.field-0.0 (search rules) c.in_err-renew.ensures.fault
     (c.renew.ensures.same ∙ c.self.view_is) c.in_ok-runs.ensures.ok
 
 pub tick_once-done-requires-clause-rest : goal.tick_once-done-requires-clause-rest

@@ -35,7 +35,7 @@ returns-in-Err-clause-called g c = λ now call u.
     let fault = c.in-Err.fault in
     let v : IsUnderWay g.K.Keep now call c.args.again (Err fault) p = subst (λ (r : Result ⊤ StepFault). IsUnderWay g.K.Keep now call c.args.again r p) c.in-Err.is u in
     subst (λ (t : EngineParts _). Called g.K.Keep now call (viewed_before g.K.Keep p) (Err c.refusal.result) (viewed g.K.Keep t)) (sym c.take_back.ensures)
-    (back_called g.K.Keep g.met.K.Keep.tells g.met.K.Keep.leaves_held now call c.args.again p (Err fault) v c.refusal.result
+    (back_called g.K.Keep g.met.K.Keep.tells now call c.args.again p (Err fault) v c.refusal.result
     (never_stops fault c.refusal.result c.refusal.ensures.memory c.refusal.ensures.spent)
     (λ is. v.called (spent_fault fault c.refusal.result c.refusal.ensures.memory is)))
 
@@ -44,4 +44,4 @@ returns-in-Err-clause-rest g c =
     let p = c.args.self.now in
     let its = c.requires.under_way in
     subst (λ (t : EngineParts _). IsAtRest g.K.Keep t) (sym c.take_back.ensures)
-    (back_rest g.K.Keep g.met.K.Keep.tells g.met.K.Keep.leaves_held its.0 its.1 c.args.again p c.args.done its.2)
+    (back_rest g.K.Keep g.met.K.Keep.tells its.0 its.1 c.args.again p c.args.done its.2)

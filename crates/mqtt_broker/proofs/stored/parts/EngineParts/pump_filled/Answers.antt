@@ -27,7 +27,7 @@ sent_places-requires g c =
 
 pub returns-in-Err-clause-called : goal.returns-in-Err-clause-called
 returns-in-Err-clause-called g c =
-    unplaced_called g.K.Keep g.met.K.Keep.tells g.met.K.Keep.leaves_held c.args.moment c.args.line c.args.birth c.args.self.now c.requires.rest c.requires.running c.requires.linked
+    unplaced_called g.K.Keep g.met.K.Keep.tells c.args.moment c.args.line c.args.birth c.args.self.now c.requires.rest c.requires.running c.requires.linked
 
 pub returns-in-Err-clause-reads : goal.returns-in-Err-clause-reads
 returns-in-Err-clause-reads g c = not_asked _ _ refl
@@ -40,14 +40,14 @@ fetch-requires g c = (c.requires.rest.its c.requires.running).its.loaded
 pub returns-in-Err-fetch-clause-called : goal.returns-in-Err-fetch-clause-called
 returns-in-Err-fetch-clause-called g c =
     let failed = c.in-Err-fetch.ensures.err in
-    unread_called g.K.Keep g.met.K.Keep.tells g.met.K.Keep.leaves_held c.args.moment c.args.line c.args.birth c.args.self.now c.requires.rest c.requires.running c.requires.linked
+    unread_called g.K.Keep g.met.K.Keep.tells c.args.moment c.args.line c.args.birth c.args.self.now c.requires.rest c.requires.running c.requires.linked
     c.fetch.new.keep c.fetch.new.self failed.sound failed.crash c.fetch.ensures.stored _ c.in-Err-fetch.error failed c.unread-refusal.result c.has_failed-self.result
     c.unread-refusal.ensures.memory c.unread-refusal.ensures.disk c.has_failed-self.ensures.stopped c.has_failed-self.ensures.runs
 
 pub returns-in-Err-fetch-clause-rest : goal.returns-in-Err-fetch-clause-rest
 returns-in-Err-fetch-clause-rest g c =
     let failed = c.in-Err-fetch.ensures.err in
-    unread_rest g.K.Keep g.met.K.Keep.tells g.met.K.Keep.leaves_held c.args.moment c.args.line c.args.birth c.args.self.now c.requires.rest c.requires.running c.requires.linked
+    unread_rest g.K.Keep g.met.K.Keep.tells c.args.moment c.args.line c.args.birth c.args.self.now c.requires.rest c.requires.running c.requires.linked
     c.fetch.new.keep c.fetch.new.self failed.sound failed.crash c.fetch.ensures.stored _ c.in-Err-fetch.error failed c.unread-refusal.result c.has_failed-self.result
     c.unread-refusal.ensures.memory c.unread-refusal.ensures.disk c.has_failed-self.ensures.stopped c.has_failed-self.ensures.runs
 
@@ -60,13 +60,13 @@ returns-in-Err-fetch-clause-reads g c =
 pub returns-in-Err-places_of-clause-called : goal.returns-in-Err-places_of-clause-called
 returns-in-Err-places_of-clause-called g c =
     let asked = c.in-Ok-fetch.ensures.ok in
-    read_called g.K.Keep g.met.K.Keep.tells g.met.K.Keep.leaves_held c.args.moment c.args.line c.args.birth c.args.self.now c.requires.rest c.requires.running c.requires.linked
+    read_called g.K.Keep g.met.K.Keep.tells c.args.moment c.args.line c.args.birth c.args.self.now c.requires.rest c.requires.running c.requires.linked
     c.fetch.new.keep c.fetch.new.self asked.sound asked.crash c.fetch.ensures.stored _ asked
 
 pub returns-in-Err-places_of-clause-rest : goal.returns-in-Err-places_of-clause-rest
 returns-in-Err-places_of-clause-rest g c =
     let asked = c.in-Ok-fetch.ensures.ok in
-    read_rest g.K.Keep g.met.K.Keep.tells g.met.K.Keep.leaves_held c.args.moment c.args.line c.args.birth c.args.self.now c.requires.rest c.requires.running c.requires.linked
+    read_rest g.K.Keep g.met.K.Keep.tells c.args.moment c.args.line c.args.birth c.args.self.now c.requires.rest c.requires.running c.requires.linked
     c.fetch.new.keep c.fetch.new.self asked.sound asked.crash c.fetch.ensures.stored _ asked
 
 pub returns-in-Err-places_of-clause-reads : goal.returns-in-Err-places_of-clause-reads
@@ -81,7 +81,7 @@ returns-then-not-fill-clause-called g c =
     let asked = c.in-Ok-fetch.ensures.ok in
     subst (λ (s : Stepping). Called g.K.Keep c.args.moment (Pump c.args.line) (viewed g.K.Keep p) (Err Stopped) (viewed g.K.Keep (record p { keep = c.fetch.new.keep; hand = c.fetch.new.self; step = s; stopped = true })))
     (sym (c.fill.ensures.err c.if-not-fill.true))
-    (unfilled_called g.K.Keep g.met.K.Keep.tells g.met.K.Keep.leaves_held c.args.moment c.args.line c.args.birth p c.requires.rest c.requires.running c.requires.linked
+    (unfilled_called g.K.Keep g.met.K.Keep.tells c.args.moment c.args.line c.args.birth p c.requires.rest c.requires.running c.requires.linked
     c.fetch.new.keep c.fetch.new.self asked.sound asked.crash c.fetch.ensures.stored _ asked c.deref.result.now (c.deref.ensures.value ∙ c.in-Ok.ensures.places)
     c.in-Ok-fetch.contents.items c.in-Ok-fetch.ensures.exact c.fill.new.step c.fill.result c.fill.ensures.exact c.if-not-fill.true)
 
@@ -90,7 +90,7 @@ returns-then-not-fill-clause-rest g c =
     let p = c.args.self.now in
     let asked = c.in-Ok-fetch.ensures.ok in
     subst (λ (s : Stepping). IsAtRest g.K.Keep (record p { keep = c.fetch.new.keep; hand = c.fetch.new.self; step = s; stopped = true })) (sym (c.fill.ensures.err c.if-not-fill.true))
-    (unfilled_rest g.K.Keep g.met.K.Keep.tells g.met.K.Keep.leaves_held c.args.moment c.args.line c.args.birth p c.requires.rest c.requires.running c.requires.linked
+    (unfilled_rest g.K.Keep g.met.K.Keep.tells c.args.moment c.args.line c.args.birth p c.requires.rest c.requires.running c.requires.linked
     c.fetch.new.keep c.fetch.new.self asked.sound asked.crash c.fetch.ensures.stored _ asked c.deref.result.now (c.deref.ensures.value ∙ c.in-Ok.ensures.places)
     c.in-Ok-fetch.contents.items c.in-Ok-fetch.ensures.exact c.fill.new.step c.fill.result c.fill.ensures.exact)
 
@@ -113,7 +113,7 @@ finish_filled-requires-clause-under_way g c =
     let asked = c.in-Ok-fetch.ensures.ok in (
       c.args.moment,
       Pump c.args.line,
-      pump_begins g.K.Keep g.met.K.Keep.tells g.met.K.Keep.leaves_held c.args.moment c.args.line c.args.birth c.args.self.now c.requires.rest c.requires.running c.requires.linked
+      pump_begins g.K.Keep g.met.K.Keep.tells c.args.moment c.args.line c.args.birth c.args.self.now c.requires.rest c.requires.running c.requires.linked
           c.fetch.new.keep c.fetch.new.self asked.sound asked.crash c.fetch.ensures.stored _ asked c.deref.result.now (c.deref.ensures.value ∙ c.in-Ok.ensures.places)
           c.in-Ok-fetch.contents.items c.in-Ok-fetch.ensures.exact c.fill.new.step c.fill.result c.fill.ensures.exact c.fill.ensures.rest c.fill.ensures.alike
           c.pump_once-done.new.again c.pump_once-done.result c.pump_once-done.new.step c.pump_once-done.ensures.start c.pump_once-done.ensures.limits c.pump_once-done.ensures.called,
@@ -126,12 +126,12 @@ finish_filled-requires-clause-slim g c =
 pub returns-clause-called : goal.returns-clause-called
 returns-clause-called g c =
     let asked = c.in-Ok-fetch.ensures.ok in
-    pump_called g.K.Keep g.met.K.Keep.tells g.met.K.Keep.leaves_held c.args.moment c.args.line c.args.birth c.args.self.now c.requires.rest c.requires.running c.requires.linked
+    pump_called g.K.Keep g.met.K.Keep.tells c.args.moment c.args.line c.args.birth c.args.self.now c.requires.rest c.requires.running c.requires.linked
     c.fetch.new.keep c.fetch.new.self asked.sound asked.crash c.fetch.ensures.stored _ asked c.deref.result.now (c.deref.ensures.value ∙ c.in-Ok.ensures.places)
     c.in-Ok-fetch.contents.items c.in-Ok-fetch.ensures.exact c.fill.new.step c.fill.result c.fill.ensures.exact c.fill.ensures.rest c.fill.ensures.alike
     c.pump_once-done.new.again c.pump_once-done.result c.pump_once-done.new.step c.pump_once-done.ensures.start c.pump_once-done.ensures.limits c.finish_filled.result (viewed g.K.Keep c.finish_filled.new.self)
     (c.finish_filled.ensures.called c.args.moment (Pump c.args.line)
-    (pump_begins g.K.Keep g.met.K.Keep.tells g.met.K.Keep.leaves_held c.args.moment c.args.line c.args.birth c.args.self.now c.requires.rest c.requires.running c.requires.linked
+    (pump_begins g.K.Keep g.met.K.Keep.tells c.args.moment c.args.line c.args.birth c.args.self.now c.requires.rest c.requires.running c.requires.linked
     c.fetch.new.keep c.fetch.new.self asked.sound asked.crash c.fetch.ensures.stored _ asked c.deref.result.now (c.deref.ensures.value ∙ c.in-Ok.ensures.places)
     c.in-Ok-fetch.contents.items c.in-Ok-fetch.ensures.exact c.fill.new.step c.fill.result c.fill.ensures.exact c.fill.ensures.rest c.fill.ensures.alike
     c.pump_once-done.new.again c.pump_once-done.result c.pump_once-done.new.step c.pump_once-done.ensures.start c.pump_once-done.ensures.limits c.pump_once-done.ensures.called))

@@ -42,13 +42,13 @@ take_back-requires-clause-ordered g c =
 
 pub returns-in-Ok-clause-called : goal.returns-in-Ok-clause-called
 returns-in-Ok-clause-called g c = λ now call u.
-    committed_called g.K.Keep g.met.K.Keep.tells g.met.K.Keep.leaves_held now call c.args.again c.args.self.now u c.tell.result c.tell.new.self
+    committed_called g.K.Keep g.met.K.Keep.tells now call c.args.again c.args.self.now u c.tell.result c.tell.new.self
     (subst (λ (t : Stepping). IsCommitted g.K.Keep (record c.args.self.now { step = t }) c.args.again c.tell.result c.tell.new.self) c.in-Ok.ensures.ok c.tell.ensures)
 
 pub returns-in-Ok-clause-rest : goal.returns-in-Ok-clause-rest
 returns-in-Ok-clause-rest g c =
     let its = c.requires.under_way in
-    committed_rest g.K.Keep g.met.K.Keep.tells g.met.K.Keep.leaves_held its.0 its.1 c.args.again c.args.self.now its.2 c.tell.result c.tell.new.self
+    committed_rest g.K.Keep g.met.K.Keep.tells its.0 its.1 c.args.again c.args.self.now its.2 c.tell.result c.tell.new.self
     (subst (λ (t : Stepping). IsCommitted g.K.Keep (record c.args.self.now { step = t }) c.args.again c.tell.result c.tell.new.self) c.in-Ok.ensures.ok c.tell.ensures)
 
 pub returns-in-Ok-clause-reads : goal.returns-in-Ok-clause-reads
@@ -59,7 +59,7 @@ returns-in-Err-clause-called g c = λ now call u.
     let p = c.args.self.now in
     let is = c.take_back.ensures ∙ ap (λ (t : Stepping). record p { step = at_rest t.limits (slim_broker t.start) }) c.in-Err.ensures.err in
     subst (λ (t : EngineParts _). Called g.K.Keep now call (viewed_before g.K.Keep p) (Err Memory) (viewed g.K.Keep t)) (sym is)
-    (back_called g.K.Keep g.met.K.Keep.tells g.met.K.Keep.leaves_held now call c.args.again p (Ok tt) u Memory (λ no. absurd cc) (λ no. absurd cc))
+    (back_called g.K.Keep g.met.K.Keep.tells now call c.args.again p (Ok tt) u Memory (λ no. absurd cc) (λ no. absurd cc))
 
 pub returns-in-Err-clause-rest : goal.returns-in-Err-clause-rest
 returns-in-Err-clause-rest g c =
@@ -67,4 +67,4 @@ returns-in-Err-clause-rest g c =
     let its = c.requires.under_way in
     let is = c.take_back.ensures ∙ ap (λ (t : Stepping). record p { step = at_rest t.limits (slim_broker t.start) }) c.in-Err.ensures.err in
     subst (λ (t : EngineParts _). IsAtRest g.K.Keep t) (sym is)
-    (back_rest g.K.Keep g.met.K.Keep.tells g.met.K.Keep.leaves_held its.0 its.1 c.args.again p (Ok tt) its.2)
+    (back_rest g.K.Keep g.met.K.Keep.tells its.0 its.1 c.args.again p (Ok tt) its.2)

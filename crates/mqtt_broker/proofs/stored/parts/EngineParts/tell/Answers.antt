@@ -25,7 +25,7 @@ pub returns-then-is_err : goal.returns-then-is_err
 returns-then-is_err g c =
     let p = c.args.self.now in
     subst (λ (t : EngineParts _). IsCommitted g.K.Keep p c.args.again (Err Memory) t) (sym c.take_back.ensures)
-    (untold g.K.Keep g.met.K.Keep.leaves_held p c.follow.new.index c.args.again c.follow.ensures.unspent c.requires.loaded c.requires.runs c.requires.goes)
+    (untold g.K.Keep p c.follow.new.index c.args.again c.follow.ensures.unspent c.requires.loaded c.requires.runs c.requires.goes)
 
 pub make_slim-requires : goal.make_slim-requires
 make_slim-requires g c = record { rest = rests c.args.self.now.step.limits (with_entered_slim c.args.self.now.step) c.commit.new.step c.in-Ok.ensures.done }
