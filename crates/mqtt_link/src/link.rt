@@ -1,6 +1,6 @@
 //! Connections whose calls don't wait (MQTT 5.0, 4.2).
-ghost use Rattle.std.specs.Prelude.{◌≡◌, ℕ, Bool, List, Option, None, length};
-ghost use Rattle.mqtt_link.specs.Links.{Calls, GivesAtMost, IfGiven, IsNew, handed, and_then, one_more, now_told, ended_by, is_given, asked, waited};
+ghost use Rattle.std.specs.Prelude.{◌≡◌, ℕ, Bool, List, [], Option, None, length};
+ghost use Rattle.mqtt_link.specs.Links.{AtFirst, Calls, GivesAtMost, IfGiven, IsNew, handed, and_then, one_more, now_told, ended_by, is_given, asked, waited};
 
 /// What a call on a link gives.
 #[derive(Clone, Copy, Debug, PartialEq, Eq)]
@@ -42,11 +42,18 @@ pub trait Link {
     /// Whether a read of a connection or a write to it gave the end or a failure, if that is told.
     ghost ended: { Self.Peer → Option Bool } = { λ _. None };
 
+    /// The bytes that left a connection of a link that holds back what is written, if they are told.
+    ghost out: { Self.Peer → Option (List ℕ) } = { λ _. None };
+
+    /// How often bytes left such a connection, modulo 2^64, if that is told.
+    ghost outs: { Self.Peer → Option ℕ } = { λ _. None };
+
     /// The next connection that was opened.
     fn accept(&mut self) -> Got<Self::Peer>
         ensures counted { calls self.new ≡ asked (is_given result) (calls self.old) }
         ensures new { IfGiven result (λ peer.
-            IsNew (reads peer) (writes peer) (was_read peer) (written peer) (ended peer)) };
+            IsNew (reads peer) (writes peer) (was_read peer) (written peer) (ended peer)) }
+        ensures unsent { IfGiven result (λ peer. AtFirst [] (out peer) × AtFirst 0 (outs peer)) };
 
     /// Waits a little, or until a connection changes.
     fn wait(&mut self)
@@ -61,6 +68,7 @@ pub trait Link {
         ensures ended { ended peer.new ≡ ended_by result (ended peer.old) }
         ensures kept { written peer.new ≡ written peer.old }
         ensures unwritten { writes peer.new ≡ writes peer.old }
+        ensures unsent { (out peer.new ≡ out peer.old) × (outs peer.new ≡ outs peer.old) }
         ensures same { calls self.new ≡ calls self.old };
 
     /// Writes a beginning of the bytes.
@@ -71,5 +79,6 @@ pub trait Link {
         ensures ended { ended peer.new ≡ ended_by result (ended peer.old) }
         ensures kept { was_read peer.new ≡ was_read peer.old }
         ensures uncounted { (reads peer.new ≡ reads peer.old) × (room peer.new ≡ room peer.old) }
+        ensures unsent { (out peer.new ≡ out peer.old) × (outs peer.new ≡ outs peer.old) }
         ensures same { calls self.new ≡ calls self.old };
 }

@@ -95,6 +95,7 @@ impl Waiting {
         ensures counted { L.writes peer.new ≡ one_more_if_any self.old (L.writes peer.old) }
         ensures ended { L.ended peer.new ≡ ended_unless result (L.ended peer.old) }
         ensures uncounted { (L.reads peer.new ≡ L.reads peer.old) × (L.room peer.new ≡ L.room peer.old) }
+        ensures unsent { (L.out peer.new ≡ L.out peer.old) × (L.outs peer.new ≡ L.outs peer.old) }
         ensures same { L.calls link.new ≡ L.calls link.old }
     {
         if self.bytes.is_empty() {
