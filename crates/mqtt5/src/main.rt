@@ -3,7 +3,7 @@
 
 use mqtt_cli::{ending, run};
 use mqtt_replay::replay_at;
-use mqtt_serve::{Unknown, serve};
+use mqtt_serve::{Commit, Unknown, serve};
 use std::io;
 use std::net::SocketAddr;
 use std::process::ExitCode;
@@ -19,6 +19,7 @@ fn main(rt: HostRuntime) -> ExitCode {
                 turns,
                 &mut io::writer(&rt),
                 limits,
+                Commit::Turn,
                 Unknown,
             )
         },

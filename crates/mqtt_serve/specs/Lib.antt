@@ -1,3 +1,4 @@
 pub mod turns
+pub mod gathered
 pub mod database
 pub mod serving

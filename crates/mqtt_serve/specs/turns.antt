@@ -1,4 +1,6 @@
 pub mod Breaks
+pub mod Leaving
 pub mod Related
+pub mod Settled
 pub mod Turns
 pub mod Wires

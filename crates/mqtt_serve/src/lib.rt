@@ -2,12 +2,17 @@
 #![tactic(auto)]
 
 mod database;
+mod gathered;
 mod serving;
 mod turns;
 
 pub use database::{MakeFault, PAGE_SIZE, make_database, make_over};
-pub use mqtt_link::ServeFault;
+pub use gathered::{GATHERED_LIMIT, Gathered};
+pub use mqtt_link::{Commit, ServeFault};
 pub use mqtt_rules::Limits;
 pub use serving::{SteadyClock, serve, serve_over};
 pub use sqlite::{Start, Unknown};
-pub use turns::{Links, READ_LIMIT, TICK_LIMIT, Timer, run_turns, serve_turn};
+pub use turns::{
+    Links, READ_LIMIT, TICK_LIMIT, Timer, run_settled_turns, run_turns, serve_settled_turn,
+    serve_turn,
+};

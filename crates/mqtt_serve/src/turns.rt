@@ -5,10 +5,14 @@ mod accepting;
 mod asking;
 mod connection;
 mod giving;
+mod laws;
 mod line;
 mod running;
+mod settling;
 mod telling;
 mod turn;
 
+pub use self::laws::what_a_crash_leaves_of_a_turn;
 pub use self::running::{Timer, run_turns};
+pub use self::settling::{run_settled_turns, serve_settled_turn};
 pub use self::turn::{Links, READ_LIMIT, TICK_LIMIT, serve_turn};

@@ -15,7 +15,7 @@ use Rattle.mqtt_keep.specs.declared.keeping.keep.Keep as keep
 use Rattle.mqtt_records.specs.declared.state.records.Records.{Records}
 use Rattle.mqtt_store.specs.Holding.{Holds, Leaves}
 use Rattle.mqtt_store.specs.Opening.{OpensAnew, rolled_back}
-use Rattle.mqtt_serve.specs.turns.Turns.{Runs}
+use Rattle.mqtt_serve.specs.turns.Settled.{Runs}
 
 -- the question for the moment of the newest step
 abbrev pub moment_query : List ℕ
@@ -34,14 +34,15 @@ pub record IsStoreOver (conn store : State) : Type 0 where
   pub crash : (r : Records) → Leaves store r → Leaves (rolled_back conn) r
   pub sound : HasCleanDisk store → HasCleanDisk conn
 
--- the broker runs on the database of a connection: its newest moment is asked for, a store is made over it, which the broker begins
--- with, under these limits, and gives back after so many turns, and the connection is that store's again
-pub record RunsOnDatabase {S K : Type 0} (g : store.Ghosts S) (k : keep.Ghosts K) (conn_of : K → Held S) (limits : Limits) (turns : ℕ)
-    (conn given : Held S) : Type 0 where
+-- the broker runs on the database of a connection: its newest moment is asked for, a store is made over it, in which nothing waits to
+-- be written; the broker begins with it, under these limits, and gives it back after so many turns, and the connection is that store's again
+pub record RunsOnDatabase {S K : Type 0} (g : store.Ghosts S) (k : keep.Ghosts K) (conn_of : K → Held S) (nothing_waits : K → Type 0)
+    (limits : Limits) (turns : ℕ) (conn given : Held S) : Type 0 where
   pub asked : Held S
   pub is_asked : IsAsked (state g conn) (state g asked)
   pub first : K
   pub over : IsStoreOver (state g asked) (state g (conn_of first))
+  pub empty : nothing_waits first
   pub begin : ℕ
   pub last : K
   pub runs : Runs k limits begin turns first last
@@ -49,11 +50,11 @@ pub record RunsOnDatabase {S K : Type 0} (g : store.Ghosts S) (k : keep.Ghosts K
 
 module _ {D : Type 0} {g : disk.Ghosts D} where
   -- the broker runs on the database in files: a connection to them shows what they held, and the broker runs on its database
-  pub record RunsOnFiles {K : Type 0} (k : keep.Ghosts K) (conn_of : K → Held (FileStore D g)) (files : Image) (limits : Limits) (turns : ℕ)
-      : Type 0 where
+  pub record RunsOnFiles {K : Type 0} (k : keep.Ghosts K) (conn_of : K → Held (FileStore D g)) (nothing_waits : K → Type 0)
+      (files : Image) (limits : Limits) (turns : ℕ) : Type 0 where
     pub opened : Held (FileStore D g)
     pub left : Held (FileStore D g)
     pub is_new : IsNew opened
     pub is_open : HasCleanDisk (file_state opened) → IsOpened opened
     pub found : HasCleanDisk (file_state opened) → FindsIn files (file_state opened)
-    pub runs : RunsOnDatabase over_files k conn_of limits turns opened left
+    pub runs : RunsOnDatabase over_files k conn_of nothing_waits limits turns opened left

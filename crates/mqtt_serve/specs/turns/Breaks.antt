@@ -1,5 +1,5 @@
 -- A turn that breaks off: the engine has stopped, or a number is spent (MQTT 5.0, 4.1, 4.2).
-use Rattle.std.specs.Prelude.{◌≡◌, ◌≢◌, ◌⊎◌, ℕ, ◌+◌, ◌<◌, max, Bool, true, List, [], ◌∷◌, ◌++◌, length, Option, Err, Result}
+use Rattle.std.specs.Prelude.{◌≡◌, ◌≢◌, ◌⊎◌, ℕ, ◌+◌, ◌<◌, max, Bool, true, List, [], ◌∷◌, ◌++◌, length, Option, Err}
 use Rattle.mqtt_keep.specs.declared.keeping.keep.Keep.{Ghosts}
 use Rattle.mqtt_broker_step.specs.declared.call.EngineError.{EngineError}
 use Rattle.mqtt_broker_step.specs.declared.call.EngineError.TheVariants.{Memory}
@@ -10,7 +10,7 @@ use Rattle.mqtt_link.specs.Links.{and_then, asked}
 use Rattle.mqtt_serve.specs.declared.turns.giving.TheConstants.{PIECE_LIMIT}
 use Rattle.mqtt_serve.specs.declared.turns.turn.TheConstants.{TICK_LIMIT}
 use Rattle.mqtt_serve.specs.turns.Wires.{Wire}
-use Rattle.mqtt_serve.specs.turns.Turns.{Server, server, Hosting, Accepts, GivenSoFar, GivesIf, IsRead, PumpsIf, ServesBelow, TickedSoFar, TurnsOn, WritesAt, is_lost_at, may_send_at}
+use Rattle.mqtt_serve.specs.turns.Turns.{Server, server, Hosting, Accepts, GivenSoFar, GivesIf, HasTurn, IsRead, PumpsIf, ServesBelow, TickedSoFar, TurnsBy, WritesAt, is_lost_at, may_send_at}
 
 -- ---- a call is refused, for another reason than want of memory; no connection is told anything
 
@@ -120,13 +120,16 @@ pub record BreaksOff {K : Type 0} (g : Ghosts K) (now : ℕ) (error : EngineErro
 -- ---- in turns one after the other
 
 -- fewer than so many turns were had, at the moments that a clock told, and the next broke off
-pub record RunsUntil {K : Type 0} (g : Ghosts K) (begin turns : ℕ) (error : EngineError) (told told_then : Option (List ℕ))
-    (old new : Hosting (Serving K)) : Type 0 where
+pub record RunsUntilBy {E : Type 0} (turn : ℕ → Bool → Hosting E → Hosting E → Type 0) (breaks_off : ℕ → EngineError → Hosting E → Hosting E → Type 0)
+    (begin turns : ℕ) (error : EngineError) (told told_then : Option (List ℕ)) (old new : Hosting E) : Type 0 where
   pub read : List ℕ
   pub last : ℕ
   pub now : ℕ
-  pub mid : Hosting (Serving K)
+  pub mid : Hosting E
   pub count : length read < turns
   pub told_is : told_then ≡ and_then told (read ++ now ∷ [])
-  pub turns_on : TurnsOn g begin read last old mid
-  pub breaks : BreaksOff g (max last now) error mid new
+  pub turns_on : TurnsBy turn begin read last old mid
+  pub breaks : breaks_off (max last now) error mid new
+
+abbrev pub RunsUntil : {K : Type 0} → Ghosts K → ℕ → ℕ → EngineError → Option (List ℕ) → Option (List ℕ) → Hosting (Serving K) → Hosting (Serving K) → Type 0
+RunsUntil g begin turns error told told_then old new = RunsUntilBy (HasTurn g) (BreaksOff g) begin turns error told told_then old new

@@ -1,5 +1,5 @@
 -- A turn of the server: what is asked of the broker, in order, and what its answers make of the connections (MQTT 5.0, 4.2).
-use Rattle.std.specs.Prelude.{◌≡◌, ◌≢◌, ◌⊎◌, ℕ, suc, ◌+◌, ◌<◌, ◌≤◌, max, nat_lt, Bool, true, false, not, ◌||◌, List, [], ◌∷◌, ◌++◌, length, take, drop, filter, slice_get, Option, Some, None, option_map, Result, Ok, Err}
+use Rattle.std.specs.Prelude.{◌≡◌, ◌⊎◌, ℕ, ◌+◌, ◌<◌, ◌≤◌, max, nat_lt, Bool, true, false, not, ◌||◌, List, [], ◌∷◌, ◌++◌, length, drop, filter, slice_get, Option, Some, None, option_map, Result, Ok, Err}
 use Rattle.mqtt_base.specs.declared.limits.TheConstants.{LINE_LIMIT}
 use Rattle.mqtt_link.specs.Links.{Calls, and_then, asked, waited}
 use Rattle.mqtt_keep.specs.declared.keeping.keep.Keep.{Ghosts}
@@ -282,21 +282,24 @@ rested true links = links
 rested false links = record links { calls = waited links.calls }
 
 -- from one moment to another, as many as moments were read, each at the greatest that was read
-pub data TurnsOn {K : Type 0} (g : Ghosts K) (begin : ℕ) : List ℕ → ℕ → Hosting (Serving K) → Hosting (Serving K) → Type 0 where
-  no_turn : {h : Hosting (Serving K)} → TurnsOn g begin [] begin h h
-  turn_after : {read : List ℕ} {last : ℕ} (now : ℕ) {busy : Bool} {h i : Hosting (Serving K)} (j : Hosting (Serving K))
-      → TurnsOn g begin read last h i
-      → HasTurn g (max last now) busy i j
-      → TurnsOn g begin (read ++ now ∷ []) (max last now) h (hosting j.engine (rested busy j.links))
+pub data TurnsBy {E : Type 0} (turn : ℕ → Bool → Hosting E → Hosting E → Type 0) (begin : ℕ) : List ℕ → ℕ → Hosting E → Hosting E → Type 0
+  where
+    no_turn : {h : Hosting E} → TurnsBy turn begin [] begin h h
+    turn_after : {read : List ℕ} {last : ℕ} (now : ℕ) {busy : Bool} {h i : Hosting E} (j : Hosting E) → TurnsBy turn begin read last h i
+        → turn (max last now) busy i j
+        → TurnsBy turn begin (read ++ now ∷ []) (max last now) h (hosting j.engine (rested busy j.links))
 
 -- so many turns, at the moments that a clock told
-pub record RunsFor {K : Type 0} (g : Ghosts K) (begin turns : ℕ) (told told_then : Option (List ℕ)) (old new : Hosting (Serving K)) : Type 0
-  where
-    pub read : List ℕ
-    pub last : ℕ
-    pub count : length read ≡ turns
-    pub told_is : told_then ≡ and_then told read
-    pub turns_on : TurnsOn g begin read last old new
+pub record RunsBy {E : Type 0} (turn : ℕ → Bool → Hosting E → Hosting E → Type 0) (begin turns : ℕ) (told told_then : Option (List ℕ))
+    (old new : Hosting E) : Type 0 where
+  pub read : List ℕ
+  pub last : ℕ
+  pub count : length read ≡ turns
+  pub told_is : told_then ≡ and_then told read
+  pub turns_on : TurnsBy turn begin read last old new
+
+abbrev pub RunsFor : {K : Type 0} → Ghosts K → ℕ → ℕ → Option (List ℕ) → Option (List ℕ) → Hosting (Serving K) → Hosting (Serving K) → Type 0
+RunsFor g begin turns told told_then old new = RunsBy (HasTurn g) begin turns told told_then old new
 
 -- ---- a store is served: the broker begins at a moment with the opening of what the store held, with these limits, has so many
 -- turns from then on, over a link without connections, and gives the store back (4.1)
@@ -314,18 +317,3 @@ pub record Begins {K : Type 0} (g : Ghosts K) (limits : Limits) (moment : ℕ) (
   pub limits_are : start.running.limits ≡ limits
   pub holds : g.is_sound start.running.keep → g.holds start.running.keep start.running.broker.records
   pub silent : start.held ≡ []
-
--- an engine runs so many turns over a link that has no connection yet
-pub record RunsAlone {K : Type 0} (g : Ghosts K) (begin turns : ℕ) (old new : Serving K) : Type 0 where
-  pub told : Option (List ℕ)
-  pub told_then : Option (List ℕ)
-  pub link : Option Calls
-  pub left : Linked
-  pub ran : RunsFor g begin turns told told_then (hosting old (record { calls = link; wires = [] })) (hosting new left)
-
-pub record Runs {K : Type 0} (g : Ghosts K) (limits : Limits) (begin turns : ℕ) (old new : K) : Type 0 where
-  pub start : Serving K
-  pub stop : Serving K
-  pub begins : Begins g limits begin old start
-  pub ran : RunsAlone g begin turns start stop
-  pub closed : new ≡ stop.running.keep

@@ -2,15 +2,15 @@
 use Rattle.std.specs.Prelude.{◌≡◌, ◌⊎◌, ℕ, Bool, true, false, cond, ◌&&◌, List, [], ◌∷◌, ◌++◌, length, take, slice_get, nat_eq, nat_lt, Option, Some}
 use Rattle.std.specs.List.{flat_map, list_any}
 use Rattle.mqtt_link.specs.declared.waiting.WaitingFault.{WaitingFault}
-use Rattle.mqtt_link.specs.Links.{IsNew, Refuses, and_then, now_told, one_more, one_more_if_any}
+use Rattle.mqtt_link.specs.Links.{AtFirst, IsNew, Refuses, and_then, now_told, one_more, one_more_if_any}
 use Rattle.mqtt_serve.specs.declared.turns.connection.Fate.{Fate}
 use Rattle.mqtt_serve.specs.declared.turns.connection.Fate.TheVariants.{Stands, Lost, Closed}
 use Rattle.mqtt_serve.specs.turns.Related.{Related}
 
 -- its line; how often it was read, for how many bytes the last read had room, and what these reads gave; how often it was
 -- written to; whether a read or a write gave the end or a failure; what waits to go out; what was said to it, which is what
--- was written and then what waits; whether something was written, and the last write took all that waited; and what becomes
--- of it
+-- was written and then what waits; over a link that holds back what is written, what left it, and by how many writes; whether
+-- something was written, and the last write took all that waited; and what becomes of it
 pub record Wire : Type 0 where
   pub number : ℕ
   pub reads : Option ℕ
@@ -20,6 +20,8 @@ pub record Wire : Type 0 where
   pub ended : Option Bool
   pub waits : List ℕ
   pub said : Option (List ℕ)
+  pub out : Option (List ℕ)
+  pub outs : Option ℕ
   pub clear : Bool
   pub fate : Fate
 
@@ -51,10 +53,11 @@ may_send w = is_standing w.fate && w.clear
 
 -- ---- a connection that was just opened
 
--- it has this number, it was never read or written to, nothing waits, and it stands
+-- it has this number, it was never read or written to, nothing left it, nothing waits, and it stands
 pub record IsOpened (number : ℕ) (w : Wire) : Type 0 where
   pub its : w.number ≡ number
   pub new : IsNew w.reads w.writes w.heard w.said w.ended
+  pub unsent : AtFirst [] w.out × AtFirst 0 w.outs
   pub waits : w.waits ≡ []
   pub unclear : w.clear ≡ false
   pub stands : w.fate ≡ Stands
@@ -157,3 +160,25 @@ lost_if number w = cond (nat_eq w.number number) (lost w) w
 
 abbrev pub AreLost : ℕ → List Wire → List Wire → Type 0
 AreLost number old new = Related (λ x y. y ≡ lost_if number x) old new
+
+-- ---- what is held back goes out
+
+-- what is held leaves it by one write, if anything is
+abbrev pub letting : List ℕ → Option (List ℕ) → Wire → Wire
+letting held out w = record w { out = out; outs = one_more_if_any held w.outs }
+
+-- one that stands is lost if that write gives the end or a failure
+abbrev pub Leaves : Fate → Wire → Wire → Type 0
+Leaves Stands went new = (new ≡ went) ⊎ (new ≡ lost (ending went))
+Leaves Lost went new = (new ≡ went) ⊎ (new ≡ ending went)
+Leaves Closed went new = (new ≡ went) ⊎ (new ≡ ending went)
+
+-- of what was said to it some left it, some is held, and some waits; what was held leaves it, or the rest is held on; and whether
+-- bytes left
+pub record LetsGo (went : Bool) (old new : Wire) : Type 0 where
+  pub held : List ℕ
+  pub rest : List ℕ
+  pub before : old.said ≡ and_then old.out (held ++ old.waits)
+  pub moved : and_then new.out rest ≡ and_then old.out held
+  pub leaves : Leaves old.fate (letting held new.out old) new
+  pub went_is : went ≡ nat_lt (length rest) (length held)

@@ -1,21 +1,24 @@
 //! The server: turns over sockets and a database (MQTT 5.0, 4.2).
-ghost use Rattle.std.specs.Prelude.{◌≡◌, ◌≢◌, [], codes, OnOk, IfOk, IfErr};
+ghost use Rattle.std.specs.Prelude.{◌≡◌, ◌≢◌, [], codes, Ok, OnOk, IfOk, IfErr};
 ghost use Rattle.std.specs.Io.KnownBytes.{Appends, Keeps};
 ghost use Rattle.sqlite.specs.WalFiles.{image_at};
 ghost use Rattle.mqtt_rules.specs.step.Laws.{AreWithin};
-ghost use Rattle.mqtt_serve.specs.turns.Turns.{Begins, Runs, RunsAlone};
+ghost use Rattle.mqtt_serve.specs.gathered.Gathering.{NothingWaits};
+ghost use Rattle.mqtt_serve.specs.turns.Settled.{Runs, RunsAlone, SettleServed};
+ghost use Rattle.mqtt_serve.specs.turns.Turns.{Begins};
 ghost use Rattle.mqtt_serve.specs.serving.Announcing.{Announces, done, listening};
 ghost use Rattle.mqtt_serve.specs.serving.Database.{RunsOnDatabase, RunsOnFiles};
 
+use crate::gathered::Gathered;
 use crate::serving::clock::{SteadyClock, moment};
 use crate::serving::poll_link::PollLink;
 use crate::serving::store::{
     close_database, open_database, open_engine, stopped_by, store_over, stored_moment,
 };
-use crate::turns::{Links, run_turns};
+use crate::turns::{Links, run_settled_turns};
 use mqtt_broker::Engine;
-use mqtt_keep::Keep;
-use mqtt_link::ServeFault;
+use mqtt_keep::{Keep, Settles};
+use mqtt_link::{Commit, HeldBack, ServeFault};
 use mqtt_rules::Limits;
 use mqtt_store::SqlKeep;
 use sqlite::{Alter, Connection, FileFrom, FileStore, Start};
@@ -48,12 +51,12 @@ fn address_of(link: &PollLink) -> Result<SocketAddr, ServeFault> {
     }
 }
 
-/// A link without connections.
-fn links_of(rt: &HostRuntime, link: PollLink) -> Result<Links<PollLink>, ServeFault>
+/// A link without connections, which holds back what is written.
+fn links_of(rt: &HostRuntime, link: PollLink) -> Result<Links<HeldBack<PollLink>>, ServeFault>
     ensures ok { IfOk result (λ links. links.wires ≡ []) }
     ensures fault { IfErr result (λ fault. fault ≡ ServeFault.Memory) }
 {
-    match Links::new(rt.alloc(), link) {
+    match Links::new(rt.alloc(), HeldBack::new(rt.alloc(), link)) {
         Ok(links) => Ok(links),
         Err(_) => Err(ServeFault::Memory),
     }
@@ -92,8 +95,19 @@ fn write_done<W: Write>(writer: &mut W) -> Result<(), ServeFault>
     }
 }
 
+/// The opening is stored, so that a database that can't be written is told before anybody may connect.
+fn store_opening<K: Settles>(engine: &mut Engine<K>) -> Result<(), ServeFault>
+    ensures settles { OnOk result (SettleServed K.Keep engine.old (Ok tt) engine.new) }
+    ensures fault { IfErr result (λ fault. fault ≢ ServeFault.Socket) }
+{
+    match engine.settle() {
+        Ok(()) => Ok(()),
+        Err(error) => Err(stopped_by(error)),
+    }
+}
+
 /// Listens, tells where, and runs turns from a moment on. A fault of the socket comes before anything is written.
-fn serve_engine<K: Keep, W: Write>(
+fn serve_engine<K: Settles, W: Write>(
     rt: &HostRuntime,
     listen: SocketAddr,
     engine: &mut Engine<K>,
@@ -111,16 +125,16 @@ fn serve_engine<K: Keep, W: Write>(
     write_listening(writer, address)?;
     let mut links = links_of(rt, link)?;
     let mut timer = SteadyClock::new(rt, begin);
-    match run_turns(&mut links, engine, &mut timer, turns, begin) {
+    match run_settled_turns(&mut links, engine, &mut timer, turns, begin) {
         Ok(()) => Ok(()),
         Err(error) => Err(stopped_by(error)),
     }
 }
 
 /// Serves at an address, over any store, for so many turns from a moment on, and gives the store back (4.1, 4.2): the broker
-/// begins with what the store holds, with these limits, then it listens, and writes `listening` and the address. `Write` (2),
-/// `Memory` (3), `Store` (4) and `Socket` (5), if nothing was written.
-pub fn serve_over<K: Keep, W: Write>(
+/// begins with what the store holds, with these limits, and the opening is stored; then it listens, and writes `listening` and
+/// the address. `Write` (2), `Memory` (3), `Store` (4) and `Socket` (5), if nothing was written.
+pub fn serve_over<K: Settles, W: Write>(
     rt: &HostRuntime,
     listen: SocketAddr,
     keep: K,
@@ -137,6 +151,7 @@ pub fn serve_over<K: Keep, W: Write>(
         → Keeps (W.contents writer.old) (W.contents writer.new)) }
 {
     let mut engine = open_engine(rt, keep, begin, limits)?;
+    store_opening(&mut engine)?;
     let ran = serve_engine(rt, listen, &mut engine, turns, begin, writer);
     let keep = engine.close();
     match ran {
@@ -154,23 +169,26 @@ fn serve_database<S: Alter + Drop, W: Write>(
     turns: u32,
     writer: &mut W,
     limits: Limits,
+    commit: Commit,
 ) -> Result<Connection<S>, ServeFault>
     requires { AreWithin limits }
     ensures ok { OnOk result (Announces (W.contents writer.old) (W.contents writer.new) []) }
-    ensures ran { IfOk result (λ given. RunsOnDatabase S.Store ⟦<SqlKeep<S> as Keep>⟧ (λ keep. keep.conn) limits turns conn given) }
+    ensures ran { IfOk result (λ given. RunsOnDatabase S.Store ⟦<Gathered<SqlKeep<S>> as Keep>⟧
+        (λ keep. keep.keep.conn) (λ keep. NothingWaits keep.changes.items keep.counts) limits turns conn given) }
     ensures socket { IfErr result (λ fault. fault ≡ ServeFault.Socket
         → Keeps (W.contents writer.old) (W.contents writer.new)) }
 {
     let begin = moment(rt, stored_moment(&mut conn));
-    let keep = store_over(rt.alloc(), conn)?;
+    let keep = Gathered::new(rt.alloc(), store_over(rt.alloc(), conn)?, commit);
     let keep = serve_over(rt, listen, keep, begin, turns, writer, limits)?;
-    Ok(keep.into_inner())
+    Ok(keep.into_inner().into_inner())
 }
 
 /// Serves MQTT 5.0 at an address, over the database in the file at a path, for so many turns, with these limits (4.1, 4.2): it
 /// writes `listening` and the address, with the port that was bound, and at the end `done`. The database is opened first, then
-/// the socket. `S` stands for what the database's files held: `main` passes `Unknown`. `Write` (2), `Memory` (3), `Store` (4),
-/// if `:memory:` was asked for too, and `Socket` (5), if nothing was written.
+/// the socket. What the broker did is stored by turns or by steps, and nothing of it goes out before. `S` stands for what the
+/// database's files held: `main` passes `Unknown`. `Write` (2), `Memory` (3), `Store` (4), if `:memory:` was asked for too, and
+/// `Socket` (5), if nothing was written.
 pub fn serve<W: Write, S: Start>(
     rt: &HostRuntime,
     listen: SocketAddr,
@@ -178,17 +196,19 @@ pub fn serve<W: Write, S: Start>(
     turns: u32,
     writer: &mut W,
     limits: Limits,
+    commit: Commit,
     start: S,
 ) -> Result<(), ServeFault>
     requires { AreWithin limits }
     ensures ok { OnOk result (Announces (W.contents writer.old) (W.contents writer.new) done) }
-    ensures ran { OnOk result (RunsOnFiles ⟦<SqlKeep<FileStore<FileFrom<S>>> as Keep>⟧ (λ keep. keep.conn) (image_at S.Start) limits turns) }
+    ensures ran { OnOk result (RunsOnFiles ⟦<Gathered<SqlKeep<FileStore<FileFrom<S>>>> as Keep>⟧
+        (λ keep. keep.keep.conn) (λ keep. NothingWaits keep.changes.items keep.counts) (image_at S.Start) limits turns) }
     ensures no_file { db.now ≡ codes ":memory:" → result ≡ Err ServeFault.Store }
     ensures socket { IfErr result (λ fault. fault ≡ ServeFault.Socket
         → Keeps (W.contents writer.old) (W.contents writer.new)) }
 {
     let conn = open_database(rt, db, start)?;
-    let conn = serve_database(rt, listen, conn, turns, writer, limits)?;
+    let conn = serve_database(rt, listen, conn, turns, writer, limits, commit)?;
     close_database(conn)?;
     write_done(writer)
 }

@@ -125,7 +125,9 @@ pub(crate) fn open_engine<K: Keep>(
 
 /// What a refusal of the engine is to the server.
 pub(crate) fn stopped_by(error: EngineError) -> ServeFault
-    ensures { error ≢ EngineError.Memory → result ≡ ServeFault.Store }
+    ensures memory { error ≡ EngineError.Memory → result ≡ ServeFault.Memory }
+    ensures store { error ≢ EngineError.Memory → result ≡ ServeFault.Store }
+    ensures other { result ≢ ServeFault.Socket }
 {
     match error {
         EngineError::Memory => ServeFault::Memory,

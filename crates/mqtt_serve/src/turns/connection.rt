@@ -1,9 +1,9 @@
 //! A connection: its line of the broker, what waits to go out on it, and what becomes of it (MQTT 5.0, 4.2).
 ghost use Rattle.std.specs.Prelude.{◌≡◌, ◌≤◌, ◌++◌, [], ℕ, false, length, take, OnOk, IfErr};
-ghost use Rattle.mqtt_serve.specs.turns.Wires.{FindsNoRoom, Reads, Hears, WritesAnd, WritesLast, bytes_to, closing, is_standing, is_lost, is_closed, may_send};
+ghost use Rattle.mqtt_serve.specs.turns.Wires.{FindsNoRoom, Reads, Hears, LetsGo, WritesAnd, WritesLast, bytes_to, closing, is_standing, is_lost, is_closed, lost_if, may_send};
 
 use bytes::Bytes;
-use mqtt_link::{Got, Link, Waiting, WaitingFault};
+use mqtt_link::{Got, HeldBack, Link, Waiting, WaitingFault};
 use std::alloc::Global;
 use std::marker::Model;
 
@@ -44,6 +44,8 @@ impl<L: Link> Model for Connection<L> {
       ended = L.ended c.peer;
       waits = c.waiting;
       said = and_then (L.written c.peer) c.waiting;
+      out = L.out c.peer;
+      outs = L.outs c.peer;
       clear = c.is_clear;
       fate = c.fate;
     } };
@@ -78,6 +80,7 @@ impl<L: Link> Connection<L> {
         ensures read { (result.reads ≡ L.reads peer) × (result.heard ≡ L.was_read peer) }
         ensures unwritten { (result.writes ≡ L.writes peer) × (result.said ≡ L.written peer) }
         ensures ended { result.ended ≡ L.ended peer }
+        ensures unsent { (result.out ≡ L.out peer) × (result.outs ≡ L.outs peer) }
     {
         Connection {
             number,
@@ -192,10 +195,26 @@ impl<L: Link> Connection<L> {
         }
     }
 
-    /// It is lost, and the broker is to be told.
-    pub fn lose(&mut self)
-        ensures { self.new ≡ record self.old { fate = Fate.Lost } }
+    /// It is lost if it is on this line, and the broker is to be told.
+    pub fn lose_if(&mut self, number: u64)
+        ensures { self.new ≡ lost_if number self.old }
     {
-        self.fate = Fate::Lost;
+        if self.number == number {
+            self.fate = Fate::Lost;
+        }
+    }
+}
+
+impl<L: Link + Drop> Connection<HeldBack<L>> {
+    /// What is held back goes out, by one write; one that stands and whose write ends or fails is lost. Whether bytes went out.
+    pub fn let_go(&mut self, link: &mut HeldBack<L>) -> bool
+        ensures lets { LetsGo result self.old self.new }
+        ensures same { L.calls link.new.link ≡ L.calls link.old.link }
+    {
+        let before = self.peer.held();
+        if !link.let_go(&mut self.peer) && self.is_standing() {
+            self.fate = Fate::Lost;
+        }
+        self.peer.held() < before
     }
 }

@@ -21,7 +21,7 @@ pub trait Timer {
 }
 
 /// Waits a little after a turn in which nothing came or went.
-fn rest<L: Link + Drop>(links: &mut Links<L>, busy: bool)
+pub(crate) fn rest<L: Link + Drop>(links: &mut Links<L>, busy: bool)
     ensures { links.new ≡ rested busy links.old }
 {
     if !busy {

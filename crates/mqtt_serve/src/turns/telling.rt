@@ -21,8 +21,6 @@ pub(crate) fn lose<L: Link>(lines: &mut [Connection<L>], number: u64)
     ensures { AreLost number lines.old lines.new }
 {
     for line in lines.iter_mut() {
-        if line.number() == number {
-            line.lose();
-        }
+        line.lose_if(number);
     }
 }

@@ -28,9 +28,9 @@ pub const TICK_LIMIT: usize = 16;
 /// A link and its connections, in the order in which they came.
 #[derive(Drop)]
 pub struct Links<L: Link + Drop> {
-    alloc: Global,
-    link: L,
-    lines: Vec<Connection<L>>,
+    pub(crate) alloc: Global,
+    pub(crate) link: L,
+    pub(crate) lines: Vec<Connection<L>>,
 }
 
 impl<L: Link + Drop> Model for Links<L> {
@@ -131,7 +131,7 @@ fn write_closed<L: Link>(link: &mut L, lines: &mut [Connection<L>])
 }
 
 /// Connections that the broker closed are dropped.
-fn drop_closed<L: Link>(lines: &mut Vec<Connection<L>>)
+pub(crate) fn drop_closed<L: Link>(lines: &mut Vec<Connection<L>>)
     ensures drops { lines.new.items ≡ without_closed lines.old.items }
     ensures room { vec_capacity lines.new ≡ vec_capacity lines.old }
 {
@@ -140,7 +140,7 @@ fn drop_closed<L: Link>(lines: &mut Vec<Connection<L>>)
 
 /// Each connection has its turn, then the clock; what waits on connections that the broker closed is written once more.
 /// Whether bytes went in or out.
-fn serve_all<L: Link, K: Keep>(
+pub(crate) fn serve_all<L: Link, K: Keep>(
     link: &mut L,
     lines: &mut [Connection<L>],
     engine: &mut Engine<K>,

@@ -2,7 +2,7 @@
 ghost use Rattle.mqtt_rules.specs.step.Laws.{AreWithin};
 
 use mqtt_flow::Full;
-use mqtt_serve::{Limits, ServeFault, Unknown, serve};
+use mqtt_serve::{Commit, Limits, ServeFault, Unknown, serve};
 use std::io::{ErrorKind, Read, Write};
 use std::net::{Ipv4Addr, SocketAddr, TcpStream};
 use std::test::Fail;
@@ -82,7 +82,16 @@ pub fn is_answered(
         stream: None,
         came: Vec::new(rt.alloc()),
     };
-    let ran = serve(rt, any_port(), db, turns, &mut caller, limits, Unknown);
+    let ran = serve(
+        rt,
+        any_port(),
+        db,
+        turns,
+        &mut caller,
+        limits,
+        Commit::Turn,
+        Unknown,
+    );
     let is_it = caller.came.as_slice() == answer && caller.told.ends_with(b"\ndone\n");
     drop(caller);
     match ran {

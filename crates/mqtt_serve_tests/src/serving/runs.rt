@@ -1,6 +1,6 @@
 //! Runs of the server: what it writes, and why it ends early (MQTT 5.0, 4.2).
 use crate::serving::callers::{LIMITS, any_port, forget};
-use mqtt_serve::{ServeFault, Unknown, serve};
+use mqtt_serve::{Commit, ServeFault, Unknown, serve};
 use std::io;
 use std::io::{ErrorKind, Write};
 use std::net::{SocketAddr, TcpListener};
@@ -10,7 +10,7 @@ use std::test::Fail;
 /// written and they end early.
 fn runs(rt: &HostRuntime, at: SocketAddr, db: &str) -> Result<bool, ServeFault> {
     let mut written: Vec<u8> = Vec::new(rt.alloc());
-    let ran = serve(rt, at, db, 3, &mut written, LIMITS, Unknown);
+    let ran = serve(rt, at, db, 3, &mut written, LIMITS, Commit::Turn, Unknown);
     let is_silent = written.is_empty();
     let begins = written.starts_with(b"listening 127.0.0.1:");
     let ends = written.ends_with(b"\ndone\n");
@@ -73,6 +73,7 @@ fn a_write_that_fails_is_told(rt: HostRuntime) {
         3,
         &mut Broken,
         LIMITS,
+        Commit::Turn,
         Unknown,
     );
     forget(&rt, "broken.db", "broken.db-wal");

@@ -1,7 +1,7 @@
-use Rattle.mqtt_serve.specs.turns.Turns.{hosting}
+use Rattle.mqtt_serve.specs.turns.Turns.{hosting, HasTurn}
 use Rattle.mqtt_serve.proofs.turns_lemmas.Going.{RunsTo}
 use Rattle.mqtt_serve.proofs.turns.running.run_turns.Given as goal
 
 abbrev pub invariant-loop : goal.invariant-loop
 invariant-loop g l =
-    RunsTo g.K.Keep l.fn.begin l.counter l.last (g.T.Timer.told l.fn.timer) (g.T.Timer.told l.timer) (hosting l.fn.engine l.fn.links) (hosting l.engine l.links)
+    RunsTo (HasTurn g.K.Keep) l.fn.begin l.counter l.last (g.T.Timer.told l.fn.timer) (g.T.Timer.told l.timer) (hosting l.fn.engine l.fn.links) (hosting l.engine l.links)

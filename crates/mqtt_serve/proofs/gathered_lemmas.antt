@@ -1,0 +1,4 @@
+pub mod Joined
+pub mod Sorted
+pub mod Sets
+pub mod Gathers

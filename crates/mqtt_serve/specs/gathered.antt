@@ -1,0 +1,3 @@
+pub mod Counting
+pub mod Gathering
+pub mod Telling

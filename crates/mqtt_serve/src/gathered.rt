@@ -1,0 +1,6 @@
+//! A store in front of a store, which gathers changes until it is settled (4.1).
+
+mod counts;
+mod gathered;
+
+pub use self::gathered::{GATHERED_LIMIT, Gathered};
