@@ -11,6 +11,9 @@ pub mod drains_lemmas
 pub mod drain_causes_lemmas
 pub mod unsent_lemmas
 pub mod published_lemmas
+pub mod unasked_lemmas
+pub mod ordered_lemmas
 pub mod fitting_lemmas
 pub mod headline_lemmas
 pub mod headline_in_forms_lemmas
+pub mod of_calls_lemmas

@@ -10,6 +10,9 @@ pub mod drains
 pub mod drain_causes
 pub mod unsent
 pub mod published
+pub mod unasked
+pub mod ordered
 pub mod fitting
 pub mod headline
 pub mod headline_in_forms
+pub mod of_calls

@@ -133,7 +133,7 @@ run_caused limits ts w new fair = joined (asked_over limits ts w) (all_steps lim
 
 -- ---- and these are all ends: the deeds are those of the steps
 
-abbrev deeds_in : List Asked → List Deed
+abbrev pub deeds_in : List Asked → List Deed
 deeds_in xs = flat_map (λ (x : Asked). x.step.deeds) xs
 
 same_both : (ds es : List Deed) (xs ys : List Asked) → ds ≡ deeds_in xs → es ≡ deeds_in ys → ds ++ es ≡ deeds_in (xs ++ ys)
@@ -201,7 +201,8 @@ map_both : (xs ys : List EndAt) → map end_of (xs ++ ys) ≡ map end_of xs ++ m
 map_both [] ys = refl
 map_both (x ∷ xs) ys = ap (λ (es : List End). end_of x ∷ es) (map_both xs ys)
 
-counted : (xs : List Asked) → map end_of (flat_map ends_in xs) ≡ filter_map ended_in (deeds_in xs)
+-- the ends of steps are those of their deeds
+pub counted : (xs : List Asked) → map end_of (flat_map ends_in xs) ≡ filter_map ended_in (deeds_in xs)
 counted [] = refl
 counted (x ∷ xs) =
     map_both (ends_in x) (flat_map ends_in xs) ∙ ap (λ (es : List End). es ++ map end_of (flat_map ends_in xs)) (ends_counted x x.step.deeds x.step.broker)

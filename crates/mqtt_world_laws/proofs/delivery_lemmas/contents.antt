@@ -3,6 +3,7 @@ pub mod ContentRuns
 pub mod Contents
 pub mod Holdings
 pub mod QueueContents
+pub mod Saying
 pub mod Telling
 pub mod WayBodies
 pub mod WayTags

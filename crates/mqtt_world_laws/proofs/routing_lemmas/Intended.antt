@@ -27,7 +27,8 @@ use Rattle.mqtt_world_laws.proofs.acceptance_lemmas.copies.CopyRuns.{run_balance
 use Rattle.mqtt_world_laws.proofs.acceptance_lemmas.copies.OnceRuns.{enters_once, start_apart}
 use Rattle.mqtt_world_laws.proofs.acceptance_lemmas.publishers.Runs.{start_new}
 use Rattle.mqtt_world_laws.proofs.acceptance_lemmas.copies.StepRuns.{run_enters}
-use Rattle.mqtt_world_laws.specs.routing.Intended.{intended_for, is_groups, EntersForGroup, EntersAsIntended, AllEnterAsIntended}
+use Rattle.mqtt_world_laws.specs.routing.Intended.{intended_for, is_groups, EntersAsIntended, AllEnterAsIntended}
+use Rattle.mqtt_world_laws.specs.headline_in_forms.Delivery.{EntersAsIntended as EntersIntended, EntersForGroup as EntersForOne}
 use Rattle.mqtt_world_laws.proofs.routing_lemmas.Groups.{each_gets_one, served_differ}
 use Rattle.mqtt_world_laws.proofs.routing_lemmas.Lists.{each_among}
 use Rattle.mqtt_world_laws.proofs.routing_lemmas.OwnCounts.{counts_differ, only_own, count_kept, same_own, groups_own, intended_once, one_each}
@@ -76,36 +77,27 @@ behind_births : (n : ℕ) (ss : List Session) → IsAbove birth_of n ss → AreA
 behind_births n [] h = tt
 behind_births n (s ∷ ss) h = (h.0, behind_births n ss h.1)
 
-births_in_order : (ss : List Session) → IsAscending birth_of ss → AreInOrder (map subscriber_of ss)
+-- sessions that stand by birth are in order
+pub births_in_order : (ss : List Session) → IsAscending birth_of ss → AreInOrder (map subscriber_of ss)
 births_in_order [] h = tt
 births_in_order (s ∷ ss) h = (behind_births s.birth ss h.0, births_in_order ss h.1)
 
--- ---- a run
+-- ---- steps, and what enters and is accepted in them
 
-module _ (limits : Limits) (ts : List Turn) (w : World) (new : IsNew w) (fair : IsCounted limits ts w) where
-  it : Accepts (deeds_over limits ts w) (steps_over limits ts w) (acceptances_over limits ts w)
-  it = run_accepts limits ts w new fair
+module _ (xs : List Step) (copies : List CopyId) (accepted : List Acceptance) where
+  own_entered : (n : ℕ) → copies ≡ flat_map brought_in xs → accepted ≡ flat_map accepted_in xs → AllByRecursion (λ (x : Step). AreNext (accepted_in x)) xs
+      → filter (is_own n) copies ≡ flat_map (own_ids n) accepted
+  own_entered n entered_is accepted_are each = ap (filter (is_own n)) entered_is ∙ steps_bring n xs each ∙ ap (flat_map (own_ids n)) (sym accepted_are)
 
-  own_entered : (n : ℕ) → filter (is_own n) (entered_from limits ts w) ≡ flat_map (own_ids n) (acceptances_over limits ts w)
-  own_entered n =
-      ap (filter (is_own n)) (run_enters limits ts w new fair) ∙ steps_bring n (steps_over limits ts w) it.each
-      ∙ ap (flat_map (own_ids n)) (sym it.accepted_are)
-
-  numbers_differ : AllDiffer (map number_of (acceptances_over limits ts w))
-  numbers_differ = subst AllDiffer it.numbers (counts_differ w.broker.records.publications (run limits ts w).broker.records.publications _ (run_numbers limits ts w new fair))
-
-  next : (a : Acceptance) → IsAmong a (acceptances_over limits ts w) → IsNext a
-  next a among = all_next (steps_over limits ts w) it.each a (subst (λ (accepted : List Acceptance). IsAmong a accepted) it.accepted_are among)
-
-  of_acceptance : (a : Acceptance) → IsAmong a (acceptances_over limits ts w) → IsNext a → EntersAsIntended limits ts w a
-  of_acceptance a among h = record {
+  of_acceptance : (a : Acceptance) → ((n : ℕ) → filter (is_own n) copies ≡ flat_map (own_ids n) accepted) → AllDiffer (map number_of accepted) → IsAmong a accepted → IsNext a → EntersIntended copies a
+  of_acceptance a own numbers_differ among h = record {
     routing = r;
     routing_is = routed.routing_is;
     copies_are = h.routed_is ∙ ap Some routed.copies_are;
     each = each_gets_one (answers a.env a.broker.records) (publication_of a.message) choices (subscribers a.broker.records) order r routed.routing_is;
     entered_is = entered_are;
-    counted = λ c own. count_kept (is_copy c) (is_own a.number) (same_own a.number c own) (entered_from limits ts w) ∙ ap (count_of c) entered_are ∙ intended_once c (intended_for a r) differ;
-    groups = each_among (EntersForGroup limits ts w a.number) r.served (λ s stands. for_group s stands);
+    counted = λ c its. count_kept (is_copy c) (is_own a.number) (same_own a.number c its) copies ∙ ap (count_of c) entered_are ∙ intended_once c (intended_for a r) differ;
+    groups = each_among (EntersForOne copies a.number) r.served (λ s stands. for_group s stands);
   }
     where
       routed : WasRouted a h.copies
@@ -120,23 +112,44 @@ module _ (limits : Limits) (ts : List Turn) (w : World) (new : IsNew w) (fair : 
       order : AreInOrder (subscribers a.broker.records)
       order = births_in_order a.broker.records.sessions h.order.sessions.ascending
 
-      entered_are : filter (is_own a.number) (entered_from limits ts w) ≡ queued_ids (intended_for a r)
-      entered_are =
-          own_entered a.number ∙ only_own a (acceptances_over limits ts w) numbers_differ among ∙ ap ids_if h.routed_is
-          ∙ ap queued_ids routed.copies_are
+      entered_are : filter (is_own a.number) copies ≡ queued_ids (intended_for a r)
+      entered_are = own a.number ∙ only_own a accepted numbers_differ among ∙ ap ids_if h.routed_is ∙ ap queued_ids routed.copies_are
 
       differ : AllDiffer (queued_ids (intended_for a r))
       differ = subst (λ (ds : List CopyTo). AllDiffer (queued_ids ds)) routed.copies_are (queued_differ h.copies (accepted_differ a.env a.message a.broker h.copies h.order h.routed_is).differ)
 
-      for_group : (s : Served) → IsAmong s r.served → EntersForGroup limits ts w a.number s
+      for_group : (s : Served) → IsAmong s r.served → EntersForOne copies a.number s
       for_group s stands =
-          count_kept (is_groups a.number s.group) (is_own a.number) (groups_own a.number s.group) (entered_from limits ts w)
+          count_kept (is_groups a.number s.group) (is_own a.number) (groups_own a.number s.group) copies
           ∙ ap (count_by (is_groups a.number s.group)) entered_are
           ∙ one_each a.number a.broker.now a.message r (served_differ (answers a.env a.broker.records) (publication_of a.message) choices (subscribers a.broker.records) order r routed.routing_is) s stands
 
+  -- the copies of each publication enter as they were meant, if these steps bring what entered and accept what was accepted, each with
+  -- a number of its own
+  pub all_intended : copies ≡ flat_map brought_in xs → accepted ≡ flat_map accepted_in xs → AllByRecursion (λ (x : Step). AreNext (accepted_in x)) xs → AllDiffer (map number_of accepted)
+      → AllByRecursion (EntersIntended copies) accepted
+  all_intended entered_is accepted_are each differ =
+      each_among (EntersIntended copies) accepted
+      (λ a among. of_acceptance a (λ n. own_entered n entered_is accepted_are each) differ among (all_next xs each a (subst (λ (all : List Acceptance). IsAmong a all) accepted_are among)))
+
+-- ---- a run
+
+module _ (limits : Limits) (ts : List Turn) (w : World) (new : IsNew w) (fair : IsCounted limits ts w) where
+  it : Accepts (deeds_over limits ts w) (steps_over limits ts w) (acceptances_over limits ts w)
+  it = run_accepts limits ts w new fair
+
+  -- in a run that spends no number they enter so
+  pub run_intended : AllByRecursion (EntersIntended (entered_from limits ts w)) (acceptances_over limits ts w)
+  run_intended =
+      all_intended (steps_over limits ts w) (entered_from limits ts w) (acceptances_over limits ts w) (run_enters limits ts w new fair) it.accepted_are it.each
+      (subst AllDiffer it.numbers (counts_differ w.broker.records.publications (run limits ts w).broker.records.publications _ (run_numbers limits ts w new fair)))
+
   -- in a run that spends no number from nothing the copies of each publication enter as they were meant
   pub all_enter : AllEnterAsIntended limits ts w
-  all_enter = each_among (EntersAsIntended limits ts w) (acceptances_over limits ts w) (λ a among. of_acceptance a among (next a among))
+  all_enter =
+      each_more (EntersIntended (entered_from limits ts w)) (EntersAsIntended limits ts w)
+      (λ a x. record { routing = x.routing; routing_is = x.routing_is; copies_are = x.copies_are; each = x.each; entered_is = x.entered_is; counted = x.counted; groups = x.groups })
+      (acceptances_over limits ts w) run_intended
 
 -- ---- from nothing stored
 

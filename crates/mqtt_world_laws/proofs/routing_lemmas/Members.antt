@@ -4,6 +4,7 @@ use Rattle.std.specs.Prelude.{flat_map, is_none}
 use Rattle.std.specs.List.{AllByRecursion, list_any}
 use Rattle.std.proofs.lemmas.Bool.{cases_Bool}
 use Rattle.mqtt_base.specs.declared.session.Cause.TheVariants.{Direct, Share}
+use Rattle.mqtt_base.specs.declared.session.CopyId.{CopyId}
 use Rattle.mqtt_records.specs.declared.state.session.Session.{Session}
 use Rattle.mqtt_routes.specs.routing.Acceptance.{Served, copies_in, is_eligible, needs_room, shared_copy}
 use Rattle.mqtt_routes.specs.routing.Intended.{Publication, Copy, Member, granted_qos, in_group, groups, members}
@@ -17,11 +18,13 @@ use Rattle.mqtt_rules.proofs.step_lemmas.numbers.Copies.{each_append}
 use Rattle.mqtt_rules.proofs.step_lemmas.lines.LineLaw.{line_found}
 use Rattle.mqtt_world_model.specs.model.Run.{Turn, Acceptance, acceptances_over}
 use Rattle.mqtt_world_model.specs.model.World.{World}
+use Rattle.mqtt_world_laws.specs.acceptance.Copies.{entered_from}
 use Rattle.mqtt_world_laws.specs.acceptance.Fair.{IsNew, IsCounted}
 use Rattle.mqtt_world_laws.specs.routing.Groups.{IsServedOnce, AreServedOnce}
-use Rattle.mqtt_world_laws.specs.routing.Intended.{intended_for, EntersAsIntended}
+use Rattle.mqtt_world_laws.specs.routing.Intended.{intended_for}
 use Rattle.mqtt_world_laws.specs.routing.Members.{HasLine, HaveLines, AllHaveLines}
-use Rattle.mqtt_world_laws.proofs.routing_lemmas.Intended.{all_enter}
+use Rattle.mqtt_world_laws.specs.headline_in_forms.Delivery.{EntersAsIntended as EntersIntended}
+use Rattle.mqtt_world_laws.proofs.routing_lemmas.Intended.{run_intended}
 use Rattle.mqtt_world_laws.proofs.routing_lemmas.OwnCounts.{queued_quality}
 use Rattle.mqtt_world_laws.proofs.routing_lemmas.OwnRuns.{AreLinedUp, run_accepts}
 
@@ -76,8 +79,8 @@ module _ (env : Env) (b : Broker) (unique : HasUniqueLines b) where
 
 -- ---- an acceptance
 
-have_lines : (limits : Limits) (ts : List Turn) (w : World) (a : Acceptance) → EntersAsIntended limits ts w a → HasUniqueLines a.broker → HaveLines a
-have_lines limits ts w a x unique ds e =
+have_lines : (copies : List CopyId) (a : Acceptance) → EntersIntended copies a → HasUniqueLines a.broker → HaveLines a
+have_lines copies a x unique ds e =
     let both : Some (intended_for a x.routing) ≡ Some ds = sym x.copies_are ∙ e in
     let same : intended_for a x.routing ≡ ds = cc in
     let p = publication_of a.message in
@@ -87,10 +90,11 @@ have_lines limits ts w a x unique ds e =
     (direct_lines a.env a.broker unique a.number a.broker.now a.message x.routing.direct)
     (groups_line a.env a.broker unique p all x.routing.direct a.number a.broker.now a.message [] (groups all) x.routing.served x.each.served))
 
-all_have : (limits : Limits) (ts : List Turn) (w : World) (accepted : List Acceptance) → AllByRecursion (EntersAsIntended limits ts w) accepted → AreLinedUp accepted → AllByRecursion HaveLines accepted
-all_have limits ts w [] p q = tt
-all_have limits ts w (a ∷ rest) p q = (have_lines limits ts w a p.0 q.0, all_have limits ts w rest p.1 q.1)
+-- where publications enter as they were meant, and lines are unique, the members that are asked for stand as they were found
+pub all_have : (copies : List CopyId) (accepted : List Acceptance) → AllByRecursion (EntersIntended copies) accepted → AreLinedUp accepted → AllByRecursion HaveLines accepted
+all_have copies [] p q = tt
+all_have copies (a ∷ rest) p q = (have_lines copies a p.0 q.0, all_have copies rest p.1 q.1)
 
 -- in every run that spends no number the members that are asked for stand as they were found
 pub all_have_lines : (limits : Limits) (ts : List Turn) (w : World) → IsNew w → IsCounted limits ts w → AllHaveLines limits ts w
-all_have_lines limits ts w new fair = all_have limits ts w (acceptances_over limits ts w) (all_enter limits ts w new fair) (run_accepts limits ts w new fair).lined
+all_have_lines limits ts w new fair = all_have (entered_from limits ts w) (acceptances_over limits ts w) (run_intended limits ts w new fair) (run_accepts limits ts w new fair).lined

@@ -57,7 +57,8 @@ module _ (c : CopyId) (limits : Limits) (within : AreWithin limits) where
       let same = ap (N c) rows in
       omega (arith, all, same)
 
-  balances : Walk limits (Balances c)
+  -- what entered stands or has ended
+  pub balances : Walk limits (Balances c)
   balances = record {
     none = λ b. refl;
     next = λ xs ys a b d p q. then_balances c xs ys a b d p q;
@@ -77,10 +78,11 @@ counts_append : (n m k : ℕ) (xs ys : List ℕ) → CountsOn n xs m → CountsO
 counts_append n m k [] ys p q = subst (λ (z : ℕ). CountsOn z ys k) p q
 counts_append n m k (x ∷ xs) ys p q = (p.0, counts_append x m k xs ys p.1 q)
 
-abbrev Numbers : List Deed → Broker → Broker → Type 0
+abbrev pub Numbers : List Deed → Broker → Broker → Type 0
 Numbers ds b d = CountsOn b.records.publications (filter_map publication_given ds) d.records.publications
 
-numbers : (limits : Limits) → Walk limits Numbers
+-- publications count on
+pub numbers : (limits : Limits) → Walk limits Numbers
 numbers limits = record {
   none = λ b. refl;
   next = λ xs ys a b d p q. subst (λ (ns : List ℕ). CountsOn a.records.publications ns d.records.publications) (sym (filter_map-append publication_given xs ys))

@@ -22,10 +22,11 @@ use Rattle.mqtt_world_laws.proofs.acceptance_lemmas.copies.Entries.{AreKept, Ent
 use Rattle.mqtt_world_laws.proofs.acceptance_lemmas.copies.Walks.{Walk, run_walks}
 
 module _ (c : CopyId) where
-  abbrev Counts : List Deed → Broker → Broker → Type 0
+  abbrev pub Counts : List Deed → Broker → Broker → Type 0
   Counts ds b d = AreKept (kinds b.records) → Enters c ds (kinds b.records) (kinds d.records)
 
-  counts : (limits : Limits) → Walk limits Counts
+  -- a copy enters as long as it may come, and not later
+  pub counts : (limits : Limits) → Walk limits Counts
   counts limits = record {
     none = λ b k. let zero : E c [] ≡ 0 = refl in record { counted = omega (arith, zero); kept = k };
     next = λ xs ys a b d p q k. let first = p k in enters_next c xs ys (kinds a.records) (kinds b.records) (kinds d.records) first (q first.kept);
@@ -38,7 +39,7 @@ module _ (c : CopyId) where
 -- ---- where a run begins
 
 -- retained messages are of publications up to the last
-coherent_kept : (r : Records) → IsCoherent r → TellsApart r → AreKept (kinds r)
+pub coherent_kept : (r : Records) → IsCoherent r → TellsApart r → AreKept (kinds r)
 coherent_kept r h apart = record {
   given = each_more (IsCoherentMessage r.publications) (λ k. k.publication ≤ r.publications) (λ k q. q.0) r.retained h.retained;
   differ = apart.retained;

@@ -143,7 +143,8 @@ module _ (env : Env) where
 
   -- ---- what is accepted by them
 
-  accepted_routed : (ds : List Deed) (b : Broker) → AreGood Good ds b → AllByRecursion IsRouted (acceptances_of env ds b)
+  -- each publication that good deeds accept was routed
+  pub accepted_routed : (ds : List Deed) (b : Broker) → AreGood Good ds b → AllByRecursion IsRouted (acceptances_of env ds b)
   accepted_routed [] b h = tt
   accepted_routed (Accept number origin m ∷ ds) b h = (h.0, accepted_routed ds (after (Accept number origin m) b) h.1)
   accepted_routed (Begin row will ∷ ds) b h = accepted_routed ds (after (Begin row will) b) h.1

@@ -138,10 +138,12 @@ module _ (R : Env → List Deed → Broker → Type 0) (says : (env : Env) → S
 
 -- ---- exactly the copies that its deeds bring enter
 
-telling : (env : Env) → Says env whatever Orders (Tells env)
+-- each act tells of what enters by it
+pub telling : (env : Env) → Says env whatever Orders (Tells env)
 telling env = says_still env (Tells env) (still_tells env) (tells_append env) (publish_tells env) (grant_tells env)
 
-entered_all : (xs : List Step) → AllByRecursion (λ (x : Step). Tells x.env x.deeds x.broker) xs → entered (flat_map (λ (x : Step). x.deeds) xs) ≡ flat_map brought_in xs
+-- what enters by steps is what they bring
+pub entered_all : (xs : List Step) → AllByRecursion (λ (x : Step). Tells x.env x.deeds x.broker) xs → entered (flat_map (λ (x : Step). x.deeds) xs) ≡ flat_map brought_in xs
 entered_all [] h = refl
 entered_all (x ∷ xs) h =
     entered_append x.deeds (flat_map (λ (y : Step). y.deeds) xs) ∙ ap (λ (cs : List CopyId). cs ++ entered (flat_map (λ (y : Step). y.deeds) xs)) h.0

@@ -1,28 +1,26 @@
 -- Over a run: what a receiver has read of the copies of a publication carries what that does, whatever becomes of the copies (MQTT 5.0,
 -- 3.3.2, 3.3.3, 4.3).
-use Rattle.std.proofs.Common.{◌≡◌, ◌⊎◌, ℕ, zero, suc, ◌<◌, ◌≤◌, Bool, true, false, cond, List, [], ◌∷◌, ◌++◌, map, Option, Some, None, refl, sym, ap, subst, ◌∙◌, append-nil, append_assoc, arith, inl, inr}
+use Rattle.std.proofs.Common.{◌≡◌, ◌⊎◌, ℕ, zero, suc, ◌<◌, Bool, true, false, cond, List, [], ◌∷◌, ◌++◌, Option, Some, None, refl, sym, ap, subst, ◌∙◌, append-nil, append_assoc, inl, inr}
 use Rattle.std.specs.Prelude.{All, bytes_eq, filter_map, find, option_map}
 use Rattle.std.specs.List.{AllByRecursion}
 use Rattle.std.proofs.lemmas.List.Elements.{All-from_recursion, filter_map-append}
 use Rattle.mqtt_base.specs.declared.session.CopyId.{CopyId}
 use Rattle.mqtt_packet.specs.declared.codec.packet.Packet.{Packet}
 use Rattle.mqtt_records.specs.messages.Queue.{CopyRow}
-use Rattle.mqtt_records.specs.declared.messages.message.RetainedMessage.{RetainedMessage}
 use Rattle.mqtt_records.specs.state.Session.{birth_of}
-use Rattle.mqtt_records.specs.declared.state.records.Records.{Records}
 use Rattle.mqtt_records.specs.declared.state.session.Session.{Session}
 use Rattle.mqtt_world_model.specs.model.Ends.{Entry, Receiver}
 use Rattle.mqtt_world_model.specs.model.Laws.{CarriesOf, CarriesOn}
 use Rattle.mqtt_world_model.specs.model.Lines.{sent_to}
-use Rattle.mqtt_world_model.specs.model.Run.{Acceptance, Turn, acceptances_of, acceptances_over, are_beginnings_clean, begins_clean, deeds_at, deeds_over, read_asked, read_at, read_first, read_if, read_in, read_opening, read_rest, run, setting, the_acceptances, the_deeds, turned}
+use Rattle.mqtt_world_model.specs.model.Run.{Acceptance, Turn, acceptances_over, are_beginnings_clean, begins_clean, deeds_at, deeds_over, read_asked, read_at, read_first, read_if, read_in, read_opening, read_rest, run, setting, the_acceptances, the_deeds, turned}
 use Rattle.mqtt_world_model.specs.model.World.{Asking, Event, Setting, World, ask, before, break, call_of, call_of_stranger, calls, calls_if, clock, comes, connect_end, first_step, give_up, happens, held_count, is_bad, next_held, old_to_broker, publish, publisher, pump, pump_on, receiver, receiver_named, receiver_told, restart, stop_after, stop_before, stranger, stranger_named, subscribe, tick, to_broker, to_end, view_of}
 use Rattle.mqtt_rules.proofs.step_lemmas.numbers.Copies.{each_append, each_more}
 use Rattle.mqtt_rules.proofs.step_lemmas.fit.FitLaw.{all_among}
 use Rattle.mqtt_rules.proofs.step_lemmas.acts.Leads.{row_among}
-use Rattle.mqtt_rules.specs.step.Deeds.{Accept, Deed, after}
+use Rattle.mqtt_rules.specs.step.Deeds.{Deed}
 use Rattle.mqtt_rules.specs.step.Laws.{IsAmong}
-use Rattle.mqtt_rules.specs.step.Numbers.{CountsOn, HasAcceptedNumbers, HasCopiesUpTo, publication_given}
-use Rattle.mqtt_rules.specs.step.State.{Broker, Env, session_named}
+use Rattle.mqtt_rules.specs.step.Numbers.{CountsOn, HasAcceptedNumbers, publication_given}
+use Rattle.mqtt_rules.specs.step.State.{Broker, session_named}
 use Rattle.mqtt_rules.specs.step.Step.{Call, deeds, stepped, told}
 use Rattle.mqtt_rules.specs.declared.step.Limits.{Limits}
 use Rattle.mqtt_world_laws.specs.acceptance.Copies.{AreCountedOn}
@@ -36,7 +34,8 @@ use Rattle.mqtt_world_laws.specs.delivery.HandedOver.{CarriesCopy, CarryQueued}
 use Rattle.mqtt_world_laws.specs.delivery.Standing.{IsPlaced, IsSeen, Stands}
 use Rattle.mqtt_world_laws.specs.receiver.Connecting.{any_size}
 use Rattle.mqtt_world_laws.specs.delivery.Untouched.{IsUntouched}
-use Rattle.mqtt_world_laws.proofs.delivery_lemmas.contents.Contents.{AllSaid, KeptSaid, Keeps, Numbered, QueueSaid, RowSaid, SaidAbove, accepted, accepted_in, keeping, said_more}
+use Rattle.mqtt_world_laws.proofs.delivery_lemmas.contents.Contents.{AllSaid, Keeps, Numbered, QueueSaid, RowSaid, SaidAbove, accepted, accepted_in, keeping, said_more}
+use Rattle.mqtt_world_laws.proofs.delivery_lemmas.contents.Saying.{AreBy, by_deeds, by_joined, first_said, numbered, said_carries}
 use Rattle.mqtt_world_laws.proofs.delivery_lemmas.whole.EveryRun.{untouched_kept}
 use Rattle.mqtt_world_laws.proofs.delivery_lemmas.contents.Holdings.{EachHolds, Holds, IsNoTurn, happens_hold}
 use Rattle.mqtt_world_laws.proofs.delivery_lemmas.others.Outside.{named_called}
@@ -204,75 +203,7 @@ module _ (c : List ℕ) (base : ℕ) where
       subst (λ (zs : List Numbered). EachHolds (Said zs) (receiver_named c (run limits ts u)))
       (append_assoc xs (accepted ds) (accepted es) ∙ ap (λ (zs : List Numbered). xs ++ zs) (sym (filter_map-append accepted_in ds es))) rest
 
--- ---- what stands at the beginning was accepted before
-
-first_said : (r : Records) → HasAcceptedNumbers r → AllSaid r.publications [] r
-first_said r h = record {
-  queues = each_more (HasCopiesUpTo r.publications) (QueueSaid r.publications []) (λ s q. each_more (λ (e : CopyRow). e.copy.id.publication ≤ r.publications) (RowSaid r.publications []) (λ e up above. absurd (omega (arith, up, above))) s.queue q) r.sessions h.0;
-  retained = each_more (λ (k : RetainedMessage). k.publication ≤ r.publications) (KeptSaid r.publications []) (λ k up above. absurd (omega (arith, up, above))) r.retained h.1;
-}
-
--- ---- no two publications have one number
-
-abbrev number_of : Numbered → ℕ
-number_of x = x.number
-
-numbers_are : (ds : List Deed) → map number_of (accepted ds) ≡ filter_map publication_given ds
-numbers_are [] = refl
-numbers_are (Accept number origin m ∷ ds) = ap (λ (ns : List ℕ). number ∷ ns) (numbers_are ds)
-numbers_are (d ∷ ds) = numbers_are ds
-
-counted_above : (n m : ℕ) (x : Numbered) (xs : List Numbered) → CountsOn n (map number_of xs) m → IsAmong x xs → n < x.number
-counted_above n m x [] h among = absurd among
-counted_above n m x (y ∷ xs) h among =
-    let next = h.0 in
-    elim among [
-      | inl it ↦ let same = ap number_of it in omega (arith, next, same)
-      | inr more ↦ let above = counted_above y.number m x xs h.1 more in omega (arith, next, above)
-    ]
-
-counted_once : (n m : ℕ) (x z : Numbered) (xs : List Numbered) → CountsOn n (map number_of xs) m → IsAmong x xs → IsAmong z xs → x.number ≡ z.number → x ≡ z
-counted_once n m x z [] h p q same = absurd p
-counted_once n m x z (y ∷ xs) h p q same = elim p [
-  | inl it ↦ elim q [
-    | inl its ↦ sym it ∙ its
-    | inr more ↦ let above = counted_above y.number m z xs h.1 more in let here = ap number_of it in absurd (omega (arith, above, here, same))
-  ]
-  | inr more ↦ elim q [
-    | inl its ↦ let above = counted_above y.number m x xs h.1 more in let here = ap number_of its in absurd (omega (arith, above, here, same))
-    | inr others ↦ counted_once y.number m x z xs h.1 more others same
-  ]
-]
-
--- ---- each acceptance is by one of the deeds
-
-abbrev numbered : Acceptance → Numbered
-numbered a = record { number = a.number; message = a.message }
-
-abbrev AreBy : List Acceptance → List Deed → Type 0
-AreBy given ds = AllByRecursion (λ (a : Acceptance). IsAmong (numbered a) (accepted ds)) given
-
-more_behind : (x : Numbered) (xs ys : List Numbered) → IsAmong x ys → IsAmong x (xs ++ ys)
-more_behind x [] ys h = h
-more_behind x (y ∷ xs) ys h = inr (more_behind x xs ys h)
-
-more_before : (x : Numbered) (xs ys : List Numbered) → IsAmong x xs → IsAmong x (xs ++ ys)
-more_before x [] ys h = absurd h
-more_before x (y ∷ xs) ys h = elim h [ inl it ↦ inl it | inr more ↦ inr (more_before x xs ys more) ]
-
-by_joined : (given more : List Acceptance) (ds es : List Deed) → AreBy given ds → AreBy more es → AreBy (given ++ more) (ds ++ es)
-by_joined given more ds es p q =
-    let all : accepted (ds ++ es) ≡ accepted ds ++ accepted es = filter_map-append accepted_in ds es in
-    each_append (λ (a : Acceptance). IsAmong (numbered a) (accepted (ds ++ es))) given more
-    (each_more (λ (a : Acceptance). IsAmong (numbered a) (accepted ds)) (λ (a : Acceptance). IsAmong (numbered a) (accepted (ds ++ es))) (λ a h. subst (IsAmong (numbered a)) (sym all) (more_before (numbered a) (accepted ds) (accepted es) h)) given p)
-    (each_more (λ (a : Acceptance). IsAmong (numbered a) (accepted es)) (λ (a : Acceptance). IsAmong (numbered a) (accepted (ds ++ es))) (λ a h. subst (IsAmong (numbered a)) (sym all) (more_behind (numbered a) (accepted ds) (accepted es) h)) more q)
-
-by_deeds : (env : Env) (ds : List Deed) (b : Broker) → AreBy (acceptances_of env ds b) ds
-by_deeds env [] b = tt
-by_deeds env (Accept number origin m ∷ ds) b =
-    let x : Numbered = record { number = number; message = m } in
-    (inl refl, each_more (λ (a : Acceptance). IsAmong (numbered a) (accepted ds)) (λ (a : Acceptance). IsAmong (numbered a) (x ∷ accepted ds)) (λ a h. inr h) (acceptances_of env ds (after (Accept number origin m) b)) (by_deeds env ds (after (Accept number origin m) b)))
-by_deeds env (d ∷ ds) b = by_deeds env ds (after d b)
+-- ---- each acceptance of a run is by one of its deeds
 
 module _ (set : Setting) where
   by_call : (o : Option Call) (w : World) → AreBy (read_if the_acceptances set o w) (read_if the_deeds set o w)
@@ -327,19 +258,12 @@ by_run limits (t ∷ ts) w =
 -- ---- so what was read carries what its publication does
 
 module _ (base last : ℕ) (ds : List Deed) (counted : CountsOn base (filter_map publication_given ds) last) (a : Acceptance) (by_one : IsAmong (numbered a) (accepted ds)) where
-  counts : CountsOn base (map number_of (accepted ds)) last
-  counts = subst (λ (ns : List ℕ). CountsOn base ns last) (sym (numbers_are ds)) counted
-
   entry_carries : (e : Entry) → EntrySaid base (accepted ds) e → CarriesOn a e
   entry_carries e h = by e.copy refl
     where
       by : (o : Option CopyId) → e.copy ≡ o → CarriesOf a o e.body
       by None is = tt
-      by (Some copy) is = λ its.
-          let above : base < a.number = counted_above base last (numbered a) (accepted ds) counts by_one in
-          let x = h copy is (subst (λ (n : ℕ). base < n) (sym its) above) in
-          let same : x.said ≡ numbered a = counted_once base last x.said (numbered a) (accepted ds) counts x.among by_one (x.number_is ∙ its) in
-          (sym x.topic_is ∙ ap (λ (z : Numbered). z.message.topic) same, sym x.payload_is ∙ ap (λ (z : Numbered). z.message.payload) same)
+      by (Some copy) is = λ its. said_carries base last ds counted a by_one copy.publication e.body.topic e.body.payload (h copy is) its
 
   all_carry : (es : List Entry) → AllByRecursion (EntrySaid base (accepted ds)) es → All (CarriesOn a) es
   all_carry es h = All-from_recursion (CarriesOn a) es (each_more (EntrySaid base (accepted ds)) (CarriesOn a) entry_carries es h)

@@ -744,6 +744,10 @@ untaken_deeds limits choice now call b h = untaken_of (env_of limits choice b) c
 pub silent_deeds : (limits : Limits) (choice : MemberChoice) (now : ℕ) (call : Call) (b : Broker) → SendsNone call → AllByRecursion IsSilent (deeds limits choice now call b)
 silent_deeds limits choice now call b h = silent_of (env_of limits choice b) call (at_moment now b) h
 
+-- an opening sends no copy of QoS 1 or 2
+pub silent_opening : (env : Env) (b : Broker) → AllByRecursion IsSilent (opening env b)
+silent_opening env b = all_silent (opening env b) (plain_opening env b)
+
 -- an opening ends no copy as taken
 pub untaken_opening : (env : Env) (b : Broker) → AllByRecursion IsUntaken (opening env b)
 untaken_opening env b = all_untaken (opening env b) (plain_opening env b)

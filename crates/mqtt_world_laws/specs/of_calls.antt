@@ -1,0 +1,3 @@
+-- Any calls of a broker and openings of what it stored, whoever calls.
+pub mod Calls
+pub mod Delivery
