@@ -38,6 +38,7 @@ held_as : {K : Type 0} (holds : K → Records → Type 0) (keep : K) (old new : 
 held_as holds keep old new was now r list counts h =
     subst (λ (cs : List Change). Holding holds keep cs now r) (sym list) (subst (λ (s : Counts). Holding holds keep old s r) (sym counts) h)
 
+-- more changes come behind those that were gathered, and their counters into the counts
 pub gathers : {K : Type 0} (holds : K → Records → Type 0) (keep : K) (old more new : List Change) (counts now : Counts) (r : Records)
     → Holding holds keep old counts r → FitAll more r → AllSayable more → FitContents more r
     → new ≡ old ++ filter changes_rows more → now ≡ counts_after_all more counts → Holding holds keep new now (changed_all more r)

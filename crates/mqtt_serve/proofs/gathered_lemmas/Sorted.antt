@@ -52,6 +52,7 @@ pub record Sorted (changes : List Change) (s : Counts) (r : Records) : Type 0 wh
   pub contents : FitContents (filter changes_rows changes) r
   pub rise : AllRise (counts_after_all changes s) (changed_all (filter changes_rows changes) r)
 
+-- changes that fit are sorted so
 pub sorted : (changes : List Change) (s : Counts) (r : Records) → AllRise s r → FitAll changes (with_counts s r) → AllSayable changes → FitContents changes (with_counts s r) → Sorted changes s r
 sorted [] s r rise fit say same = record { made = refl; fit = tt; sayable = tt; contents = tt; rise = rise }
 sorted (SetCounter counter value ∷ cs) s r rise fit say same =

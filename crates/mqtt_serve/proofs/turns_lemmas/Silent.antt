@@ -22,6 +22,7 @@ module _ {X Y : Type 0} (f : X → Y) where
   alike_all (x ∷ xs) (y ∷ ys) len alike =
       ap₂ (λ (z : Y) (zs : List Y). z ∷ zs) (alike 0 x y refl refl) (alike_all xs ys (omega (arith, len)) (λ k. alike (suc k)))
 
+  -- so of lists that are related
   pub alike_related : (R : X → X → Type 0) → ((x y : X) → R x y → f y ≡ f x) → (xs ys : List X) → Related R xs ys → map f ys ≡ map f xs
   alike_related R same xs ys r = alike_all xs ys r.len (λ k x y at_x at_y. same x y (r.below k x y (within k x xs at_x) at_x at_y))
     where
@@ -30,6 +31,7 @@ module _ {X Y : Type 0} (f : X → Y) where
       within zero x (z ∷ zs) at = omega arith
       within (suc k) x (z ∷ zs) at = omega (arith, within k x zs at)
 
+  -- and of lists that are related at one place
   pub alike_at : (R : X → X → Type 0) → ((x y : X) → R x y → f y ≡ f x) → (place : ℕ) (xs ys : List X) → RelatedAt R place xs ys → map f ys ≡ map f xs
   alike_at R same place xs ys r = alike_all xs ys r.len at
     where
@@ -86,6 +88,7 @@ losing_same false x = refl
 pub silent_same : (old new : List Wire) → map gone new ≡ map gone old → NothingLeaves old new
 silent_same old new is = record { came = []; unsent = tt; same = is ∙ ap (map gone) (sym (append-nil old)) }
 
+-- nothing leaves where nothing is done
 pub silent_still : (old : List Wire) → NothingLeaves old old
 silent_still old = silent_same old old refl
 
@@ -94,6 +97,7 @@ all_more : (xs ys : List Wire) → AllByRecursion (λ (w : Wire). AtFirst [] w.o
 all_more [] ys a b = b
 all_more (x ∷ xs) ys a b = (a.0, all_more xs ys a.1 b)
 
+-- one after the other
 pub silent_then : (a b c : List Wire) → NothingLeaves a b → NothingLeaves b c → NothingLeaves a c
 silent_then a b c first next = record {
   came = first.came ++ next.came;
@@ -102,25 +106,30 @@ silent_then a b c first next = record {
       ∙ sym (map-append gone (a ++ first.came) next.came) ∙ ap (map gone) (append_assoc a first.came next.came);
 }
 
+-- an answer that reaches the connections lets nothing leave
 pub silent_reached : (outputs : List (ℕ × List ℕ)) (closed : List ℕ) (old new : List Wire) → Related (Reaches outputs closed) old new → NothingLeaves old new
 silent_reached outputs closed old new r = silent_same old new (alike_related gone (Reaches outputs closed) same old new r)
   where
     same : (x y : Wire) → Reaches outputs closed x y → gone y ≡ gone x
     same x y h = ap gone h.closes ∙ closing_same (list_any (nat_eq h.told.number) closed) h.told ∙ hears_same x.fate outputs x h.told h.hears
 
+-- nor does the loss of one
 pub silent_lost : (number : ℕ) (old new : List Wire) → AreLost number old new → NothingLeaves old new
 silent_lost number old new r = silent_same old new (alike_related gone (λ x y. y ≡ lost_if number x) same old new r)
   where
     same : (x y : Wire) → y ≡ lost_if number x → gone y ≡ gone x
     same x y e = ap gone e ∙ losing_same (nat_eq x.number number) x
 
+-- nor a read
 pub silent_read : (place room : ℕ) (bytes : List ℕ) (old new : List Wire) → RelatedAt (λ x y. Reads x.fate room bytes x y) place old new → NothingLeaves old new
 silent_read place room bytes old new r =
     silent_same old new (alike_at gone (λ x y. Reads x.fate room bytes x y) (λ x y. reads_same x.fate room bytes x y) place old new r)
 
+-- nor a write
 pub silent_written : (place : ℕ) (wrote : Bool) (old new : List Wire) → RelatedAt (WritesAnd wrote) place old new → NothingLeaves old new
 silent_written place wrote old new r = silent_same old new (alike_at gone (WritesAnd wrote) (λ x y w. writes_same x.fate x y w.writes) place old new r)
 
+-- nor the last write of those that the broker closed
 pub silent_last : (old new : List Wire) → Related (λ x y. WritesLast x.fate x y) old new → NothingLeaves old new
 silent_last old new r = silent_same old new (alike_related gone (λ x y. WritesLast x.fate x y) (λ x y. last_same x.fate x y) old new r)
 
@@ -138,6 +147,7 @@ and_then_more : (told : Option (List ℕ)) (a b : List ℕ) → and_then told (a
 and_then_more None a b = refl
 and_then_more (Some bytes) a b = ap Some (sym (append_assoc bytes a b))
 
+-- what left a connection that was let go was said to it
 pub let_go_said : (went : Bool) (old new : Wire) → LetsGo went old new → WasSaid new
 let_go_said went old new h = record {
   rest = h.rest ++ old.waits;

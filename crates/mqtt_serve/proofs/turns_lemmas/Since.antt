@@ -23,9 +23,11 @@ module _ {K : Type 0} (g : Ghosts K) where
   calls_then a b c first no_call = first
   calls_then a b c first (call_after {t} calls call) = call_after (calls_then a b t first calls) call
 
+  -- where nothing is done everything is held back
   pub holds_still : (s : Server (Serving K)) → HoldsBack g s s
   holds_still s = record { calls = no_call; silent = silent_still s.wires }
 
+  -- one after the other
   pub holds_then : (a b c : Server (Serving K)) → HoldsBack g a b → HoldsBack g b c → HoldsBack g a c
   holds_then a b c first next = record {
     calls = calls_then a.engine b.engine c.engine first.calls next.calls;
@@ -217,6 +219,7 @@ module _ {K : Type 0} (g : Ghosts K) where
 
   -- ---- once the steps are stored
 
+  -- once its steps are stored an engine has nothing that waits to be written
   pub all_stored : (went : Bool) (a b : Server (Serving K)) → IsStored g went a b → IsAllStored g b.engine
   all_stored went a b h sound =
       let called = h.called.called in
@@ -288,6 +291,7 @@ module _ {K : Type 0} (g : Ghosts K) where
   rested_wires true h = refl
   rested_wires false h = refl
 
+  -- so it is after any number of turns
   pub turns_since : (begin : ℕ) (moments : List ℕ) (at : ℕ) (old new : Hosting (Serving K)) → IsAllStored g old.engine
       → TurnsBy (HasSettledTurn g) begin moments at old new → IsHeldSince g (server new.engine new.links.wires)
   turns_since begin moments at old new all no_turn =

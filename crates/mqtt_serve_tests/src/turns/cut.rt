@@ -1,6 +1,6 @@
 //! A disk that stops at each of its calls, under turns whose steps are stored together (MQTT 5.0, 4.1).
 use crate::turns::clients::{Clients, Stage};
-use crate::turns::settled::{Held, gathering, taken};
+use crate::turns::settled::{Held, opened, taken};
 use crate::turns::turns::{CONNACK, PUBLISHER};
 use mqtt_broker::Engine;
 use mqtt_broker_step::EngineError;
@@ -43,26 +43,21 @@ fn file_of(alloc: Global, bytes: &[u8], calls: u64) -> Result<Device, Fail> {
 }
 
 /// A broker over the database in a file and its log; none if it can't be opened before the devices stop.
-fn broker_on(
-    alloc: Global,
-    files: Files<Device>,
-    hasher: RandomState,
-) -> Result<Option<Broker>, Fail> {
+fn broker_on(alloc: Global, files: Files<Device>, hasher: RandomState) -> Option<Broker> {
     let conn = match Connection::open_files_with(alloc, files, Options::new(1), true) {
         Ok(conn) => conn,
         Err((_, left)) => {
             drop(left);
-            return Ok(None);
+            return None;
         }
     };
-    let keep = match SqlKeep::new(alloc, conn) {
-        Ok(keep) => keep,
+    match SqlKeep::new(alloc, conn) {
+        Ok(keep) => opened(alloc, keep, Commit::Turn, hasher),
         Err((_, left)) => {
             drop(left);
-            return Ok(None);
+            None
         }
-    };
-    Ok(gathering(alloc, keep, Commit::Turn, hasher).ok())
+    }
 }
 
 /// Turns up to the one that breaks off: whether one did, and whether nothing of it went out.
@@ -91,44 +86,35 @@ struct Left {
 /// A subscriber whose session does not end, and a publisher, over new files on devices that stop after so many calls; none if the
 /// broker can't be opened before.
 fn run(alloc: Global, calls: u64, hasher: RandomState) -> Result<Option<Left>, Fail> {
-    let files = Files {
-        log: file_of(alloc, &[], calls)?,
-        db: file_of(alloc, &[], calls)?,
-    };
-    let Some(mut engine) = broker_on(alloc, files, hasher)? else {
-        return Ok(None);
-    };
     let clients = Clients::new(alloc, &[STAYING, PUBLISHER], 4096, None)?;
     let mut links = Links::new(alloc, HeldBack::new(alloc, clients))?;
+    let log = file_of(alloc, &[], calls)?;
+    let db = file_of(alloc, &[], calls)?;
+    let Some(mut engine) = broker_on(alloc, Files { log, db }, hasher) else {
+        return Ok(None);
+    };
     let (broke_off, is_silent) = turns(&mut links, &mut engine);
     let sent = taken(&links);
-    drop(links);
-    let files = engine
-        .close()
-        .into_inner()
-        .into_inner()
-        .into_store()
-        .close();
-    let log = files.log.inner().bytes().to_vec(alloc)?;
-    let db = files.db.inner().bytes().to_vec(alloc)?;
+    let conn = engine.close().into_inner().into_inner();
+    let files = conn.into_store().close();
+    let log = files.log.inner().bytes().to_vec(alloc);
+    let db = files.db.inner().bytes().to_vec(alloc);
     drop(files);
     Ok(Some(Left {
         sent,
         broke_off,
         is_silent,
-        log,
-        db,
+        log: log?,
+        db: db?,
     }))
 }
 
 /// Whether what went out is in the files that are left: the publication whose PUBREC went out has its number, and its copy waits
 /// for the subscriber until its PUBREL went out.
 fn is_kept(alloc: Global, left: &Left, hasher: RandomState) -> Result<bool, Fail> {
-    let files = Files {
-        log: file_of(alloc, &left.log, u64::MAX)?,
-        db: file_of(alloc, &left.db, u64::MAX)?,
-    };
-    let Some(engine) = broker_on(alloc, files, hasher)? else {
+    let log = file_of(alloc, &left.log, u64::MAX)?;
+    let db = file_of(alloc, &left.db, u64::MAX)?;
+    let Some(engine) = broker_on(alloc, Files { log, db }, hasher) else {
         return Ok(false);
     };
     let publications = engine.publications();

@@ -101,30 +101,42 @@ pub(crate) fn taken(links: &Held) -> (usize, usize) {
     (clients.taken(0).len(), clients.taken(1).len())
 }
 
-/// A broker over a store that gathers the steps of a turn, or settles each of them.
-pub(crate) fn gathering<K: Settles>(
+/// A broker over a store that gathers the steps of a turn, or settles each of them; none if it can't be opened.
+pub(crate) fn opened<K: Settles>(
+    alloc: Global,
+    keep: K,
+    commit: Commit,
+    hasher: RandomState,
+) -> Option<Engine<Gathered<K>>> {
+    match Engine::open(alloc, Gathered::new(alloc, keep, commit), 0, LIMITS, hasher) {
+        Ok(engine) => Some(engine),
+        Err((keep, _)) => {
+            drop(keep);
+            None
+        }
+    }
+}
+
+/// As `opened`, where it has to be.
+fn gathering<K: Settles>(
     alloc: Global,
     keep: K,
     commit: Commit,
     hasher: RandomState,
 ) -> Result<Engine<Gathered<K>>, Fail> {
-    match Engine::open(alloc, Gathered::new(alloc, keep, commit), 0, LIMITS, hasher) {
-        Ok(engine) => Ok(engine),
-        Err((keep, _)) => {
-            drop(keep);
-            Err(Fail::from("the broker can't be opened"))
-        }
+    match opened(alloc, keep, commit, hasher) {
+        Some(engine) => Ok(engine),
+        None => Err(Fail::from("the broker can't be opened")),
     }
 }
 
-/// Turns up to this moment, of which each has to be had.
-fn turns<K: Settles>(links: &mut Held, engine: &mut Engine<K>, count: u64) -> Result<(), Fail> {
+/// So many turns, a millisecond each; whether each was had.
+fn turns<K: Settles>(links: &mut Held, engine: &mut Engine<K>, count: u64) -> bool {
+    let mut goes_on = true;
     for moment in 0..count {
-        if serve_settled_turn(links, engine, moment).is_err() {
-            return Err(Fail::from("the engine refuses"));
-        }
+        goes_on = goes_on && serve_settled_turn(links, engine, moment).is_ok();
     }
-    Ok(())
+    goes_on
 }
 
 /// Clients over a broker that begins with nothing, for so many turns.
@@ -135,17 +147,15 @@ fn play(
     hasher: RandomState,
     count: u64,
 ) -> Result<Held, Fail> {
-    let mut engine = gathering(alloc, MemKeep::new(alloc)?, commit, hasher)?;
     let mut links = Links::new(alloc, HeldBack::new(alloc, clients))?;
-    let done = turns(&mut links, &mut engine, count);
+    let mut engine = gathering(alloc, MemKeep::new(alloc)?, commit, hasher)?;
+    let goes_on = turns(&mut links, &mut engine, count);
     drop(engine.close());
-    match done {
-        Ok(()) => Ok(links),
-        Err(fail) => {
-            drop(links);
-            Err(fail)
-        }
+    if goes_on {
+        return Ok(links);
     }
+    drop(links);
+    Err(Fail::from("the engine refuses"))
 }
 
 #[test]
@@ -168,14 +178,15 @@ fn both_handshakes_are_done_over_a_link_that_holds_back(rt: HostRuntime) -> Resu
 /// there if its PUBREC went out. Whether the store failed.
 fn fails_silently(
     alloc: Global,
-    hashers: (RandomState, RandomState),
+    hasher: RandomState,
+    hasher_again: RandomState,
     until: u64,
     failure: Failure,
 ) -> Result<bool, Fail> {
-    let keep = FaultyKeep::new(alloc, until, failure)?;
-    let mut engine = gathering(alloc, keep, Commit::Turn, hashers.0)?;
     let clients = Clients::new(alloc, &[SUBSCRIBER, PUBLISHER], 4096, None)?;
     let mut links = Links::new(alloc, HeldBack::new(alloc, clients))?;
+    let keep = FaultyKeep::new(alloc, until, failure)?;
+    let mut engine = gathering(alloc, keep, Commit::Turn, hasher)?;
     let (mut ended, mut is_silent) = (Ok(true), true);
     for moment in 0..30 {
         if ended.is_ok() {
@@ -185,9 +196,8 @@ fn fails_silently(
         }
     }
     let was_answered = links.link().link().taken(1).len() > CONNACK.len();
-    drop(links);
     let keep = engine.close().into_inner();
-    let again = gathering(alloc, keep, Commit::Turn, hashers.1)?;
+    let again = gathering(alloc, keep, Commit::Turn, hasher_again)?;
     let is_there = !was_answered || again.publications() == 1;
     drop(again.close());
     if !is_silent {
@@ -204,8 +214,9 @@ fn nothing_of_a_turn_that_is_not_stored_goes_out(rt: HostRuntime) -> Result<(), 
     for failure in [Failure::BeforeChanges, Failure::AfterChanges] {
         let mut is_swept = false;
         for until in 0..60 {
-            let hashers = (RandomState::new(&rt)?, RandomState::new(&rt)?);
-            if !fails_silently(rt.alloc(), hashers, until, failure)? {
+            let hasher = RandomState::new(&rt)?;
+            let hasher_again = RandomState::new(&rt)?;
+            if !fails_silently(rt.alloc(), hasher, hasher_again, until, failure)? {
                 is_swept = until > 5;
                 break;
             }
@@ -218,19 +229,18 @@ fn nothing_of_a_turn_that_is_not_stored_goes_out(rt: HostRuntime) -> Result<(), 
 #[test]
 fn a_store_that_wants_memory_is_told_again_in_the_next_turn(rt: HostRuntime) -> Result<(), Fail> {
     let alloc = rt.alloc();
-    let keep = WantingKeep::new(alloc, 7)?;
-    let mut engine = gathering(alloc, keep, Commit::Turn, RandomState::new(&rt)?)?;
     let clients = Clients::new(alloc, &[SUBSCRIBER, PUBLISHER], 4096, None)?;
     let mut links = Links::new(alloc, HeldBack::new(alloc, clients))?;
+    let keep = WantingKeep::new(alloc, 7)?;
+    let mut engine = gathering(alloc, keep, Commit::Turn, RandomState::new(&rt)?)?;
     let first = turns(&mut links, &mut engine, 7);
     let is_silent = taken(&links) == (0, 0);
     let then = turns(&mut links, &mut engine, 40);
+    drop(engine.close());
     let is_received = are(links.link().link().taken(0), CONNACK, SUBSCRIBED);
     let is_published = are(links.link().link().taken(1), CONNACK, PUBLISHED);
     drop(links);
-    drop(engine.close());
-    first?;
-    then?;
+    assert!(rt; first && then);
     assert!(rt; is_silent);
     assert!(rt; is_received);
     assert!(rt; is_published);

@@ -60,6 +60,7 @@ pub its_copy_ends : ended its_course ≡ first_copy ∷ []
 unfolding varint is_utf8 chars encode
 its_copy_ends = refl
 
+-- the copy has ended, and none waits
 pub no_copy_waits : standing its_course.end ≡ []
 unfolding varint is_utf8 chars encode
 no_copy_waits = refl
@@ -70,6 +71,7 @@ unfolding varint is_utf8 chars encode
 it_spends_none =
     ((usual_within, refl), ((usual_within, refl), ((usual_within, refl), ((usual_within, refl), ((usual_within, refl), ((usual_within, refl), ((usual_within, refl), ((usual_within, refl), ((usual_within, refl), ((usual_within, refl), ((usual_within, refl), ((usual_within, refl), ((usual_within, refl), tt)))))))))))))
 
+-- so the law holds of these calls
 pub it_keeps_all : KeepsAll its_course
 it_keeps_all = keeps_from_nothing taken_later it_spends_none
 
@@ -90,10 +92,12 @@ pub it_accepts_one : map number_of (course_of unruly blank).acceptances ≡ 1 �
 unfolding varint is_utf8 chars encode
 it_accepts_one = refl
 
+-- one identifier is open in the session of the client that keeps to nothing
 pub one_is_open : open_at 1 (course_of unruly blank).end ≡ 7 ∷ []
 unfolding varint is_utf8 chars encode
 one_is_open = refl
 
+-- its calls spend no number
 pub unruly_spends_none : SpendNone unruly blank
 unfolding varint is_utf8 chars encode
 unruly_spends_none =

@@ -49,6 +49,7 @@ pub the_first_is_completed : fate_of p1 0 (after usual (turns whole)) ≡ Some (
 unfolding varint is_utf8 chars encode
 the_first_is_completed = refl
 
+-- and so is the second
 pub the_second_is_completed : fate_of p1 1 (after usual (turns whole)) ≡ Some (ended completed)
 unfolding varint is_utf8 chars encode
 the_second_is_completed = refl
