@@ -1,4 +1,5 @@
 -- Lemmas on views.
+pub mod Added
 pub mod Examples
 pub mod Lines
 pub mod OneView

@@ -12,6 +12,6 @@ pub use mqtt_link::ServeFault;
 pub use mqtt_rules::Limits;
 pub use mqtt_script::{Played, ReplayFault};
 pub use viewer::{
-    Gives, Status, Vector, VectorsFault, ViewFault, is_right, known_vectors, one_view, vectors,
-    view,
+    Details, Gives, Status, Vector, VectorsFault, ViewFault, is_right, known_vectors, one_view,
+    vectors, view,
 };

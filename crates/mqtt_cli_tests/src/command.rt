@@ -4,5 +4,6 @@ mod failures;
 mod files;
 mod limits;
 mod lines;
+mod properties;
 mod streams;
 mod words;

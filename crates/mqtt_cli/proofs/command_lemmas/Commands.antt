@@ -179,7 +179,7 @@ asks_to_serve command rows None is file script other asks =
 asks_to_serve command rows (Some (Serve listen db turns limits)) is file script other asks =
     subst (λ (r : Option (List Row)). AsksToServe r listen db.now turns limits) (sym is) asks
 asks_to_serve command rows (Some Vectors) is file script other asks = absurd asks
-asks_to_serve command rows (Some (View path payload)) is file script other asks = absurd asks
+asks_to_serve command rows (Some (View path details)) is file script other asks = absurd asks
 asks_to_serve command rows (Some (Replay path limits)) is file script other asks = absurd asks
 
 -- and those of `replay`
@@ -191,7 +191,7 @@ asks_to_replay command rows None is file no_rows other asks =
 asks_to_replay command rows (Some (Replay path limits)) is file no_rows other asks =
     subst (λ (r : Option (List Row)). AsksToReplay r path.now limits) (sym is) asks
 asks_to_replay command rows (Some Vectors) is file no_rows other asks = absurd asks
-asks_to_replay command rows (Some (View path payload)) is file no_rows other asks = absurd asks
+asks_to_replay command rows (Some (View path details)) is file no_rows other asks = absurd asks
 asks_to_replay command rows (Some (Serve listen db turns limits)) is file no_rows other asks = absurd asks
 
 -- whether it is `vectors`

@@ -2,7 +2,7 @@
 use Rattle.std.proofs.Common.{◌≡◌, true, List, [], ◌∷◌, None, Some, codes, refl}
 use Rattle.clap.proofs.OnLiterals.{clap_on_literals}
 use Rattle.clap.specs.Words.{Text}
-use Rattle.mqtt_cli.specs.command.Line.{command_of, file_in, is_vectors, payload_in, replay_rows_in, rows_in, serve_rows_in}
+use Rattle.mqtt_cli.specs.command.Line.{command_of, file_in, flag_in, is_vectors, replay_rows_in, rows_in, serve_rows_in}
 use Rattle.mqtt_cli.specs.command.Values.{value_in}
 use Rattle.mqtt_cli.specs.declared.command.outcome.TheConstants.{DONE, FAULTY, USAGE, FAILED}
 
@@ -29,13 +29,17 @@ standard_input : file_in (rows_in (command_of (line_of (codes "view" ∷ codes "
 unfolding clap_on_literals
 standard_input = refl
 
-with_flag : payload_in (rows_in (command_of (line_of (codes "view" ∷ codes "--payload" ∷ codes "f" ∷ [])))) ≡ Some (codes "true")
+with_flag : flag_in (codes "payload") (rows_in (command_of (line_of (codes "view" ∷ codes "--payload" ∷ codes "f" ∷ [])))) ≡ Some (codes "true")
 unfolding clap_on_literals
 with_flag = refl
 
-without_flag : payload_in (rows_in (command_of (line_of (codes "view" ∷ codes "f" ∷ [])))) ≡ Some (codes "false")
+without_flag : flag_in (codes "payload") (rows_in (command_of (line_of (codes "view" ∷ codes "f" ∷ [])))) ≡ Some (codes "false")
 unfolding clap_on_literals
 without_flag = refl
+
+with_properties : flag_in (codes "properties") (rows_in (command_of (line_of (codes "view" ∷ codes "--properties" ∷ codes "f" ∷ [])))) ≡ Some (codes "true")
+unfolding clap_on_literals
+with_properties = refl
 
 no_command : command_of (line_of []) ≡ None
 unfolding clap_on_literals

@@ -1,5 +1,5 @@
 -- Each input has one view, and what a view that stopped early wrote is a beginning of it.
-use Rattle.std.proofs.Common.{◌≡◌, ℕ, Bool, List, [], ◌∷◌, ◌++◌, drop, Some, Ok, refl, ap, sym, ◌∙◌, append_assoc}
+use Rattle.std.proofs.Common.{◌≡◌, ℕ, List, [], ◌∷◌, ◌++◌, drop, Some, Ok, refl, ap, sym, ◌∙◌, append_assoc}
 use Rattle.std.specs.List.{flat_map}
 use Rattle.std.proofs.lemmas.Grind.{flat_map-append}
 use Rattle.mqtt_packet.specs.declared.codec.packet.Packet.{Packet}
@@ -9,25 +9,26 @@ use Rattle.mqtt_packet.proofs.stream_lemmas.Cuts.{stream_exists, stream_unique, 
 use Rattle.mqtt_packet.proofs.stream_lemmas.Fronts.{found_size, found_packet}
 use Rattle.mqtt_cli.specs.viewer.View.{line, last_line, view_text}
 use Rattle.mqtt_cli.specs.viewer.Viewing.{Views, WritesFront, status_of}
+use Rattle.mqtt_cli.specs.declared.viewer.details.Details.{Details}
 use Rattle.mqtt_cli.specs.declared.viewer.viewer.Status.{Status}
 
 -- every input has a view
-pub some_view : (with_payload : Bool) (input before : List ℕ)
-    → (after : List ℕ) × (status : Status) × Views with_payload input (Some before) (Some after) status
-some_view with_payload input before =
+pub some_view : (details : Details) (input before : List ℕ)
+    → (after : List ℕ) × (status : Status) × Views details input (Some before) (Some after) status
+some_view details input before =
     let (items, ending, stream) = stream_exists input in (
-      before ++ view_text with_payload items ending,
+      before ++ view_text details items ending,
       status_of ending,
       record { items = items; ending = ending; stream = stream; wrote = refl; status_is = refl },
     )
 
 -- and one alone
-pub only_view : (with_payload : Bool) (input before after other : List ℕ) (status another : Status)
-    → Views with_payload input (Some before) (Some after) status → Views with_payload input (Some before) (Some other) another
+pub only_view : (details : Details) (input before after other : List ℕ) (status another : Status)
+    → Views details input (Some before) (Some after) status → Views details input (Some before) (Some other) another
     → (after ≡ other) × (status ≡ another)
-only_view with_payload input before after other status another v w =
+only_view details input before after other status another v w =
     let (items, ending) = stream_unique input v.items w.items v.ending w.ending v.stream w.stream in
-    let text = ap (λ (xs : List Item). view_text with_payload xs v.ending) items ∙ ap (view_text with_payload w.items) ending in (
+    let text = ap (λ (xs : List Item). view_text details xs v.ending) items ∙ ap (view_text details w.items) ending in (
       v.wrote ∙ ap (λ (t : List ℕ). before ++ t) text ∙ sym w.wrote,
       v.status_is ∙ ap status_of ending ∙ sym w.status_is,
     )
@@ -46,24 +47,24 @@ cut_begins place stream (x ∷ xs) (y ∷ ys) d e r s a b q =
     (begins.0, ap (λ (l : List Item). y ∷ l) begins.1 ∙ ap (λ (i : Item). i ∷ (xs ++ begins.0)) (sym (same_item x y (a.0 ∙ sym b.0) size packet)))
 
 -- the lines of some packets begin the text of a stream that begins with them
-text_begins : (with_payload : Bool) (xs more : List Item) (ending : Ending) (before : List ℕ)
-    → before ++ view_text with_payload (xs ++ more) ending ≡ (before ++ flat_map (line with_payload) xs) ++ view_text with_payload more ending
-text_begins with_payload xs more ending before =
-    let f = line with_payload in
+text_begins : (details : Details) (xs more : List Item) (ending : Ending) (before : List ℕ)
+    → before ++ view_text details (xs ++ more) ending ≡ (before ++ flat_map (line details) xs) ++ view_text details more ending
+text_begins details xs more ending before =
+    let f = line details in
     let last = last_line ending in
     ap (λ (t : List ℕ). before ++ (t ++ last)) (flat_map-append f xs more)
     ∙ ap (λ (t : List ℕ). before ++ t) (append_assoc (flat_map f xs) (flat_map f more) last)
     ∙ sym (append_assoc before (flat_map f xs) (flat_map f more ++ last))
 
 -- what was written of it so far is its beginning
-pub early_begins : (with_payload : Bool) (input before after early : List ℕ) (status : Status)
-    → Views with_payload input (Some before) (Some after) status → WritesFront with_payload input (Some before) (Some early)
+pub early_begins : (details : Details) (input before after early : List ℕ) (status : Status)
+    → Views details input (Some before) (Some after) status → WritesFront details input (Some before) (Some early)
     → (rest : List ℕ) × (after ≡ early ++ rest)
-early_begins with_payload input before after early status v w =
+early_begins details input before after early status v w =
     let (end, rest, cut, ends) = v.stream in
     let begins = cut_begins 0 input w.items v.items w.end end w.rest rest w.cut cut (λ x first. ended end rest v.ending x ends first) in
-    let more = view_text with_payload begins.0 v.ending in (
+    let more = view_text details begins.0 v.ending in (
       more,
-      v.wrote ∙ ap (λ (xs : List Item). before ++ view_text with_payload xs v.ending) begins.1
-          ∙ text_begins with_payload w.items begins.0 v.ending before ∙ ap (λ (t : List ℕ). t ++ more) (sym w.wrote),
+      v.wrote ∙ ap (λ (xs : List Item). before ++ view_text details xs v.ending) begins.1
+          ∙ text_begins details w.items begins.0 v.ending before ∙ ap (λ (t : List ℕ). t ++ more) (sym w.wrote),
     )

@@ -8,21 +8,23 @@ use Rattle.mqtt_cli.specs.declared.command.line.Action.{Action}
 use Rattle.mqtt_cli.specs.declared.command.line.Action.TheVariants.{View, Replay, Vectors, Serve}
 use Rattle.mqtt_cli.specs.command.Limits.{AsksForLimits, with_limits}
 use Rattle.mqtt_cli.specs.command.Values.{IsAddress, IsCount, value_in}
+use Rattle.mqtt_cli.specs.declared.viewer.details.Details.{Details}
 use Rattle.mqtt_rules.specs.declared.step.Limits.{Limits}
 use Rattle.std.specs.declared.net.socket_addr.SocketAddrV4.{SocketAddrV4}
 
--- `--payload`, a flag
-abbrev pub payload_rule : Rule
-payload_rule =
-    record (new_rule (codes "payload")) { long = Some (codes "payload"); action = Some SetTrue }
+-- `--NAME`, a flag
+abbrev pub flag_rule : Text → Rule
+flag_rule name = record (new_rule name) { long = Some name; action = Some SetTrue }
 
 -- FILE, which has to be there
 abbrev pub file_rule : Rule
 file_rule = record (new_rule (codes "file")) { value_names = 1; required = true }
 
--- `view [--payload] FILE`
+-- `view [--payload] [--properties] FILE`
 abbrev pub view_app : App
-view_app = with_rule (with_rule (new_app (codes "view")) payload_rule) file_rule
+view_app =
+    with_rule (with_rule (with_rule (new_app (codes "view")) (flag_rule (codes "payload"))) (flag_rule (codes "properties")))
+    file_rule
 
 -- `replay FILE`, with the options for limits
 abbrev pub replay_app : App
@@ -80,15 +82,21 @@ serve_rows_in (Some command) = if bytes_eq command.0 (codes "serve") then Some c
 abbrev pub file_in : Option (List Row) → Option Text
 file_in rows = option_and_then (first_of (codes "file")) rows
 
--- the value of `--payload`
-abbrev pub payload_in : Option (List Row) → Option Text
-payload_in rows = option_and_then (one_of (codes "payload")) rows
+-- the value of a flag
+abbrev pub flag_in : Text → Option (List Row) → Option Text
+flag_in name rows = option_and_then (one_of name) rows
 
 -- the flag by the text of its value
 pub record IsFlag (value : Option Text) (flag : Bool) : Type 0 where
   pub none : value ≡ None → flag ≡ false
   pub is_true : value ≡ Some (codes "true") → flag ≡ true
   pub is_false : value ≡ Some (codes "false") → flag ≡ false
+
+-- the view of this file is asked for, with these details
+pub record AsksForView (rows : Option (List Row)) (file : Text) (details : Details) : Type 0 where
+  pub file_is : file_in rows ≡ Some file
+  pub payload : IsFlag (flag_in (codes "payload") rows) details.payload
+  pub properties : IsFlag (flag_in (codes "properties") rows) details.properties
 
 -- `serve` is asked for at this address, over this database, for so many turns, with these limits
 pub record AsksToServe (rows : Option (List Row)) (listen : SocketAddrV4) (db : Text) (turns : ℕ) (limits : Limits) : Type 0 where
@@ -119,7 +127,7 @@ abbrev pub AskToServe : List Row → Option Action → Type 0
 AskToServe rows None = AsksNoServer (Some rows)
 AskToServe rows (Some (Serve listen db turns limits)) = AsksToServe (Some rows) listen db.now turns limits
 AskToServe rows (Some Vectors) = ⊥
-AskToServe rows (Some (View file payload)) = ⊥
+AskToServe rows (Some (View file details)) = ⊥
 AskToServe rows (Some (Replay file limits)) = ⊥
 
 -- these matches of `replay` ask for this, or for nothing
@@ -127,7 +135,7 @@ abbrev pub AskToReplay : List Row → Option Action → Type 0
 AskToReplay rows None = AsksNoReplay (Some rows)
 AskToReplay rows (Some (Replay file limits)) = AsksToReplay (Some rows) file.now limits
 AskToReplay rows (Some Vectors) = ⊥
-AskToReplay rows (Some (View file payload)) = ⊥
+AskToReplay rows (Some (View file details)) = ⊥
 AskToReplay rows (Some (Serve listen db turns limits)) = ⊥
 
 -- this command asks for this, or for nothing
@@ -136,7 +144,6 @@ AskFor command None =
     (file_in (rows_in command) ≡ None) × AsksNoReplay (replay_rows_in command) × (is_vectors command ≡ false)
     × AsksNoServer (serve_rows_in command)
 AskFor command (Some Vectors) = is_vectors command ≡ true
-AskFor command (Some (View file payload)) =
-    (file_in (rows_in command) ≡ Some file.now) × IsFlag (payload_in (rows_in command)) payload
+AskFor command (Some (View file details)) = AsksForView (rows_in command) file.now details
 AskFor command (Some (Replay file limits)) = AsksToReplay (replay_rows_in command) file.now limits
 AskFor command (Some (Serve listen db turns limits)) = AsksToServe (serve_rows_in command) listen db.now turns limits

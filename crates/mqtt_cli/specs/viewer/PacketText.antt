@@ -1,4 +1,4 @@
--- What the viewer shows of a packet: its name, its size, its fields and how many properties it has (ours).
+-- What the viewer shows of a packet: its name, its size, its fields, its properties and the beginning of its payload (ours).
 use Rattle.std.specs.Prelude.{ℕ, ◌==◌, Bool, true, false, if◌then◌else◌, List, [], ◌∷◌, ◌++◌, length, take, codes, is_some}
 use Rattle.std.specs.List.{flat_map}
 use Rattle.std.specs.Fmt.{decimal}
@@ -19,7 +19,9 @@ use Rattle.mqtt_packet.specs.declared.codec.packet.Packet.TheVariants as packets
 use Rattle.mqtt_packet.specs.parts.Bits.{bit}
 use Rattle.mqtt_packet.specs.codec.Packets.{properties_of}
 use Rattle.mqtt_packet.specs.subscribe.Subscriptions.{Subscription}
+use Rattle.mqtt_cli.specs.declared.viewer.details.Details.{Details}
 use Rattle.mqtt_cli.specs.declared.viewer.packet_text.TheConstants.{HEAD_SIZE}
+use Rattle.mqtt_cli.specs.viewer.PropertyText.{details_text}
 
 -- ---- texts of packets
 
@@ -137,8 +139,12 @@ abbrev pub payload_text : Bool → Packet → List ℕ
 payload_text with_payload (packets.Publish p) = head_text with_payload p.payload
 payload_text with_payload p = []
 
+-- no more than the fields, and how many properties there are
+abbrev pub fields_alone : Details
+fields_alone = record { payload = false; properties = false }
+
 -- a packet of this size, without its place
-abbrev pub packet_text : Bool → ℕ → Packet → List ℕ
-packet_text with_payload size p =
+abbrev pub packet_text : Details → ℕ → Packet → List ℕ
+packet_text details size p =
     codes " " ++ name_text p ++ codes " " ++ decimal size ++ fields_text p
-    ++ count_text (length (properties_of p)) ++ payload_text with_payload p
+    ++ count_text (length (properties_of p)) ++ details_text details.properties p ++ payload_text details.payload p

@@ -8,7 +8,7 @@ use Rattle.mqtt_packet.specs.declared.codec.packet.Packet.{Packet}
 use Rattle.mqtt_packet.specs.parts.Bits.{bit}
 use Rattle.mqtt_packet.specs.codec.Packets.{HasSpelling, shortest_of}
 use Rattle.mqtt_packet.specs.stream.Front.{first_of}
-use Rattle.mqtt_cli.specs.viewer.PacketText.{packet_text}
+use Rattle.mqtt_cli.specs.viewer.PacketText.{fields_alone, packet_text}
 use Rattle.mqtt_cli.specs.viewer.View.{line_feed}
 use Rattle.mqtt_cli.specs.declared.viewer.vectors_table.Gives.{Gives}
 use Rattle.mqtt_cli.specs.declared.viewer.vectors_table.Gives.TheVariants as gives
@@ -21,7 +21,7 @@ use Rattle.mqtt_cli.specs.declared.viewer.viewer.Status.TheVariants.{Whole, Faul
 -- this line, without its place, and this shortest spelling are those of a packet of this size
 abbrev pub IsShown : Gives → ℕ → Packet → Type 0
 IsShown (gives.Packet line shortest) size packet =
-    HasSpelling packet × (line.now ≡ packet_text false size packet) × (shortest.now ≡ shortest_of packet)
+    HasSpelling packet × (line.now ≡ packet_text fields_alone size packet) × (shortest.now ≡ shortest_of packet)
 IsShown (gives.Refusal fault) size packet = ⊥
 
 -- What is known of a frame is what it gives: it is one whole packet, with this line and this shortest spelling, or it

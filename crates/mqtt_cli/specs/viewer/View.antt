@@ -1,18 +1,19 @@
 -- The text of the viewer: what `view` prints of a stream of packets (ours).
-use Rattle.std.specs.Prelude.{ℕ, ◌==◌, Bool, if◌then◌else◌, List, [], ◌∷◌, ◌++◌, length, codes}
+use Rattle.std.specs.Prelude.{ℕ, ◌==◌, if◌then◌else◌, List, [], ◌∷◌, ◌++◌, length, codes}
 use Rattle.std.specs.List.{flat_map}
 use Rattle.std.specs.Fmt.{decimal}
 use Rattle.mqtt_packet.specs.declared.parts.fault.Fault.{Fault}
 use Rattle.mqtt_packet.specs.declared.parts.fault.Fault.TheVariants.{Malformed, Protocol, TooLarge, Version, Memory}
 use Rattle.mqtt_packet.specs.stream.Stream.{Item, Ending, short_at, fault_at}
+use Rattle.mqtt_cli.specs.declared.viewer.details.Details.{Details}
 use Rattle.mqtt_cli.specs.viewer.PacketText.{packet_text}
 
 abbrev pub line_feed : ℕ
 line_feed = 0x0a
 
 -- the line of a packet
-abbrev pub line : Bool → Item → List ℕ
-line with_payload i = decimal i.place ++ packet_text with_payload i.size i.packet ++ line_feed ∷ []
+abbrev pub line : Details → Item → List ℕ
+line details i = decimal i.place ++ packet_text details i.size i.packet ++ line_feed ∷ []
 
 -- a fault, which is never want of memory
 abbrev pub fault_text : Fault → List ℕ
@@ -37,5 +38,5 @@ last_line (short_at place left) = rest_line place (length left)
 last_line (fault_at place fault) = fault_line place fault
 
 -- a line for each packet, and one for what ends the stream early
-abbrev pub view_text : Bool → List Item → Ending → List ℕ
-view_text with_payload items ending = flat_map (line with_payload) items ++ last_line ending
+abbrev pub view_text : Details → List Item → Ending → List ℕ
+view_text details items ending = flat_map (line details) items ++ last_line ending

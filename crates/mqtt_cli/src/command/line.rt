@@ -2,6 +2,7 @@
 
 ghost use Rattle.std.specs.Prelude.{◌≡◌};
 
+use crate::viewer::Details;
 use mqtt_rules::Limits;
 use std::alloc::AllocError;
 use std::net::SocketAddrV4;
@@ -10,12 +11,12 @@ use thiserror::Error;
 /// What a command line asks for. Its texts lie in the words.
 #[derive(Clone, Copy, Debug, PartialEq, Eq)]
 pub enum Action<'a> {
-    /// `view [--payload] FILE`
+    /// `view [--payload] [--properties] FILE`
     View {
         /// The path of the input; `-` is standard input.
         file: &'a str,
-        /// Whether a PUBLISH shows the first bytes of its payload.
-        payload: bool,
+        /// What the lines show beside the fields.
+        details: Details,
     },
     /// `replay [--full refuse|drop] [--queue N] [--sessions N] [--retained N] FILE`
     Replay {

@@ -8,7 +8,7 @@ ghost use Rattle.mqtt_rules.specs.step.Laws.{AreWithin};
 use crate::command::line::{Action, LineFault};
 use crate::command::outcome::Outcome;
 use crate::command::words::action;
-use crate::viewer::{ViewFault, vectors, view};
+use crate::viewer::{Details, ViewFault, vectors, view};
 use mqtt_link::ServeFault;
 use mqtt_rules::Limits;
 use mqtt_script::{Played, ReplayFault};
@@ -34,11 +34,11 @@ fn view_of<I: Read + Drop, W: Write>(
     alloc: Global,
     mut reader: I,
     writer: &mut W,
-    payload: bool,
+    details: Details,
 ) -> Outcome
     ensures { IsOfView result }
 {
-    match view(alloc, &mut reader, writer, payload) {
+    match view(alloc, &mut reader, writer, details) {
         Ok(status) => Outcome::Done(status),
         Err(fault) => Outcome::View(fault),
     }
@@ -110,11 +110,11 @@ pub fn perform<
             Ok(played) => Outcome::Replayed(played),
             Err(fault) => Outcome::Replay(fault),
         },
-        Ok(Action::View { file: "-", payload }) => {
-            view_of(rt.alloc(), rt.reader(), writer, payload)
+        Ok(Action::View { file: "-", details }) => {
+            view_of(rt.alloc(), rt.reader(), writer, details)
         }
-        Ok(Action::View { file, payload }) => match fs::open(rt, file) {
-            Ok(file) => view_of(rt.alloc(), file, writer, payload),
+        Ok(Action::View { file, details }) => match fs::open(rt, file) {
+            Ok(file) => view_of(rt.alloc(), file, writer, details),
             Err(error) if error.kind() == ErrorKind::OutOfMemory => {
                 Outcome::View(ViewFault::Memory)
             }

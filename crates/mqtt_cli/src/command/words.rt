@@ -3,11 +3,12 @@
 ghost use Rattle.std.specs.Prelude.{◌≡◌, ◌≢◌, None, Some, IfErr, IfOk, false, map};
 ghost use Rattle.clap.specs.Words.{app_of, found_of, kind_of, rows_of, rule_of, subcommand_rows_of};
 ghost use Rattle.clap.specs.declared.builder.command.Command.TheViews.{out-Command as fields_of};
-ghost use Rattle.mqtt_cli.specs.command.Line.{AskFor, AskToReplay, AskToServe, command_of, file_rule, option_rule, payload_rule, program_app, replay_app, serve_app, vectors_app, view_app};
+ghost use Rattle.mqtt_cli.specs.command.Line.{AskFor, AskToReplay, AskToServe, command_of, file_rule, flag_rule, option_rule, program_app, replay_app, serve_app, vectors_app, view_app};
 
 use crate::command::limits::{form_of_wrong, limited, limits_in};
 use crate::command::line::{Action, LineFault};
 use crate::command::values::{address_read, count_read};
+use crate::viewer::Details;
 use clap::error::ErrorKind;
 use clap::{Arg, ArgAction, ArgMatches, Command};
 use std::alloc::{AllocError, Global};
@@ -72,8 +73,11 @@ fn action_in<'a>(matches: &ArgMatches<'a>) -> Option<Action<'a>>
         return None;
     }
     let file = view.get_str("file")?;
-    let payload = view.get_flag("payload");
-    Some(Action::View { file, payload })
+    let details = Details {
+        payload: view.get_flag("payload"),
+        properties: view.get_flag("properties"),
+    };
+    Some(Action::View { file, details })
 }
 
 /// What the matches of `serve` ask for: nothing, if a value isn't of its form.
@@ -119,14 +123,23 @@ fn program<'a>(alloc: Global) -> Result<Command<'a>, AllocError>
         .subcommand(serve)
 }
 
-/// `view [--payload] FILE`
+/// `view [--payload] [--properties] FILE`
 fn view_command<'a>(alloc: Global) -> Result<Command<'a>, AllocError>
     ensures app { IfOk result (λ command. app_of command ≡ view_app) }
     ensures local { IfOk result (λ command. (fields_of command).has_globals ≡ false) }
 {
     Command::new(alloc, "view")
         .about("Writes a line for each packet of FILE")
-        .arg(payload_arg(alloc))?
+        .arg(flag_arg(
+            alloc,
+            "payload",
+            "Show the first 16 payload bytes of each PUBLISH",
+        ))?
+        .arg(flag_arg(
+            alloc,
+            "properties",
+            "Show each property; of a CONNECT its Will and its User Name too",
+        ))?
         .arg(file_arg(alloc, "The bytes to view; - is standard input"))
 }
 
@@ -141,14 +154,14 @@ fn replay_command<'a>(alloc: Global) -> Result<Command<'a>, AllocError>
     limited(alloc, command)
 }
 
-/// `--payload`
-fn payload_arg<'a>(alloc: Global) -> Arg<'a>
-    ensures rule { rule_of result ≡ payload_rule }
+/// `--NAME`, a flag.
+fn flag_arg<'a>(alloc: Global, name: &'a str, help: &'a str) -> Arg<'a>
+    ensures rule { rule_of result ≡ flag_rule name.entry.now }
     ensures local { result.global ≡ false }
 {
-    Arg::new(alloc, "payload")
-        .long("payload")
-        .help("Show the first 16 payload bytes of each PUBLISH")
+    Arg::new(alloc, name)
+        .long(name)
+        .help(help)
         .action(ArgAction::SetTrue)
 }
 

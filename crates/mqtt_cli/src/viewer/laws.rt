@@ -1,20 +1,21 @@
 //! What holds of every view (ours).
 
-ghost use Rattle.std.specs.Prelude.{◌≡◌, ℕ, List, Bool, Some, ◌++◌};
+ghost use Rattle.std.specs.Prelude.{◌≡◌, ℕ, List, Some, ◌++◌};
 ghost use Rattle.mqtt_cli.specs.viewer.Viewing.{Views, WritesFront};
+ghost use Rattle.mqtt_cli.specs.declared.viewer.details.Details.{Details};
 ghost use Rattle.mqtt_cli.specs.declared.viewer.viewer.Status.{Status};
 
 /// Each input has one view, with one status, and all that a view that stopped early has written is
 /// a beginning of it.
 pub fn one_view()
-    ensures some { (payload : Bool) (input before : List ℕ) → (after : List ℕ) × (status : Status)
-        × Views payload input (Some before) (Some after) status }
-    ensures only { (payload : Bool) (input before after other : List ℕ) (status another : Status)
-        → Views payload input (Some before) (Some after) status
-        → Views payload input (Some before) (Some other) another
+    ensures some { (details : Details) (input before : List ℕ) → (after : List ℕ) × (status : Status)
+        × Views details input (Some before) (Some after) status }
+    ensures only { (details : Details) (input before after other : List ℕ) (status another : Status)
+        → Views details input (Some before) (Some after) status
+        → Views details input (Some before) (Some other) another
         → (after ≡ other) × (status ≡ another) }
-    ensures front { (payload : Bool) (input before after early : List ℕ) (status : Status)
-        → Views payload input (Some before) (Some after) status
-        → WritesFront payload input (Some before) (Some early)
+    ensures front { (details : Details) (input before after early : List ℕ) (status : Status)
+        → Views details input (Some before) (Some after) status
+        → WritesFront details input (Some before) (Some early)
         → (rest : List ℕ) × (after ≡ early ++ rest) }
 {}

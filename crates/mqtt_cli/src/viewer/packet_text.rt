@@ -16,7 +16,10 @@ ghost use Rattle.mqtt_packet.specs.codec.Publish.{publish_of};
 ghost use Rattle.mqtt_packet.specs.codec.Suback.{suback_of};
 ghost use Rattle.mqtt_base.specs.Escaped.{escaped, escaped_byte, hex_byte, is_plain};
 ghost use Rattle.mqtt_cli.specs.viewer.PacketText.{head_text, digit_text, next_code, codes_text, connect_text, connack_text, dup_text, retain_text, delivery_text, publish_text, ack_text, subscription_text, subscribe_text, suback_text, filter_text, unsubscribe_text, notice_text, name_text, fields_text, count_text, payload_text, packet_text};
+ghost use Rattle.mqtt_cli.specs.viewer.PropertyText.{details_text};
 
+use crate::viewer::details::Details;
+use crate::viewer::property_text::push_details;
 use itoa::Buffer;
 use mqtt_packet::{
     AckRef, ConnackRef, ConnectRef, Delivery, FiltersRef, NoticeRef, PacketRef, PublishRef,
@@ -36,7 +39,7 @@ pub(crate) fn push_number(text: &mut Vec<u8>, number: u64) -> Result<(), AllocEr
 }
 
 /// Adds the name of a field and its number.
-fn push_field(text: &mut Vec<u8>, name: &[u8], number: u64) -> Result<(), AllocError>
+pub(crate) fn push_field(text: &mut Vec<u8>, name: &[u8], number: u64) -> Result<(), AllocError>
     ensures { OnOk result (text.new.items ≡ text.old.items ++ name.now ++ decimal number) }
 {
     text.extend_from_slice(name)?;
@@ -88,7 +91,7 @@ fn plain_len(bytes: &[u8]) -> usize
 }
 
 /// Adds a byte of a text: itself, or `%` and two hexadecimal digits.
-fn push_escaped_byte(text: &mut Vec<u8>, byte: u8) -> Result<(), AllocError>
+pub(crate) fn push_escaped_byte(text: &mut Vec<u8>, byte: u8) -> Result<(), AllocError>
     ensures { OnOk result (text.new.items ≡ text.old.items ++ escaped_byte byte) }
 {
     if is_plain(byte) {
@@ -100,7 +103,7 @@ fn push_escaped_byte(text: &mut Vec<u8>, byte: u8) -> Result<(), AllocError>
 
 /// Adds a text of a packet in one word, whatever its bytes; those that stand for themselves in runs.
 #[tactic(auto, using(crate::proofs::viewer_lemmas::Texts::runs_next, crate::proofs::viewer_lemmas::Texts::runs_end))]
-fn push_escaped(text: &mut Vec<u8>, value: &str) -> Result<(), AllocError>
+pub(crate) fn push_escaped(text: &mut Vec<u8>, value: &str) -> Result<(), AllocError>
     ensures { OnOk result (text.new.items ≡ text.old.items ++ escaped value.now) }
 {
     let mut rest = value.as_bytes();
@@ -371,14 +374,21 @@ fn push_count(text: &mut Vec<u8>, count: usize) -> Result<(), AllocError>
 }
 
 /// Adds bytes in hexadecimal.
+pub(crate) fn push_bytes(alloc: Global, text: &mut Vec<u8>, bytes: &[u8]) -> Result<(), AllocError>
+    ensures { OnOk result (text.new.items ≡ text.old.items ++ encode_lower bytes.now) }
+{
+    let shown = hex::encode(alloc, bytes)?;
+    text.extend_from_slice(shown.as_bytes())
+}
+
+/// Adds the first bytes of a payload.
 #[tactic(auto, using(std::proofs::lemmas::List::append_assoc))]
 fn push_shown(alloc: Global, text: &mut Vec<u8>, bytes: &[u8]) -> Result<(), AllocError>
     ensures { OnOk result (text.new.items
         ≡ text.old.items ++ (codes " head=" ++ encode_lower bytes.now)) }
 {
-    let shown = hex::encode(alloc, bytes)?;
     text.extend_from_slice(b" head=")?;
-    text.extend_from_slice(shown.as_bytes())
+    push_bytes(alloc, text, bytes)
 }
 
 /// Adds the first bytes of a payload, if they are asked for.
@@ -417,15 +427,16 @@ fn push_payload(
 pub fn push_packet_text(
     alloc: Global,
     text: &mut Vec<u8>,
-    with_payload: bool,
+    details: Details,
     size: usize,
     packet: &PacketRef<'_>,
 ) -> Result<(), AllocError>
     ensures { OnOk result (text.new.items
-        ≡ text.old.items ++ packet_text with_payload size (packet_of packet.now)) }
+        ≡ text.old.items ++ packet_text details size (packet_of packet.now)) }
 {
     push_field(text, spaced_name(packet), size as u64)?;
     push_fields(text, packet)?;
     push_count(text, packet.properties().len())?;
-    push_payload(alloc, text, with_payload, packet)
+    push_details(alloc, text, details.properties, packet)?;
+    push_payload(alloc, text, details.payload, packet)
 }

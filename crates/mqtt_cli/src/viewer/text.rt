@@ -4,6 +4,7 @@ ghost use Rattle.std.specs.Prelude.{◌≡◌, ◌++◌, OnOk};
 ghost use Rattle.mqtt_packet.specs.codec.Frames.{packet_of};
 ghost use Rattle.mqtt_cli.specs.viewer.View.{line, fault_line, rest_line};
 
+use crate::viewer::details::Details;
 use crate::viewer::packet_text::{push_number, push_packet_text};
 use mqtt_packet::{Fault, PacketRef};
 use std::alloc::{AllocError, Global};
@@ -13,16 +14,16 @@ use std::alloc::{AllocError, Global};
 pub fn push_packet(
     alloc: Global,
     text: &mut Vec<u8>,
-    with_payload: bool,
+    details: Details,
     place: u64,
     size: usize,
     packet: &PacketRef<'_>,
 ) -> Result<(), AllocError>
-    ensures { OnOk result (text.new.items ≡ text.old.items ++ line with_payload
+    ensures { OnOk result (text.new.items ≡ text.old.items ++ line details
         (record { place = place; size = size; packet = packet_of packet.now })) }
 {
     push_number(text, place)?;
-    push_packet_text(alloc, text, with_payload, size, packet)?;
+    push_packet_text(alloc, text, details, size, packet)?;
     text.extend_from_slice(b"\n")
 }
 

@@ -5,9 +5,10 @@ ghost use Rattle.std.specs.String.{string_bytes};
 ghost use Rattle.std.specs.Io.KnownBytes.{Appends, Keeps};
 ghost use Rattle.mqtt_packet.specs.codec.Packets.{HasSpelling, shortest_of};
 ghost use Rattle.mqtt_packet.specs.stream.Stream.{empty};
-ghost use Rattle.mqtt_cli.specs.viewer.PacketText.{packet_text};
+ghost use Rattle.mqtt_cli.specs.viewer.PacketText.{fields_alone, packet_text};
 ghost use Rattle.mqtt_cli.specs.viewer.Vectors.{AreJudged, FindsWhole, IsRight, IsShown, Reports, report};
 
+use crate::viewer::details::Details;
 use crate::viewer::packet_text::push_packet_text;
 use crate::viewer::vectors_report::{push_report, status_of};
 use crate::viewer::vectors_table::{Gives, Vector, known_vectors};
@@ -183,10 +184,14 @@ fn is_shown(alloc: Global, gives: &Gives, size: usize, packet: &Packet) -> Resul
 
 /// Whether this is the line of a packet of this size, without its place.
 fn has_line(alloc: Global, packet: &Packet, size: usize, line: &[u8]) -> Result<bool, AllocError>
-    ensures { IfOk result (λ is. IsTrue is ↔ (line.now ≡ packet_text false size packet.now)) }
+    ensures { IfOk result (λ is. IsTrue is ↔ (line.now ≡ packet_text fields_alone size packet.now)) }
 {
     let mut text = Vec::new(alloc);
-    let pushed = push_packet_text(alloc, &mut text, false, size, &packet.lend());
+    let details = Details {
+        payload: false,
+        properties: false,
+    };
+    let pushed = push_packet_text(alloc, &mut text, details, size, &packet.lend());
     let is_line = text.as_slice() == line;
     drop(text);
     pushed?;

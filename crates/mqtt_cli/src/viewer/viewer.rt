@@ -7,6 +7,7 @@ ghost use Rattle.mqtt_packet.specs.stream.Stream.{empty};
 ghost use Rattle.mqtt_cli.specs.viewer.View.{line, fault_line, rest_line};
 ghost use Rattle.mqtt_cli.specs.viewer.Viewing.{IsDrained, AddsLines, WritesLines, Views, WritesFront};
 
+use crate::viewer::details::Details;
 use crate::viewer::text::{push_fault, push_packet, push_rest};
 use mqtt_base::PACKET_LIMIT;
 use mqtt_packet::{Fault, Framer};
@@ -54,24 +55,24 @@ impl From<AllocError> for ViewFault {
 }
 
 /// Writes the view of what a reader gives to its end: a line for each packet, and one for a fault
-/// or for an input that ends inside a packet. With `payload` the line of a PUBLISH shows the first
-/// bytes of its payload. A read that was interrupted is tried again. However long the input is,
-/// at most a packet and the lines of one read are held.
+/// or for an input that ends inside a packet. The details say what the lines show beside the fields.
+/// A read that was interrupted is tried again. However long the input is, at most a packet and the
+/// lines of one read are held.
 pub fn view<R: Read, W: Write>(
     alloc: Global,
     reader: &mut R,
     writer: &mut W,
-    payload: bool,
+    details: Details,
 ) -> Result<Status, ViewFault>
     ensures ok { IfOk result (λ status. IfSome (R.remaining reader.old) (λ input.
-        Views payload input (W.contents writer.old) (W.contents writer.new) status)) }
+        Views details input (W.contents writer.old) (W.contents writer.new) status)) }
     ensures err { IfErr result (λ fault. fault ≢ ViewFault.Write
         → IfSome (R.remaining reader.old) (λ input.
-        WritesFront payload input (W.contents writer.old) (W.contents writer.new))) }
+        WritesFront details input (W.contents writer.old) (W.contents writer.new))) }
 {
     let mut chunk = [0u8; CHUNK_SIZE];
     let mut framer = Framer::new(alloc);
-    let status = view_by(alloc, reader, writer, payload, &mut chunk, &mut framer);
+    let status = view_by(alloc, reader, writer, details, &mut chunk, &mut framer);
     drop(framer);
     status
 }
@@ -81,17 +82,17 @@ fn view_by<R: Read, W: Write>(
     alloc: Global,
     reader: &mut R,
     writer: &mut W,
-    payload: bool,
+    details: Details,
     chunk: &mut [u8],
     framer: &mut Framer,
 ) -> Result<Status, ViewFault>
     requires room { 0 < length chunk.old }
     requires start { framer.old ≡ empty }
     ensures ok { IfOk result (λ status. IfSome (R.remaining reader.old) (λ input.
-        Views payload input (W.contents writer.old) (W.contents writer.new) status)) }
+        Views details input (W.contents writer.old) (W.contents writer.new) status)) }
     ensures err { IfErr result (λ fault. fault ≢ ViewFault.Write
         → IfSome (R.remaining reader.old) (λ input.
-        WritesFront payload input (W.contents writer.old) (W.contents writer.new))) }
+        WritesFront details input (W.contents writer.old) (W.contents writer.new))) }
 {
     for _ in 0..u64::MAX {
         let room = chunk.len().min(PACKET_LIMIT - framer.held());
@@ -104,7 +105,7 @@ fn view_by<R: Read, W: Write>(
             return end_view(alloc, writer, framer);
         }
         let piece = &chunk[..count];
-        if let Some((fault, place)) = write_packets(alloc, framer, piece, writer, payload)? {
+        if let Some((fault, place)) = write_packets(alloc, framer, piece, writer, details)? {
             write_fault(alloc, writer, place, fault)?;
             return Ok(Status::Faulty);
         }
@@ -133,11 +134,11 @@ fn write_packets<W: Write>(
     framer: &mut Framer,
     piece: &[u8],
     writer: &mut W,
-    payload: bool,
+    details: Details,
 ) -> Result<Option<(Fault, u64)>, ViewFault>
     requires waits { first_of framer.old.held ≡ Ok None }
     requires room { length framer.old.held + length piece.now ≤ PACKET_LIMIT }
-    ensures lines { OnOk result (WritesLines payload framer.old piece.now framer.new
+    ensures lines { OnOk result (WritesLines details framer.old piece.now framer.new
         (W.contents writer.old) (W.contents writer.new)) }
     ensures drained { IfOk result (IsDrained framer.new) }
     ensures memory { IfErr result (λ fault. fault ≢ ViewFault.Write
@@ -147,7 +148,7 @@ fn write_packets<W: Write>(
         return Err(ViewFault::Memory);
     }
     let mut lines = Vec::with_capacity(alloc, LINES_SIZE)?;
-    let fault = push_packets(alloc, framer, &mut lines, payload)?;
+    let fault = push_packets(alloc, framer, &mut lines, details)?;
     write_text(writer, lines.as_slice())?;
     Ok(fault)
 }
@@ -158,9 +159,9 @@ fn push_packets(
     alloc: Global,
     framer: &mut Framer,
     text: &mut Vec<u8>,
-    payload: bool,
+    details: Details,
 ) -> Result<Option<(Fault, u64)>, AllocError>
-    ensures lines { OnOk result (AddsLines payload framer.old [] framer.new
+    ensures lines { OnOk result (AddsLines details framer.old [] framer.new
         text.old.items text.new.items) }
     ensures drained { IfOk result (IsDrained framer.new) }
 {
@@ -168,7 +169,7 @@ fn push_packets(
         let size = match framer.look_sized() {
             Ok(None) => return Ok(None),
             Ok(Some((packet, place, size))) => {
-                push_packet(alloc, text, payload, place, size, &packet)?;
+                push_packet(alloc, text, details, place, size, &packet)?;
                 size
             }
             Err(fault) => return Ok(Some(fault)),

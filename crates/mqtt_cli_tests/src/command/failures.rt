@@ -1,5 +1,6 @@
 //! Views and reports whose reader or writer fails, and the report on the vectors (ours).
 
+use crate::command::lines::FIELDS;
 use crate::command::streams::{Brittle, Drip};
 use mqtt_cli::{Status, VectorsFault, ViewFault, vectors, view};
 use std::alloc::Global;
@@ -19,7 +20,7 @@ const LINES: [&str; 4] = [
 fn is_read(alloc: Global, fails_at: usize, lines: &str) -> bool {
     let mut written: Vec<u8> = Vec::new(alloc);
     let mut reader = Drip::new(PACKETS, fails_at);
-    let found = view(alloc, &mut reader, &mut written, false);
+    let found = view(alloc, &mut reader, &mut written, FIELDS);
     drop(reader);
     let is_text = written.as_slice() == lines.as_bytes();
     drop(written);
@@ -43,7 +44,7 @@ fn a_failed_read_leaves_the_lines_of_what_came(rt: HostRuntime) {
 fn written(alloc: Global, fails_at: usize, lines: &str) -> (Result<Status, ViewFault>, bool) {
     let mut writer = Brittle::new(alloc, fails_at);
     let mut reader = Drip::new(PACKETS, usize::MAX);
-    let found = view(alloc, &mut reader, &mut writer, false);
+    let found = view(alloc, &mut reader, &mut writer, FIELDS);
     drop(reader);
     let is_text = writer.written.as_slice() == lines.as_bytes();
     drop(writer);

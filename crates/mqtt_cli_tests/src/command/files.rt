@@ -12,6 +12,9 @@ const FILE: &str = "a.mqtt";
 /// MQTT 5.0, 3.12 and 3.3: a PINGREQ, then "!" on the topic "a/b".
 const BYTES: &[u8] = b"\xc0\x00\x30\x07\x00\x03a/b\x00!";
 
+/// MQTT 5.0, 3.3.2.3.7: the same PUBLISH with a User Property.
+const WITH_PROPERTY: &[u8] = b"\x30\x0e\x00\x03a/b\x07\x26\x00\x01k\x00\x01v!";
+
 /// Stands for what serves, and is not called for a view.
 fn not_served(_: SocketAddrV4, _: &str, _: u32, _: Limits) -> Result<(), ServeFault> {
     Err(ServeFault::Socket)
@@ -57,9 +60,16 @@ fn a_file_is_viewed_as_the_words_of_a_command_line_ask(rt: HostRuntime) -> Resul
         &["mqtt5", "view", "--payload", FILE],
         "0 PINGREQ 2\n2 PUBLISH 9 qos=0 topic=a/b payload=1 head=21\n",
     );
+    fs::write(&rt, FILE, WITH_PROPERTY).map_err(|_| "the file can't be written")?;
+    let has_property = shows(
+        &rt,
+        &["mqtt5", "view", "--properties", "--payload", FILE],
+        "0 PUBLISH 16 qos=0 topic=a/b payload=1 props=1 user-property=k:v head=21\n",
+    );
     fs::remove_file(&rt, FILE).map_err(|_| "the file can't be removed")?;
     assert!(rt; is_shown, "without payloads");
     assert!(rt; has_head, "with payloads");
+    assert!(rt; has_property, "with properties and payloads");
     assert!(rt;
         finds_nothing(&rt, &["mqtt5", "view", FILE]),
         "a file that is gone"

@@ -1,10 +1,22 @@
 //! The line of each packet and of each fault, whole and cut (ours).
 
 use crate::command::streams::Drip;
-use mqtt_cli::{Status, ViewFault, view};
+use mqtt_cli::{Details, Status, ViewFault, view};
 use std::alloc::Global;
 use std::process::Abort;
 use std::test::Fail;
+
+/// The fields alone.
+pub(crate) const FIELDS: Details = Details {
+    payload: false,
+    properties: false,
+};
+
+/// The first bytes of payloads too.
+const PAYLOADS: Details = Details {
+    payload: true,
+    properties: false,
+};
 
 /// Why there is no view. If an allocation is refused, nothing but want of memory may be told.
 fn why(fault: ViewFault) -> &'static str {
@@ -19,13 +31,13 @@ fn why(fault: ViewFault) -> &'static str {
 fn is_shown_whole(
     alloc: Global,
     input: &[u8],
-    payload: bool,
+    details: Details,
     text: &str,
     status: Status,
 ) -> Result<bool, ViewFault> {
     let mut written: Vec<u8> = Vec::new(alloc);
     let mut reader = input;
-    let found = view(alloc, &mut reader, &mut written, payload);
+    let found = view(alloc, &mut reader, &mut written, details);
     let is_text = written.as_slice() == text.as_bytes();
     drop(written);
     Ok(found? == status && is_text)
@@ -35,13 +47,13 @@ fn is_shown_whole(
 fn is_shown_by_bytes(
     alloc: Global,
     input: &[u8],
-    payload: bool,
+    details: Details,
     text: &str,
     status: Status,
 ) -> Result<bool, ViewFault> {
     let mut written: Vec<u8> = Vec::new(alloc);
     let mut reader = Drip::new(input, usize::MAX);
-    let found = view(alloc, &mut reader, &mut written, payload);
+    let found = view(alloc, &mut reader, &mut written, details);
     drop(reader);
     let is_text = written.as_slice() == text.as_bytes();
     drop(written);
@@ -49,17 +61,17 @@ fn is_shown_by_bytes(
 }
 
 /// An input has this view and this status, whether it comes whole or a byte a read.
-fn assert_shown(
+pub(crate) fn assert_shown(
     rt: &impl Abort,
     alloc: Global,
     input: &[u8],
-    payload: bool,
+    details: Details,
     text: &str,
     status: Status,
 ) -> Result<(), Fail> {
-    let is_shown = is_shown_whole(alloc, input, payload, text, status).map_err(why)?;
+    let is_shown = is_shown_whole(alloc, input, details, text, status).map_err(why)?;
     assert!(rt; is_shown, "{text}");
-    let is_shown = is_shown_by_bytes(alloc, input, payload, text, status).map_err(why)?;
+    let is_shown = is_shown_by_bytes(alloc, input, details, text, status).map_err(why)?;
     assert!(rt; is_shown, "{text} by reads of a byte");
     Ok(())
 }
@@ -116,7 +128,7 @@ fn views() -> &'static [(&'static [u8], &'static str, Status)] {
 #[test]
 fn each_input_has_its_view_however_it_is_cut(rt: HostRuntime) -> Result<(), Fail> {
     for (input, text, status) in views() {
-        assert_shown(&rt, rt.alloc(), input, false, text, *status)?;
+        assert_shown(&rt, rt.alloc(), input, FIELDS, text, *status)?;
     }
     Ok(())
 }
@@ -155,7 +167,7 @@ fn packets() -> &'static [(&'static [u8], &'static str)] {
 #[test]
 fn each_packet_has_its_line(rt: HostRuntime) -> Result<(), Fail> {
     for (frame, line) in packets() {
-        assert_shown(&rt, rt.alloc(), frame, false, line, Status::Whole)?;
+        assert_shown(&rt, rt.alloc(), frame, FIELDS, line, Status::Whole)?;
     }
     Ok(())
 }
@@ -199,7 +211,7 @@ fn refused() -> &'static [(&'static [u8], &'static str)] {
 #[test]
 fn each_refused_frame_has_its_fault(rt: HostRuntime) -> Result<(), Fail> {
     for (frame, line) in refused() {
-        assert_shown(&rt, rt.alloc(), frame, false, line, Status::Faulty)?;
+        assert_shown(&rt, rt.alloc(), frame, FIELDS, line, Status::Faulty)?;
     }
     Ok(())
 }
@@ -232,7 +244,7 @@ fn forms() -> &'static [(&'static [u8], &'static str)] {
 #[test]
 fn each_form_of_a_packet_has_its_line(rt: HostRuntime) -> Result<(), Fail> {
     for (frame, line) in forms() {
-        assert_shown(&rt, rt.alloc(), frame, false, line, Status::Whole)?;
+        assert_shown(&rt, rt.alloc(), frame, FIELDS, line, Status::Whole)?;
     }
     Ok(())
 }
@@ -276,7 +288,7 @@ fn kinds() -> &'static [(&'static [u8], &'static str)] {
 #[test]
 fn each_kind_has_its_fields(rt: HostRuntime) -> Result<(), Fail> {
     for (frame, line) in kinds() {
-        assert_shown(&rt, rt.alloc(), frame, false, line, Status::Whole)?;
+        assert_shown(&rt, rt.alloc(), frame, FIELDS, line, Status::Whole)?;
     }
     Ok(())
 }
@@ -290,17 +302,17 @@ fn greatest(alloc: Global, len: usize) -> Result<Vec<u8>, Fail> {
 
 #[test]
 fn a_packet_of_the_greatest_size_is_read(rt: HostRuntime) -> Result<(), Fail> {
-    for (len, payload, text, status) in [
+    for (len, details, text, status) in [
         (
             65_536,
-            true,
+            PAYLOADS,
             "0 PUBLISH 65536 qos=0 topic=a payload=65528 head=78787878787878787878787878787878\n",
             Status::Whole,
         ),
-        (65_535, false, "0 short\n", Status::Faulty),
+        (65_535, FIELDS, "0 short\n", Status::Faulty),
     ] {
         let input = greatest(rt.alloc(), len)?;
-        assert_shown(&rt, rt.alloc(), input.as_slice(), payload, text, status)?;
+        assert_shown(&rt, rt.alloc(), input.as_slice(), details, text, status)?;
     }
     Ok(())
 }
@@ -327,7 +339,7 @@ fn heads() -> &'static [(&'static [u8], &'static str)] {
 #[test]
 fn with_payload_shows_the_first_sixteen_bytes(rt: HostRuntime) -> Result<(), Fail> {
     for (input, text) in heads() {
-        assert_shown(&rt, rt.alloc(), input, true, text, Status::Whole)?;
+        assert_shown(&rt, rt.alloc(), input, PAYLOADS, text, Status::Whole)?;
     }
     Ok(())
 }

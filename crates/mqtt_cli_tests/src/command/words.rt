@@ -1,7 +1,7 @@
 //! Command lines, and how the program ends (ours).
 
 use mqtt_cli::{
-    Action, Full, Limits, LineFault, Outcome, Played, ReplayFault, ServeFault, Status,
+    Action, Details, Full, Limits, LineFault, Outcome, Played, ReplayFault, ServeFault, Status,
     VectorsFault, ViewFault, action, ending, perform,
 };
 use std::alloc::Global;
@@ -9,15 +9,28 @@ use std::net::{Ipv4Addr, SocketAddrV4};
 use std::process::Abort;
 use std::test::Fail;
 
-/// Command lines that ask for a view, each with its FILE and whether payloads are shown.
-fn view_words() -> &'static [(&'static [&'static str], &'static str, bool)] {
+/// Command lines that ask for a view, each with its FILE, and whether payloads and properties are shown.
+fn view_words() -> &'static [(&'static [&'static str], &'static str, bool, bool)] {
     &[
-        (&["mqtt5", "view", "-"], "-", false),
-        (&["mqtt5", "view", "a b"], "a b", false),
-        (&["mqtt5", "view", "--payload", "f"], "f", true),
-        (&["mqtt5", "view", "f", "--payload"], "f", true),
-        (&["x", "view", "--", "--payload"], "--payload", false),
-        (&["mqtt5", "view", ""], "", false),
+        (&["mqtt5", "view", "-"], "-", false, false),
+        (&["mqtt5", "view", "a b"], "a b", false, false),
+        (&["mqtt5", "view", "--payload", "f"], "f", true, false),
+        (&["mqtt5", "view", "f", "--payload"], "f", true, false),
+        (&["mqtt5", "view", "--properties", "f"], "f", false, true),
+        (
+            &["mqtt5", "view", "--properties", "f", "--payload"],
+            "f",
+            true,
+            true,
+        ),
+        (&["x", "view", "--", "--payload"], "--payload", false, false),
+        (
+            &["x", "view", "--", "--properties"],
+            "--properties",
+            false,
+            false,
+        ),
+        (&["mqtt5", "view", ""], "", false, false),
     ]
 }
 
@@ -41,10 +54,13 @@ fn assert_asks(
 #[test]
 fn a_lawful_command_line_is_its_action(rt: HostRuntime) -> Result<(), Fail> {
     assert_asks(&rt, rt.alloc(), &["mqtt5", "vectors"], Action::Vectors)?;
-    for (words, file, payload) in view_words() {
+    for (words, file, payload, properties) in view_words() {
         let wanted = Action::View {
             file: *file,
-            payload: *payload,
+            details: Details {
+                payload: *payload,
+                properties: *properties,
+            },
         };
         assert_asks(&rt, rt.alloc(), words, wanted)?;
     }
@@ -189,6 +205,14 @@ fn other_words() -> &'static [(&'static [&'static str], &'static str)] {
         (
             &["mqtt5", "view", "--payload", "--payload", "a"],
             "an option twice",
+        ),
+        (
+            &["mqtt5", "view", "--properties", "--properties", "a"],
+            "the other option twice",
+        ),
+        (
+            &["mqtt5", "replay", "--properties", "a"],
+            "an option of view",
         ),
         (&["mqtt5", "view", "--payload=1", "a"], "a value for a flag"),
         (&["mqtt5", "view", "-p", "a"], "an unknown option"),

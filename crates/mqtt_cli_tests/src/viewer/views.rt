@@ -1,8 +1,14 @@
 //! Views of inputs that come whole, and of the same a byte a read.
 
-use mqtt_cli::{Status, ViewFault, view};
+use mqtt_cli::{Details, Status, ViewFault, view};
 use std::alloc::Global;
 use std::io::{self, Read};
+
+/// The fields alone.
+const FIELDS: Details = Details {
+    payload: false,
+    properties: false,
+};
 
 /// A reader that gives a byte a read.
 #[derive(Drop)]
@@ -36,7 +42,7 @@ pub(crate) fn why(fault: ViewFault) -> &'static str {
 /// Writes the view of an input that comes a byte a read.
 fn view_bytewise(alloc: Global, input: &[u8], written: &mut Vec<u8>) -> Result<Status, ViewFault> {
     let mut reader = Bytewise { bytes: input };
-    let status = view(alloc, &mut reader, written, false);
+    let status = view(alloc, &mut reader, written, FIELDS);
     drop(reader);
     status
 }
@@ -52,7 +58,7 @@ pub(crate) fn one_view(
     written.clear();
     again.clear();
     let mut reader = input;
-    let status = view(alloc, &mut reader, written, false)?;
+    let status = view(alloc, &mut reader, written, FIELDS)?;
     if view_bytewise(alloc, input, again)? == status && again.as_slice() == written.as_slice() {
         Ok(Some(status))
     } else {

@@ -22,13 +22,13 @@ replayed-requires g c =
 pub returns-in-Ok-View-text-default-clause-writes : goal.returns-in-Ok-View-text-default-clause-writes
 returns-in-Ok-View-text-default-clause-writes g c =
     let met = c.in-Ok-View-text-default in
-    let asks : AskFor (command_of (map g.S.AsStr.text c.args.words.now)) (Some (View met.field-0-0 met.payload)) =
+    let asks : AskFor (command_of (map g.S.AsStr.text c.args.words.now)) (Some (View met.field-0-0 met.details)) =
     rw met.field-0-is at met.ensures.ok in
-    view_writes (command_of (map g.S.AsStr.text c.args.words.now)) _ _ c.view_of.result _ asks.0 c.view_of.ensures
+    view_writes (command_of (map g.S.AsStr.text c.args.words.now)) _ _ c.view_of.result _ asks.file_is c.view_of.ensures
 
 pub returns-in-Ok-open-clause-writes : goal.returns-in-Ok-open-clause-writes
 returns-in-Ok-open-clause-writes g c =
     let met = c.in-Ok-View in
-    let asks : AskFor (command_of (map g.S.AsStr.text c.args.words.now)) (Some (View met.file met.payload)) =
+    let asks : AskFor (command_of (map g.S.AsStr.text c.args.words.now)) (Some (View met.file met.details)) =
     rw met.field-0-is at met.ensures.ok in
-    view_writes (command_of (map g.S.AsStr.text c.args.words.now)) _ _ c.view_of-in-Ok-open.result _ asks.0 c.view_of-in-Ok-open.ensures
+    view_writes (command_of (map g.S.AsStr.text c.args.words.now)) _ _ c.view_of-in-Ok-open.result _ asks.file_is c.view_of-in-Ok-open.ensures

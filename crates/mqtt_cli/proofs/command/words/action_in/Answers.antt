@@ -31,16 +31,23 @@ returns c =
     let met = c.in_ok-name.ensures in
     let found = found_of c.in_ok-name.view.now in
     let rows_are = rows_in-view c.args.matches.now _ found met.name met.rows c.if-ne.ensures in
-    let flag = c.get_flag-payload.ensures in
-    let value_is = one_text-rows found (codes "payload") in
-    rw rows_are (
-      sym (c.in_ok-file.ensures ∙ first_value-rows found (codes "file")),
-      record {
-        none = λ e. flag.none (value_is ∙ e);
-        is_true = λ e. flag.value (value_is ∙ e);
-        is_false = λ e. flag.other (value_is ∙ e);
-      },
-    )
+    let payload = c.get_flag.ensures in
+    let payload_is = one_text-rows found (codes "payload") in
+    let properties = c.get_flag-2.ensures in
+    let properties_is = one_text-rows found (codes "properties") in
+    rw rows_are (record {
+      file_is = sym (c.in_ok-file.ensures ∙ first_value-rows found (codes "file"));
+      payload = record {
+        none = λ e. payload.none (payload_is ∙ e);
+        is_true = λ e. payload.value (payload_is ∙ e);
+        is_false = λ e. payload.other (payload_is ∙ e);
+      };
+      properties = record {
+        none = λ e. properties.none (properties_is ∙ e);
+        is_true = λ e. properties.value (properties_is ∙ e);
+        is_false = λ e. properties.other (properties_is ∙ e);
+      };
+    })
 
 pub returns-then-eq-2 : goal.returns-then-eq-2
 returns-then-eq-2 c =

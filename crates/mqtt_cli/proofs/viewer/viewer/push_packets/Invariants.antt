@@ -4,7 +4,7 @@ use Rattle.mqtt_cli.specs.viewer.Viewing.{AddsLines}
 use Rattle.mqtt_cli.proofs.viewer.viewer.push_packets.Given as goal
 
 abbrev pub invariant-packets : goal.invariant-packets
-invariant-packets l = AddsLines l.payload l.initial.framer [] l.framer l.initial.text.items l.text.items
+invariant-packets l = AddsLines l.details l.initial.framer [] l.framer l.initial.text.items l.text.items
 
 abbrev pub decreases-packets : goal.decreases-packets
 decreases-packets l = length l.framer.held

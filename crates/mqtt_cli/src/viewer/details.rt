@@ -1,0 +1,10 @@
+//! What the lines of a view show beside the fields of each packet (ours).
+
+/// What the lines of a view show beside the fields of each packet.
+#[derive(Clone, Copy, Debug, PartialEq, Eq)]
+pub struct Details {
+    /// The first bytes of the payload of a PUBLISH.
+    pub payload: bool,
+    /// Each property; of a CONNECT its Will and its User Name too.
+    pub properties: bool,
+}
