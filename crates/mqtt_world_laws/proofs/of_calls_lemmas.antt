@@ -4,5 +4,6 @@ pub mod Entering
 pub mod Ending
 pub mod Sending
 pub mod Keeping
+pub mod Repeating
 pub mod Leaving
 pub mod Examples

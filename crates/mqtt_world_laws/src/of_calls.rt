@@ -2,4 +2,7 @@
 
 mod laws;
 
-pub use self::laws::{copies_enter_and_end_once_whoever_calls, what_calls_leave_may_be_opened};
+pub use self::laws::{
+    copies_enter_and_end_once_whoever_calls, each_publish_has_its_dup,
+    what_calls_leave_may_be_opened,
+};

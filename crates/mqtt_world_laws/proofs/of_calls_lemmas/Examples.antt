@@ -2,6 +2,7 @@
 -- nothing (MQTT 5.0, 4.1, 4.3.3, 4.4, 4.9, 4.13).
 use Rattle.std.proofs.Common.{◌≡◌, ℕ, true, false, List, [], ◌∷◌, map, Option, Some, None, refl, arith}
 use Rattle.std.specs.Prelude.{filter_map}
+use Rattle.std.specs.List.{AllByRecursion}
 use Rattle.std.specs.Str.{is_utf8, chars}
 use Rattle.std.proofs.Math.Utf8.{encode}
 use Rattle.mqtt_base.specs.Values.{varint}
@@ -17,9 +18,11 @@ use Rattle.mqtt_world_model.specs.model.Laws.{standing}
 use Rattle.mqtt_world_model.specs.model.Run.{Acceptance}
 use Rattle.mqtt_world_model.proofs.model_lemmas.examples.Scripts.{first_copy, p1, r1}
 use Rattle.mqtt_world_laws.specs.headline_in_forms.Reading.{Course, ended, entered}
+use Rattle.mqtt_world_laws.specs.of_calls.Again.{RepeatsByPhase}
 use Rattle.mqtt_world_laws.specs.of_calls.Calls.{SpendNone, course_of}
 use Rattle.mqtt_world_laws.specs.of_calls.Delivery.{KeepsAll}
-use Rattle.mqtt_world_laws.proofs.of_calls_lemmas.Keeping.{keeps_from_nothing}
+use Rattle.mqtt_world_laws.proofs.of_calls_lemmas.Keeping.{blank_in_order, keeps_from_nothing}
+use Rattle.mqtt_world_laws.proofs.of_calls_lemmas.Repeating.{all_repeat}
 
 usual_within : AreWithin usual
 usual_within = record { queue = omega arith; sessions = omega arith; retained = omega arith }
@@ -74,6 +77,10 @@ it_spends_none =
 -- so the law holds of these calls
 pub it_keeps_all : KeepsAll its_course
 it_keeps_all = keeps_from_nothing taken_later it_spends_none
+
+-- and each PUBLISH has its DUP
+pub it_repeats_by_phase : AllByRecursion RepeatsByPhase its_course.steps
+it_repeats_by_phase = all_repeat taken_later blank blank_in_order it_spends_none
 
 -- ---- a client that keeps to nothing
 

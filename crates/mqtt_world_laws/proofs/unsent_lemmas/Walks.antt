@@ -147,10 +147,11 @@ module _ (x : CopyId) where
 
   -- ---- each step
 
-  abbrev Goes : List Deed → Broker → Broker → Type 0
+  abbrev pub Goes : List Deed → Broker → Broker → Type 0
   Goes ds b d = IsGone b → IsGone d × AreOthers ds
 
-  goes : (limits : Limits) → Walk limits Goes
+  -- none of it waits again, in whatever is called and opened
+  pub goes : (limits : Limits) → Walk limits Goes
   goes limits = record {
     none = λ b g. (g, tt);
     next = λ xs ys a b d p q g. let first = p g in let rest = q first.0 in (rest.0, each_append IsOther xs ys first.1 rest.1);

@@ -1,10 +1,13 @@
 //! The laws of copies and of what is left, whoever calls the broker (3.3.2, 3.3.3, 3.3.4, 4.1, 4.3, 4.9).
 ghost use Rattle.std.specs.Prelude.{◌≡◌, ℕ, List, false};
+ghost use Rattle.std.specs.List.{AllByRecursion};
+ghost use Rattle.mqtt_base.specs.declared.session.CopyId.{CopyId};
 ghost use Rattle.mqtt_records.specs.declared.state.records.Records.{Records};
 ghost use Rattle.mqtt_rules.specs.declared.step.Limits.{Limits};
 ghost use Rattle.mqtt_rules.specs.step.Laws.{AreWithin, Event, after_events, blank};
 ghost use Rattle.mqtt_rules.specs.step.State.{Broker, MemberChoice, stored};
 ghost use Rattle.mqtt_rules.specs.step.Step.{Call, is_opening_spent, opened};
+ghost use Rattle.mqtt_world_laws.specs.of_calls.Again.{RepeatsByPhase, SendsAgain, WaitsNoMore};
 ghost use Rattle.mqtt_world_laws.specs.of_calls.Calls.{
   BeginsInOrder,
   IsLeftByCalls,
@@ -43,4 +46,20 @@ pub fn what_calls_leave_may_be_opened()
     // A moment may come alone.
     ensures waits { (limits : Limits) (choice : MemberChoice) (now : ℕ) (b : Broker) → BeginsInOrder b
         → (call : Call) × IsMomentAlone limits choice now call b }
+{}
+
+/// Whatever was called: each PUBLISH of QoS 1 or 2 that goes out on a line is that of a copy in the queue of the session on that
+/// line. It has DUP 0 if the copy waits, which is marked then as in flight under the identifier of that PUBLISH. If the copy is in
+/// flight, and is not among those that went out on that line, it has DUP 1 and the identifier that the copy is in flight under. In
+/// both cases it is noted that the copy went out on that line, so again it goes out on another, by which its session is resumed.
+/// None goes out of a copy whose PUBREC was taken (3.3.1.1, 4.3, 4.4).
+pub fn each_publish_has_its_dup()
+    ensures repeats { (events : List Event) (b : Broker) → BeginsInOrder b → SpendNone events b
+        → AllByRecursion RepeatsByPhase (course_of events b).steps }
+    ensures from_nothing { (events : List Event) → SpendNone events blank
+        → AllByRecursion RepeatsByPhase (course_of events blank).steps }
+
+    // A copy that waits no more, as it does once it went out, never goes out with DUP 0 again, whatever is called.
+    ensures again { (events : List Event) (b : Broker) → BeginsInOrder b → SpendNone events b → (copy : CopyId)
+        → WaitsNoMore copy b.records → AllByRecursion (SendsAgain copy) (course_of events b).steps }
 {}

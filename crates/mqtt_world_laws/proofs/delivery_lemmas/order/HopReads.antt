@@ -1,14 +1,13 @@
 -- A receiver reads copies of QoS 1 first in the order in which they entered, in every run of its hop (MQTT 5.0, 4.3.2, 4.4, 4.6).
-use Rattle.std.proofs.Common.{◌≡◌, ◌⊎◌, inl, inr, ⊎_elim, ℕ, zero, suc, ◌+◌, ◌<◌, ◌≤◌, Bool, true, false, cond, not, List, [], ◌∷◌, ◌++◌, filter, length, map, nat_eq, nat_lt, if◌then◌else◌, refl, sym, ap, ◌∙◌, subst, arith, Option, Some, None, slice_get, option_map, add-zero, append-nil, zero-add, eqb-true, ltb-true, ltb-false}
+use Rattle.std.proofs.Common.{◌≡◌, ◌⊎◌, inl, inr, ⊎_elim, ℕ, zero, suc, ◌+◌, ◌<◌, ◌≤◌, Bool, true, false, cond, List, [], ◌∷◌, ◌++◌, length, map, nat_lt, if◌then◌else◌, refl, sym, ap, ◌∙◌, subst, arith, Option, Some, None, slice_get, option_map, add-zero, append-nil}
 use Rattle.std.proofs.lemmas.Bool.{cases_Bool}
 use Rattle.std.proofs.lemmas.Cmp.{nat_eq_equiv}
-use Rattle.std.proofs.lemmas.List.Elements.{filter-append, All-nil, All-push}
 use Rattle.std.proofs.lemmas.Option.{slice_get-map}
 use Rattle.mqtt_flow.specs.inbound.Line.{Link, asked, away, live, sent_on}
 use Rattle.mqtt_flow.specs.outbound.OutboundWorld as session
 use Rattle.mqtt_flow.specs.outbound.Receiver.{Answer, Body, Handed, Output, Rising, connack, connect, disconnect, down_comes, gives_up, handed, joins, leaves, no_connack, puback, pubcomp, publish, pubrec, pubrel, read_connack, read_publish}
-use Rattle.mqtt_flow.proofs.outbound_lemmas.outbound.Lives.{Life, Mark, Reply, anew, answered, cut, ended, find, in_flight, on_puback, on_pubcomp, on_pubrec, over, pids, pumped, puback_reply, pubcomp_reply, pubrec_reply, pubrels, released, says, sent, stay, turned, waiting, wrong, pump_sends}
-use Rattle.mqtt_flow.proofs.outbound_lemmas.outbound.LivesWorld.{Event, World, arranged, close, close_old, connects, connects_old, enter, enters_in, finish, give_up, made_new, make_line, break_line, old_comes, old_to_broker, pump, pump_one, pump_with, replied, replied_old, restart, resumed, run, start, step, to_broker, to_end, unused_of, up_comes}
+use Rattle.mqtt_flow.proofs.outbound_lemmas.outbound.Lives.{Life, Mark, Reply, anew, answered, cut, ended, find, in_flight, on_puback, on_pubcomp, on_pubrec, pids, pumped, puback_reply, pubcomp_reply, pubrec_reply, pubrels, released, says, sent, turned, waiting, wrong, pump_sends}
+use Rattle.mqtt_flow.proofs.outbound_lemmas.outbound.LivesWorld.{Event, World, arranged, close, close_old, connects, connects_old, enter, enters_in, finish, give_up, made_new, make_line, break_line, old_comes, old_to_broker, pump, pump_with, replied, replied_old, restart, resumed, run, start, step, to_broker, to_end, unused_of, up_comes}
 use Rattle.mqtt_flow.proofs.outbound_lemmas.outbound.Stages.{At, Blank, Fresh, Good, Inv, Plain, Published, Ready, Stage, Way, acking, completing, downs, free, idle, is_asked, no_line, none_in, only, publishing, ready_more, ready_plain, ready_push, ready_pubrels, receiving, releasing, under_way, was_shut}
 use Rattle.mqtt_flow.proofs.outbound_lemmas.outbound.Sends.{Again, AllGone, First, Gone, Nothing, Pumped, by_id, get_lapse, get_pumped, get_push, same_number}
 use Rattle.mqtt_flow.proofs.outbound_lemmas.outbound.Steps.{get_answered}
