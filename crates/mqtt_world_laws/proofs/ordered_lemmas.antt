@@ -12,3 +12,4 @@ pub mod Ledgers
 pub mod InOrder
 pub mod Refusals
 pub mod Examples
+pub mod ReadExamples

@@ -2,4 +2,6 @@
 
 mod laws;
 
-pub use self::laws::what_is_published_first_is_received_first;
+pub use self::laws::{
+    what_is_published_first_is_read_first, what_is_published_first_is_received_first,
+};

@@ -1,5 +1,5 @@
 -- The broker accepts a publisher's messages in the order in which they were published, and receivers are handed them so (MQTT 5.0, 4.6).
-use Rattle.std.proofs.Common.{◌≡◌, ◌⊎◌, ℕ, zero, suc, ◌+◌, ◌<◌, ◌≤◌, List, [], ◌∷◌, ◌++◌, map, Option, Some, None, nat_eq, refl, sym, ap, subst, ◌∙◌, append_assoc, arith, inl, inr}
+use Rattle.std.proofs.Common.{◌≡◌, ◌⊎◌, ℕ, true, zero, suc, ◌+◌, ◌<◌, ◌≤◌, List, [], ◌∷◌, ◌++◌, map, Option, Some, None, nat_eq, refl, sym, ap, subst, ◌∙◌, append_assoc, arith, inl, inr}
 use Rattle.std.specs.Prelude.{filter_map}
 use Rattle.std.specs.List.{AllByRecursion}
 use Rattle.std.proofs.lemmas.Bool.{cases_Bool, eqb-true}
@@ -11,6 +11,7 @@ use Rattle.mqtt_rules.specs.step.Laws.{AreWithin, IsAmong}
 use Rattle.mqtt_rules.specs.step.Numbers.{CountsOn, publication_given}
 use Rattle.mqtt_rules.proofs.step_lemmas.fit.FitLaw.{all_among}
 use Rattle.mqtt_world_model.specs.model.Ends.{Publisher, Receiver}
+use Rattle.mqtt_world_model.specs.model.Laws.{copies_in, stand_among}
 use Rattle.mqtt_world_model.specs.model.Run.{Turn, accepted_at, accepted_over, client_number, deeds_at, deeds_over, each_of, message_read, run, setting, turned}
 use Rattle.mqtt_world_model.specs.model.World.{World, publisher_named, receiver_named}
 use Rattle.mqtt_world_laws.specs.acceptance.Copies.{entered_from, publications_from}
@@ -29,9 +30,11 @@ use Rattle.mqtt_world_laws.proofs.headline_lemmas.Lives.{lives_begin}
 use Rattle.mqtt_world_laws.proofs.ordered_lemmas.UnderWay.{Stands}
 use Rattle.mqtt_world_laws.proofs.ordered_lemmas.Named.{At}
 use Rattle.mqtt_world_laws.proofs.ordered_lemmas.OrderRuns.{IsWelcome, none_read, one_if, ordered_after, other_none, over_unread, times}
-use Rattle.mqtt_world_laws.proofs.ordered_lemmas.Ledgers.{ledger_rises, stands_first}
+use Rattle.mqtt_world_laws.proofs.ordered_lemmas.Ledgers.{entries_rise, stands_first}
 use Rattle.mqtt_world_laws.proofs.ordered_lemmas.Rising.{run_rises}
-use Rattle.mqtt_world_laws.specs.ordered.Ordered.{AreInOrder, IsRising, WasAccepted, WerePublished, publications_handed}
+use Rattle.mqtt_world_laws.proofs.delivery_lemmas.whole.Newcomers.{run_reads_all}
+use Rattle.mqtt_world_laws.specs.ordered.FirstReads.{AreReadInOrder, WasFirstAccepted, WereAccepted, first_reads, publications_read}
+use Rattle.mqtt_world_laws.specs.ordered.Ordered.{AreInOrder, IsRising, WasAccepted, WasTurnedAway, WerePublished, publications_handed}
 
 -- ---- numbers that count on
 
@@ -101,32 +104,40 @@ once_more client n number limits earlier turn later w read among =
     let some : 1 ≤ times n now = subst (λ (o : Option ℕ). 1 ≤ times n (each_of o ds)) (sym read) (some_counted n number (filter_map client_number ds) among) in
     omega (arith, parts, both, some)
 
--- ---- a message that was accepted has its publication
+-- ---- a message that was accepted was first accepted as some publication
 
-further : (client : List ℕ) (n : ℕ) (limits : Limits) (t : Turn) (ts : List Turn) (w : World) → ((number : ℕ) × WasAccepted client n number limits ts (turned limits t w)) → (number : ℕ) × WasAccepted client n number limits (t ∷ ts) w
-further client n limits t ts w x = (
-  x.0,
-  record {
-    earlier = t ∷ x.1.earlier;
-    turn = x.1.turn;
-    later = x.1.later;
-    are = ap (λ (us : List Turn). t ∷ us) x.1.are;
-    read = x.1.read;
-    number_is = x.1.number_is;
-  },
-)
+further : (client : List ℕ) (n : ℕ) (limits : Limits) (t : Turn) (ts : List Turn) (w : World) → times n (accepted_at client (setting limits t) t.event w) ≡ 0 → ((number : ℕ) × WasFirstAccepted client n number limits ts (turned limits t w))
+    → (number : ℕ) × WasFirstAccepted client n number limits (t ∷ ts) w
+further client n limits t ts w not_now x =
+    let a = x.1.accepted in (
+      x.0,
+      record {
+        accepted = record {
+          earlier = t ∷ a.earlier;
+          turn = a.turn;
+          later = a.later;
+          are = ap (λ (us : List Turn). t ∷ us) a.are;
+          read = a.read;
+          number_is = a.number_is;
+        };
+        none =
+            let both = counted_append (nat_eq n) (accepted_at client (setting limits t) t.event w) (accepted_over client limits a.earlier (turned limits t w)) in
+            let rest = x.1.none in
+            omega (arith, both, not_now, rest);
+      },
+    )
 
-here : (client : List ℕ) (n : ℕ) (limits : Limits) (t : Turn) (ts : List Turn) (w : World) → 1 ≤ times n (accepted_at client (setting limits t) t.event w) → (number : ℕ) × WasAccepted client n number limits (t ∷ ts) w
+here : (client : List ℕ) (n : ℕ) (limits : Limits) (t : Turn) (ts : List Turn) (w : World) → 1 ≤ times n (accepted_at client (setting limits t) t.event w) → (number : ℕ) × WasFirstAccepted client n number limits (t ∷ ts) w
 here client n limits t ts w some = by (message_read client t.event w) refl some
   where
     ds : List Deed
     ds = deeds_at (setting limits t) t.event w
 
-    among : (ks : List ℕ) → filter_map client_number ds ≡ ks → message_read client t.event w ≡ Some n → 1 ≤ times n (map (λ (j : ℕ). n) ks) → (number : ℕ) × WasAccepted client n number limits (t ∷ ts) w
+    among : (ks : List ℕ) → filter_map client_number ds ≡ ks → message_read client t.event w ≡ Some n → 1 ≤ times n (map (λ (j : ℕ). n) ks) → (number : ℕ) × WasFirstAccepted client n number limits (t ∷ ts) w
     among [] are read h = let none : 1 ≤ 0 = h in absurd (omega (arith, none))
-    among (k ∷ ks) are read h = (k, record { earlier = []; turn = t; later = ts; are = refl; read = read; number_is = subst (λ (js : List ℕ). IsAmong k js) (sym are) (inl refl) })
+    among (k ∷ ks) are read h = (k, record { accepted = record { earlier = []; turn = t; later = ts; are = refl; read = read; number_is = subst (λ (js : List ℕ). IsAmong k js) (sym are) (inl refl) }; none = refl })
 
-    by : (o : Option ℕ) → message_read client t.event w ≡ o → 1 ≤ times n (each_of o ds) → (number : ℕ) × WasAccepted client n number limits (t ∷ ts) w
+    by : (o : Option ℕ) → message_read client t.event w ≡ o → 1 ≤ times n (each_of o ds) → (number : ℕ) × WasFirstAccepted client n number limits (t ∷ ts) w
     by None read h = let none : 1 ≤ 0 = h in absurd (omega (arith, none))
     by (Some k) read h = elim (cases_Bool (nat_eq n k)) [
       | inl is ↦
@@ -135,9 +146,9 @@ here client n limits t ts w some = by (message_read client t.event w) refl some
       | inr other ↦ let none = other_none n k (filter_map client_number ds) other in absurd (omega (arith, none, h))
     ]
 
-was_accepted : (client : List ℕ) (n : ℕ) (limits : Limits) (ts : List Turn) (w : World) → 1 ≤ times n (accepted_over client limits ts w) → (number : ℕ) × WasAccepted client n number limits ts w
-was_accepted client n limits [] w some = let none : 1 ≤ 0 = some in absurd (omega (arith, none))
-was_accepted client n limits (t ∷ ts) w some = by (times n now) refl (λ h. further client n limits t ts w (was_accepted client n limits ts v h))
+first_accepted : (client : List ℕ) (n : ℕ) (limits : Limits) (ts : List Turn) (w : World) → 1 ≤ times n (accepted_over client limits ts w) → (number : ℕ) × WasFirstAccepted client n number limits ts w
+first_accepted client n limits [] w some = let none : 1 ≤ 0 = some in absurd (omega (arith, none))
+first_accepted client n limits (t ∷ ts) w some = by (times n now) refl (λ not_now h. further client n limits t ts w not_now (first_accepted client n limits ts v h))
   where
     v : World
     v = turned limits t w
@@ -145,9 +156,12 @@ was_accepted client n limits (t ∷ ts) w some = by (times n now) refl (λ h. fu
     now : List ℕ
     now = accepted_at client (setting limits t) t.event w
 
-    by : (k : ℕ) → times n now ≡ k → (1 ≤ times n (accepted_over client limits ts v) → (number : ℕ) × WasAccepted client n number limits (t ∷ ts) w) → (number : ℕ) × WasAccepted client n number limits (t ∷ ts) w
-    by zero none rest = let both = counted_append (nat_eq n) now (accepted_over client limits ts v) in rest (omega (arith, both, none, some))
+    by : (k : ℕ) → times n now ≡ k → (times n now ≡ 0 → 1 ≤ times n (accepted_over client limits ts v) → (number : ℕ) × WasFirstAccepted client n number limits (t ∷ ts) w) → (number : ℕ) × WasFirstAccepted client n number limits (t ∷ ts) w
+    by zero none rest = let both = counted_append (nat_eq n) now (accepted_over client limits ts v) in rest none (omega (arith, both, none, some))
     by (suc k) is rest = here client n limits t ts w (omega (arith, is))
+
+was_accepted : (client : List ℕ) (n : ℕ) (limits : Limits) (ts : List Turn) (w : World) → 1 ≤ times n (accepted_over client limits ts w) → (number : ℕ) × WasAccepted client n number limits ts w
+was_accepted client n limits ts w some = let x = first_accepted client n limits ts w some in (x.0, x.1.accepted)
 
 -- ---- a run
 
@@ -168,13 +182,9 @@ module _ (limits : Limits) (ts : List Turn) (w : World) (begins : BeginsWell lim
   numbered_by : (xs ys : List Turn) → xs ++ ys ≡ ts → CountsOn w.broker.records.publications (publications_from limits xs w) (last_at xs)
   numbered_by xs ys are = run_numbers limits xs w begins.untouched.new (counted limits xs w (begun xs ys are))
 
-  module _ (client : List ℕ) (m n first second : ℕ) (x : WerePublished client m n first second limits ts w) where
-    abbrev p : WasAccepted client m first limits ts w
-    p = x.first_is
-
-    abbrev q : WasAccepted client n second limits ts w
-    q = x.second_is
-
+  -- the message that was published earlier was never turned away, and not accepted before
+  module _ (client : List ℕ) (m n first second : ℕ) (less : m < n) (stays : WasTurnedAway client m limits ts w → ⊥) (p : WasAccepted client m first limits ts w) (q : WasAccepted client n second limits ts w)
+      (not_yet : 1 ≤ times m (accepted_over client limits p.earlier w) → ⊥) where
     -- the second has a number above those that were given by then
     second_above : last_at q.earlier < second
     second_above =
@@ -216,17 +226,16 @@ module _ (limits : Limits) (ts : List Turn) (w : World) (begins : BeginsWell lim
         let its : message_read client q.turn.event (run limits q.earlier w) ≡ Some m = subst (λ (t : Turn). message_read client t.event (run limits q.earlier w) ≡ Some m) same.1 there in
         let clash : Some m ≡ Some n = sym its ∙ q.read in
         let equal : m ≡ n = cc in
-        let less = x.earlier in
         absurd (omega (arith, equal, less))
 
-    welcome : IsWelcome m n x.earlier client limits [] p.earlier w
+    welcome : IsWelcome m n less client limits [] p.earlier w
     welcome earlier t later are read = by (times m (accepted_over client limits (earlier ++ t ∷ []) w)) refl
       where
         rest : List Turn
         rest = p.turn ∷ p.later
 
         by : (k : ℕ) → times m (accepted_over client limits (earlier ++ t ∷ []) w) ≡ k → 1 ≤ times m (accepted_over client limits (earlier ++ t ∷ []) w)
-        by zero none = absurd (x.welcome (record {
+        by zero none = absurd (stays (record {
           earlier = earlier;
           turn = t;
           later = later ++ rest;
@@ -238,12 +247,8 @@ module _ (limits : Limits) (ts : List Turn) (w : World) (begins : BeginsWell lim
 
     -- nor later
     not_later : Before q.earlier q.turn p.earlier → first < second
-    not_later b = elim (ordered_after m n x.earlier client limits p.earlier w begins.untouched.new (begun p.earlier (p.turn ∷ p.later) p.are) welcome) [
-      | inl some ↦
-          let once : times m (accepted_over client limits ts w) ≤ 1 = (all.messages.each client m).once x.exactly_once in
-          let more = once_more client m first limits p.earlier p.turn p.later w p.read p.number_is in
-          let same : times m (accepted_over client limits (p.earlier ++ p.turn ∷ p.later) w) ≡ times m (accepted_over client limits ts w) = ap (λ (us : List Turn). times m (accepted_over client limits us w)) p.are in
-          absurd (omega (arith, some, once, more, same))
+    not_later b = elim (ordered_after m n less client limits p.earlier w begins.untouched.new (begun p.earlier (p.turn ∷ p.later) p.are) welcome) [
+      | inl some ↦ absurd (not_yet some)
       | inr there ↦ by (publisher_named client (run limits p.earlier w)) refl there
     ]
       where
@@ -252,7 +257,7 @@ module _ (limits : Limits) (ts : List Turn) (w : World) (begins : BeginsWell lim
 
         by : (o : Option Publisher) → publisher_named client (run limits p.earlier w) ≡ o → At A (Stands m n A) o (run limits p.earlier w).broker → first < second
         by None named h = absurd (none_read client m p.turn.event (run limits p.earlier w) named p.read)
-        by (Some s) named (inl over) = absurd (over_unread m n x.earlier client limits p.turn.event (run limits p.earlier w) s named over p.read)
+        by (Some s) named (inl over) = absurd (over_unread m n less client limits p.turn.event (run limits p.earlier w) s named over p.read)
         by (Some s) named (inr ahead) =
             let more = once_more client n second limits q.earlier q.turn b.0 w q.read q.number_is in
             let same : times n (accepted_over client limits p.earlier w) ≡ times n (accepted_over client limits (q.earlier ++ q.turn ∷ b.0) w) = ap (λ (us : List Turn). times n (accepted_over client limits us w)) b.1 in
@@ -267,20 +272,59 @@ module _ (limits : Limits) (ts : List Turn) (w : World) (begins : BeginsWell lim
       | inr (inr later) ↦ not_later later
     ]
 
+  -- a message of QoS 2 is accepted once
+  accepted_once : (client : List ℕ) (m n first second : ℕ) → WerePublished client m n first second limits ts w → first < second
+  accepted_once client m n first second x =
+      let p = x.first_is in
+      accepted_first client m n first second x.earlier x.welcome p x.second_is
+      (λ some.
+      let once : times m (accepted_over client limits ts w) ≤ 1 = (all.messages.each client m).once x.exactly_once in
+      let more = once_more client m first limits p.earlier p.turn p.later w p.read p.number_is in
+      let same : times m (accepted_over client limits (p.earlier ++ p.turn ∷ p.later) w) ≡ times m (accepted_over client limits ts w) = ap (λ (us : List Turn). times m (accepted_over client limits us w)) p.are in
+      omega (arith, some, once, more, same))
+
+  -- of any other the first acceptance counts
+  first_before : (client : List ℕ) (m n first second : ℕ) → WereAccepted client m n first second limits ts w → first < second
+  first_before client m n first second x =
+      let none = x.first_is.none in
+      accepted_first client m n first second x.earlier x.welcome x.first_is.accepted x.second_is (λ some. omega (arith, some, none))
+
   -- ---- ledgers
 
   handed : (reader : List ℕ) (r : Receiver) → receiver_named reader (run limits ts w) ≡ Some r → IsRising (publications_handed r)
-  handed reader r e = ledger_rises r (entered_from limits ts w) (all.receivers reader r e).as_entered (run_rises limits ts w begins.untouched.new (counted limits ts w fair))
+  handed reader r e = entries_rise r.ledger (entered_from limits ts w) (all.receivers reader r e).as_entered (run_rises limits ts w begins.untouched.new (counted limits ts w fair))
 
   -- in every fair run that begins well messages stay in order
   pub all_in_order : AreInOrder limits ts w
   all_in_order = record {
     numbered = λ client n some. was_accepted client n limits ts w some;
-    accepted = accepted_first;
+    accepted = accepted_once;
     handed = handed;
-    published = λ client m n first second x reader r e. stands_first first second (accepted_first client m n first second x) r.ledger (handed reader r e);
+    published = λ client m n first second x reader r e. stands_first first second (accepted_once client m n first second x) r.ledger (handed reader r e);
+  }
+
+  -- ---- what was read of QoS 1
+
+  entered_so : (reader : List ℕ) (r : Receiver) → receiver_named reader (run limits ts w) ≡ Some r → stand_among (copies_in (first_reads r.once)) (entered_from limits ts w) ≡ true
+  entered_so reader r e = run_reads_all limits ts w begins.untouched fair reader r e
+
+  read : (reader : List ℕ) (r : Receiver) → receiver_named reader (run limits ts w) ≡ Some r → IsRising (publications_read r)
+  read reader r e = entries_rise (first_reads r.once) (entered_from limits ts w) (entered_so reader r e) (run_rises limits ts w begins.untouched.new (counted limits ts w fair))
+
+  -- messages of QoS 1 stay in order, too, by first acceptances and first reads
+  pub all_read_in_order : AreReadInOrder limits ts w
+  all_read_in_order = record {
+    numbered = λ client n some. first_accepted client n limits ts w some;
+    accepted = first_before;
+    read = read;
+    published = λ client m n first second x reader r e. stands_first first second (first_before client m n first second x) (first_reads r.once) (read reader r e);
+    as_entered = entered_so;
   }
 
 -- and behind any lives of the broker
 pub lives_in_order : (limits : Limits) (ls : List BrokerLife) (ds : List Doing) → AreWithin limits → AreFairLives limits ls → IsFairScript limits ds (after_lives limits ls) → AreInOrder limits (all_turns limits ds (after_lives limits ls)) (after_lives limits ls)
 lives_in_order limits ls ds within h fair = all_in_order limits (all_turns limits ds (after_lives limits ls)) (after_lives limits ls) (lives_begin limits ls within h) fair
+
+-- and so at QoS 1
+pub lives_read_in_order : (limits : Limits) (ls : List BrokerLife) (ds : List Doing) → AreWithin limits → AreFairLives limits ls → IsFairScript limits ds (after_lives limits ls) → AreReadInOrder limits (all_turns limits ds (after_lives limits ls)) (after_lives limits ls)
+lives_read_in_order limits ls ds within h fair = all_read_in_order limits (all_turns limits ds (after_lives limits ls)) (after_lives limits ls) (lives_begin limits ls within h) fair

@@ -5,12 +5,12 @@ use Rattle.std.proofs.lemmas.Bool.{cases_Bool, eqb-true}
 use Rattle.mqtt_base.specs.declared.session.CopyId.{CopyId}
 use Rattle.mqtt_records.proofs.lists_lemmas.OrderLemmas.{apart}
 use Rattle.mqtt_topic.proofs.names_lemmas.MatchLemmas.{and_left, and_right}
-use Rattle.mqtt_world_model.specs.model.Ends.{Entry, Receiver}
+use Rattle.mqtt_world_model.specs.model.Ends.{Entry}
 use Rattle.mqtt_world_model.specs.model.Laws.{copies_in, is_copy, is_own, is_routed, stand_among}
 use Rattle.mqtt_world_laws.proofs.acceptance_lemmas.copies.Told.{copy_is}
 use Rattle.mqtt_world_laws.proofs.delivery_lemmas.order.QueueOrder.{part_stands}
 use Rattle.mqtt_world_laws.proofs.ordered_lemmas.Rising.{is_routed_copy, number_in, own_numbers}
-use Rattle.mqtt_world_laws.specs.ordered.Ordered.{IsNotOf, IsRising, StandsFirst, is_copy_of, publications_handed}
+use Rattle.mqtt_world_laws.specs.ordered.Ordered.{IsNotOf, IsRising, StandsFirst, is_copy_of, publications_in}
 
 -- ---- what stands among others that rise rises
 
@@ -35,9 +35,9 @@ among_rises (x ∷ xs) (y ∷ ys) h r = elim (cases_Bool (is_copy x y)) [
   | inr other ↦ among_rises (x ∷ xs) ys (rw other at h) r.1
 ]
 
--- so what a receiver was handed does
-pub ledger_rises : (r : Receiver) (ids : List CopyId) → stand_among (copies_in r.ledger) ids ≡ true → IsRising (own_numbers ids) → IsRising (publications_handed r)
-ledger_rises r ids stand h = among_rises (filter is_routed_copy (copies_in r.ledger)) (filter is_routed_copy ids) (part_stands is_routed_copy (copies_in r.ledger) ids stand) h
+-- so what a receiver was handed does, and what it has read first
+pub entries_rise : (es : List Entry) (ids : List CopyId) → stand_among (copies_in es) ids ≡ true → IsRising (own_numbers ids) → IsRising (publications_in es)
+entries_rise es ids stand h = among_rises (filter is_routed_copy (copies_in es)) (filter is_routed_copy ids) (part_stands is_routed_copy (copies_in es) ids stand) h
 
 -- ---- of two publications the first stands first
 

@@ -14,10 +14,14 @@ use Rattle.mqtt_world_laws.specs.acceptance.Once.{times_accepted}
 
 -- ---- publications, in the order in which they were accepted
 
--- the numbers of the publications that a receiver was handed, in the order of its ledger; without those that a SUBSCRIBE brought
--- later as retained messages (3.8.4)
+-- the numbers of the publications that these entries are of, in their order; without those that a SUBSCRIBE brought later as retained
+-- messages (3.8.4)
+abbrev pub publications_in : List Entry → List ℕ
+publications_in es = map (λ (c : CopyId). c.publication) (filter (λ (c : CopyId). is_routed c.cause) (copies_in es))
+
+-- of what a receiver was handed, in the order of its ledger
 abbrev pub publications_handed : Receiver → List ℕ
-publications_handed r = map (λ (c : CopyId). c.publication) (filter (λ (c : CopyId). is_routed c.cause) (copies_in r.ledger))
+publications_handed r = publications_in r.ledger
 
 -- no number is below one that stands before it
 abbrev pub IsRising : List ℕ → Type 0

@@ -13,6 +13,7 @@ ghost use Rattle.mqtt_world_laws.specs.headline.Lives.{
   IsFairScript,
   after_lives,
 };
+ghost use Rattle.mqtt_world_laws.specs.ordered.FirstReads.{AreReadInOrder};
 ghost use Rattle.mqtt_world_laws.specs.ordered.Ordered.{AreInOrder};
 
 /// What is published first is received first, in every fair run. The broker accepts the messages of one publisher in the order
@@ -27,4 +28,19 @@ pub fn what_is_published_first_is_received_first()
     ensures lives { (limits : Limits) (lives : List BrokerLife) (ds : List Doing) → AreWithin limits
         → AreFairLives limits lives → IsFairScript limits ds (after_lives limits lives)
         → AreInOrder limits (all_turns limits ds (after_lives limits lives)) (after_lives limits lives) }
+{}
+
+/// The same of QoS 1, in every fair run, by first acceptances and first reads: a message may be accepted again when its PUBACK
+/// was lost, and a copy read again. Of two messages of one publisher the one that was published earlier is first accepted
+/// before the later one ever is, if the broker never refused it. A receiver first reads publications in the order in which they
+/// were accepted, whoever sent them, so none of its copies is first read behind one of the later message. And each copy of
+/// QoS 1, also of a retained message, is first read in the order in which the copies entered (4.6).
+pub fn what_is_published_first_is_read_first()
+    ensures run { (limits : Limits) (ts : List Turn) (w : World) → BeginsWell limits w → IsFair limits ts w
+        → AreReadInOrder limits ts w }
+
+    // Over every fair script of events and drains, after any lives of the broker.
+    ensures lives { (limits : Limits) (lives : List BrokerLife) (ds : List Doing) → AreWithin limits
+        → AreFairLives limits lives → IsFairScript limits ds (after_lives limits lives)
+        → AreReadInOrder limits (all_turns limits ds (after_lives limits lives)) (after_lives limits lives) }
 {}

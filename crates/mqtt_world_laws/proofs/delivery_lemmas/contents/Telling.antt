@@ -11,7 +11,7 @@ use Rattle.mqtt_packet.specs.declared.codec.publish.Delivery.TheVariants as deli
 use Rattle.mqtt_packet.specs.declared.codec.publish.Publish.{Publish as Publication}
 use Rattle.mqtt_flow.specs.outbound.Queue.{holder, is_holder}
 use Rattle.mqtt_flow.specs.inbound.Line.{Link, asked, away, live}
-use Rattle.mqtt_world_model.specs.model.Ends.{Entry, Receiver, greeted, hears, reads_publish, receiver_connack, receiver_reads}
+use Rattle.mqtt_world_model.specs.model.Ends.{Entry, Receiver, entry_of, greeted, hears, reads_publish, receiver_connack, receiver_reads}
 use Rattle.mqtt_world_model.specs.model.Laws.{is_copy, standing_in}
 use Rattle.mqtt_world_model.specs.model.Lines.{Down, copy_by, copy_in, down_on, left, sent_to}
 use Rattle.mqtt_world_model.specs.model.Seats.{Glance, Present, IsHis, absent, closed, connected_at, glance, glance_at, joined, waiting, waits_there}
@@ -121,10 +121,13 @@ module _ (come : List CopyId) where
   abbrev pub AreOne : List Down → Type 0
   AreOne ds = AllByRecursion (λ (d : Down). IsOne d.copy) ds
 
-  -- what is under way to the receiver, and what it was handed, is of these copies
+-- so of a receiver. Of what it has read of QoS 1 it is said if this is so, as that it had read none at first
+module _ (Unread : Type 0) (come : List CopyId) where
+  -- what is under way to the receiver, what it was handed, and what it has read of QoS 1, is of these copies
   pub record AreTold (r : Receiver) : Type 0 where
-    pub down : AreOne r.line.down
-    pub ledger : AllByRecursion (λ (e : Entry). IsOne e.copy) r.ledger
+    pub down : AreOne come r.line.down
+    pub ledger : AllByRecursion (λ (e : Entry). IsOne come e.copy) r.ledger
+    pub once : Unread → AllByRecursion (λ (e : Entry). IsOne come e.copy) r.once
 
   -- ---- it reads
 
@@ -134,47 +137,48 @@ module _ (come : List CopyId) where
   told_connack asked present code r k = by (nat_lt 0 code)
     where
       by : (t : Bool) → AreTold (cond t (record r { line = left (record r.line { clean = false }) }) (record r { line = greeted r.line; asking = false; kept = if present then r.kept else [] }))
-      by true = record { down = tt; ledger = k.ledger }
-      by false = record { down = k.down; ledger = k.ledger }
+      by true = record { down = tt; ledger = k.ledger; once = k.once }
+      by false = record { down = k.down; ledger = k.ledger; once = k.once }
 
-  ledger_more : (t : Bool) (e : Entry) (es : List Entry) → IsOne e.copy → AllByRecursion (λ (e : Entry). IsOne e.copy) es → AllByRecursion (λ (e : Entry). IsOne e.copy) (if t then es else es ++ e ∷ [])
+  ledger_more : (t : Bool) (e : Entry) (es : List Entry) → IsOne come e.copy → AllByRecursion (λ (e : Entry). IsOne come e.copy) es → AllByRecursion (λ (e : Entry). IsOne come e.copy) (if t then es else es ++ e ∷ [])
   ledger_more true e es one k = k
-  ledger_more false e es one k = each_append (λ (x : Entry). IsOne x.copy) es (e ∷ []) k (one, tt)
+  ledger_more false e es one k = each_append (λ (x : Entry). IsOne come x.copy) es (e ∷ []) k (one, tt)
 
-  told_publish : (t : Bool) (copy : Option CopyId) (p : Publication) (d : Delivery) (r : Receiver) → IsOne copy → AreTold r → AreTold (reads_publish t copy p d r)
+  told_publish : (t : Bool) (copy : Option CopyId) (p : Publication) (d : Delivery) (r : Receiver) → IsOne come copy → AreTold r → AreTold (reads_publish t copy p d r)
   told_publish t copy p delivery.AtMostOnce r one k = k
-  told_publish t copy p (delivery.AtLeastOnce dup i) r one k = record { down = k.down; ledger = k.ledger }
-  told_publish t copy p (delivery.ExactlyOnce dup i) r one k = record { down = k.down; ledger = ledger_more _ _ r.ledger one k.ledger }
+  told_publish t copy p (delivery.AtLeastOnce dup i) r one k = record { down = k.down; ledger = k.ledger; once = λ x. each_append (λ (y : Entry). IsOne come y.copy) r.once (entry_of false copy p ∷ []) (k.once x) (one, tt) }
+  told_publish t copy p (delivery.ExactlyOnce dup i) r one k = record { down = k.down; ledger = ledger_more _ _ r.ledger one k.ledger; once = k.once }
 
-  told_packet : (t : Bool) (copy : Option CopyId) (x : Packet) (r : Receiver) → IsOne copy → AreTold r → AreTold (hears t copy x r)
+  told_packet : (t : Bool) (copy : Option CopyId) (x : Packet) (r : Receiver) → IsOne come copy → AreTold r → AreTold (hears t copy x r)
   told_packet t copy (packet.Connack a) r one k = told_connack r.line.link a.session_present a.reason.0 r k
   told_packet t copy (packet.Publish p) r one k = told_publish t copy p p.delivery r one k
-  told_packet t copy (packet.Pubrel a) r one k = record { down = k.down; ledger = k.ledger }
-  told_packet t copy (packet.Suback a) r one k = record { down = k.down; ledger = k.ledger }
-  told_packet t copy (packet.Disconnect a) r one k = record { down = tt; ledger = k.ledger }
+  told_packet t copy (packet.Pubrel a) r one k = record { down = k.down; ledger = k.ledger; once = k.once }
+  told_packet t copy (packet.Suback a) r one k = record { down = k.down; ledger = k.ledger; once = k.once }
+  told_packet t copy (packet.Disconnect a) r one k = record { down = tt; ledger = k.ledger; once = k.once }
   told_packet t copy x r one k = k
 
   -- reading hands over none but copies that it was told of
-  pub told_reading : (t : Bool) (ds : List Down) (r : Receiver) → AreOne ds → AreTold r → AreTold (receiver_reads t ds r)
+  pub told_reading : (t : Bool) (ds : List Down) (r : Receiver) → AreOne come ds → AreTold r → AreTold (receiver_reads t ds r)
   told_reading t [] r h k = k
-  told_reading t (d ∷ rest) r h k = told_packet t d.copy d.packet (record r { line = record r.line { down = rest } }) h.0 (record { down = h.1; ledger = k.ledger })
+  told_reading t (d ∷ rest) r h k = told_packet t d.copy d.packet (record r { line = record r.line { down = rest } }) h.0 (record { down = h.1; ledger = k.ledger; once = k.once })
 
+module _ (come : List CopyId) where
   -- ---- it is told
 
-  one_of : (n id : ℕ) (b : Broker) (o : Option CopyId) → copy_of n id b ≡ o → ((x : CopyId) → copy_of n id b ≡ Some x → is_among come x ≡ true) → IsOne o
+  one_of : (n id : ℕ) (b : Broker) (o : Option CopyId) → copy_of n id b ≡ o → ((x : CopyId) → copy_of n id b ≡ Some x → is_among come x ≡ true) → IsOne come o
   one_of n id b None e h = tt
   one_of n id b (Some x) e h = h x e
 
-  copy_one : (n : ℕ) (b : Broker) (x : Packet) → ((id : ℕ) (x : CopyId) → copy_of n id b ≡ Some x → is_among come x ≡ true) → IsOne (copy_in n b x)
+  copy_one : (n : ℕ) (b : Broker) (x : Packet) → ((id : ℕ) (x : CopyId) → copy_of n id b ≡ Some x → is_among come x ≡ true) → IsOne come (copy_in n b x)
   copy_one n b (packet.Publish p) h = by p.delivery
     where
-      by : (d : Delivery) → IsOne (copy_by n b d)
+      by : (d : Delivery) → IsOne come (copy_by n b d)
       by delivery.AtMostOnce = tt
       by (delivery.AtLeastOnce dup id) = one_of n id b (copy_of n id b) refl (h id)
       by (delivery.ExactlyOnce dup id) = one_of n id b (copy_of n id b) refl (h id)
   copy_one n b x h = tt
 
-  sent_one : (n : ℕ) (b : Broker) (outputs : List (ℕ × Packet)) → ((id : ℕ) (x : CopyId) → copy_of n id b ≡ Some x → is_among come x ≡ true) → AreOne (filter_map (down_on n b) outputs)
+  sent_one : (n : ℕ) (b : Broker) (outputs : List (ℕ × Packet)) → ((id : ℕ) (x : CopyId) → copy_of n id b ≡ Some x → is_among come x ≡ true) → AreOne come (filter_map (down_on n b) outputs)
   sent_one n b [] h = tt
   sent_one n b (x ∷ outputs) h = elim (cases_Bool (nat_eq x.0 n)) [
     | inl here ↦ rw here (copy_one n b x.1 h, sent_one n b outputs h)
@@ -182,7 +186,7 @@ module _ (come : List CopyId) where
   ]
 
   -- what the broker sends is of these copies, if those that have identifiers are
-  pub sent_ones : (o : Option ℕ) (b : Broker) (outputs : List (ℕ × Packet)) → ((n id : ℕ) (x : CopyId) → o ≡ Some n → copy_of n id b ≡ Some x → is_among come x ≡ true) → AreOne (sent_to o b outputs)
+  pub sent_ones : (o : Option ℕ) (b : Broker) (outputs : List (ℕ × Packet)) → ((n id : ℕ) (x : CopyId) → o ≡ Some n → copy_of n id b ≡ Some x → is_among come x ≡ true) → AreOne come (sent_to o b outputs)
   sent_ones None b outputs h = tt
   sent_ones (Some n) b outputs h = sent_one n b outputs (λ id x e. h n id x refl e)
 

@@ -30,10 +30,12 @@ use Rattle.mqtt_world_laws.proofs.acceptance_lemmas.copies.Walks.{comes_goes, if
 use Rattle.mqtt_world_laws.proofs.receiver_lemmas.drains.DrainRuns.{run_append}
 use Rattle.mqtt_world_laws.specs.delivery.Coming.{come_with, queue_at}
 use Rattle.mqtt_world_laws.specs.delivery.HandedOver.{is_among}
-use Rattle.mqtt_world_laws.specs.delivery.Standing.{IsPlaced, IsSeen, Stands}
+use Rattle.mqtt_world_laws.specs.delivery.Standing.{IsPlaced, IsSeen, Stands, StandsWith}
 use Rattle.mqtt_world_laws.specs.receiver.Connecting.{any_size}
+use Rattle.mqtt_world_laws.specs.ordered.FirstReads.{first_reads}
 use Rattle.mqtt_world_laws.specs.delivery.Untouched.{IsUntouched}
 use Rattle.mqtt_world_laws.proofs.delivery_lemmas.order.Among.{all_come, all_one, among_append, others_of, picks_same, stand_trans}
+use Rattle.mqtt_world_laws.proofs.delivery_lemmas.order.FirstReads.{first_ones, read_in_order}
 use Rattle.mqtt_world_laws.proofs.delivery_lemmas.order.QueueOrder.{part_stands}
 use Rattle.mqtt_world_laws.proofs.delivery_lemmas.others.Standings.{handed_in_order}
 use Rattle.mqtt_world_laws.proofs.delivery_lemmas.others.Asked.{IsFit}
@@ -53,10 +55,11 @@ one_more : (come more : List CopyId) (o : Option CopyId) → IsOne come o → Is
 one_more come more None h = tt
 one_more come more (Some x) h = among_append x come more ∙ ap (λ (t : Bool). t || is_among more x) h
 
-told_more : (come more : List CopyId) (r : Receiver) → AreTold come r → AreTold (come ++ more) r
-told_more come more r h = record {
+told_more : (Unread : Type 0) (come more : List CopyId) (r : Receiver) → AreTold Unread come r → AreTold Unread (come ++ more) r
+told_more Unread come more r h = record {
   down = all_more (λ (d : Down). IsOne come d.copy) (λ (d : Down). IsOne (come ++ more) d.copy) r.line.down (λ d one. one_more come more d.copy one) h.down;
   ledger = all_more (λ (e : Entry). IsOne come e.copy) (λ (e : Entry). IsOne (come ++ more) e.copy) r.ledger (λ e one. one_more come more e.copy one) h.ledger;
+  once = λ x. all_more (λ (e : Entry). IsOne come e.copy) (λ (e : Entry). IsOne (come ++ more) e.copy) r.once (λ e one. one_more come more e.copy one) (h.once x);
 }
 
 -- an event that is no bytes of a stranger is one call at most, or one and a restart
@@ -66,22 +69,23 @@ IsSingle e = ⊤
 
 -- ---- what happens to a receiver, by what is told of its line then
 
-module _ (K : List CopyId) (c : List ℕ) where
+module _ (Unread : Type 0) (K : List CopyId) (c : List ℕ) where
   -- its line tells of these alone
   abbrev TellsOf : World → Type 0
   TellsOf u = (r : Receiver) → receiver_named c u ≡ Some r → (n id : ℕ) (x : CopyId) → r.line.number ≡ Some n → copy_of n id u.broker ≡ Some x → is_among K x ≡ true
 
-  abbrev IsLed : Receiver → Type 0
-  IsLed r = AllByRecursion (λ (e : Entry). IsOne K e.copy) r.ledger
+  record IsLed (r : Receiver) : Type 0 where
+    ledger : AllByRecursion (λ (e : Entry). IsOne K e.copy) r.ledger
+    once : Unread → AllByRecursion (λ (e : Entry). IsOne K e.copy) r.once
 
   abbrev Told : World → Type 0
-  Told w = Each (AreTold K) c w
+  Told w = Each (AreTold Unread K) c w
 
   abbrev Led : World → Type 0
   Led w = Each IsLed c w
 
   led_of : (w : World) → Told w → Led w
-  led_of w h r e = (h r e).ledger
+  led_of w h r e = let k = h r e in record { ledger = k.ledger; once = k.once }
 
   -- one of a name is changed, and keeps its name
   one_mapped : (P Q : Receiver → Type 0) (d : List ℕ) (g : Receiver → Receiver) (w v : World) → ((r : Receiver) → (g r).client ≡ r.client) → v.receivers ≡ map (λ r. cond (bytes_eq r.client d) (g r) r) w.receivers
@@ -94,7 +98,7 @@ module _ (K : List CopyId) (c : List ℕ) where
       by false q k = kept q k
 
   line_mapped : (d : List ℕ) (g : Line Back → Line Back) (w v : World) → v.receivers ≡ map (λ r. cond (bytes_eq r.client d) (record r { line = g r.line }) r) w.receivers → ((l : Line Back) → AreOne K l.down → AreOne K (g l).down) → Told w → Told v
-  line_mapped d g w v same keeps h = one_mapped (AreTold K) (AreTold K) d (λ r. record r { line = g r.line }) w v (λ r. refl) same (λ r k. record { down = keeps r.line k.down; ledger = k.ledger }) (λ r k. k) h
+  line_mapped d g w v same keeps h = one_mapped (AreTold Unread K) (AreTold Unread K) d (λ r. record r { line = g r.line }) w v (λ r. refl) same (λ r k. record { down = keeps r.line k.down; ledger = k.ledger; once = k.once }) (λ r k. k) h
 
   -- ---- a call
 
@@ -102,10 +106,11 @@ module _ (K : List CopyId) (c : List ℕ) where
   called_told set call w tells h =
       let new = stepped set.limits set.choice w.now call w.broker in
       let out = told set.limits set.choice w.now call w.broker in
-      each_mapped (AreTold K) (AreTold K) c w (calls set call w) (receiver_told new out) (λ r. refl) refl
+      each_mapped (AreTold Unread K) (AreTold Unread K) c w (calls set call w) (receiver_told new out) (λ r. refl) refl
       (λ q e f k. record {
         down = each_append (λ (d : Down). IsOne K d.copy) q.line.down (sent_to q.line.number new out.outputs) k.down (sent_ones K q.line.number new out.outputs (λ n id x number is. tells (receiver_told new out q) f n id x number is));
         ledger = k.ledger;
+        once = k.once;
       }) h
 
   if_told : (set : Setting) (o : Option Call) (w : World) → TellsOf (calls_if set o w) → Told w → Told (calls_if set o w)
@@ -117,17 +122,18 @@ module _ (K : List CopyId) (c : List ℕ) where
   if_led set (Some call) w h =
       let new = stepped set.limits set.choice w.now call w.broker in
       let out = told set.limits set.choice w.now call w.broker in
-      each_mapped IsLed IsLed c w (calls set call w) (receiver_told new out) (λ r. refl) refl (λ q e f k. k) h
+      each_mapped IsLed IsLed c w (calls set call w) (receiver_told new out) (λ r. refl) refl (λ q e f k. record { ledger = k.ledger; once = k.once }) h
 
   -- a new line tells nothing
   linked_told : (set : Setting) (w : World) → Told w → Told (calls set NewLine w)
   linked_told set w h =
       let new = stepped set.limits set.choice w.now NewLine w.broker in
       let out = told set.limits set.choice w.now NewLine w.broker in
-      each_mapped (AreTold K) (AreTold K) c w (calls set NewLine w) (receiver_told new out) (λ r. refl) refl
+      each_mapped (AreTold Unread K) (AreTold Unread K) c w (calls set NewLine w) (receiver_told new out) (λ r. refl) refl
       (λ q e f k. record {
         down = each_append (λ (d : Down). IsOne K d.copy) q.line.down (sent_to q.line.number new out.outputs) k.down (none (can_link (at_moment w.now w.broker)) q.line.number new);
         ledger = k.ledger;
+        once = k.once;
       }) h
     where
       none : (t : Bool) (o : Option ℕ) (new : Broker) → AreOne K (sent_to o new (filter_map output (cond t (LinkDeed (suc w.broker.given) ∷ []) [])))
@@ -137,7 +143,7 @@ module _ (K : List CopyId) (c : List ℕ) where
       none false (Some n) new = tt
 
   restarts_told : (set : Setting) (w : World) → Led w → Told (restarts set w)
-  restarts_told set w h = each_mapped IsLed (AreTold K) c w (restarts set w) receiver_restarted (λ r. refl) refl (λ q e f k. record { down = tt; ledger = k }) h
+  restarts_told set w h = each_mapped IsLed (AreTold Unread K) c w (restarts set w) receiver_restarted (λ r. refl) refl (λ q e f k. record { down = tt; ledger = k.ledger; once = k.once }) h
 
   -- ---- what is asked for
 
@@ -169,7 +175,7 @@ module _ (K : List CopyId) (c : List ℕ) where
       let f = receiver_told new out in
       let g = λ (r : Receiver). cond (bytes_eq r.client d) (record r { line = left r.line }) r in
       let u : World = record (calls set call w) { receivers = map g (calls set call w).receivers } in
-      each_mapped (AreTold K) (AreTold K) c w u (λ r. g (f r)) (λ r. only_receiver (bytes_eq r.client d) (λ (q : Receiver). record q { line = left q.line }) (f r) refl) (map_twice f g w.receivers)
+      each_mapped (AreTold Unread K) (AreTold Unread K) c w u (λ r. g (f r)) (λ r. only_receiver (bytes_eq r.client d) (λ (q : Receiver). record q { line = left q.line }) (f r) refl) (map_twice f g w.receivers)
       (λ q e named k. each (bytes_eq q.client d) q named k) h
     where
       map_twice : (f g : Receiver → Receiver) (rs : List Receiver) → map g (map f rs) ≡ map (λ r. g (f r)) rs
@@ -179,15 +185,16 @@ module _ (K : List CopyId) (c : List ℕ) where
       each : (t : Bool) (q : Receiver)
           → receiver_named c (record (calls set call w) { receivers = map (λ r. cond (bytes_eq r.client d) (record r { line = left r.line }) r) (calls set call w).receivers })
           ≡ Some (cond t (record (receiver_told (stepped set.limits set.choice w.now call w.broker) (told set.limits set.choice w.now call w.broker) q) { line = left (receiver_told (stepped set.limits set.choice w.now call w.broker) (told set.limits set.choice w.now call w.broker) q).line }) (receiver_told (stepped set.limits set.choice w.now call w.broker) (told set.limits set.choice w.now call w.broker) q))
-          → AreTold K q
-          → AreTold K (cond t (record (receiver_told (stepped set.limits set.choice w.now call w.broker) (told set.limits set.choice w.now call w.broker) q) { line = left (receiver_told (stepped set.limits set.choice w.now call w.broker) (told set.limits set.choice w.now call w.broker) q).line }) (receiver_told (stepped set.limits set.choice w.now call w.broker) (told set.limits set.choice w.now call w.broker) q))
-      each true q named k = record { down = tt; ledger = k.ledger }
+          → AreTold Unread K q
+          → AreTold Unread K (cond t (record (receiver_told (stepped set.limits set.choice w.now call w.broker) (told set.limits set.choice w.now call w.broker) q) { line = left (receiver_told (stepped set.limits set.choice w.now call w.broker) (told set.limits set.choice w.now call w.broker) q).line }) (receiver_told (stepped set.limits set.choice w.now call w.broker) (told set.limits set.choice w.now call w.broker) q))
+      each true q named k = record { down = tt; ledger = k.ledger; once = k.once }
       each false q named k =
           let new = stepped set.limits set.choice w.now call w.broker in
           let out = told set.limits set.choice w.now call w.broker in
           record {
             down = each_append (λ (x : Down). IsOne K x.copy) q.line.down (sent_to q.line.number new out.outputs) k.down (sent_ones K q.line.number new out.outputs (λ n id x number is. tells (receiver_told new out q) named n id x number is));
             ledger = k.ledger;
+            once = k.once;
           }
 
   -- ---- an event of one call, or none
@@ -203,8 +210,8 @@ module _ (K : List CopyId) (c : List ℕ) where
 
   reads_told : (d : List ℕ) (w v : World) → v.receivers ≡ map (λ r. cond (bytes_eq r.client d) (receiver_reads (stands r.line.number w.broker) r.line.down r) r) w.receivers → Told w → Told v
   reads_told d w v same h =
-      one_mapped (AreTold K) (AreTold K) d (λ r. receiver_reads (stands r.line.number w.broker) r.line.down r) w v (λ r. (moves_reading (stands r.line.number w.broker) r.line.down r).client) same
-      (λ r k. told_reading K (stands r.line.number w.broker) r.line.down r k.down k) (λ r k. k) h
+      one_mapped (AreTold Unread K) (AreTold Unread K) d (λ r. receiver_reads (stands r.line.number w.broker) r.line.down r) w v (λ r. (moves_reading (stands r.line.number w.broker) r.line.down r).client) same
+      (λ r k. told_reading Unread K (stands r.line.number w.broker) r.line.down r k.down k) (λ r k. k) h
 
   -- after an event of one call at most a receiver was told of these copies alone, if its line tells of no others
   pub happens_told : (set : Setting) (e : Event) (w : World) (q : Receiver) → receiver_named c w ≡ Some q → TellsOf (happens set e w) → IsSingle e → Told w → Told (happens set e w)
@@ -213,12 +220,12 @@ module _ (K : List CopyId) (c : List ℕ) where
       let first = find_first (λ (x : Receiver). bytes_eq x.client c) (new_receiver d window aliases w.broker.records.births) q w.receivers f in
       let both : Some q ≡ Some r = sym first ∙ e in
       let same : q ≡ r = cc in
-      subst (AreTold K) same (h q f)
+      subst (AreTold Unread K) same (h q f)
   happens_told set (connect_end d clean) w q f tells one h = links_told set (next_line w.broker) d clean w h
   happens_told set (give_up d) w q f tells one h = line_mapped d (λ l. gives_up l.link l) w (happens set (give_up d) w) refl (λ l k. given_up_one l.link l k) h
   happens_told set (publish d x) w q f tells one h = h
   happens_told set (subscribe d x) w q f tells one h =
-      one_mapped (AreTold K) (AreTold K) d (λ r. asks_wish (stands r.line.number w.broker) x r) w (happens set (subscribe d x) w) (λ r. refl) refl (λ r k. record { down = k.down; ledger = k.ledger }) (λ r k. k) h
+      one_mapped (AreTold Unread K) (AreTold Unread K) d (λ r. asks_wish (stands r.line.number w.broker) x r) w (happens set (subscribe d x) w) (λ r. refl) refl (λ r k. record { down = k.down; ledger = k.ledger; once = k.once }) (λ r k. k) h
   happens_told set (to_end d) w q f tells one h = reads_told d w (happens set (to_end d) w) refl h
   happens_told set (clock wait) w q f tells one h = h
   happens_told set (ask (to_broker d)) w q f tells one h = if_told set (call_of set (to_broker d) w) (before set (to_broker d) w) tells (before_told set (to_broker d) w h)
@@ -233,26 +240,26 @@ module _ (K : List CopyId) (c : List ℕ) where
 
 -- ---- call by call
 
-module _ (c : List ℕ) (limits : Limits) where
+module _ (Unread : Type 0) (c : List ℕ) (limits : Limits) where
   -- and of no others was it told
   pub record HaveTold (base come : List CopyId) (v : World) : Type 0 where
     pub come_so : HaveCome c limits base come v
-    pub told : Each (AreTold come) c v
+    pub told : Each (AreTold Unread come) c v
 
   -- a line of its tells of what stands in its queue
-  tells_queue : (come : List CopyId) (u : World) → Stands [] c any_size limits u → TellsOf (come ++ others_of come (queue_at c u)) c u
+  tells_queue : (come : List CopyId) (u : World) → Stands [] c any_size limits u → TellsOf Unread (come ++ others_of come (queue_at c u)) c u
   tells_queue come u s r e n id x number is =
       let placed : IsPlaced any_size s.ids s.ns r u.broker = subst (IsSeen any_size s.ids s.ns u.broker) e s.standing.seen in
       all_one (λ (y : CopyId). is_among (come ++ others_of come (queue_at c u)) y ≡ true) x (queue_at c u) (all_come come (queue_at c u))
       (copy_stands any_size s.ids s.ns c r u.broker placed (named_receiver c r u e) n id x number is)
 
-  told_later : (come more : List CopyId) (w : World) → Each (AreTold come) c w → Each (AreTold (come ++ more)) c w
-  told_later come more w h r e = told_more come more r (h r e)
+  told_later : (come more : List CopyId) (w : World) → Each (AreTold Unread come) c w → Each (AreTold Unread (come ++ more)) c w
+  told_later come more w h r e = told_more Unread come more r (h r e)
 
   -- some deeds that lead from one world to another
   told_on : (deeds : List Deed) (v u : World) (base come : List CopyId) (h : HaveTold base come v) (q p : Receiver) → receiver_named c v ≡ Some q → receiver_named c u ≡ Some p → Enters c deeds v.broker u.broker → ((x : CopyId) → Counts x deeds v.broker u.broker)
       → Stands h.come_so.stands.ids c any_size limits u
-      → (TellsOf (come ++ others_of come (queue_at c u)) c u → Each (AreTold (come ++ others_of come (queue_at c u))) c v → Each (AreTold (come ++ others_of come (queue_at c u))) c u)
+      → (TellsOf Unread (come ++ others_of come (queue_at c u)) c u → Each (AreTold Unread (come ++ others_of come (queue_at c u))) c v → Each (AreTold Unread (come ++ others_of come (queue_at c u))) c u)
       → HaveTold (base ++ filter_map entered_in deeds) (come_with come (queue_at c u)) u
   told_on deeds v u base come h q p e f said count goes_on tells =
       let s : Stands [] c any_size limits u = record { ids = goes_on.ids; grown = (goes_on.ids, refl); ns = goes_on.ns; standing = goes_on.standing } in
@@ -305,7 +312,7 @@ module _ (c : List ℕ) (limits : Limits) where
         let ds = read_if the_deeds set call held in
         let next = told_on ds v u base x.come h q p.0 e p.1 (if_goes (Enters c) set (enters_walk c limits) around.within call held around.steady cost).said
         (λ y. (if_goes (Counts y) set (counts y limits) around.within call held around.steady cost).said) goes_on
-        (λ tells k. if_told (x.come ++ others_of x.come (queue_at c u)) c set call held tells k) in
+        (λ tells k. if_told Unread (x.come ++ others_of x.come (queue_at c u)) c set call held tells k) in
         let rest = rest_told more name w u (base ++ filter_map entered_in ds) (record { come = come_with x.come (queue_at c u); have = next }) p.0 p.1 (if_there c set call held ∙ there) (ap (λ (bytes : List ℕ). bytes_name more bytes w) (held_next set name v call) ∙ both.1) costs.1 in
         let first = ap (filter_map entered_in) (same_deeds name v call) in
         let later = filter_map entered_in (read_rest the_deeds set more name u) in
@@ -322,7 +329,7 @@ module _ (c : List ℕ) (limits : Limits) where
         let p = is_there v u q (comes_there c set name bytes v) e in
         let first = told_on [] v u base come h q p.0 e p.1 (comes_goes (Enters c) set (enters_walk c limits) around.within name bytes v around.steady).said
         (λ y. (comes_goes (Counts y) set (counts y limits) around.within name bytes v around.steady).said) (comes_stands h.come_so.stands.ids c any_size set name bytes v (as_first v h.come_so.stands))
-        (λ tells k. comes_told (come ++ others_of come (queue_at c u)) c set name bytes v k) in
+        (λ tells k. comes_told Unread (come ++ others_of come (queue_at c u)) c set name bytes v k) in
         let begun : Further base u = subst (λ (ids : List CopyId). Further ids u) (append-nil base) (record { come = come_with come (queue_at c u); have = first }) in
         rest_told (held_count (stranger_named name u)) name v u base begun p.0 p.1 (comes_there c set name bytes v) (good_then set name bytes v good) unspent
 
@@ -344,9 +351,9 @@ module _ (c : List ℕ) (limits : Limits) where
         };
       }
     where
-      if_good : (bad : Bool) (K : List CopyId) → TellsOf K c (cond bad v (happens (setting limits t) t.event v)) → Each (AreTold K) c v → Each (AreTold K) c (cond bad v (happens (setting limits t) t.event v))
+      if_good : (bad : Bool) (K : List CopyId) → TellsOf Unread K c (cond bad v (happens (setting limits t) t.event v)) → Each (AreTold Unread K) c v → Each (AreTold Unread K) c (cond bad v (happens (setting limits t) t.event v))
       if_good true K tells k = k
-      if_good false K tells k = happens_told K c (setting limits t) t.event v q e tells one k
+      if_good false K tells k = happens_told Unread K c (setting limits t) t.event v q e tells one k
 
   turn_told : (t : Turn) (v : World) (base come : List CopyId) (h : HaveTold base come v) → IsFit c v → (q : Receiver) → receiver_named c v ≡ Some q → read_at spending (setting limits t) t.event v ≡ false → begins_clean t.event v ≡ true
       → Further (base ++ filter_map entered_in (deeds_at (setting limits t) t.event v)) (turned limits t v)
@@ -420,29 +427,55 @@ ordered_so xs come ids differ h k each =
     subst (λ (zs : List CopyId). stand_among zs come ≡ true) (all_picked come xs each) (subst (λ (zs : List CopyId). stand_among (filter (is_among come) xs) zs ≡ true) (picks_same come ids differ h) picked)
 
 module _ (limits : Limits) (xs ys : List Turn) (w : World) (untouched : IsUntouched limits w) (fair : IsFair limits (xs ++ ys) w) (c : List ℕ) (q r : Receiver) (e : receiver_named c (run limits xs w) ≡ Some q) (f : receiver_named c (run limits (xs ++ ys) w) ≡ Some r) where
-  -- all that a new receiver was handed stood in its queue or entered, in that order
-  pub run_hands_whole : q.ledger ≡ [] → q.line.down ≡ [] → stand_among (copies_in r.ledger) (queue_at c (run limits xs w) ++ entered_from limits ys (run limits xs w)) ≡ true
-  run_hands_whole no_ledger no_down =
+  -- what is known in the end, if at the beginning nothing was handed over and nothing was under way
+  whole : (Unread : Type 0) → q.ledger ≡ [] → (Unread → q.once ≡ []) → q.line.down ≡ [] → Further Unread c limits (queue_at c (run limits xs w) ++ entered_from limits ys (run limits xs w)) (run limits ys (run limits xs w))
+  whole Unread no_ledger none_read no_down =
       let v = run limits xs w in
-      let last = run limits ys v in
       let costs = spent_append limits xs ys w fair.unspent in
       let clean = carried_append limits xs ys w fair.clean in
       let k = fair_run_kept limits xs w untouched (record { within = fair.within; unspent = costs.0; clean = clean.0 }) c in
       let now = queue_at c v in
-      let begun : Further c limits now v = record {
+      let begun : Further Unread c limits now v = record {
         come = now;
         have = record {
           come_so = begins_so c limits v k q e;
           told = λ p g.
               let both : Some q ≡ Some p = sym e ∙ g in
               let same : q ≡ p = cc in
-              subst (AreTold now) same (record { down = subst (λ (ds : List Down). AreOne now ds) (sym no_down) tt; ledger = subst (λ (es : List Entry). AllByRecursion (λ (x : Entry). IsOne now x.copy) es) (sym no_ledger) tt });
+              subst (AreTold Unread now) same (record {
+                down = subst (λ (ds : List Down). AreOne now ds) (sym no_down) tt;
+                ledger = subst (λ (es : List Entry). AllByRecursion (λ (x : Entry). IsOne now x.copy) es) (sym no_ledger) tt;
+                once = λ z. subst (λ (es : List Entry). AllByRecursion (λ (x : Entry). IsOne now x.copy) es) (sym (none_read z)) tt;
+              });
         };
       } in
-      let z = all_told c limits ys v now begun k.fit q e costs.1 clean.1 in
+      all_told Unread c limits ys v now begun k.fit q e costs.1 clean.1
+
+  -- it is there in the end
+  found : receiver_named c (run limits ys (run limits xs w)) ≡ Some r
+  found = sym (ap (receiver_named c) (run_append limits xs ys w)) ∙ f
+
+  -- of these entries, each of a copy that it was told of
+  among_all : (Unread : Type 0) (es : List Entry) → (z : Further Unread c limits (queue_at c (run limits xs w) ++ entered_from limits ys (run limits xs w)) (run limits ys (run limits xs w)))
+      → ((ids : List CopyId) (ns : List ℕ) → StandsWith c any_size limits ids ns (run limits ys (run limits xs w)) → stand_among (copies_in es) ids ≡ true) → AllByRecursion (λ (x : Entry). IsOne z.come x.copy) es
+      → stand_among (copies_in es) (queue_at c (run limits xs w) ++ entered_from limits ys (run limits xs w)) ≡ true
+  among_all Unread es z ordered each =
+      let v = run limits xs w in
+      let last = run limits ys v in
       let h = z.have.come_so in
       let s = h.stands in
-      let found : receiver_named c last ≡ Some r = sym (ap (receiver_named c) (run_append limits xs ys w)) ∙ f in
       let placed : IsPlaced any_size s.ids s.ns r last.broker = subst (IsSeen any_size s.ids s.ns last.broker) found s.standing.seen in
-      let in_order = ordered_so (copies_in r.ledger) z.come s.ids placed.told.differ h.in_order (handed_in_order c any_size limits s.ids s.ns r last s.standing found) (ledger_among z.come r.ledger (z.have.told r found).ledger) in
-      stand_trans (copies_in r.ledger) z.come (now ++ entered_from limits ys v) in_order h.entered
+      let in_order = ordered_so (copies_in es) z.come s.ids placed.told.differ h.in_order (ordered s.ids s.ns s.standing) (ledger_among z.come es each) in
+      stand_trans (copies_in es) z.come (queue_at c v ++ entered_from limits ys v) in_order h.entered
+
+  -- all that a new receiver was handed stood in its queue or entered, in that order
+  pub run_hands_whole : q.ledger ≡ [] → q.line.down ≡ [] → stand_among (copies_in r.ledger) (queue_at c (run limits xs w) ++ entered_from limits ys (run limits xs w)) ≡ true
+  run_hands_whole no_ledger no_down =
+      let z = whole ⊥ no_ledger (λ x. absurd x) no_down in
+      among_all ⊥ r.ledger z (λ ids ns s. handed_in_order c any_size limits ids ns r (run limits ys (run limits xs w)) s found) (z.have.told r found).ledger
+
+  -- and all that it has read of QoS 1, each copy where it was read first
+  pub run_reads_whole : q.ledger ≡ [] → q.once ≡ [] → q.line.down ≡ [] → stand_among (copies_in (first_reads r.once)) (queue_at c (run limits xs w) ++ entered_from limits ys (run limits xs w)) ≡ true
+  run_reads_whole no_ledger none_read no_down =
+      let z = whole ⊤ no_ledger (λ x. none_read) no_down in
+      among_all ⊤ (first_reads r.once) z (λ ids ns s. read_in_order c any_size limits ids ns r (run limits ys (run limits xs w)) s found) (first_ones (λ (x : Entry). IsOne z.come x.copy) r.once ((z.have.told r found).once tt))

@@ -20,11 +20,12 @@ use Rattle.mqtt_world_laws.proofs.acceptance_lemmas.publishers.Ends.{find_last, 
 use Rattle.mqtt_world_laws.proofs.acceptance_lemmas.publishers.Runs.{both_true}
 use Rattle.mqtt_world_laws.specs.delivery.Coming.{queue_at}
 use Rattle.mqtt_world_laws.specs.delivery.Untouched.{IsUntouched}
+use Rattle.mqtt_world_laws.specs.ordered.FirstReads.{first_reads}
 use Rattle.mqtt_world_laws.proofs.delivery_lemmas.order.Among.{stand_behind}
 use Rattle.mqtt_world_laws.proofs.delivery_lemmas.others.Around.{on_back}
 use Rattle.mqtt_world_laws.proofs.delivery_lemmas.order.Coming.{none_at_first}
 use Rattle.mqtt_world_laws.proofs.delivery_lemmas.others.Like.{moves_reading}
-use Rattle.mqtt_world_laws.proofs.delivery_lemmas.order.WholeOrder.{run_hands_whole}
+use Rattle.mqtt_world_laws.proofs.delivery_lemmas.order.WholeOrder.{run_hands_whole, run_reads_whole}
 
 -- ---- nobody of a name is there later, if none was
 
@@ -97,6 +98,7 @@ module _ (c : List ℕ) where
     pub its : Receiver
     pub named : receiver_named c u ≡ Some its
     pub ledger : its.ledger ≡ []
+    pub once : its.once ≡ []
     pub down : its.line.down ≡ []
     pub queue : queue_at c u ≡ []
     pub since : its.since ≡ u.broker.records.births
@@ -111,6 +113,7 @@ module _ (c : List ℕ) where
           its = new;
           named = find_last (λ (r : Receiver). bytes_eq r.client c) new w.receivers its none;
           ledger = refl;
+          once = refl;
           down = refl;
           queue = subst (λ (x : List ℕ). queue_at x (happens set (receiver d window aliases) w) ≡ []) is (none_at_first d window aliases set w good begins);
           since = refl;
@@ -175,3 +178,15 @@ run_hands_all limits ts w u fair c r e =
     let later = entered_from limits x.later (run limits x.first w) in
     let behind : stand_among (copies_in r.ledger) later ≡ true = subst (λ (ids : List CopyId). stand_among (copies_in r.ledger) (ids ++ later) ≡ true) n.queue whole in
     subst (λ (ids : List CopyId). stand_among (copies_in r.ledger) ids ≡ true) (sym (entered_parts limits x.first x.later w) ∙ ap (λ (zs : List Turn). entered_from limits zs w) x.are) (stand_behind (copies_in r.ledger) (entered_from limits x.first w) later behind)
+
+-- and all that it has read of QoS 1, each copy where it was read first
+pub run_reads_all : (limits : Limits) (ts : List Turn) (w : World) → IsUntouched limits w → IsFair limits ts w → (c : List ℕ) (r : Receiver) → receiver_named c (run limits ts w) ≡ Some r → stand_among (copies_in (first_reads r.once)) (entered_from limits ts w) ≡ true
+run_reads_all limits ts w u fair c r e =
+    let nobody : receiver_named c w ≡ None = ap (find (λ (x : Receiver). bytes_eq x.client c)) u.new.receivers in
+    let x = parts c limits ts w r fair.clean nobody e in
+    let n = x.new in
+    let firsts = copies_in (first_reads r.once) in
+    let whole = run_reads_whole limits x.first x.later w u (subst (λ (zs : List Turn). IsFair limits zs w) (sym x.are) fair) c n.its r n.named (subst (λ (zs : List Turn). receiver_named c (run limits zs w) ≡ Some r) (sym x.are) e) n.ledger n.once n.down in
+    let later = entered_from limits x.later (run limits x.first w) in
+    let behind : stand_among firsts later ≡ true = subst (λ (ids : List CopyId). stand_among firsts (ids ++ later) ≡ true) n.queue whole in
+    subst (λ (ids : List CopyId). stand_among firsts ids ≡ true) (sym (entered_parts limits x.first x.later w) ∙ ap (λ (zs : List Turn). entered_from limits zs w) x.are) (stand_behind firsts (entered_from limits x.first w) later behind)

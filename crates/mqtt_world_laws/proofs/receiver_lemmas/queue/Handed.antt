@@ -71,7 +71,7 @@ times_cons : (c d : CopyId) (es : List CopyId) → count_of c (d ∷ es) ≡ con
 times_cons c d es = sum_by-cons (λ y. cond (is_copy c y) 1 0) d es
 
 -- a copy that entered is told from others by its number
-told_apart : (number : Numbering) (ids : List CopyId) (c d : CopyId) → Names number ids (Some c) → Names number ids (Some d) → is_copy c d ≡ nat_eq (number c) (number d)
+pub told_apart : (number : Numbering) (ids : List CopyId) (c d : CopyId) → Names number ids (Some c) → Names number ids (Some d) → is_copy c d ≡ nat_eq (number c) (number d)
 told_apart number ids c d its other = elim (cases_Bool (nat_eq (number c) (number d))) [
   | inl same ↦
       let n : number c ≡ number d = eqb-true (number c) (number d) same in
@@ -318,9 +318,13 @@ module _ (number : Numbering) (largest : ℕ) (copies : List Lot) (r : Receiver)
           ap (λ (o : Option CopyId). stand_among (cons_option o (copies_in es)) (y ∷ ids)) is
           ∙ go rest all c (is_copy c y) refl is (omega (arith, n)) (λ other. omega (arith, n))
 
+  -- entries whose numbers rise are of copies in the order in which these entered
+  pub rises_in_order : (es : List Entry) → AllByRecursion (WasTagged number (map id_of copies)) es → Rising (map (handed_in number) es) → stand_among (copies_in es) (map id_of copies) ≡ true
+  rises_in_order es tagged rise = in_order_from 0 es (map id_of copies) (behind_all es tagged) rise
+
   -- copies were handed over in the order in which they entered
   pub in_order : stand_among (copies_in r.ledger) (map id_of copies) ≡ true
-  in_order = in_order_from 0 r.ledger (map id_of copies) (behind_all r.ledger h.tagged.ledger) (carry (λ w. Rising w.ledger) (in_order_of (run largest h.events start) (good_run largest h.events)))
+  in_order = rises_in_order r.ledger h.tagged.ledger (carry (λ w. Rising w.ledger) (in_order_of (run largest h.events start) (good_run largest h.events)))
 
   -- ---- what it carries
 
