@@ -14,5 +14,5 @@ mod turn;
 
 pub use self::laws::what_a_crash_leaves_of_a_turn;
 pub use self::running::{Timer, run_turns};
-pub use self::settling::{run_settled_turns, serve_settled_turn};
+pub use self::settling::{Had, TURNS_TOGETHER, run_settled_turns, serve_stretch};
 pub use self::turn::{Links, READ_LIMIT, TICK_LIMIT, serve_turn};
