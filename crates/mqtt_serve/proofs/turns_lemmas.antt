@@ -3,3 +3,9 @@ pub mod Joined
 pub mod Going
 pub mod Silent
 pub mod Since
+pub mod Events
+pub mod Said
+pub mod Saying
+pub mod Lasting
+pub mod Starts
+pub mod StartExamples
