@@ -4,3 +4,9 @@ pub mod Going
 pub mod Stretches
 pub mod Silent
 pub mod Since
+pub mod Events
+pub mod Said
+pub mod Saying
+pub mod Lasting
+pub mod Starts
+pub mod StartExamples

@@ -7,7 +7,8 @@ use Rattle.mqtt_serve.specs.declared.turns.turn.TheConstants.{READ_LIMIT, TICK_L
 read_limit : READ_LIMIT ≡ 4096
 read_limit = refl
 
-tick_limit : TICK_LIMIT ≡ 16
+-- the clock has so many turns
+pub tick_limit : TICK_LIMIT ≡ 16
 tick_limit = refl
 
 turns_together : TURNS_TOGETHER ≡ 8
