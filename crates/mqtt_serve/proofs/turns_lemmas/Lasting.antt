@@ -7,7 +7,7 @@ use Rattle.mqtt_rules.specs.step.Step.{Tick}
 use Rattle.mqtt_broker.specs.declared.stored.outcome.Outcome.{Outcome}
 use Rattle.mqtt_broker.specs.engine.Serving.{Served, Serving}
 use Rattle.mqtt_serve.specs.declared.turns.turn.TheConstants.{TICK_LIMIT}
-use Rattle.mqtt_serve.specs.turns.Settled.{HasSettledTurn, IsStoredOrPutOff}
+use Rattle.mqtt_serve.specs.turns.Settled.{IsStoredOrPutOff, Stretches, no_stretch, stretch_after}
 use Rattle.mqtt_serve.specs.turns.Turns.{HasTurn, Hosting, IsTicked, Server, TickedSoFar, Ticks, TicksBy, TurnsBy, enough_ticks, last_tick, no_tick, no_turn, server, tick_after, turn_after}
 use Rattle.mqtt_serve.proofs.turns_lemmas.Constants.{tick_limit}
 
@@ -43,9 +43,12 @@ module _ {K : Type 0} (g : Ghosts K) where
   stored_runs went a b (inl stores) = stores.called.called.runs (λ e. cc)
   stored_runs went a b (inr off) = off.called.called.runs (λ e. cc)
 
-  -- so was the storing
-  pub settled_turn_runs : (now : ℕ) (busy : Bool) (h i : Hosting (Serving K)) → HasSettledTurn g now busy h i → i.engine.running.stopped ≡ false
-  settled_turn_runs now busy h i has = stored_runs has.turn.went has.turn.served (server i.engine i.links.wires) has.turn.stores
+  -- so was the storing of a stretch: an engine that runs before stretches runs after them
+  pub stretches_run : (begin : ℕ) (moments : List ℕ) (at : ℕ) (old new : Hosting (Serving K)) → Stretches g begin moments at old new
+      → old.engine.running.stopped ≡ false → new.engine.running.stopped ≡ false
+  stretches_run begin moments at old new no_stretch runs = runs
+  stretches_run begin moments at old new (stretch_after j before it) runs =
+      stored_runs it.went (server it.served.engine it.served.links.wires) (server j.engine j.links.wires) it.stores
 
   -- so after any number of turns
   module _ (turn : ℕ → Bool → Hosting (Serving K) → Hosting (Serving K) → Type 0)

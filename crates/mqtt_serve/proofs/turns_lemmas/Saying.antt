@@ -11,7 +11,7 @@ use Rattle.mqtt_broker.specs.declared.stored.outcome.Outcome.{Outcome}
 use Rattle.mqtt_broker.specs.engine.Serving.{Serving}
 use Rattle.mqtt_serve.specs.turns.Leaving.{AreCalls, IsCalled, call_after, line_linked, no_call, piece_came, was_asked, was_told}
 use Rattle.mqtt_serve.specs.turns.Said.{AreSaid, IsSaid, IsSaidTo, outputs_in, outputs_of, outputs_of_call}
-use Rattle.mqtt_serve.specs.turns.Settled.{HasSettledTurn, IsStoredOrPutOff, LetsGoBelow, RunsSettledUntil, none_yet, one_after}
+use Rattle.mqtt_serve.specs.turns.Settled.{IsStoredOrPutOff, LetsGoBelow, RunsSettledUntil, ServedTurn, Stretch, Stretches, Together, no_stretch, none_yet, not_begun, one_after, stretch_after, turn_more}
 use Rattle.mqtt_serve.specs.turns.Turns.{Accepts, Gives, GivenSoFar, GivesIf, HasTurn, Hosting, IsPieced, IsTicked, LosesIf, PumpsIf, Server, ServesAll, ServesBelow, ServesLine, Tells, TickedSoFar, Ticks, TicksBy, TurnsBy, all_given, enough_ticks, given_up, last_tick, line_after, no_line, no_tick, no_turn, nothing_yet, piece_after, rested, server, tick_after, turn_after, without_closed}
 use Rattle.mqtt_serve.specs.turns.Wires.{Wire, AreLost, LetsGo, Reaches, Reads, WritesAnd, WritesLast, is_standing, letting, lost_if}
 use Rattle.mqtt_serve.proofs.turns_lemmas.Said.{Outputs, all_said_then, at_said, closing_said, dropped_said, hears_said, last_said, leaves_said, losing_said, reads_said, related_said, said_then, silent, still_said, writes_said}
@@ -204,15 +204,6 @@ module _ {K : Type 0} (g : Ghosts K) where
       (all_said_then [] [] a.wires s.after (without_closed s.after) (let_go_said _ went a.wires s.after s.lets) (dropped_said s.after)))
   stored_says went a b (inr off) = one_says a b (was_told (Err Memory) off.called) (subst (AreSaid [] a.wires) (sym off.same) (still_said a.wires))
 
-  -- or the steps are stored, and what is held goes out
-  pub settled_turn_says : (now : ℕ) (busy : Bool) (h i : Hosting (Serving K)) → HasSettledTurn g now busy h i
-      → Says (server h.engine h.links.wires) (server i.engine i.links.wires)
-  settled_turn_says now busy h i has =
-      let turn = has.turn in
-      says_then _ turn.accepted _ (accepted now has.came (server h.engine h.links.wires) turn.accepted turn.accepts)
-      (says_then turn.accepted turn.served _ (all_served now turn.moved turn.accepted turn.served turn.serves)
-      (stored_says turn.went turn.served (server i.engine i.links.wires) turn.stores))
-
   -- ---- turns one after the other
 
   rested_wires : (busy : Bool) (h : Hosting (Serving K)) → (rested busy h.links).wires ≡ h.links.wires
@@ -231,10 +222,40 @@ module _ {K : Type 0} (g : Ghosts K) where
         subst (λ (ws : List Wire). Says (server old.engine old.links.wires) (server j.engine ws)) (sym (rested_wires busy j))
         (says_then _ (server i.engine i.links.wires) _ (turns_say begin read last old i turns) (says (max last now) busy i j has))
 
-  -- and the turn that breaks off
+  -- ---- stretches of turns that are stored together
+
+  turn_said : (now : ℕ) (busy : Bool) (h i : Hosting (Serving K)) → ServedTurn g now busy h i
+      → Says (server h.engine h.links.wires) (server i.engine i.links.wires)
+  turn_said now busy h i turn =
+      says_then _ turn.accepted _ (accepted now turn.came (server h.engine h.links.wires) turn.accepted turn.accepts)
+      (all_served now turn.moved turn.accepted (server i.engine i.links.wires) turn.serves)
+
+  together_said : (begin : ℕ) (moments : List ℕ) (at : ℕ) (some : Bool) (old new : Hosting (Serving K)) → Together g begin moments at some old new
+      → Says (server old.engine old.links.wires) (server new.engine new.links.wires)
+  together_said begin moments at some old new not_begun = says_still (server old.engine old.links.wires)
+  together_said begin moments at some old new (turn_more {read} {last} now {busy} {i} turns turn) =
+      says_then _ (server i.engine i.links.wires) _ (together_said begin read last true old i turns) (turn_said (max last now) busy i new turn)
+
+  -- the steps are stored, and what is held goes out
+  stretch_said : (begin : ℕ) (read : List ℕ) (last : ℕ) (busy : Bool) (h i : Hosting (Serving K)) → Stretch g begin read last busy h i
+      → Says (server h.engine h.links.wires) (server i.engine i.links.wires)
+  stretch_said begin read last busy h i it =
+      says_then _ (server it.served.engine it.served.links.wires) _ (together_said begin read last it.moved h it.served it.turns)
+      (stored_says it.went (server it.served.engine it.served.links.wires) (server i.engine i.links.wires) it.stores)
+
+  -- stretches say what their calls answer
+  pub stretches_say : (begin : ℕ) (moments : List ℕ) (at : ℕ) (old new : Hosting (Serving K)) → Stretches g begin moments at old new
+      → Says (server old.engine old.links.wires) (server new.engine new.links.wires)
+  stretches_say begin moments at old new no_stretch = says_still (server old.engine old.links.wires)
+  stretches_say begin moments at old new (stretch_after {read} {more} {last} {next} {busy} {i} j before stretch) =
+      subst (λ (ws : List Wire). Says (server old.engine old.links.wires) (server j.engine ws)) (sym (rested_wires busy j))
+      (says_then _ (server i.engine i.links.wires) _ (stretches_say begin read last old i before) (stretch_said last more next busy i j stretch))
+
+  -- and the stretch that breaks off
   pub until_calls : (begin turns : ℕ) (error : EngineError) (told told_then : Option (List ℕ)) (old new : Hosting (Serving K))
       → RunsSettledUntil g begin turns error told told_then old new → AreCalls g old.engine new.engine
   until_calls begin turns error told told_then old new ran =
-      calls_then old.engine ran.mid.engine new.engine
-      (turns_say (HasSettledTurn g) settled_turn_says begin ran.read ran.last old ran.mid ran.turns_on).calls
-      (broken_held g (max ran.last ran.now) error ran.mid new ran.breaks).calls
+      let off = ran.is_so.1 in
+      calls_then old.engine off.mid.engine new.engine
+      (stretches_say begin off.first off.last old off.mid off.stretches).calls
+      (broken_held g off.last off.more error off.mid new off.breaks).calls

@@ -15,11 +15,11 @@ use Rattle.mqtt_world_laws.proofs.of_calls_lemmas.Ending.{still_in_order}
 use Rattle.mqtt_world_laws.proofs.of_calls_lemmas.Keeping.{blank_in_order, keeps_from_nothing}
 use Rattle.mqtt_serve.specs.turns.Events.{AreOfCalls, IsBoth}
 use Rattle.mqtt_serve.specs.turns.Leaving.{AreCalls, IsCalled, call_after, line_linked, no_call, piece_came, was_asked, was_told}
-use Rattle.mqtt_serve.specs.turns.Settled.{HasSettledTurn, Runs}
+use Rattle.mqtt_serve.specs.turns.Settled.{Runs}
 use Rattle.mqtt_serve.specs.turns.Starts.{AreOfStarts, AreStarts, HasStarted, IsLeftByStep, IsLeftOf, IsLeftWithin, KeepAllLeft, KeepAllSoFar, WasServed, no_start, only_opened, served}
 use Rattle.mqtt_serve.proofs.turns_lemmas.Events.{Lead, after_both, calls_lead, limits_stay_over, running_or_not, sound_before, sound_over, spend_both}
-use Rattle.mqtt_serve.proofs.turns_lemmas.Lasting.{settled_turn_runs, turns_run}
-use Rattle.mqtt_serve.proofs.turns_lemmas.Saying.{settled_turn_says, turns_say}
+use Rattle.mqtt_serve.proofs.turns_lemmas.Lasting.{stretches_run}
+use Rattle.mqtt_serve.proofs.turns_lemmas.Saying.{stretches_say}
 
 -- ---- events after which something is stored
 
@@ -214,7 +214,8 @@ module _ {K : Type 0} (g : Ghosts K) where
   pub runs_started : (limits : Limits) (begin turns : ℕ) (keep given : K) → Runs g limits begin turns keep given → WasServed g limits keep given
   runs_started limits begin turns keep given runs =
       let ran = runs.ran.ran in
-      let calls = (turns_say g (HasSettledTurn g) (settled_turn_says g) begin ran.read ran.last _ _ ran.turns_on).calls in
+      let on = ran.is_so.1 in
+      let calls = (stretches_say g begin ran.read on.0 _ _ on.1).calls in
       let sound_then : g.is_sound given → g.is_sound runs.start.running.keep =
       (λ sound. runs.settles.called.sound (sound_over g runs.first runs.stop calls (subst g.is_sound runs.closed sound))) in
       record {
@@ -233,7 +234,7 @@ module _ {K : Type 0} (g : Ghosts K) where
         its = refl;
         exact = λ held has sound. runs.begins.exact held has (sound_then sound);
         leaves = λ sound. runs.begins.found (sound_then sound);
-        runs = turns_run g (HasSettledTurn g) (settled_turn_runs g) begin ran.read ran.last _ _ ran.turns_on (runs.settles.called.runs (λ e. cc));
+        runs = stretches_run g begin ran.read on.0 _ _ on.1 (runs.settles.called.runs (λ e. cc));
         given_is = runs.closed;
       }
 
