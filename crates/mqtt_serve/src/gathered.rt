@@ -2,5 +2,6 @@
 
 mod counts;
 mod gathered;
+mod rows;
 
 pub use self::gathered::{GATHERED_LIMIT, Gathered};

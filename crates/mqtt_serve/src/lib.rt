@@ -13,6 +13,6 @@ pub use mqtt_rules::Limits;
 pub use serving::{SteadyClock, serve, serve_over};
 pub use sqlite::{Start, Unknown};
 pub use turns::{
-    Links, READ_LIMIT, TICK_LIMIT, Timer, run_settled_turns, run_turns, serve_settled_turn,
-    serve_turn,
+    Had, Links, READ_LIMIT, TICK_LIMIT, TURNS_TOGETHER, Timer, run_settled_turns, run_turns,
+    serve_stretch, serve_turn,
 };
