@@ -5,6 +5,7 @@ ghost use Rattle.mqtt_serve.specs.gathered.Counting.{sets_of};
 ghost use Rattle.mqtt_serve.specs.gathered.Gathering.{Holding, NothingWaits};
 
 use super::counts::Counts;
+use super::joins::join_last_all;
 use super::rows::push_rows;
 use mqtt_keep::{Keep, KeepError, Settles};
 use mqtt_link::Commit;
@@ -118,6 +119,7 @@ impl<K: Settles> Keep for Gathered<K> {
 
     fn apply(&mut self, changes: &[Change]) -> Result<(), KeepError> {
         push_rows(&mut self.changes, changes)?;
+        join_last_all(&mut self.changes, changes.len());
         self.counts.set_all(changes);
         if self.waiting() > self.limit {
             return self.settle_long();
