@@ -130,7 +130,8 @@ module _ {K : Type 0} (g : Ghosts K) where
       (sym ((called.truly sound).same (λ is. not_both b.running.stopped (called.stopped is) runs))) refl
   call_leads a b (was_asked now call (Ok out) called) within begins sound runs =
       let its = (called.called.truly sound).step in
-      let that = answer_leads (Some call) a.running.limits its.step.choice now a.running.broker b.running.broker out within begins its.step.unspent its.step.new_is
+      let that = answer_leads (Some call) a.running.limits its.step.choice now a.running.broker b.running.broker out within begins
+      its.step.unspent its.step.new_is
       (its.tells.outputs ∙ ap bytes_out its.step.out_is)
       (its.tells.closed ∙ ap (λ (o : Told). o.closed) its.step.out_is) in
       record { events = that.events; are = that.are; fair = that.fair; lead = that.lead }

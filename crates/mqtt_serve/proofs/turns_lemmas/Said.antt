@@ -9,7 +9,7 @@ use Rattle.mqtt_serve.specs.declared.turns.connection.Fate.TheVariants.{Stands, 
 use Rattle.mqtt_serve.specs.turns.Related.{Related, RelatedAt}
 use Rattle.mqtt_serve.specs.turns.Said.{AreSaid, IsSaid, IsSaidTo}
 use Rattle.mqtt_serve.specs.turns.Turns.{without_closed}
-use Rattle.mqtt_serve.specs.turns.Wires.{Wire, Hears, Leaves, Reads, Writes, WritesLast, bytes_if, bytes_to, is_closed, is_standing, lost}
+use Rattle.mqtt_serve.specs.turns.Wires.{Wire, Hears, Leaves, Reads, Writes, WritesLast, bytes_if, bytes_to, ending, is_closed, is_standing, lost, writing}
 
 -- outputs, each with its line
 abbrev pub Outputs : Type 0
@@ -56,7 +56,8 @@ silent x y number said stood = record {
 }
 
 -- to one that doesn't stand nothing is said
-unheard : (outputs : Outputs) (x y : Wire) → is_standing x.fate ≡ false → is_standing y.fate ≡ false → y.number ≡ x.number → y.said ≡ x.said → IsSaid outputs x y
+unheard : (outputs : Outputs) (x y : Wire) → is_standing x.fate ≡ false → is_standing y.fate ≡ false → y.number ≡ x.number → y.said ≡ x.said
+    → IsSaid outputs x y
 unheard outputs x y was is number said = record {
   number = number;
   unsaid = bytes_to x.number outputs;
@@ -143,11 +144,11 @@ reads_said Closed room bytes x y e = rw e.1 (silent x x refl refl (λ stands. st
 
 -- nor is anything said here
 pub writes_said : (fate : Fate) (x y : Wire) → Writes fate x y → IsSaid [] x y
-writes_said Stands x y (inl e) = silent x y (ap (λ (w : Wire). w.number) e) (ap (λ (w : Wire). w.said) e) (λ stands. ap (λ (w : Wire). is_standing w.fate) (sym e) ∙ stands)
-writes_said Stands x y (inr e) = silent x y (ap (λ (w : Wire). w.number) e) (ap (λ (w : Wire). w.said) e) (λ stands. absurd (not_both (is_standing y.fate) stands (ap (λ (w : Wire). is_standing w.fate) e)))
-writes_said Lost x y e = rw e (silent x x refl refl (λ stands. stands))
-writes_said Closed x y (inl e) = silent x y (ap (λ (w : Wire). w.number) e) (ap (λ (w : Wire). w.said) e) (λ stands. ap (λ (w : Wire). is_standing w.fate) (sym e) ∙ stands)
-writes_said Closed x y (inr e) = silent x y (ap (λ (w : Wire). w.number) e) (ap (λ (w : Wire). w.said) e) (λ stands. ap (λ (w : Wire). is_standing w.fate) (sym e) ∙ stands)
+writes_said Stands x y (inl e) = subst (IsSaid [] x) (sym e) (silent x (writing y.waits x) refl refl (λ stands. stands))
+writes_said Stands x y (inr e) = subst (IsSaid [] x) (sym e) (silent x (lost (ending (writing y.waits x))) refl refl (λ stands. cc))
+writes_said Lost x y e = subst (IsSaid [] x) (sym e) (silent x x refl refl (λ stands. stands))
+writes_said Closed x y (inl e) = subst (IsSaid [] x) (sym e) (silent x (writing y.waits x) refl refl (λ stands. stands))
+writes_said Closed x y (inr e) = subst (IsSaid [] x) (sym e) (silent x (ending (writing y.waits x)) refl refl (λ stands. stands))
 
 -- nor is anything said here
 pub last_said : (fate : Fate) (x y : Wire) → WritesLast fate x y → IsSaid [] x y
@@ -195,7 +196,10 @@ pub record IsAt (x : Wire) (xs : List Wire) : Type 0 where
 at_among : (x : Wire) (xs : List Wire) → IsAmong x xs → IsAt x xs
 at_among x [] h = absurd h
 at_among x (y ∷ xs) (inl e) = record { place = 0; at = ap Some e; within = omega arith }
-at_among x (y ∷ xs) (inr h) = let rest = at_among x xs h in let less = rest.within in record { place = suc rest.place; at = rest.at; within = omega (arith, less) }
+at_among x (y ∷ xs) (inr h) =
+    let rest = at_among x xs h in
+    let less = rest.within in
+    record { place = suc rest.place; at = rest.at; within = omega (arith, less) }
 
 there_too : (k : ℕ) (xs : List Wire) → k < length xs → (x : Wire) × (slice_get xs k ≡ Some x)
 there_too k [] less = absurd (omega (arith, less))

@@ -64,11 +64,13 @@ module _ {K : Type 0} (g : Ghosts K) where
   calls_then a b c first no_call = first
   calls_then a b c first (call_after {t} calls call) = call_after (calls_then a b t first calls) call
 
-  outputs_then : (a b c : Serving K) (first : AreCalls g a b) (next : AreCalls g b c) → outputs_of (calls_then a b c first next) ≡ outputs_of first ++ outputs_of next
+  outputs_then : (a b c : Serving K) (first : AreCalls g a b) (next : AreCalls g b c)
+      → outputs_of (calls_then a b c first next) ≡ outputs_of first ++ outputs_of next
   unfolding calls_then
   outputs_then a b c first no_call = sym (append-nil (outputs_of first))
   outputs_then a b c first (call_after {t} calls call) =
-      ap (λ (o : Outputs). o ++ outputs_of_call call) (outputs_then a b t first calls) ∙ append_assoc (outputs_of first) (outputs_of calls) (outputs_of_call call)
+      ap (λ (o : Outputs). o ++ outputs_of_call call) (outputs_then a b t first calls)
+      ∙ append_assoc (outputs_of first) (outputs_of calls) (outputs_of_call call)
 
   -- one after the other
   pub says_then : (a b c : Server (Serving K)) → Says a b → Says b c → Says a c
@@ -178,7 +180,8 @@ module _ {K : Type 0} (g : Ghosts K) where
         number = h.number;
         then = h.wire;
         opened = h.opened;
-        said = silent h.wire w (ap (λ (v : Wire). v.number) (sym e)) (ap (λ (v : Wire). v.said) (sym e)) (λ stands. ap (λ (v : Wire). is_standing v.fate) e ∙ stands);
+        said = silent h.wire w (ap (λ (v : Wire). v.number) (sym e)) (ap (λ (v : Wire). v.said) (sym e))
+            (λ stands. ap (λ (v : Wire). is_standing v.fate) e ∙ stands);
       })
   accepted now true a b (inr (inl h)) = one_says a b (line_linked now None h.called) (subst (AreSaid [] a.wires) (sym h.same) (still_said a.wires))
   accepted now true a b (inr (inr h)) = subst (Says a) (sym h.same) (says_still a)

@@ -70,7 +70,11 @@ module _ (put : Told → Outcome) (tells : (t : Told) → Tells t (put t)) where
   was_called : (call : Call) (b : Broker) → is_step_spent usual first 0 call b ≡ false → IsCalled kept (engine b) (engine (stepped usual first 0 call b))
   was_called call b unspent =
       let t = told usual first 0 call b in
-      let answer : IsAnswered usual b 0 call (put t) (stepped usual first 0 call b) = record { told = t; tells = tells t; step = record { choice = first; unspent = unspent; new_is = refl; out_is = refl } } in
+      let answer : IsAnswered usual b 0 call (put t) (stepped usual first 0 call b) = record {
+        told = t;
+        tells = tells t;
+        step = record { choice = first; unspent = unspent; new_is = refl; out_is = refl };
+      } in
       was_asked 0 call (Ok (put t)) (record {
         called = record {
           truly = λ sound. record {
@@ -170,14 +174,30 @@ module _ (put : Told → Outcome) (tells : (t : Told) → Tells t (put t)) where
   -- no number is spent
   pub first_fair : SpendNone (map asked sent_first) (opened usual first 0 nothing)
   unfolding varint is_utf8 chars encode
-  first_fair =
-      ((usual_within, refl), ((usual_within, refl), ((usual_within, refl), ((usual_within, refl), ((usual_within, refl), ((usual_within, refl), ((usual_within, refl), tt)))))))
+  first_fair = (
+    (usual_within, refl),
+    (
+      (usual_within, refl),
+      (
+        (usual_within, refl),
+        (
+          (usual_within, refl),
+          ((usual_within, refl), ((usual_within, refl), ((usual_within, refl), tt))),
+        ),
+      ),
+    ),
+  )
 
   -- so far the first start
   pub after_first : AreStarts kept left_first
   after_first =
       served usual left_first usual_within no_start
-      (record { last = engine (after_events (map asked sent_first) (opened usual first 0 nothing)); started = starts nothing sent_first refl first_fair; sound = tt; leaves = refl })
+      (record {
+        last = engine (after_events (map asked sent_first) (opened usual first 0 nothing));
+        started = starts nothing sent_first refl first_fair;
+        sound = tt;
+        leaves = refl;
+      })
 
   -- r1 comes again; the copy goes out once more, and is taken
   abbrev pub taken_then : List Call
