@@ -54,7 +54,7 @@ fn the_version_is_written(rt: HostRuntime) {
         );
         let is_told = matches!(outcome, Outcome::Line(LineFault::Version));
         let is_done = ends_with(outcome, 0, "");
-        let is_line = written.as_slice() == b"mqtt5 0.1.0\n";
+        let is_line = written.as_slice() == "mqtt5 0.1.0\n".as_bytes();
         drop(written);
         assert!(rt; is_told && is_done && is_line, "{word}");
     }
