@@ -1,11 +1,13 @@
 //! What `mqtt5 serve` does: turns over connections, its database, and the sockets.
 #![tactic(auto)]
 
+mod causes;
 mod database;
 mod gathered;
 mod serving;
 mod turns;
 
+pub use causes::{Cause, CauseLine, SocketCause, StoreCause};
 pub use database::{MakeFault, PAGE_SIZE, make_database, make_over};
 pub use gathered::{GATHERED_LIMIT, Gathered};
 pub use mqtt_link::{Commit, ServeFault};
