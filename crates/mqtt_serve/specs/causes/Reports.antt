@@ -1,5 +1,5 @@
 -- What a failed call tells of why the server ends (ours).
-use Rattle.std.specs.Prelude.{◌≡◌, ◌⊎◌, ◌==◌, if◌then◌else◌, ℤ, pos, Option, Some}
+use Rattle.std.specs.Prelude.{◌≡◌, ◌⊎◌, ◌==◌, if◌then◌else◌, pos, Some}
 use Rattle.std.specs.IoError.{raw_os_error}
 use Rattle.std.specs.declared.io.Error.{Error as CallError}
 use Rattle.std.specs.declared.io.ErrorKind.{ErrorKind}
