@@ -3,7 +3,7 @@
 
 use mqtt_cli::{ending, run};
 use mqtt_replay::replay_at;
-use mqtt_serve::{Commit, Unknown, serve};
+use mqtt_serve::{Unknown, serve};
 use std::io;
 use std::net::SocketAddr;
 use std::process::ExitCode;
@@ -11,7 +11,7 @@ use std::process::ExitCode;
 fn main(rt: HostRuntime) -> ExitCode {
     let outcome = run(
         &rt,
-        &|listen, db, turns, limits| {
+        &|listen, db, turns, limits, commit| {
             serve(
                 &rt,
                 SocketAddr::V4(listen),
@@ -19,7 +19,7 @@ fn main(rt: HostRuntime) -> ExitCode {
                 turns,
                 &mut io::writer(&rt),
                 limits,
-                Commit::Turn,
+                commit,
                 Unknown,
             )
         },

@@ -5,9 +5,12 @@ mod line;
 mod outcome;
 mod program;
 mod values;
+mod version;
 mod words;
+mod wrong_values;
 
 pub use self::line::{Action, LineFault};
 pub use self::outcome::{DONE, FAILED, FAULTY, Outcome, USAGE, ending};
 pub use self::program::{perform, run};
+pub use self::version::VERSION;
 pub use self::words::action;

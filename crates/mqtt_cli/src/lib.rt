@@ -5,10 +5,10 @@ mod command;
 mod viewer;
 
 pub use command::{
-    Action, DONE, FAILED, FAULTY, LineFault, Outcome, USAGE, action, ending, perform, run,
+    Action, DONE, FAILED, FAULTY, LineFault, Outcome, USAGE, VERSION, action, ending, perform, run,
 };
 pub use mqtt_flow::Full;
-pub use mqtt_link::ServeFault;
+pub use mqtt_link::{Commit, ServeFault};
 pub use mqtt_rules::Limits;
 pub use mqtt_script::{Played, ReplayFault};
 pub use viewer::{

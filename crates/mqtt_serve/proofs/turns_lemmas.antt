@@ -1,5 +1,12 @@
 pub mod Constants
 pub mod Joined
 pub mod Going
+pub mod Stretches
 pub mod Silent
 pub mod Since
+pub mod Events
+pub mod Said
+pub mod Saying
+pub mod Lasting
+pub mod Starts
+pub mod StartExamples

@@ -1,3 +1,4 @@
+pub mod causes
 pub mod turns
 pub mod gathered
 pub mod database

@@ -1,6 +1,9 @@
 pub mod Breaks
+pub mod Events
 pub mod Leaving
 pub mod Related
+pub mod Said
 pub mod Settled
+pub mod Starts
 pub mod Turns
 pub mod Wires

@@ -2,5 +2,7 @@
 
 mod counts;
 mod gathered;
+mod joins;
+mod rows;
 
 pub use self::gathered::{GATHERED_LIMIT, Gathered};

@@ -1,11 +1,13 @@
 //! What `mqtt5 serve` does: turns over connections, its database, and the sockets.
 #![tactic(auto)]
 
+mod causes;
 mod database;
 mod gathered;
 mod serving;
 mod turns;
 
+pub use causes::{Cause, CauseLine, SocketCause, StoreCause};
 pub use database::{MakeFault, PAGE_SIZE, make_database, make_over};
 pub use gathered::{GATHERED_LIMIT, Gathered};
 pub use mqtt_link::{Commit, ServeFault};
@@ -13,6 +15,6 @@ pub use mqtt_rules::Limits;
 pub use serving::{SteadyClock, serve, serve_over};
 pub use sqlite::{Start, Unknown};
 pub use turns::{
-    Links, READ_LIMIT, TICK_LIMIT, Timer, run_settled_turns, run_turns, serve_settled_turn,
-    serve_turn,
+    Had, Links, READ_LIMIT, TICK_LIMIT, TURNS_TOGETHER, Timer, run_settled_turns, run_turns,
+    serve_stretch, serve_turn,
 };

@@ -5,6 +5,7 @@ mod accepting;
 mod asking;
 mod connection;
 mod giving;
+mod keeping;
 mod laws;
 mod line;
 mod running;
@@ -12,7 +13,8 @@ mod settling;
 mod telling;
 mod turn;
 
+pub use self::keeping::{starts_keep_all_whoever_sends, turns_keep_all_whoever_sends};
 pub use self::laws::what_a_crash_leaves_of_a_turn;
 pub use self::running::{Timer, run_turns};
-pub use self::settling::{run_settled_turns, serve_settled_turn};
+pub use self::settling::{Had, TURNS_TOGETHER, run_settled_turns, serve_stretch};
 pub use self::turn::{Links, READ_LIMIT, TICK_LIMIT, serve_turn};

@@ -1,8 +1,13 @@
 //! Tests of `mqtt_serve::turns` over its public calls: turns over clients in memory and at sockets (MQTT 5.0, 4.2).
 
 mod clients;
+mod cut;
 mod full;
 mod groups;
+mod order;
+mod settled;
 mod slow;
 mod sockets;
+mod stretches;
 mod turns;
+mod wanting;

@@ -1,8 +1,9 @@
 -- Command lines, by computing.
 use Rattle.std.proofs.Common.{◌≡◌, true, List, [], ◌∷◌, None, Some, codes, refl}
 use Rattle.clap.proofs.OnLiterals.{clap_on_literals}
-use Rattle.clap.specs.Words.{Text}
-use Rattle.mqtt_cli.specs.command.Line.{command_of, file_in, flag_in, is_vectors, replay_rows_in, rows_in, serve_rows_in}
+use Rattle.clap.specs.Words.{Text, fault_of}
+use Rattle.clap.specs.declared.error.kind.ErrorKind.TheVariants.{DisplayVersion, UnknownArgument}
+use Rattle.mqtt_cli.specs.command.Line.{command_of, file_in, flag_in, is_vectors, program_app, replay_rows_in, rows_in, serve_rows_in}
 use Rattle.mqtt_cli.specs.command.Values.{value_in}
 use Rattle.mqtt_cli.specs.declared.command.outcome.TheConstants.{DONE, FAULTY, USAGE, FAILED}
 
@@ -116,3 +117,30 @@ served-queue = refl
 queue_twice : command_of (line_of (codes "replay" ∷ codes "--queue" ∷ codes "2" ∷ codes "--queue" ∷ codes "3" ∷ codes "a" ∷ [])) ≡ None
 unfolding clap_on_literals
 queue_twice = refl
+
+-- ---- commits
+
+served-commit : value_in (codes "commit") (serve_rows_in (command_of served)) ≡ None
+unfolding clap_on_literals
+served-commit = refl
+
+abbrev by_step : List Text
+by_step = line_of (codes "serve" ∷ codes "--turns" ∷ codes "3" ∷ codes "--commit" ∷ codes "step" ∷ codes "--listen" ∷ codes "1.2.3.4:5" ∷ codes "--db" ∷ codes "a" ∷ [])
+
+by_step-commit : value_in (codes "commit") (serve_rows_in (command_of by_step)) ≡ Some (codes "step")
+unfolding clap_on_literals
+by_step-commit = refl
+
+commit_of_replay : command_of (line_of (codes "replay" ∷ codes "--commit" ∷ codes "step" ∷ codes "a" ∷ [])) ≡ None
+unfolding clap_on_literals
+commit_of_replay = refl
+
+-- ---- the version
+
+version : fault_of program_app (line_of (codes "--version" ∷ [])) ≡ DisplayVersion ∷ []
+unfolding clap_on_literals
+version = refl
+
+version_of_view : fault_of program_app (line_of (codes "view" ∷ codes "--version" ∷ [])) ≡ UnknownArgument ∷ []
+unfolding clap_on_literals
+version_of_view = refl

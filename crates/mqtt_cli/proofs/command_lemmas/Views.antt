@@ -6,7 +6,7 @@ use Rattle.clap.specs.Words.{Row, Text}
 use Rattle.mqtt_cli.specs.command.Line.{file_in, is_vectors, rows_in}
 use Rattle.mqtt_cli.specs.command.Running.{IsOfView, Writes}
 use Rattle.mqtt_cli.specs.declared.command.outcome.Outcome.{Outcome}
-use Rattle.mqtt_cli.specs.declared.command.outcome.Outcome.TheVariants.{Done, Line, NoFile, View, Vectors, Replayed, Replay, Served, Serve}
+use Rattle.mqtt_cli.specs.declared.command.outcome.Outcome.TheVariants.{Done, Line, Unwritten, NoFile, View, Vectors, Replayed, Replay, Served, Serve}
 
 -- a command that views a file isn't `vectors`
 no_vectors : (command : Option (Text × List Row)) (file : Text) → file_in (rows_in command) ≡ Some file → is_vectors command ≡ true → ⊥
@@ -24,6 +24,7 @@ pub view_writes : (command : Option (Text × List Row)) (old new : Option (List 
 view_writes command old new (Done status) file is view = λ vectors. absurd (no_vectors command file is vectors)
 view_writes command old new (View fault) file is view = tt
 view_writes command old new (Line fault) file is view = absurd view
+view_writes command old new Unwritten file is view = absurd view
 view_writes command old new NoFile file is view = absurd view
 view_writes command old new (Vectors fault) file is view = absurd view
 view_writes command old new (Replayed played) file is view = absurd view

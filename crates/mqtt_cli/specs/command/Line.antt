@@ -1,14 +1,17 @@
 -- What a command line asks for, by `clap`'s meaning of its words (ours).
-use Rattle.std.specs.Prelude.{◌≡◌, ℕ, Bool, true, false, List, Option, None, Some, codes, if◌then◌else◌, option_and_then}
+use Rattle.std.specs.Prelude.{◌≡◌, ℕ, Bool, true, false, List, [], ◌∷◌, Option, None, Some, codes, if◌then◌else◌, option_and_then}
 use Rattle.std.specs.Str.{bytes_eq}
 use Rattle.clap.specs.declared.builder.ArgAction.TheVariants.{SetTrue}
 use Rattle.clap.specs.Walk.{is_empty}
-use Rattle.clap.specs.Words.{App, Row, Rule, Text, fault_of, first_of, new_app, new_rule, one_of, subcommand_of, with_rule, with_subcommand}
+use Rattle.clap.specs.declared.error.kind.ErrorKind.TheVariants.{DisplayVersion}
+use Rattle.clap.specs.Words.{App, IsAmong, Row, Rule, Text, fault_of, first_of, new_app, new_rule, one_of, subcommand_of, with_rule, with_subcommand}
 use Rattle.mqtt_cli.specs.declared.command.line.Action.{Action}
 use Rattle.mqtt_cli.specs.declared.command.line.Action.TheVariants.{View, Replay, Vectors, Serve}
-use Rattle.mqtt_cli.specs.command.Limits.{AsksForLimits, with_limits}
-use Rattle.mqtt_cli.specs.command.Values.{IsAddress, IsCount, value_in}
+use Rattle.mqtt_cli.specs.command.Limits.{AsksForLimits, choice_rule, with_limits}
+use Rattle.mqtt_cli.specs.command.Values.{IsAddress, IsCommit, IsCount, value_in}
 use Rattle.mqtt_cli.specs.declared.viewer.details.Details.{Details}
+use Rattle.mqtt_link.specs.declared.commit.Commit.{Commit}
+use Rattle.mqtt_link.specs.declared.commit.Commit.TheVariants.{Turn}
 use Rattle.mqtt_rules.specs.declared.step.Limits.{Limits}
 use Rattle.std.specs.declared.net.socket_addr.SocketAddrV4.{SocketAddrV4}
 
@@ -38,18 +41,20 @@ vectors_app = new_app (codes "vectors")
 abbrev pub option_rule : Text → Rule
 option_rule name = record (new_rule name) { long = Some name; value_names = 1; required = true }
 
--- `serve --listen ADDR --db FILE --turns N`, with the options for limits
+-- `serve --listen ADDR --db FILE --turns N [--commit turn|step]`, with the options for limits
 abbrev pub serve_app : App
 serve_app =
     with_limits
+    (with_rule
     (with_rule (with_rule (with_rule (new_app (codes "serve")) (option_rule (codes "listen"))) (option_rule (codes "db")))
     (option_rule (codes "turns")))
+    (choice_rule (codes "commit")))
 
--- the program, which has to be given a command
+-- the program, which has to be given a command, or asked for its version
 abbrev pub program_app : App
 program_app =
     let alone = new_app (codes "mqtt5") in
-    let required = record alone { top = record alone.top { subcommand_required = true } } in
+    let required = record alone { top = record alone.top { has_version = true; subcommand_required = true } } in
     with_subcommand (with_subcommand (with_subcommand (with_subcommand required view_app.top) replay_app.top) vectors_app.top)
     serve_app.top
 
@@ -57,6 +62,14 @@ program_app =
 abbrev pub command_of : List Text → Option (Text × List Row)
 command_of words =
     if is_empty (fault_of program_app words) then subcommand_of program_app words else None
+
+-- the words are refused as a call for the version
+abbrev pub AskForVersion : List Text → Type 0
+AskForVersion words = IsAmong DisplayVersion (fault_of program_app words)
+
+-- and as nothing else
+abbrev pub AskForVersionAlone : List Text → Type 0
+AskForVersionAlone words = fault_of program_app words ≡ DisplayVersion ∷ []
 
 -- whether the command is `vectors`
 abbrev pub is_vectors : Option (Text × List Row) → Bool
@@ -98,8 +111,13 @@ pub record AsksForView (rows : Option (List Row)) (file : Text) (details : Detai
   pub payload : IsFlag (flag_in (codes "payload") rows) details.payload
   pub properties : IsFlag (flag_in (codes "properties") rows) details.properties
 
--- `serve` is asked for at this address, over this database, for so many turns, with these limits
-pub record AsksToServe (rows : Option (List Row)) (listen : SocketAddrV4) (db : Text) (turns : ℕ) (limits : Limits) : Type 0 where
+-- when the steps are stored: those of a turn together, if nothing is said
+abbrev pub IsCommitGiven : Option Text → Commit → Type 0
+IsCommitGiven None commit = commit ≡ Turn
+IsCommitGiven (Some text) commit = IsCommit text commit
+
+-- `serve` is asked for at this address, over this database, for so many turns, with these limits and this commit
+pub record AsksToServe (rows : Option (List Row)) (listen : SocketAddrV4) (db : Text) (turns : ℕ) (limits : Limits) (commit : Commit) : Type 0 where
   pub listen_text : Text
   pub turns_text : Text
   pub listen_is : value_in (codes "listen") rows ≡ Some listen_text
@@ -108,10 +126,13 @@ pub record AsksToServe (rows : Option (List Row)) (listen : SocketAddrV4) (db : 
   pub turns_is : value_in (codes "turns") rows ≡ Some turns_text
   pub count : IsCount turns_text turns
   pub limits_are : AsksForLimits rows limits
+  pub commit_is : IsCommitGiven (value_in (codes "commit") rows) commit
 
 -- nothing that `serve` may be given is asked for
 abbrev pub AsksNoServer : Option (List Row) → Type 0
-AsksNoServer rows = (listen : SocketAddrV4) (db : Text) (turns : ℕ) (limits : Limits) → ¬ (AsksToServe rows listen db turns limits)
+AsksNoServer rows =
+    (listen : SocketAddrV4) (db : Text) (turns : ℕ) (limits : Limits) (commit : Commit)
+    → ¬ (AsksToServe rows listen db turns limits commit)
 
 -- `replay` is asked for, of this file, with these limits
 pub record AsksToReplay (rows : Option (List Row)) (file : Text) (limits : Limits) : Type 0 where
@@ -125,7 +146,7 @@ AsksNoReplay rows = (file : Text) (limits : Limits) → ¬ (AsksToReplay rows fi
 -- these matches of `serve` ask for this, or for nothing
 abbrev pub AskToServe : List Row → Option Action → Type 0
 AskToServe rows None = AsksNoServer (Some rows)
-AskToServe rows (Some (Serve listen db turns limits)) = AsksToServe (Some rows) listen db.now turns limits
+AskToServe rows (Some (Serve listen db turns limits commit)) = AsksToServe (Some rows) listen db.now turns limits commit
 AskToServe rows (Some Vectors) = ⊥
 AskToServe rows (Some (View file details)) = ⊥
 AskToServe rows (Some (Replay file limits)) = ⊥
@@ -136,7 +157,7 @@ AskToReplay rows None = AsksNoReplay (Some rows)
 AskToReplay rows (Some (Replay file limits)) = AsksToReplay (Some rows) file.now limits
 AskToReplay rows (Some Vectors) = ⊥
 AskToReplay rows (Some (View file details)) = ⊥
-AskToReplay rows (Some (Serve listen db turns limits)) = ⊥
+AskToReplay rows (Some (Serve listen db turns limits commit)) = ⊥
 
 -- this command asks for this, or for nothing
 abbrev pub AskFor : Option (Text × List Row) → Option Action → Type 0
@@ -146,4 +167,4 @@ AskFor command None =
 AskFor command (Some Vectors) = is_vectors command ≡ true
 AskFor command (Some (View file details)) = AsksForView (rows_in command) file.now details
 AskFor command (Some (Replay file limits)) = AsksToReplay (replay_rows_in command) file.now limits
-AskFor command (Some (Serve listen db turns limits)) = AsksToServe (serve_rows_in command) listen db.now turns limits
+AskFor command (Some (Serve listen db turns limits commit)) = AsksToServe (serve_rows_in command) listen db.now turns limits commit

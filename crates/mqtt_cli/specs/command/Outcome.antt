@@ -5,7 +5,7 @@ use Rattle.std.specs.String.{string_bytes}
 use Rattle.mqtt_cli.specs.declared.command.outcome.TheConstants.{DONE, FAULTY, USAGE, FAILED}
 use Rattle.mqtt_cli.specs.declared.command.line.LineFault.TheVariants as line
 use Rattle.mqtt_cli.specs.declared.command.outcome.Outcome.{Outcome}
-use Rattle.mqtt_cli.specs.declared.command.outcome.Outcome.TheVariants.{Done, Line, NoFile, View, Vectors, Replayed, Replay, Served, Serve}
+use Rattle.mqtt_cli.specs.declared.command.outcome.Outcome.TheVariants.{Done, Line, Unwritten, NoFile, View, Vectors, Replayed, Replay, Served, Serve}
 use Rattle.mqtt_script.specs.declared.replay_fault.Played.TheVariants as played
 use Rattle.mqtt_script.specs.declared.replay_fault.ReplayFault.TheVariants as replay
 use Rattle.mqtt_link.specs.declared.serve_fault.ServeFault.TheVariants as serve
@@ -13,11 +13,17 @@ use Rattle.mqtt_cli.specs.declared.viewer.vectors_checker.VectorsFault.TheVarian
 use Rattle.mqtt_cli.specs.declared.viewer.viewer.Status.TheVariants.{Whole, Faulty}
 use Rattle.mqtt_cli.specs.declared.viewer.viewer.ViewFault.TheVariants.{Read, Write, Memory}
 
+-- what `--version` writes: the program, its version and a line feed
+abbrev pub version_line : List ℕ
+version_line = codes "mqtt5 0.1.0" ++ 10 ∷ []
+
 abbrev pub exit_status : Outcome → ℕ
 exit_status (Done Whole) = DONE
 exit_status (Done Faulty) = FAULTY
 exit_status (Line (line.Usage text)) = USAGE
 exit_status (Line line.Memory) = FAILED
+exit_status (Line line.Version) = DONE
+exit_status Unwritten = FAILED
 exit_status NoFile = FAILED
 exit_status (View Read) = FAILED
 exit_status (View Write) = FAILED
@@ -38,6 +44,8 @@ abbrev pub error_text : Outcome → List ℕ
 error_text (Done status) = []
 error_text (Line (line.Usage text)) = string_bytes text
 error_text (Line line.Memory) = failure_line (codes "memory")
+error_text (Line line.Version) = []
+error_text Unwritten = failure_line (codes "file")
 error_text NoFile = failure_line (codes "file")
 error_text (View Read) = failure_line (codes "file")
 error_text (View Write) = failure_line (codes "file")

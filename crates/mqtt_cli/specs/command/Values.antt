@@ -7,6 +7,8 @@ use Rattle.std.specs.declared.net.socket_addr.SocketAddrV4.{SocketAddrV4}
 use Rattle.clap.specs.Words.{Row, Text, first_of}
 use Rattle.mqtt_flow.specs.declared.outbound.entry.Full.{Full}
 use Rattle.mqtt_flow.specs.declared.outbound.entry.Full.TheVariants.{Refuse, Drop}
+use Rattle.mqtt_link.specs.declared.commit.Commit.{Commit}
+use Rattle.mqtt_link.specs.declared.commit.Commit.TheVariants.{Turn, Step}
 
 -- the value of an option
 abbrev pub value_in : Text → Option (List Row) → Option Text
@@ -39,3 +41,8 @@ pub record IsSize (most : ℕ) (text : List ℕ) (size : ℕ) : Type 0 where
 abbrev pub IsFull : List ℕ → Full → Type 0
 IsFull text Refuse = text ≡ codes "refuse"
 IsFull text Drop = text ≡ codes "drop"
+
+-- the word for when the steps of the broker are stored: those of a turn together, or each by itself
+abbrev pub IsCommit : List ℕ → Commit → Type 0
+IsCommit text Turn = text ≡ codes "turn"
+IsCommit text Step = text ≡ codes "step"

@@ -48,7 +48,7 @@ pub(crate) fn limited<'a>(alloc: Global, command: Command<'a>) -> Result<Command
 }
 
 /// `--NAME VALUE`, which may be left out.
-fn choice_arg<'a>(alloc: Global, name: &'a str, value: &'a str, help: &'a str) -> Arg<'a>
+pub(crate) fn choice_arg<'a>(alloc: Global, name: &'a str, value: &'a str, help: &'a str) -> Arg<'a>
     ensures rule { rule_of result ≡ choice_rule name.entry.now }
     ensures local { result.global ≡ false }
 {
@@ -98,15 +98,4 @@ fn size_in(matches: &ArgMatches<'_>, name: &str, most: u32) -> Option<u32>
         Some(text) => size_read(text, most),
         None => Some(most),
     }
-}
-
-/// What the values of options have to be, of those of which one isn't so.
-pub(crate) fn form_of_wrong(matches: &ArgMatches<'_>) -> &'static str {
-    if full_in(matches).is_none() {
-        return "mqtt5: --full is refuse or drop\n";
-    }
-    if limits_in(matches).is_none() {
-        return "mqtt5: --queue, --sessions and --retained are from 1 to 1000\n";
-    }
-    "mqtt5: --listen is as 127.0.0.1:1883, without leading zeros; --turns is from 1 to 4294967295\n"
 }

@@ -3,6 +3,7 @@
 ghost use Rattle.std.specs.Prelude.{◌≡◌};
 
 use crate::viewer::Details;
+use mqtt_link::Commit;
 use mqtt_rules::Limits;
 use std::alloc::AllocError;
 use std::net::SocketAddrV4;
@@ -27,7 +28,7 @@ pub enum Action<'a> {
     },
     /// `vectors`
     Vectors,
-    /// `serve --listen ADDR --db FILE --turns N [--full refuse|drop] [--queue N] [--sessions N] [--retained N]`
+    /// `serve --listen ADDR --db FILE --turns N [--commit turn|step] [--full refuse|drop] [--queue N] [--sessions N] [--retained N]`
     Serve {
         /// Where to listen.
         listen: SocketAddrV4,
@@ -37,6 +38,8 @@ pub enum Action<'a> {
         turns: u32,
         /// The limits of the broker's tables.
         limits: Limits,
+        /// When the steps are stored.
+        commit: Commit,
     },
 }
 
@@ -49,6 +52,9 @@ pub enum LineFault {
     /// 2: want of memory.
     #[error("want of memory")]
     Memory,
+    /// 3: the words are a call for the version.
+    #[error("a call for the version")]
+    Version,
 }
 
 impl From<AllocError> for LineFault {

@@ -27,6 +27,8 @@ pub enum Outcome {
     Done(Status),
     /// The command line asks for nothing.
     Line(LineFault),
+    /// The version could not be written.
+    Unwritten,
     /// The file did not open.
     NoFile,
     /// The view stopped early.
@@ -49,9 +51,10 @@ pub fn ending(outcome: &Outcome) -> (u8, &str)
     ensures text { result.1.now ≡ error_text outcome.now }
 {
     match outcome {
-        Outcome::Done(Status::Whole) | Outcome::Replayed(Played::Whole) | Outcome::Served => (
-            DONE, "",
-        ),
+        Outcome::Done(Status::Whole)
+        | Outcome::Line(LineFault::Version)
+        | Outcome::Replayed(Played::Whole)
+        | Outcome::Served => { (DONE, "") }
         Outcome::Done(Status::Faulty) | Outcome::Replayed(Played::Bad) => (FAULTY, ""),
         Outcome::Line(LineFault::Usage(text)) => (USAGE, text.as_str()),
         Outcome::Line(LineFault::Memory)
@@ -59,7 +62,8 @@ pub fn ending(outcome: &Outcome) -> (u8, &str)
         | Outcome::Vectors(VectorsFault::Memory)
         | Outcome::Replay(ReplayFault::Memory)
         | Outcome::Serve(ServeFault::Memory) => { (FAILED, "mqtt5: memory\n") }
-        Outcome::NoFile
+        Outcome::Unwritten
+        | Outcome::NoFile
         | Outcome::View(ViewFault::Read)
         | Outcome::View(ViewFault::Write)
         | Outcome::Vectors(VectorsFault::Write)

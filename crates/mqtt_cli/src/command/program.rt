@@ -1,15 +1,16 @@
 //! The program over a runtime: its arguments, its files and its streams (ours).
 
 ghost use Rattle.std.specs.Prelude.{◌≡◌, map};
-ghost use Rattle.mqtt_cli.specs.command.Line.{command_of};
-ghost use Rattle.mqtt_cli.specs.command.Running.{Answers, AnswersWords, IsOfView, Writes};
+ghost use Rattle.mqtt_cli.specs.command.Line.{AskForVersion, command_of};
+ghost use Rattle.mqtt_cli.specs.command.Running.{Answers, AnswersWords, IsOfView, TellsVersion, Writes};
 ghost use Rattle.mqtt_rules.specs.step.Laws.{AreWithin};
 
 use crate::command::line::{Action, LineFault};
 use crate::command::outcome::Outcome;
+use crate::command::version::write_version;
 use crate::command::words::action;
 use crate::viewer::{Details, ViewFault, vectors, view};
-use mqtt_link::ServeFault;
+use mqtt_link::{Commit, ServeFault};
 use mqtt_rules::Limits;
 use mqtt_script::{Played, ReplayFault};
 use std::alloc::{AllocError, Global};
@@ -45,17 +46,18 @@ fn view_of<I: Read + Drop, W: Write>(
 }
 
 /// Serves as it was handed in; a function of its own, which asks for this one call.
-fn served<F: Fn(SocketAddrV4, &str, u32, Limits) -> Result<(), ServeFault>>(
+fn served<F: Fn(SocketAddrV4, &str, u32, Limits, Commit) -> Result<(), ServeFault>>(
     serve: &F,
     listen: SocketAddrV4,
     db: &str,
     turns: u32,
     limits: Limits,
+    commit: Commit,
 ) -> Result<(), ServeFault>
-    requires callable { F.pre serve.now listen db turns limits }
-    ensures { F.post serve.now listen db.entry turns limits result }
+    requires callable { F.pre serve.now listen db turns limits commit }
+    ensures { F.post serve.now listen db.entry turns limits commit result }
 {
-    serve(listen, db, turns, limits)
+    serve(listen, db, turns, limits, commit)
 }
 
 /// Replays as it was handed in; a function of its own, which asks for this one call.
@@ -72,24 +74,31 @@ fn replayed<G: Fn(&str, Limits) -> Result<Played, ReplayFault>>(
 
 /// Does what these words ask for, the first of which names the program. The command line is looked at first, then
 /// the file or the database, then the socket. What files, sockets and standard input hold no contract can say; `view`
-/// and `vectors` say what is written. What serves at an address, over the database at a path, for so many turns, and what
-/// replays the script at a path, each with limits within those of the tables, are handed in: so nothing of the command line
-/// stands on the server or the world.
+/// and `vectors` say what is written. What serves at an address, over the database at a path, for so many turns, storing by
+/// the turn or by the step, and what replays the script at a path, each with limits within those of the tables, are handed in:
+/// so nothing of the command line stands on the server or the world.
 pub fn perform<
     S: AsStr,
     W: Write,
-    F: Fn(SocketAddrV4, &str, u32, Limits) -> Result<(), ServeFault>,
+    F: Fn(SocketAddrV4, &str, u32, Limits, Commit) -> Result<(), ServeFault>,
     G: Fn(&str, Limits) -> Result<Played, ReplayFault>,
 >(rt: &HostRuntime, words: &[S], writer: &mut W, serve: &F, replay: &G) -> Outcome
-    requires serves { (listen : _) (db : _) (turns : _) (limits : _) → AreWithin limits → F.pre serve.now listen db turns limits }
+    requires serves { (listen : _) (db : _) (turns : _) (limits : _) (commit : _) → AreWithin limits
+        → F.pre serve.now listen db turns limits commit }
     requires replays { (file : _) (limits : _) → AreWithin limits → G.pre replay.now file limits }
-    ensures answers { Answers (λ listen db turns limits ended. (text : _) × (text.now ≡ db) × F.post serve.now listen text turns limits ended)
+    ensures answers { Answers (λ listen db turns limits commit ended. (text : _) × (text.now ≡ db)
+        × F.post serve.now listen text turns limits commit ended)
         (λ file limits ended. (text : _) × (text.now ≡ file) × G.post replay.now text limits ended)
         (command_of (map S.text words.now)) result }
+    ensures version { TellsVersion result → AskForVersion (map S.text words.now) }
     ensures writes { Writes (command_of (map S.text words.now))
         (W.contents writer.old) (W.contents writer.new) result }
 {
     match action(rt.alloc(), words) {
+        Err(LineFault::Version) => match write_version(writer) {
+            Ok(()) => Outcome::Line(LineFault::Version),
+            Err(_) => Outcome::Unwritten,
+        },
         Err(fault) => Outcome::Line(fault),
         Ok(Action::Vectors) => match vectors(rt.alloc(), writer) {
             Ok(status) => Outcome::Done(status),
@@ -101,8 +110,9 @@ pub fn perform<
                 db,
                 turns,
                 limits,
+                commit,
             },
-        ) => match served(serve, listen, db, turns, limits) {
+        ) => match served(serve, listen, db, turns, limits, commit) {
             Ok(()) => Outcome::Served,
             Err(fault) => Outcome::Serve(fault),
         },
@@ -125,12 +135,14 @@ pub fn perform<
 
 /// Does what the process's arguments ask for, and writes it to standard output.
 pub fn run<
-    F: Fn(SocketAddrV4, &str, u32, Limits) -> Result<(), ServeFault>,
+    F: Fn(SocketAddrV4, &str, u32, Limits, Commit) -> Result<(), ServeFault>,
     G: Fn(&str, Limits) -> Result<Played, ReplayFault>,
 >(rt: &HostRuntime, serve: &F, replay: &G) -> Outcome
-    requires serves { (listen : _) (db : _) (turns : _) (limits : _) → AreWithin limits → F.pre serve.now listen db turns limits }
+    requires serves { (listen : _) (db : _) (turns : _) (limits : _) (commit : _) → AreWithin limits
+        → F.pre serve.now listen db turns limits commit }
     requires replays { (file : _) (limits : _) → AreWithin limits → G.pre replay.now file limits }
-    ensures { AnswersWords (λ listen db turns limits ended. (text : _) × (text.now ≡ db) × F.post serve.now listen text turns limits ended)
+    ensures { AnswersWords (λ listen db turns limits commit ended. (text : _) × (text.now ≡ db)
+        × F.post serve.now listen text turns limits commit ended)
         (λ file limits ended. (text : _) × (text.now ≡ file) × G.post replay.now text limits ended) result }
 {
     let words = match env::args(rt) {

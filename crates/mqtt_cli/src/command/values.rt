@@ -3,10 +3,12 @@
 ghost use Rattle.std.specs.Prelude.{◌≡◌, ◌==◌, ℕ, IfNone, IfSome};
 ghost use Rattle.std.specs.List.{after_first};
 ghost use Rattle.std.specs.declared.net.socket_addr.SocketAddrV4.{SocketAddrV4};
-ghost use Rattle.mqtt_cli.specs.command.Values.{IsAddress, IsCount, IsFull, IsSize, is_padded};
+ghost use Rattle.mqtt_cli.specs.command.Values.{IsAddress, IsCommit, IsCount, IsFull, IsSize, is_padded};
 ghost use Rattle.mqtt_flow.specs.declared.outbound.entry.Full.{Full};
+ghost use Rattle.mqtt_link.specs.declared.commit.Commit.{Commit};
 
 use mqtt_flow::Full;
+use mqtt_link::Commit;
 use std::net::SocketAddrV4;
 
 /// Whether more digits stand behind a zero.
@@ -72,6 +74,20 @@ pub(crate) fn full_read(text: &str) -> Option<Full>
     }
     if text == "drop" {
         return Some(Full::Drop);
+    }
+    None
+}
+
+/// When the steps of the broker are stored, by its word.
+pub(crate) fn commit_read(text: &str) -> Option<Commit>
+    ensures read { IfSome result (λ commit. IsCommit text.now commit) }
+    ensures only { IfNone result ((commit : Commit) → ¬ (IsCommit text.now commit)) }
+{
+    if text == "turn" {
+        return Some(Commit::Turn);
+    }
+    if text == "step" {
+        return Some(Commit::Step);
     }
     None
 }

@@ -1,26 +1,35 @@
 //! The words of a command line, as `clap` reads them (ours).
 
-ghost use Rattle.std.specs.Prelude.{◌≡◌, ◌≢◌, None, Some, IfErr, IfOk, false, map};
+ghost use Rattle.std.specs.Prelude.{◌≡◌, ◌≢◌, None, Some, IfErr, IfNone, IfOk, IfSome, codes, false, map};
 ghost use Rattle.clap.specs.Words.{app_of, found_of, kind_of, rows_of, rule_of, subcommand_rows_of};
 ghost use Rattle.clap.specs.declared.builder.command.Command.TheViews.{out-Command as fields_of};
-ghost use Rattle.mqtt_cli.specs.command.Line.{AskFor, AskToReplay, AskToServe, command_of, file_rule, flag_rule, option_rule, program_app, replay_app, serve_app, vectors_app, view_app};
+ghost use Rattle.mqtt_cli.specs.command.Line.{AskFor, AskToReplay, AskToServe, AskForVersion, AskForVersionAlone, IsCommitGiven, command_of, file_rule, flag_rule, option_rule, program_app, replay_app, serve_app, vectors_app, view_app};
+ghost use Rattle.mqtt_cli.specs.command.Values.{value_in};
+ghost use Rattle.mqtt_link.specs.declared.commit.Commit.{Commit};
 
-use crate::command::limits::{form_of_wrong, limited, limits_in};
+use crate::command::limits::{choice_arg, limited, limits_in};
 use crate::command::line::{Action, LineFault};
-use crate::command::values::{address_read, count_read};
+use crate::command::values::{address_read, commit_read, count_read};
+use crate::command::version::VERSION;
+use crate::command::wrong_values::{WrongValue, wrong_value};
 use crate::viewer::Details;
 use clap::error::ErrorKind;
 use clap::{Arg, ArgAction, ArgMatches, Command};
+use mqtt_link::Commit;
 use std::alloc::{AllocError, Global};
 use std::convert::AsStr;
 
 /// What the words of a command line ask for, the first of which names the program. A call for help
-/// is `Usage`, with the help as its text.
+/// is `Usage`, with the help as its text, and a call for the version is `Version`.
 pub fn action<'a, S: AsStr>(alloc: Global, words: &'a [S]) -> Result<Action<'a>, LineFault>
     ensures ok { IfOk result (λ action. AskFor (command_of (map S.text words.entry.now))
         (Some action)) }
     ensures usage { IfErr result (λ fault. fault ≢ LineFault.Memory
         → AskFor (command_of (map S.text words.entry.now)) None) }
+    ensures version { IfErr result (λ fault. fault ≡ LineFault.Version
+        → AskForVersion (map S.text words.entry.now)) }
+    ensures only { IfErr result (λ fault. fault ≢ LineFault.Memory → fault ≢ LineFault.Version
+        → ¬ (AskForVersionAlone (map S.text words.entry.now))) }
 {
     let program = program(alloc)?;
     match program.try_get_matches_from(words) {
@@ -34,22 +43,35 @@ fn asked<'a>(alloc: Global, matches: ArgMatches<'a>) -> Result<Action<'a>, LineF
     ensures ok { IfOk result (λ action. AskFor (subcommand_rows_of matches.entry) (Some action)) }
     ensures usage { IfErr result (λ fault. fault ≢ LineFault.Memory
         → AskFor (subcommand_rows_of matches.entry) None) }
+    ensures other { IfErr result (λ fault. fault ≢ LineFault.Version) }
 {
     let asked = action_in(&matches);
-    let form = match matches.subcommand() {
-        Some((_, values)) => form_of_wrong(values),
-        None => "",
+    let wrong = match matches.subcommand() {
+        Some((_, values)) => wrong_value(values),
+        None => None,
     };
     drop(matches);
     match asked {
         Some(action) => Ok(action),
-        None => Err(bad_value(alloc, form)),
+        None => Err(bad_value(alloc, wrong)),
     }
 }
 
-/// The fault of a command line with a value that isn't of this form.
-fn bad_value(alloc: Global, form: &str) -> LineFault {
-    match String::from_str(alloc, form) {
+/// The fault of a command line with this value that is not of its form.
+fn bad_value(alloc: Global, wrong: Option<WrongValue<'_>>) -> LineFault
+    ensures { result ≢ LineFault.Version }
+{
+    let text = match wrong {
+        Some(
+            WrongValue {
+                option,
+                value,
+                form,
+            },
+        ) => { format!(in alloc; "mqtt5: --{option} '{value}': it is {form}\n") }
+        None => String::from_str(alloc, "mqtt5: a value is missing\n"),
+    };
+    match text {
         Ok(text) => LineFault::Usage(text),
         Err(_) => LineFault::Memory,
     }
@@ -90,12 +112,27 @@ fn serve_in<'a>(matches: &ArgMatches<'a>) -> Option<Action<'a>>
     let listen = address_read(listen)?;
     let turns = count_read(turns)?;
     let limits = limits_in(matches)?;
+    let commit = commit_in(matches)?;
     Some(Action::Serve {
         listen,
         db,
         turns,
         limits,
+        commit,
     })
+}
+
+/// When the steps of the broker are stored, by the matches of a command.
+fn commit_in(matches: &ArgMatches<'_>) -> Option<Commit>
+    ensures read { IfSome result (λ commit.
+        IsCommitGiven (value_in (codes "commit") (Some (rows_of (found_of matches.now)))) commit) }
+    ensures only { IfNone result ((commit : Commit)
+        → ¬ (IsCommitGiven (value_in (codes "commit") (Some (rows_of (found_of matches.now)))) commit)) }
+{
+    match matches.get_str("commit") {
+        Some(text) => commit_read(text),
+        None => Some(Commit::Turn),
+    }
 }
 
 /// What the matches of `replay` ask for: nothing, if a value isn't of its form.
@@ -107,6 +144,11 @@ fn replay_in<'a>(matches: &ArgMatches<'a>) -> Option<Action<'a>>
     Some(Action::Replay { file, limits })
 }
 
+/// What stands at the end of the help.
+const AFTER_HELP: &str =
+    "Example: mqtt5 serve --listen 127.0.0.1:1883 --db broker.db --turns 4294967295
+Exit status: 0 done, 1 a fault in the input, 2 a wrong command line or help, 3 a file, socket, store or memory that failed";
+
 /// The program with its commands.
 fn program<'a>(alloc: Global) -> Result<Command<'a>, AllocError>
     ensures { IfOk result (λ command. app_of command ≡ program_app) }
@@ -115,7 +157,10 @@ fn program<'a>(alloc: Global) -> Result<Command<'a>, AllocError>
     let replay = replay_command(alloc)?;
     let serve = serve_command(alloc)?;
     Command::new(alloc, "mqtt5")
+        .version(VERSION)
+        .before_help(VERSION)
         .about("An MQTT 5.0 broker, a viewer of its packets, and scripts that crash it")
+        .after_help(AFTER_HELP)
         .subcommand_required(true)
         .subcommand(view)?
         .subcommand(replay)?
@@ -184,7 +229,7 @@ fn vectors_command<'a>(alloc: Global) -> Command<'a>
     Command::new(alloc, "vectors").about("Checks frames whose meaning is known")
 }
 
-/// `serve --listen ADDR --db FILE --turns N`, with the options for limits.
+/// `serve --listen ADDR --db FILE --turns N [--commit turn|step]`, with the options for limits.
 fn serve_command<'a>(alloc: Global) -> Result<Command<'a>, AllocError>
     ensures app { IfOk result (λ command. app_of command ≡ serve_app) }
     ensures local { IfOk result (λ command. (fields_of command).has_globals ≡ false) }
@@ -208,6 +253,12 @@ fn serve_command<'a>(alloc: Global) -> Result<Command<'a>, AllocError>
             "turns",
             "N",
             "How many turns to run, from 1 to 4294967295",
+        ))?
+        .arg(choice_arg(
+            alloc,
+            "commit",
+            "turn|step",
+            "When steps are stored: those of a turn as one transaction, or each as one of its own [default: turn]",
         ))?;
     limited(alloc, command)
 }
@@ -223,10 +274,14 @@ fn option_arg<'a>(alloc: Global, name: &'a str, value: &'a str, help: &'a str) -
 
 /// The fault of a command line, with the text that `clap` gives it.
 fn line_fault(alloc: Global, error: clap::Error) -> LineFault
-    ensures { kind_of error ≡ ErrorKind.OutOfMemory → result ≡ LineFault.Memory }
+    ensures memory { kind_of error ≡ ErrorKind.OutOfMemory → result ≡ LineFault.Memory }
+    ensures version { result ≡ LineFault.Version → kind_of error ≡ ErrorKind.DisplayVersion }
+    ensures only { kind_of error ≡ ErrorKind.DisplayVersion → result ≡ LineFault.Version }
 {
-    if error.kind() == ErrorKind::OutOfMemory {
-        return LineFault::Memory;
+    match error.kind() {
+        ErrorKind::OutOfMemory => return LineFault::Memory,
+        ErrorKind::DisplayVersion => return LineFault::Version,
+        _ => {}
     }
     match error.to_string(alloc) {
         Ok(text) => LineFault::Usage(text),

@@ -1,6 +1,6 @@
 //! A file that a command line names (ours).
 
-use mqtt_cli::{Limits, Outcome, Played, ReplayFault, ServeFault, Status, perform};
+use mqtt_cli::{Commit, Limits, Outcome, Played, ReplayFault, ServeFault, Status, perform};
 use std::fs;
 use std::net::SocketAddrV4;
 use std::process::Abort;
@@ -16,7 +16,7 @@ const BYTES: &[u8] = b"\xc0\x00\x30\x07\x00\x03a/b\x00!";
 const WITH_PROPERTY: &[u8] = b"\x30\x0e\x00\x03a/b\x07\x26\x00\x01k\x00\x01v!";
 
 /// Stands for what serves, and is not called for a view.
-fn not_served(_: SocketAddrV4, _: &str, _: u32, _: Limits) -> Result<(), ServeFault> {
+fn not_served(_: SocketAddrV4, _: &str, _: u32, _: Limits, _: Commit) -> Result<(), ServeFault> {
     Err(ServeFault::Socket)
 }
 

@@ -1,6 +1,6 @@
 //! The options for the limits of the broker's tables, of `serve` and of `replay` (ours).
 
-use mqtt_cli::{Action, Full, Limits, LineFault, action};
+use mqtt_cli::{Action, Commit, Full, Limits, LineFault, action};
 use std::alloc::{AllocError, Global};
 use std::net::{Ipv4Addr, SocketAddrV4};
 use std::test::Fail;
@@ -34,26 +34,62 @@ fn asked() -> &'static [(&'static [&'static str], (Full, u32, u32, u32))] {
 }
 
 /// Options of which one has a value that it may not have, with what is told of it.
-const WRONG: [(&[&str], &str); 14] = [
-    (&["--full", ""], FULL),
-    (&["--full", "Drop"], FULL),
-    (&["--full", "dropped"], FULL),
-    (&["--full", "oldest"], FULL),
-    (&["--full=1"], FULL),
-    (&["--queue", "0"], SIZES),
-    (&["--queue", "1001"], SIZES),
-    (&["--queue", "x"], SIZES),
-    (&["--queue="], SIZES),
-    (&["--sessions", "0"], SIZES),
-    (&["--sessions", "1001"], SIZES),
-    (&["--retained", "0"], SIZES),
-    (&["--retained", "4294967297"], SIZES),
-    (&["--retained", "1001"], SIZES),
+const WRONG: [(&[&str], &str); 15] = [
+    (&["--full", ""], "mqtt5: --full '': it is refuse or drop\n"),
+    (
+        &["--full", "Drop"],
+        "mqtt5: --full 'Drop': it is refuse or drop\n",
+    ),
+    (
+        &["--full", "dropped"],
+        "mqtt5: --full 'dropped': it is refuse or drop\n",
+    ),
+    (&["--full=1"], "mqtt5: --full '1': it is refuse or drop\n"),
+    (
+        &["--queue", "0"],
+        "mqtt5: --queue '0': it is a number from 1 to 1000\n",
+    ),
+    (
+        &["--queue", "1001"],
+        "mqtt5: --queue '1001': it is a number from 1 to 1000\n",
+    ),
+    (
+        &["--queue", "x"],
+        "mqtt5: --queue 'x': it is a number from 1 to 1000\n",
+    ),
+    (
+        &["--queue="],
+        "mqtt5: --queue '': it is a number from 1 to 1000\n",
+    ),
+    (
+        &["--sessions", "0"],
+        "mqtt5: --sessions '0': it is a number from 1 to 1000\n",
+    ),
+    (
+        &["--sessions", "1001"],
+        "mqtt5: --sessions '1001': it is a number from 1 to 1000\n",
+    ),
+    (
+        &["--retained", "0"],
+        "mqtt5: --retained '0': it is a number from 1 to 1000\n",
+    ),
+    (
+        &["--retained", "4294967297"],
+        "mqtt5: --retained '4294967297': it is a number from 1 to 1000\n",
+    ),
+    (
+        &["--retained", "1001"],
+        "mqtt5: --retained '1001': it is a number from 1 to 1000\n",
+    ),
+    (
+        &["--full", "drop", "--queue", "many"],
+        "mqtt5: --queue 'many': it is a number from 1 to 1000\n",
+    ),
+    (
+        &["--retained", "0", "--full", "never"],
+        "mqtt5: --full 'never': it is refuse or drop\n",
+    ),
 ];
-
-const FULL: &str = "mqtt5: --full is refuse or drop\n";
-
-const SIZES: &str = "mqtt5: --queue, --sessions and --retained are from 1 to 1000\n";
 
 /// The words in front of options, and these.
 fn joined<'a>(
@@ -77,7 +113,7 @@ fn is_asked(
     let found = match action(alloc, words.as_slice()) {
         Ok(found) => Ok(found == wanted),
         Err(LineFault::Memory) => Err(Fail::from("want of memory")),
-        Err(LineFault::Usage(_)) => Ok(false),
+        Err(LineFault::Usage(_)) | Err(LineFault::Version) => Ok(false),
     };
     drop(words);
     found
@@ -93,7 +129,7 @@ fn is_refused(alloc: Global, front: &[&str], options: &[&str], told: &str) -> Re
             Ok(is_told)
         }
         Err(LineFault::Memory) => Err(Fail::from("want of memory")),
-        Ok(_) => Ok(false),
+        Ok(_) | Err(LineFault::Version) => Ok(false),
     };
     drop(words);
     found
@@ -131,6 +167,7 @@ fn limits_are_those_of_the_options(rt: HostRuntime) -> Result<(), Fail> {
             db: "a.db",
             turns: 3,
             limits,
+            commit: Commit::Turn,
         };
         assert!(rt;
             is_asked(rt.alloc(), &REPLAY, options, replay)?,
@@ -159,36 +196,95 @@ fn a_limit_that_is_out_of_range_is_usage(rt: HostRuntime) -> Result<(), Fail> {
     Ok(())
 }
 
-/// A wrong address, and a wrong number of turns.
-const SERVE_WRONG: [[&str; 8]; 2] = [
-    [
-        "mqtt5",
-        "serve",
-        "--listen",
-        "localhost:1883",
-        "--db",
-        "a.db",
-        "--turns",
-        "3",
-    ],
-    [
-        "mqtt5",
-        "serve",
-        "--listen",
-        "127.0.0.1:1883",
-        "--db",
-        "a.db",
-        "--turns",
-        "0",
-    ],
+#[test]
+fn a_commit_is_that_of_its_option(rt: HostRuntime) -> Result<(), Fail> {
+    for (options, commit) in COMMITS {
+        let serve = Action::Serve {
+            listen: SocketAddrV4::new(Ipv4Addr::from([127, 0, 0, 1]), 1_883),
+            db: "a.db",
+            turns: 3,
+            limits: Limits {
+                full: Full::Refuse,
+                queue: 1_000,
+                sessions: 1_000,
+                retained: 1_000,
+            },
+            commit,
+        };
+        assert!(rt;
+            is_asked(rt.alloc(), &SERVE, options, serve)?,
+            "{options:?}"
+        );
+    }
+    Ok(())
+}
+
+/// Options, and when the steps are stored by them.
+const COMMITS: [(&[&str], Commit); 4] = [
+    (&[], Commit::Turn),
+    (&["--commit", "turn"], Commit::Turn),
+    (&["--commit", "step"], Commit::Step),
+    (&["--commit=step"], Commit::Step),
 ];
 
 #[test]
-fn a_wrong_address_is_told_apart_from_a_wrong_limit(rt: HostRuntime) -> Result<(), Fail> {
-    let told =
-        "mqtt5: --listen is as 127.0.0.1:1883, without leading zeros; --turns is from 1 to 4294967295\n";
-    for front in SERVE_WRONG {
-        assert!(rt; is_refused(rt.alloc(), &front, &[], told)?);
+fn a_commit_of_no_name_is_usage(rt: HostRuntime) -> Result<(), Fail> {
+    for (options, told) in WRONG_COMMITS {
+        assert!(rt;
+            is_refused(rt.alloc(), &SERVE, options, told)?,
+            "{options:?}"
+        );
+    }
+    Ok(())
+}
+
+/// Options whose commit has no name, with what is told of it.
+const WRONG_COMMITS: [(&[&str], &str); 3] = [
+    (
+        &["--commit", "Step"],
+        "mqtt5: --commit 'Step': it is turn or step\n",
+    ),
+    (
+        &["--commit", "never"],
+        "mqtt5: --commit 'never': it is turn or step\n",
+    ),
+    (&["--commit="], "mqtt5: --commit '': it is turn or step\n"),
+];
+
+/// A wrong address, and a wrong number of turns, with what is told of each.
+const SERVE_WRONG: [([&str; 8], &str); 2] = [
+    (
+        [
+            "mqtt5",
+            "serve",
+            "--listen",
+            "localhost:1883",
+            "--db",
+            "a.db",
+            "--turns",
+            "3",
+        ],
+        "mqtt5: --listen 'localhost:1883': it is an IPv4 address and a port without leading zeros, as 127.0.0.1:1883\n",
+    ),
+    (
+        [
+            "mqtt5",
+            "serve",
+            "--listen",
+            "127.0.0.1:1883",
+            "--db",
+            "a.db",
+            "--turns",
+            "0",
+        ],
+        "mqtt5: --turns '0': it is a number from 1 to 4294967295\n",
+    ),
+];
+
+#[test]
+fn a_wrong_address_is_told_apart_from_a_wrong_number_of_turns(rt: HostRuntime) -> Result<(), Fail> {
+    for (front, told) in SERVE_WRONG {
+        assert!(rt; is_refused(rt.alloc(), &front, &[], told)?, "{told}");
     }
     Ok(())
 }

@@ -1,8 +1,8 @@
-//! Command lines, and how the program ends (ours).
+//! Command lines (ours).
 
 use mqtt_cli::{
-    Action, Details, Full, Limits, LineFault, Outcome, Played, ReplayFault, ServeFault, Status,
-    VectorsFault, ViewFault, action, ending, perform,
+    Action, Commit, Details, Full, Limits, LineFault, Outcome, Played, ReplayFault, ServeFault,
+    action, perform,
 };
 use std::alloc::Global;
 use std::net::{Ipv4Addr, SocketAddrV4};
@@ -47,7 +47,7 @@ fn assert_asks(
             Ok(())
         }
         Err(LineFault::Memory) => Err(Fail::from("want of memory")),
-        Err(LineFault::Usage(_)) => Err(Fail::from("not taken")),
+        Err(LineFault::Usage(_)) | Err(LineFault::Version) => Err(Fail::from("not taken")),
     }
 }
 
@@ -76,6 +76,7 @@ fn a_server_is_asked_for(rt: HostRuntime) -> Result<(), Fail> {
             db: "a.db",
             turns: count,
             limits: GREATEST,
+            commit: Commit::Turn,
         };
         let words = [
             "mqtt5", "serve", "--listen", listen, "--db", "a.db", "--turns", turns,
@@ -111,14 +112,16 @@ fn what_serves_is_called_as_asked(rt: HostRuntime) {
         "a.db",
         "--turns",
         "3",
+        "--commit",
+        "step",
     ];
     let mut written: Vec<u8> = Vec::new(rt.alloc());
     let outcome = perform(
         &rt,
         &words,
         &mut written,
-        &|_, db: &str, turns, limits| {
-            if db == "a.db" && turns == 3 && limits == GREATEST {
+        &|_, db: &str, turns, limits, commit| {
+            if db == "a.db" && turns == 3 && limits == GREATEST && commit == Commit::Step {
                 Ok(())
             } else {
                 Err(ServeFault::Socket)
@@ -146,7 +149,7 @@ fn what_replays_is_called_as_asked(rt: HostRuntime) -> Result<(), Fail> {
         &rt,
         &["mqtt5", "replay", "-", "--queue", "7"],
         &mut written,
-        &|_, _, _, _| Err(ServeFault::Socket),
+        &|_, _, _, _, _| Err(ServeFault::Socket),
         &|file: &str, limits: Limits| {
             if file == "-" && limits.queue == 7 {
                 Ok(Played::Bad)
@@ -232,6 +235,14 @@ fn other_words() -> &'static [(&'static [&'static str], &'static str)] {
         ),
         (&["mqtt5", "serve", "--help"], "a call for help with serve"),
         (&["mqtt5", "--help"], "a call for help"),
+        (
+            &["mqtt5", "view", "--version"],
+            "a call for the version of view",
+        ),
+        (
+            &["mqtt5", "replay", "--commit", "step", "a"],
+            "an option of serve",
+        ),
         (&["mqtt5", "help"], "the command for help"),
         (&["mqtt5", "view", "--help"], "a call for help with view"),
     ]
@@ -246,7 +257,7 @@ fn is_usage(alloc: Global, words: &[&str]) -> Result<bool, Fail> {
             Ok(is_lines)
         }
         Err(LineFault::Memory) => Err(Fail::from("want of memory")),
-        Ok(_) => Ok(false),
+        Ok(_) | Err(LineFault::Version) => Ok(false),
     }
 }
 
@@ -256,60 +267,4 @@ fn any_other_command_line_is_usage(rt: HostRuntime) -> Result<(), Fail> {
         assert!(rt; is_usage(rt.alloc(), words)?, "{wrong}");
     }
     Ok(())
-}
-
-/// Whether the program ends so.
-fn ends_with(outcome: Outcome, status: u8, text: &str) -> bool {
-    let found = ending(&outcome);
-    let ends = found.0 == status && found.1 == text;
-    drop(outcome);
-    ends
-}
-
-#[test]
-fn each_outcome_has_its_status_and_text(rt: HostRuntime) -> Result<(), Fail> {
-    let usage = LineFault::Usage(String::from_str(rt.alloc(), "wrong\n")?);
-    assert!(rt; ends_with(Outcome::Line(usage), 2, "wrong\n"));
-    assert!(rt; ends_with(Outcome::Done(Status::Whole), 0, ""));
-    assert!(rt; ends_with(Outcome::Done(Status::Faulty), 1, ""));
-    assert!(rt; ends_with(Outcome::NoFile, 3, "mqtt5: file\n"));
-    assert!(rt; ends_with(Outcome::Replayed(Played::Whole), 0, ""));
-    assert!(rt; ends_with(Outcome::Replayed(Played::Bad), 1, ""));
-    assert!(rt; ends_with(Outcome::Served, 0, ""));
-    for (outcome, text) in [
-        (Outcome::Line(LineFault::Memory), "mqtt5: memory\n"),
-        (Outcome::View(ViewFault::Read), "mqtt5: file\n"),
-        (Outcome::View(ViewFault::Write), "mqtt5: file\n"),
-        (Outcome::View(ViewFault::Memory), "mqtt5: memory\n"),
-        (Outcome::Vectors(VectorsFault::Write), "mqtt5: file\n"),
-        (Outcome::Vectors(VectorsFault::Memory), "mqtt5: memory\n"),
-        (Outcome::Replay(ReplayFault::Read), "mqtt5: file\n"),
-        (Outcome::Replay(ReplayFault::Write), "mqtt5: file\n"),
-        (Outcome::Replay(ReplayFault::Memory), "mqtt5: memory\n"),
-        (Outcome::Replay(ReplayFault::Store), "mqtt5: store\n"),
-        (Outcome::Serve(ServeFault::Write), "mqtt5: file\n"),
-        (Outcome::Serve(ServeFault::Memory), "mqtt5: memory\n"),
-        (Outcome::Serve(ServeFault::Store), "mqtt5: store\n"),
-        (Outcome::Serve(ServeFault::Socket), "mqtt5: socket\n"),
-    ] {
-        assert!(rt; ends_with(outcome, 3, text));
-    }
-    Ok(())
-}
-
-#[test]
-fn faults_have_their_numbers(rt: HostRuntime) {
-    assert!(rt; ViewFault::Read as u8 == 1);
-    assert!(rt; ViewFault::Write as u8 == 2);
-    assert!(rt; ViewFault::Memory as u8 == 3);
-    assert!(rt; VectorsFault::Write as u8 == 2);
-    assert!(rt; VectorsFault::Memory as u8 == 3);
-    assert!(rt; ReplayFault::Read as u8 == 1);
-    assert!(rt; ReplayFault::Write as u8 == 2);
-    assert!(rt; ReplayFault::Memory as u8 == 3);
-    assert!(rt; ReplayFault::Store as u8 == 4);
-    assert!(rt; ServeFault::Write as u8 == 2);
-    assert!(rt; ServeFault::Memory as u8 == 3);
-    assert!(rt; ServeFault::Store as u8 == 4);
-    assert!(rt; ServeFault::Socket as u8 == 5);
 }

@@ -25,3 +25,20 @@ sayable_joined (x ∷ xs) ys f g = (f.0, sayable_joined xs ys f.1 g)
 pub contents_joined : (xs ys : List Change) (r : Records) → FitContents xs r → FitContents ys (changed_all xs r) → FitContents (xs ++ ys) r
 contents_joined [] ys r f g = g
 contents_joined (x ∷ xs) ys r f g = (f.0, contents_joined xs ys (changed x r) f.1 g)
+
+-- ---- what both do each does
+
+-- if both fit, each fits, the second what the first leaves
+pub fit_parted : (xs ys : List Change) (r : Records) → FitAll (xs ++ ys) r → FitAll xs r × FitAll ys (changed_all xs r)
+fit_parted [] ys r f = (tt, f)
+fit_parted (x ∷ xs) ys r f = let rest = fit_parted xs ys (changed x r) f.1 in ((f.0, rest.0), rest.1)
+
+-- if both can be said, the first can
+pub sayable_first : (xs ys : List Change) → AllSayable (xs ++ ys) → AllSayable xs
+sayable_first [] ys f = tt
+sayable_first (x ∷ xs) ys f = (f.0, sayable_first xs ys f.1)
+
+-- if both say what is said under their numbers, the first does
+pub contents_first : (xs ys : List Change) (r : Records) → FitContents (xs ++ ys) r → FitContents xs r
+contents_first [] ys r f = tt
+contents_first (x ∷ xs) ys r f = (f.0, contents_first xs ys (changed x r) f.1)

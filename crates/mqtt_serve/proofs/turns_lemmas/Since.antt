@@ -11,8 +11,8 @@ use Rattle.mqtt_broker.specs.engine.Serving.{Serving}
 use Rattle.mqtt_broker.specs.stored.Running.{Running}
 use Rattle.mqtt_serve.specs.turns.Breaks.{BreaksAll, BreaksLine}
 use Rattle.mqtt_serve.specs.turns.Leaving.{AreCalls, HoldsBack, IsAllStored, IsCalled, IsHeldSince, IsLeftByCall, IsLeftSince, NothingLeaves, WasSaid, call_after, gone, line_linked, no_call, piece_came, was_asked, was_told}
-use Rattle.mqtt_serve.specs.turns.Settled.{HasSettledTurn, IsStored, IsStoredOrPutOff, LetsGoBelow, SettledBreaksOff, SettledTurn, none_yet, one_after}
-use Rattle.mqtt_serve.specs.turns.Turns.{Accepts, Gives, GivenSoFar, GivesIf, Hosting, IsPieced, IsTicked, LosesIf, PumpsIf, Server, ServesAll, ServesBelow, ServesLine, Tells, TickedSoFar, Ticks, TicksBy, TurnsBy, all_given, enough_ticks, given_up, last_tick, line_after, no_line, no_tick, no_turn, nothing_yet, piece_after, rested, server, tick_after, turn_after}
+use Rattle.mqtt_serve.specs.turns.Settled.{IsStored, IsStoredOrPutOff, LetsGoBelow, ServedTurn, Stretch, StretchBreaksOff, Stretches, Together, no_stretch, none_yet, not_begun, one_after, stretch_after, turn_more}
+use Rattle.mqtt_serve.specs.turns.Turns.{Accepts, Gives, GivenSoFar, GivesIf, Hosting, IsPieced, IsTicked, LosesIf, PumpsIf, Server, ServesAll, ServesBelow, ServesLine, Tells, TickedSoFar, Ticks, TicksBy, all_given, enough_ticks, given_up, last_tick, line_after, no_line, no_tick, nothing_yet, piece_after, rested, server, tick_after}
 use Rattle.mqtt_serve.specs.turns.Wires.{Wire}
 use Rattle.mqtt_serve.proofs.turns_lemmas.Silent.{let_go_said, silent_last, silent_lost, silent_read, silent_reached, silent_still, silent_then, silent_written}
 
@@ -128,10 +128,20 @@ module _ {K : Type 0} (g : Ghosts K) where
   }
   accepted now true a b (inr (inr h)) = subst (HoldsBack g a) (sym h.same) (holds_still a)
 
-  -- up to the storing of a turn everything is held back
-  pub turn_held : (now : ℕ) (came busy : Bool) (a b : Server (Serving K)) (turn : SettledTurn g now came busy a b) → HoldsBack g a turn.served
-  turn_held now came busy a b turn =
-      holds_then a turn.accepted turn.served (accepted now came a turn.accepted turn.accepts) (all_served now turn.moved turn.accepted turn.served turn.serves)
+  turn_held : (now : ℕ) (busy : Bool) (h i : Hosting (Serving K)) → ServedTurn g now busy h i
+      → HoldsBack g (server h.engine h.links.wires) (server i.engine i.links.wires)
+  turn_held now busy h i turn =
+      holds_then (server h.engine h.links.wires) turn.accepted (server i.engine i.links.wires)
+      (accepted now turn.came (server h.engine h.links.wires) turn.accepted turn.accepts)
+      (all_served now turn.moved turn.accepted (server i.engine i.links.wires) turn.serves)
+
+  -- up to the storing of a stretch everything is held back
+  pub together_held : (begin : ℕ) (moments : List ℕ) (at : ℕ) (some : Bool) (old new : Hosting (Serving K)) → Together g begin moments at some old new
+      → HoldsBack g (server old.engine old.links.wires) (server new.engine new.links.wires)
+  together_held begin moments at some old new not_begun = holds_still (server old.engine old.links.wires)
+  together_held begin moments at some old new (turn_more {read} {last} now {busy} {i} turns turn) =
+      holds_then (server old.engine old.links.wires) (server i.engine i.links.wires) (server new.engine new.links.wires)
+      (together_held begin read last true old i turns) (turn_held (max last now) busy i new turn)
 
   -- ---- in a turn that breaks off
 
@@ -165,15 +175,17 @@ module _ {K : Type 0} (g : Ghosts K) where
       (holds_then h.mid h.breaks.mid b (ticked_so_far now h.mid h.breaks.n h.breaks.mid h.breaks.so_far)
       (refused_held h.breaks.mid b (was_asked now _ (Err error) h.breaks.refused.called) h.breaks.refused.same))
 
-  -- through a turn that breaks off everything is held back
-  pub broken_held : (now : ℕ) (error : EngineError) (old new : Hosting (Serving K)) → SettledBreaksOff g now error old new
+  -- through a stretch that breaks off everything is held back
+  pub broken_held : (begin : ℕ) (read : List ℕ) (error : EngineError) (old new : Hosting (Serving K)) → StretchBreaksOff g begin read error old new
       → HoldsBack g (server old.engine old.links.wires) (server new.engine new.links.wires)
-  broken_held now error old new (inl h) =
-      holds_then _ h.accepted _ (accepted now h.came _ h.accepted h.accepts) (all_broken now error h.accepted _ h.breaks)
-  broken_held now error old new (inr h) =
-      holds_then _ h.accepted _ (accepted now h.came _ h.accepted h.accepts)
-      (holds_then h.accepted h.served _ (all_served now h.moved h.accepted h.served h.serves)
-      (refused_held h.served _ (was_told (Err error) h.stores.called) h.stores.same))
+  broken_held begin read error old new (inl h) =
+      let turn = h.breaks in
+      holds_then _ (server h.mid.engine h.mid.links.wires) _ (together_held begin h.first h.last true old h.mid h.turns)
+      (holds_then _ turn.accepted _ (accepted (max h.last h.now) turn.came _ turn.accepted turn.accepts)
+      (all_broken (max h.last h.now) error turn.accepted _ turn.breaks))
+  broken_held begin read error old new (inr h) =
+      holds_then _ (server h.served.engine h.served.links.wires) _ (together_held begin read h.last h.moved old h.served h.turns)
+      (refused_held _ _ (was_told (Err error) h.stores.called) h.stores.same)
 
   -- ---- what a crash leaves
 
@@ -265,37 +277,39 @@ module _ {K : Type 0} (g : Ghosts K) where
       let_go_below (length a.wires) went a.wires stores.after stores.lets k w
       (omega (arith, within k w stores.after at, let_go_len (length a.wires) went a.wires stores.after stores.lets)) at
 
-  -- ---- turns one after the other
+  -- ---- stretches one after the other
 
-  turn_since : (now : ℕ) (busy : Bool) (h i : Hosting (Serving K)) → IsHeldSince g (server h.engine h.links.wires) → HasSettledTurn g now busy h i
-      → IsHeldSince g (server i.engine i.links.wires)
-  turn_since now busy h i since has = go has.turn has.turn.stores
+  stretch_since : (begin : ℕ) (read : List ℕ) (last : ℕ) (busy : Bool) (h i : Hosting (Serving K)) → IsHeldSince g (server h.engine h.links.wires)
+      → Stretch g begin read last busy h i → IsHeldSince g (server i.engine i.links.wires)
+  stretch_since begin read last busy h i since stretch = go stretch.stores
     where
-      go : (turn : SettledTurn g now has.came busy (server h.engine h.links.wires) (server i.engine i.links.wires))
-          → IsStoredOrPutOff g turn.went turn.served (server i.engine i.links.wires) → IsHeldSince g (server i.engine i.links.wires)
-      go turn (inl s) = record {
+      served : Hosting (Serving K)
+      served = stretch.served
+
+      go : IsStoredOrPutOff g stretch.went (server served.engine served.links.wires) (server i.engine i.links.wires) → IsHeldSince g (server i.engine i.links.wires)
+      go (inl s) = record {
         then = server i.engine i.links.wires;
-        stored = all_stored turn.went turn.served (server i.engine i.links.wires) s;
+        stored = all_stored stretch.went (server served.engine served.links.wires) (server i.engine i.links.wires) s;
         holds = holds_still (server i.engine i.links.wires);
       }
-      go turn (inr off) = record {
+      go (inr off) = record {
         then = since.then;
         stored = since.stored;
         holds = holds_then since.then (server h.engine h.links.wires) (server i.engine i.links.wires) since.holds
-            (holds_then (server h.engine h.links.wires) turn.served (server i.engine i.links.wires)
-            (turn_held now has.came busy (server h.engine h.links.wires) (server i.engine i.links.wires) turn)
-            (refused_held turn.served (server i.engine i.links.wires) (was_told (Err Memory) off.called) off.same));
+            (holds_then (server h.engine h.links.wires) (server served.engine served.links.wires) (server i.engine i.links.wires)
+            (together_held begin read last stretch.moved h served stretch.turns)
+            (refused_held (server served.engine served.links.wires) (server i.engine i.links.wires) (was_told (Err Memory) off.called) off.same));
       }
 
   rested_wires : (busy : Bool) (h : Hosting (Serving K)) → (rested busy h.links).wires ≡ h.links.wires
   rested_wires true h = refl
   rested_wires false h = refl
 
-  -- so it is after any number of turns
-  pub turns_since : (begin : ℕ) (moments : List ℕ) (at : ℕ) (old new : Hosting (Serving K)) → IsAllStored g old.engine
-      → TurnsBy (HasSettledTurn g) begin moments at old new → IsHeldSince g (server new.engine new.links.wires)
-  turns_since begin moments at old new all no_turn =
+  -- so it is after any number of them
+  pub stretches_since : (begin : ℕ) (moments : List ℕ) (at : ℕ) (old new : Hosting (Serving K)) → IsAllStored g old.engine
+      → Stretches g begin moments at old new → IsHeldSince g (server new.engine new.links.wires)
+  stretches_since begin moments at old new all no_stretch =
       record { then = server old.engine old.links.wires; stored = all; holds = holds_still (server old.engine old.links.wires) }
-  turns_since begin moments at old new all (turn_after {read} {last} now {busy} {i} j turns turn) =
+  stretches_since begin moments at old new all (stretch_after {read} {more} {last} {next} {busy} {i} j before stretch) =
       subst (λ (ws : List Wire). IsHeldSince g (server j.engine ws)) (sym (rested_wires busy j))
-      (turn_since (max last now) busy i j (turns_since begin read last old i all turns) turn)
+      (stretch_since last more next busy i j (stretches_since begin read last old i all before) stretch)

@@ -39,7 +39,7 @@ told_after_all (change ∷ changes) f = told_after_all changes (told_after chang
 
 module _ {X : Type 0} (key : X → ℕ) where
   -- after a row changes it is found changed by its key, and every other as before
-  row_at-changed : (k j : ℕ) (f : X → X) (xs : List X) → ((x : X) → key (f x) ≡ key x) → row_at key k (change_row key j f xs) ≡ cond (nat_eq j k) (option_map f (row_at key k xs)) (row_at key k xs)
+  pub row_at-changed : (k j : ℕ) (f : X → X) (xs : List X) → ((x : X) → key (f x) ≡ key x) → row_at key k (change_row key j f xs) ≡ cond (nat_eq j k) (option_map f (row_at key k xs)) (row_at key k xs)
   row_at-changed k j f [] kept = elim (cases_Bool (nat_eq j k)) [ inl asked ↦ rw asked refl | inr other ↦ rw other refl ]
   row_at-changed k j f (x ∷ xs) kept = elim (cases_Bool (nat_eq (key x) j)) [
     | inl here ↦

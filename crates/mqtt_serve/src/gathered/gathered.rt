@@ -1,13 +1,15 @@
 //! A store that gathers changes until it is settled (4.1).
 ghost use Rattle.std.specs.Prelude.{◌≡◌, ◌≢◌, ◌⊎◌, ◌↔◌, ◌+◌, length, IfErr, IsTrue, OnErr, OnOk};
 ghost use Rattle.mqtt_records.specs.declared.state.records.Records.{Records as TheRecords};
-ghost use Rattle.mqtt_serve.specs.gathered.Counting.{changes_rows, sets_of};
+ghost use Rattle.mqtt_serve.specs.gathered.Counting.{sets_of};
 ghost use Rattle.mqtt_serve.specs.gathered.Gathering.{Holding, NothingWaits};
 
 use super::counts::Counts;
+use super::joins::join_last_all;
+use super::rows::push_rows;
 use mqtt_keep::{Keep, KeepError, Settles};
 use mqtt_link::Commit;
-use mqtt_records::{Change, CopyContent, Records, clone_all};
+use mqtt_records::{Change, CopyContent, Records};
 use std::alloc::Global;
 
 /// The most changes that wait to be written, counters that were set among them (ours).
@@ -70,13 +72,6 @@ impl<K: Settles> Gathered<K> {
     }
 }
 
-/// Whether it changes rows, and sets no counter.
-fn is_of_rows(change: &Change) -> bool
-    ensures { result ≡ changes_rows change.now }
-{
-    !matches!(change, Change::SetCounter { .. })
-}
-
 /// What a store that can't be settled is to who asks for contents: a full device has failed, too.
 fn unread(error: KeepError) -> KeepError
     ensures memory { error ≡ KeepError.Memory → result ≡ KeepError.Memory }
@@ -123,9 +118,8 @@ impl<K: Settles> Keep for Gathered<K> {
     }
 
     fn apply(&mut self, changes: &[Change]) -> Result<(), KeepError> {
-        let mut rows = clone_all(self.alloc, changes)?;
-        rows.retain(|change| is_of_rows(change));
-        self.changes.append(&mut rows)?;
+        push_rows(&mut self.changes, changes)?;
+        join_last_all(&mut self.changes, changes.len());
         self.counts.set_all(changes);
         if self.waiting() > self.limit {
             return self.settle_long();

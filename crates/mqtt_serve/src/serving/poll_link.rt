@@ -1,4 +1,4 @@
-//! Sockets that a turn may wait on, all at once (MQTT 5.0, 4.2).
+//! Sockets that a turn may wait on, all at once, and of which it asks those alone that may be ready (MQTT 5.0, 4.2).
 use mio::net::{TcpListener, TcpStream};
 use mio::{Events, Interest, Poll, Token};
 use mqtt_link::{Got, Link, got};
@@ -8,11 +8,37 @@ use std::io::{ErrorKind, Read, Write};
 use std::net::{Net, SocketAddr};
 use std::time::Duration;
 
-/// How many changes of sockets one wait may tell of.
+/// How many changes of sockets one look may tell of. Those above it are told at the next.
 const EVENTS: usize = 64;
+
+/// How many tokens connections share, in turn (ours). Of two connections under one token both are asked once one is ready.
+const TOKENS: usize = 1024;
+
+/// The listener's token.
+const LISTENER: usize = TOKENS;
 
 /// How long a wait takes in the kernel at most, in milliseconds (ours).
 const WAIT: u64 = 10;
+
+/// How often the kernel has told that connections under a token are ready, modulo 2^64.
+#[derive(Clone, Copy)]
+struct Told {
+    /// To be read.
+    to_read: u64,
+    /// To be written to.
+    to_write: u64,
+}
+
+/// A connection. Once a call would have waited, none is made until the kernel tells of its token again.
+#[derive(Drop)]
+pub(crate) struct Socket {
+    stream: TcpStream,
+    token: usize,
+    /// How often its token had been told when a read would have waited.
+    read_at: Option<u64>,
+    /// How often it had been told when a write would have waited.
+    written_at: Option<u64>,
+}
 
 /// A listening socket and its connections, registered with the kernel.
 #[derive(Drop)]
@@ -20,6 +46,31 @@ pub(crate) struct PollLink {
     listener: TcpListener,
     poll: Poll,
     events: Events,
+    /// By token.
+    told: Vec<Told>,
+    /// The token of the next connection.
+    next: usize,
+    /// The listener may have a connection.
+    may_come: bool,
+    /// The kernel was looked at since the last turn.
+    has_looked: bool,
+    /// The last look failed, so that any socket may be ready.
+    is_blind: bool,
+    /// A connection has ended since the last wait: what that brings for others is not to wait.
+    has_ended: bool,
+}
+
+/// Whether a call would have waited.
+fn would_wait(count: &io::Result<usize>) -> bool {
+    match count {
+        Ok(_) => false,
+        Err(fault) => matches!(fault.kind(), ErrorKind::WouldBlock),
+    }
+}
+
+/// Whether that is the end of a connection, by either side.
+fn is_end(given: &Got<usize>) -> bool {
+    matches!(given, Got::End | Got::Failure)
 }
 
 impl PollLink {
@@ -28,12 +79,23 @@ impl PollLink {
         let mut listener = TcpListener::bind(net, address)?;
         let poll = Poll::new(net)?;
         let events = Events::with_capacity(alloc, EVENTS)?;
+        let never = Told {
+            to_read: 0,
+            to_write: 0,
+        };
+        let told = Vec::from_elem(alloc, never, TOKENS)?;
         poll.registry()
-            .register(&mut listener, Token(0), Interest::READABLE)?;
+            .register(&mut listener, Token(LISTENER), Interest::READABLE)?;
         Ok(PollLink {
             listener,
             poll,
             events,
+            told,
+            next: 0,
+            may_come: true,
+            has_looked: false,
+            is_blind: false,
+            has_ended: false,
         })
     }
 
@@ -41,17 +103,62 @@ impl PollLink {
     pub fn address(&self) -> io::Result<SocketAddr> {
         self.listener.local_addr()
     }
+
+    /// Looks which sockets are ready, and waits so many milliseconds for one to be.
+    fn look(&mut self, limit: u64) {
+        let limit = Some(Duration::from_millis(limit));
+        self.is_blind = self.poll.poll(&mut self.events, limit).is_err();
+        self.has_looked = true;
+        for event in self.events.iter() {
+            let Token(token) = event.token();
+            // A connection that fails or is closed is told by the call that finds it so.
+            let is_over = event.is_error() || event.is_read_closed() || event.is_write_closed();
+            if token == LISTENER {
+                self.may_come = true;
+            } else if let Some(told) = self.told.get_mut(token) {
+                if is_over || event.is_readable() {
+                    told.to_read = told.to_read.wrapping_add(1);
+                }
+                if is_over || event.is_writable() {
+                    told.to_write = told.to_write.wrapping_add(1);
+                }
+            }
+        }
+    }
+
+    /// How often a connection's token was told.
+    fn told_of(&self, peer: &Socket) -> Told {
+        match self.told.get(peer.token) {
+            Some(told) => *told,
+            None => Told {
+                to_read: 0,
+                to_write: 0,
+            },
+        }
+    }
 }
 
 impl Link for PollLink {
-    type Peer = TcpStream;
+    type Peer = Socket;
 
-    fn accept(&mut self) -> Got<TcpStream> {
+    fn accept(&mut self) -> Got<Socket> {
+        // A turn begins here: it looks, unless the turn before has waited.
+        if !self.has_looked {
+            self.look(0);
+        }
+        self.has_looked = false;
+        if !self.may_come && !self.is_blind {
+            return Got::Nothing;
+        }
         let mut stream = match self.listener.accept() {
             Ok((stream, _)) => stream,
             Err(fault) => {
                 return match fault.kind() {
-                    ErrorKind::WouldBlock | ErrorKind::Interrupted => Got::Nothing,
+                    ErrorKind::WouldBlock => {
+                        self.may_come = false;
+                        Got::Nothing
+                    }
+                    ErrorKind::Interrupted => Got::Nothing,
                     _ => Got::Failure,
                 };
             }
@@ -59,23 +166,51 @@ impl Link for PollLink {
         // A socket that has no such option serves as well, later.
         let _ = stream.set_nodelay(true);
         let both = Interest::READABLE | Interest::WRITABLE;
-        match self.poll.registry().register(&mut stream, Token(1), both) {
-            Ok(()) => Got::Given(stream),
+        let token = self.next;
+        self.next = if token < TOKENS - 1 { token + 1 } else { 0 };
+        match self
+            .poll
+            .registry()
+            .register(&mut stream, Token(token), both)
+        {
+            Ok(()) => Got::Given(Socket {
+                stream,
+                token,
+                read_at: None,
+                written_at: None,
+            }),
             Err(_) => Got::Failure,
         }
     }
 
-    /// Waits until a socket changes or the time is up. A wait that fails is none.
+    /// Waits until a socket changes or the time is up; not at all where a connection has ended. A wait that fails is none.
     fn wait(&mut self) {
-        let limit = Duration::from_millis(WAIT);
-        let _ = self.poll.poll(&mut self.events, Some(limit));
+        let limit = if self.has_ended { 0 } else { WAIT };
+        self.has_ended = false;
+        self.look(limit);
     }
 
-    fn read(&mut self, peer: &mut TcpStream, buffer: &mut [u8]) -> Got<usize> {
-        got(peer.read(buffer))
+    fn read(&mut self, peer: &mut Socket, buffer: &mut [u8]) -> Got<usize> {
+        let told = self.told_of(peer).to_read;
+        if peer.read_at == Some(told) && !self.is_blind {
+            return Got::Nothing;
+        }
+        let count = peer.stream.read(buffer);
+        peer.read_at = if would_wait(&count) { Some(told) } else { None };
+        let given = got(count);
+        self.has_ended |= is_end(&given);
+        given
     }
 
-    fn write(&mut self, peer: &mut TcpStream, bytes: &[u8]) -> Got<usize> {
-        got(peer.write(bytes))
+    fn write(&mut self, peer: &mut Socket, bytes: &[u8]) -> Got<usize> {
+        let told = self.told_of(peer).to_write;
+        if peer.written_at == Some(told) && !self.is_blind {
+            return Got::Nothing;
+        }
+        let count = peer.stream.write(bytes);
+        peer.written_at = if would_wait(&count) { Some(told) } else { None };
+        let given = got(count);
+        self.has_ended |= is_end(&given);
+        given
     }
 }

@@ -3,7 +3,7 @@ ghost use Rattle.std.specs.Prelude.{◌≡◌, ◌≤◌, ◌++◌, [], ℕ, fal
 ghost use Rattle.mqtt_serve.specs.turns.Wires.{FindsNoRoom, Reads, Hears, LetsGo, WritesAnd, WritesLast, bytes_to, closing, is_standing, is_lost, is_closed, lost_if, may_send};
 
 use bytes::Bytes;
-use mqtt_link::{Got, HeldBack, Link, Waiting, WaitingFault};
+use mqtt_link::{Got, HeldBack, Link, WAITING_LIMIT, Waiting, WaitingFault};
 use std::alloc::Global;
 use std::marker::Model;
 
@@ -25,6 +25,8 @@ pub struct Connection<L: Link> {
     peer: L::Peer,
     waiting: Waiting,
     is_clear: bool,
+    /// Whether the last read filled its buffer.
+    has_more: bool,
     fate: Fate,
 }
 
@@ -87,6 +89,7 @@ impl<L: Link> Connection<L> {
             peer,
             waiting: Waiting::new(alloc),
             is_clear: false,
+            has_more: false,
             fate: Fate::Stands,
         }
     }
@@ -126,6 +129,16 @@ impl<L: Link> Connection<L> {
         matches!(self.fate, Fate::Closed)
     }
 
+    /// Whether more may be at hand than was read: the last read filled its buffer.
+    pub fn has_more(&self) -> bool {
+        self.has_more
+    }
+
+    /// Whether what waits on it can wait on: its line isn't closed, and at most half of what may wait does.
+    pub fn can_wait(&self) -> bool {
+        !self.is_closed() && self.waiting.len() <= WAITING_LIMIT / 2
+    }
+
     /// Reads once, if it stands; a read that ends or fails makes it lost. How many bytes came.
     pub fn read(&mut self, link: &mut L, buffer: &mut [u8]) -> usize
         ensures bound { result ≤ length buffer.new }
@@ -135,14 +148,16 @@ impl<L: Link> Connection<L> {
         if !self.is_standing() {
             return 0;
         }
-        match link.read(&mut self.peer, buffer) {
+        let count = match link.read(&mut self.peer, buffer) {
             Got::Given(count) => count,
             Got::Nothing => 0,
             Got::End | Got::Failure => {
                 self.fate = Fate::Lost;
                 0
             }
-        }
+        };
+        self.has_more = count == buffer.len();
+        count
     }
 
     /// Writes once what waits, unless it is lost; a write that ends or fails makes it lost. Whether bytes went out.

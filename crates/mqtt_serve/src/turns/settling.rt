@@ -1,8 +1,9 @@
-//! A turn of the server whose steps are stored together, before anything of it goes out (MQTT 5.0, 4.1, 4.2).
-ghost use Rattle.std.specs.Prelude.{◌≡◌, ◌≢◌, ◌<◌, length, IfOk, IfErr, OnOk};
+//! Turns of the server whose steps are stored together, before anything of them goes out (MQTT 5.0, 4.1, 4.2).
+ghost use Rattle.std.specs.Prelude.{◌≡◌, ◌≢◌, ◌≤◌, ◌<◌, true, length, IfOk, IfErr, IsTrue, OnOk};
 ghost use Rattle.std.specs.Vec.{vec_capacity};
+ghost use Rattle.mqtt_serve.specs.turns.Breaks.{BreaksOff};
 ghost use Rattle.mqtt_serve.specs.turns.Related.{RelatedAt};
-ghost use Rattle.mqtt_serve.specs.turns.Settled.{HasSettledTurn, IsStoredOrPutOff, LetsGoBelow, RunsSettledFor, RunsSettledUntil, SettledBreaksOff, StoresNothing};
+ghost use Rattle.mqtt_serve.specs.turns.Settled.{IsStoredOrPutOff, LetsGoBelow, RunsSettledFor, RunsSettledUntil, RunsStretch, RunsStretchUntil, RunsTogether, RunsTogetherUntil, ServedTurn, StoresNothing};
 ghost use Rattle.mqtt_serve.specs.turns.Turns.{server, hosting};
 ghost use Rattle.mqtt_serve.specs.turns.Wires.{LetsGo};
 
@@ -14,6 +15,21 @@ use mqtt_broker::Engine;
 use mqtt_broker_step::EngineError;
 use mqtt_keep::Settles;
 use mqtt_link::{HeldBack, Link};
+
+/// The most turns that are stored together (ours): a disk that takes 10 ms a sync takes them at once for eight reads of each
+/// connection.
+pub const TURNS_TOGETHER: u32 = 8;
+
+/// Turns that were had.
+#[derive(Clone, Copy, Debug)]
+pub struct Had {
+    /// How many.
+    pub turns: u32,
+    /// The moment of the last, in milliseconds.
+    pub last: u64,
+    /// Whether anything came or went in the last, or went out after it.
+    pub busy: bool,
+}
 
 /// What is held back on the connection at a place goes out. Whether bytes did.
 fn let_go_at<L: Link + Drop>(
@@ -42,7 +58,7 @@ fn let_go_all<L: Link + Drop>(link: &mut HeldBack<L>, lines: &mut [Connection<He
     went
 }
 
-/// The steps of the turn are stored; then what is held back goes out, and connections that the broker closed are dropped. For
+/// What the turns did is stored; then what is held back goes out, and connections that the broker closed are dropped. For
 /// want of memory nothing goes out, and nothing is dropped. Whether bytes went out. `Stopped` (2) is the engine's.
 fn store_turn<L: Link + Drop, K: Settles>(
     link: &mut HeldBack<L>,
@@ -67,29 +83,115 @@ fn store_turn<L: Link + Drop, K: Settles>(
     }
 }
 
-/// A turn over a link that holds back what is written: the turn of `serve_turn`, but that its steps are stored before anything of
-/// it goes out, together; and connections that the broker closed are dropped after that. For want of memory nothing goes out,
-/// and the next turn tries again. Ok says whether a connection or bytes came or went. `Stopped` (2) and `Spent` (3) are the
-/// engine's; nothing of such a turn goes out.
-pub fn serve_settled_turn<L: Link + Drop, K: Settles>(
+/// A turn whose steps are not stored yet: that of `serve_turn` over a link that holds back what is written, but that connections
+/// that the broker closed aren't dropped. Whether a connection or bytes came or went. `Stopped` (2) and `Spent` (3) are the engine's.
+fn serve_unstored<L: Link + Drop, K: Settles>(
     links: &mut Links<HeldBack<L>>,
     engine: &mut Engine<K>,
     moment: u64,
 ) -> Result<bool, EngineError>
-    ensures turn { IfOk result (λ busy. HasSettledTurn K.Keep moment busy
+    ensures turn { IfOk result (λ busy. ServedTurn K.Keep moment busy
         (hosting engine.old links.old) (hosting engine.new links.new)) }
     ensures refused { IfErr result (λ error. error ≢ EngineError.Memory) }
-    ensures breaks { IfErr result (λ error. SettledBreaksOff K.Keep moment error
+    ensures breaks { IfErr result (λ error. BreaksOff K.Keep moment error
         (hosting engine.old links.old) (hosting engine.new links.new)) }
 {
     let (alloc, link, lines) = (links.alloc, &mut links.link, &mut links.lines);
     let came = accept(alloc, link, lines, engine, moment);
     let moved = serve_all(link, lines, engine, moment)?;
-    let went = store_turn(link, lines, engine)?;
-    Ok(came | moved | went)
+    Ok(came | moved)
 }
 
-/// Runs so many such turns, as `run_turns` does. `Stopped` (2) and `Spent` (3) are the engine's.
+/// What the turns did is stored, as `store_turn` does.
+fn store_all<L: Link + Drop, K: Settles>(
+    links: &mut Links<HeldBack<L>>,
+    engine: &mut Engine<K>,
+) -> Result<bool, EngineError>
+    ensures stores { IfOk result (λ went. IsStoredOrPutOff K.Keep went
+        (server engine.old links.old.wires) (server engine.new links.new.wires)) }
+    ensures breaks { IfErr result (λ error. StoresNothing K.Keep error
+        (server engine.old links.old.wires) (server engine.new links.new.wires)) }
+    ensures same { links.new.calls ≡ links.old.calls }
+{
+    store_turn(&mut links.link, &mut links.lines, engine)
+}
+
+/// Whether the next turn comes before what was done is stored. Never after a turn in which nothing came or went, nor while a
+/// connection that the broker closed is to be dropped, or one has little room left. After the first turn else; after later ones
+/// if a read filled its buffer, so that more is at hand.
+fn goes_on<L: Link + Drop>(links: &Links<HeldBack<L>>, busy: bool, before: u32) -> bool
+    ensures { IsTrue result → busy ≡ true }
+{
+    busy && links.lines.iter().all(|line| line.can_wait())
+        && (before == 0 || links.lines.iter().any(|line| line.has_more()))
+}
+
+/// At least one turn, and at most so many, none of which is stored yet, each at the greatest moment that the clock has told.
+fn serve_together<L: Link + Drop, K: Settles, T: Timer>(
+    links: &mut Links<HeldBack<L>>,
+    engine: &mut Engine<K>,
+    timer: &mut T,
+    limit: u32,
+    begin: u64,
+) -> Result<Had, EngineError>
+    requires some { 0 < limit }
+    requires few { limit ≤ TURNS_TOGETHER }
+    ensures turns { IfOk result (λ had. RunsTogether K.Keep begin had.turns had.last had.busy (T.told timer.old) (T.told timer.new)
+        (hosting engine.old links.old) (hosting engine.new links.new)) }
+    ensures within { IfOk result (λ had. (0 < had.turns) × (had.turns ≤ limit)) }
+    ensures refused { IfErr result (λ error. error ≢ EngineError.Memory) }
+    ensures breaks { IfErr result (λ error. RunsTogetherUntil K.Keep begin limit error (T.told timer.old) (T.told timer.new)
+        (hosting engine.old links.old) (hosting engine.new links.new)) }
+{
+    let mut last = begin;
+    for before in 0..limit {
+        last = last.max(timer.now());
+        let busy = serve_unstored(links, engine, last)?;
+        if !goes_on(links, busy, before) {
+            return Ok(Had {
+                turns: before + 1,
+                last,
+                busy,
+            });
+        }
+    }
+    Ok(Had {
+        turns: limit,
+        last,
+        busy: true,
+    })
+}
+
+/// A stretch: turns over a link that holds back what is written, one to eight of them and at most so many, whose steps are stored
+/// together, before anything of them goes out; and connections that the broker closed are dropped after that. For want of memory
+/// nothing goes out, and the next stretch tries again. `Stopped` (2) and `Spent` (3) are the engine's; nothing of such a stretch
+/// goes out.
+pub fn serve_stretch<L: Link + Drop, K: Settles, T: Timer>(
+    links: &mut Links<HeldBack<L>>,
+    engine: &mut Engine<K>,
+    timer: &mut T,
+    limit: u32,
+    begin: u64,
+) -> Result<Had, EngineError>
+    requires some { 0 < limit }
+    ensures stretch { IfOk result (λ had. RunsStretch K.Keep begin had.turns had.last had.busy (T.told timer.old) (T.told timer.new)
+        (hosting engine.old links.old) (hosting engine.new links.new)) }
+    ensures within { IfOk result (λ had. (0 < had.turns) × (had.turns ≤ limit)) }
+    ensures refused { IfErr result (λ error. error ≢ EngineError.Memory) }
+    ensures breaks { IfErr result (λ error. RunsStretchUntil K.Keep begin limit error (T.told timer.old) (T.told timer.new)
+        (hosting engine.old links.old) (hosting engine.new links.new)) }
+{
+    let had = serve_together(links, engine, timer, limit.min(TURNS_TOGETHER), begin)?;
+    let went = store_all(links, engine)?;
+    Ok(Had {
+        turns: had.turns,
+        last: had.last,
+        busy: had.busy | went,
+    })
+}
+
+/// Runs so many turns in stretches, the first from a moment on. After a stretch in which nothing came or went the link is asked to wait.
+/// `Stopped` (2) and `Spent` (3) are the engine's.
 pub fn run_settled_turns<L: Link + Drop, K: Settles, T: Timer>(
     links: &mut Links<HeldBack<L>>,
     engine: &mut Engine<K>,
@@ -103,11 +205,13 @@ pub fn run_settled_turns<L: Link + Drop, K: Settles, T: Timer>(
     ensures breaks { IfErr result (λ error. RunsSettledUntil K.Keep begin turns error (T.told timer.old) (T.told timer.new)
         (hosting engine.old links.old) (hosting engine.new links.new)) }
 {
+    let mut left = turns;
     let mut last = begin;
-    for _ in 0..turns {
-        last = last.max(timer.now());
-        let busy = serve_settled_turn(links, engine, last)?;
-        rest(links, busy);
+    while left > 0 {
+        let had = serve_stretch(links, engine, timer, left, last)?;
+        rest(links, had.busy);
+        last = had.last;
+        left -= had.turns;
     }
     Ok(())
 }

@@ -1,8 +1,9 @@
 //! A client that resumes its session over a slow connection (MQTT 5.0, 4.4, 4.9).
+use crate::turns::stretches::stretch;
 use crate::turns::turns::LIMITS;
 use mqtt_broker::Engine;
 use mqtt_keep::{Keep, MemKeep};
-use mqtt_link::{Got, Link};
+use mqtt_link::{Got, HeldBack, Link};
 use mqtt_serve::{Links, serve_turn};
 use std::alloc::{AllocError, Global};
 use std::hash::RandomState;
@@ -114,6 +115,37 @@ fn away<K: Keep>(engine: &mut Engine<K>, packets: &[u8]) -> bool {
         && engine.lost(publisher, 0).is_ok()
 }
 
+/// A broker in which so many copies with so many bytes of payload each wait, and their packets.
+fn backlog(
+    alloc: Global,
+    hasher: RandomState,
+    copies: u16,
+    payload: usize,
+) -> Result<(Engine<MemKeep>, Vec<u8>), Fail> {
+    let mut packets = Vec::new(alloc);
+    for identifier in 1..=copies {
+        push_publish(&mut packets, identifier, payload)?;
+    }
+    let Ok(mut engine) = Engine::open(alloc, MemKeep::new(alloc)?, 0, LIMITS, hasher) else {
+        return Err(Fail::from("the broker can't be opened"));
+    };
+    if away(&mut engine, &packets) {
+        return Ok((engine, packets));
+    }
+    drop(engine.close());
+    Err(Fail::from("no copies wait"))
+}
+
+/// A client that resumes its session over a line that takes 30,000 bytes a turn.
+fn slow(alloc: Global) -> Slow {
+    Slow {
+        says: RESUMING,
+        takes: 30_000,
+        taken: Vec::new(alloc),
+        came: false,
+    }
+}
+
 /// What comes of so many copies with so many bytes of payload each, over a connection that takes 30,000 bytes a turn: whether
 /// they come whole, in order and on one connection, behind CONNACK.
 fn comes_whole(
@@ -123,22 +155,9 @@ fn comes_whole(
     payload: usize,
     turns: u64,
 ) -> Result<bool, Fail> {
-    let mut packets = Vec::new(alloc);
-    for identifier in 1..=copies {
-        push_publish(&mut packets, identifier, payload)?;
-    }
-    let Ok(mut engine) = Engine::open(alloc, MemKeep::new(alloc)?, 0, LIMITS, hasher) else {
-        return Err(Fail::from("the broker can't be opened"));
-    };
-    let is_away = away(&mut engine, &packets);
-    let link = Slow {
-        says: RESUMING,
-        takes: 30_000,
-        taken: Vec::new(alloc),
-        came: false,
-    };
+    let (mut engine, packets) = backlog(alloc, hasher, copies, payload)?;
     let mut comes = false;
-    if let Ok(mut links) = Links::new(alloc, link) {
+    if let Ok(mut links) = Links::new(alloc, slow(alloc)) {
         let mut goes_on = true;
         for moment in 0..turns {
             goes_on = goes_on && serve_turn(&mut links, &mut engine, moment).is_ok();
@@ -147,7 +166,29 @@ fn comes_whole(
         comes = goes_on && links.len() == 1 && taken.strip_prefix(RESUMED) == Some(&packets[..]);
     }
     drop(engine.close());
-    Ok(is_away && comes)
+    Ok(comes)
+}
+
+/// As `comes_whole`, by turns whose steps are stored together, over a link that holds back what is written.
+fn comes_whole_held(
+    alloc: Global,
+    hasher: RandomState,
+    copies: u16,
+    payload: usize,
+    turns: u64,
+) -> Result<bool, Fail> {
+    let (mut engine, packets) = backlog(alloc, hasher, copies, payload)?;
+    let mut comes = false;
+    if let Ok(mut links) = Links::new(alloc, HeldBack::new(alloc, slow(alloc))) {
+        let mut goes_on = true;
+        for moment in 0..turns {
+            goes_on = goes_on && stretch(&mut links, &mut engine, moment).is_ok();
+        }
+        let taken = &links.link().link().taken;
+        comes = goes_on && links.len() == 1 && taken.strip_prefix(RESUMED) == Some(&packets[..]);
+    }
+    drop(engine.close());
+    Ok(comes)
 }
 
 #[test]
@@ -169,5 +210,14 @@ fn packets_of_the_greatest_size_come_whole_over_a_slow_line(rt: HostRuntime) -> 
     // 65,536 bytes each, of which 16 are just what may wait.
     let comes = comes_whole(rt.alloc(), RandomState::new(&rt)?, 40, 65_524, 120)?;
     assert!(rt; comes);
+    Ok(())
+}
+
+#[test]
+fn a_backlog_comes_whole_over_a_slow_line_that_is_held_back(rt: HostRuntime) -> Result<(), Fail> {
+    for (copies, payload, turns) in [(110, 62_000, 260), (300, 8_000, 130), (40, 65_524, 120)] {
+        let comes = comes_whole_held(rt.alloc(), RandomState::new(&rt)?, copies, payload, turns)?;
+        assert!(rt; comes, "{copies} of {payload}");
+    }
     Ok(())
 }

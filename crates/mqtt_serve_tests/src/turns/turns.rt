@@ -43,7 +43,7 @@ pub(crate) const SUBSCRIBED: &[u8] =
 pub(crate) const PUBLISHED: &[u8] = b"\x50\x02\x00\x07\x70\x02\x00\x07";
 
 /// CONNECT and PINGREQ by "a" and by "b" (3.12).
-const PINGING: [&[Stage]; 2] = [
+pub(crate) const PINGING: [&[Stage]; 2] = [
     &[(
         0,
         b"\x10\x0e\x00\x04MQTT\x05\x02\x00\x3c\x00\x00\x01a\xc0\x00",
@@ -178,7 +178,7 @@ fn the_will_of_a_client_that_closes_is_sent(rt: HostRuntime) -> Result<(), Fail>
 }
 
 /// Whether each client but the one whose call went wrong gets all its answers, and that one a beginning of them.
-fn is_apart(clients: &Clients, place: usize) -> bool {
+pub(crate) fn is_apart(clients: &Clients, place: usize) -> bool {
     let taken = clients.taken(place);
     if clients.failed() == Some(place) {
         return CONNACK.starts_with(taken)

@@ -6,7 +6,10 @@ use Rattle.mqtt_cli.proofs.command.words.program.Goals as goal
 
 pub returns : goal.returns
 returns c =
-    let program_is = ap app_of_fields c.about.ensures ∙ c.new.ensures.app in
+    let version_is = ap app_of_fields c.version.ensures
+    ∙ ap (λ (a : App). let b : App = record a { top = record a.top { has_version = true } } in b) c.new.ensures.app in
+    let before_is = ap app_of_fields c.before_help.ensures ∙ version_is in
+    let program_is = ap app_of_fields c.after_help.ensures ∙ ap app_of_fields c.about.ensures ∙ before_is in
     let required_is = ap app_of_fields c.subcommand_required.ensures
     ∙ ap (λ (a : App). let b : App = record a { top = record a.top { subcommand_required = true } } in b) program_is in
     let view = c.in_ok-view.ensures in

@@ -1,7 +1,7 @@
 use Rattle.std.proofs.Common.{Some, codes, sym, ◌∙◌}
 use Rattle.clap.specs.Words.{found_of, rows_of}
 use Rattle.clap.proofs.WalkLemmas.{first_value-rows}
-use Rattle.mqtt_cli.proofs.command_lemmas.Commands.{asks_no_server, no_server-address, no_server-count, no_server-db, no_server-limits, no_server-listen, no_server-turns}
+use Rattle.mqtt_cli.proofs.command_lemmas.Commands.{asks_no_server, no_server-address, no_server-commit, no_server-count, no_server-db, no_server-limits, no_server-listen, no_server-turns}
 use Rattle.mqtt_cli.proofs.command.words.serve_in.Goals as goal
 
 pub returns : goal.returns
@@ -16,6 +16,7 @@ returns c =
       turns_is = sym (c.in_ok-turns.ensures ∙ first_value-rows found (codes "turns"));
       count = c.in_ok-turns-2.ensures.read;
       limits_are = c.in_ok-limits.ensures;
+      commit_is = c.in_ok-commit.ensures.read;
     }
 
 pub returns-in_err-listen : goal.returns-in_err-listen
@@ -55,3 +56,9 @@ returns-in_err-limits c =
     let found = found_of c.args.matches.now in
     asks_no_server (rows_of found) c.from_residual-in_err-limits.result c.from_residual-in_err-limits.ensures
     (no_server-limits (Some (rows_of found)) c.in_err-limits.ensures)
+
+pub returns-in_err-commit : goal.returns-in_err-commit
+returns-in_err-commit c =
+    let found = found_of c.args.matches.now in
+    asks_no_server (rows_of found) c.from_residual-in_err-commit.result c.from_residual-in_err-commit.ensures
+    (no_server-commit (Some (rows_of found)) c.in_err-commit.ensures.only)

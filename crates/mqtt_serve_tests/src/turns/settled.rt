@@ -1,0 +1,239 @@
+//! Turns that are stored together, before anything of them goes out (MQTT 5.0, 4.1, 4.2).
+use crate::turns::clients::{Call, Clients, Fault, Wrong};
+use crate::turns::stretches::{Ended, Held, serves, stretch, taken};
+use crate::turns::turns::{
+    CONNACK, LIMITS, PINGING, PUBLISHED, PUBLISHER, SUBSCRIBED, SUBSCRIBER, are, is_apart,
+};
+use crate::turns::wanting::WantingKeep;
+use mqtt_broker::Engine;
+use mqtt_keep::{Failure, FaultyKeep, Keep, MemKeep, Settles};
+use mqtt_link::{Commit, HeldBack};
+use mqtt_records::{Change, Counter};
+use mqtt_serve::{Gathered, Links};
+use std::alloc::Global;
+use std::hash::RandomState;
+use std::test::Fail;
+
+/// A broker over a store that gathers the steps of a turn, or settles each of them; none if it can't be opened.
+pub(crate) fn opened<K: Settles>(
+    alloc: Global,
+    keep: K,
+    commit: Commit,
+    hasher: RandomState,
+) -> Option<Engine<Gathered<K>>> {
+    match Engine::open(alloc, Gathered::new(alloc, keep, commit), 0, LIMITS, hasher) {
+        Ok(engine) => Some(engine),
+        Err((keep, _)) => {
+            drop(keep);
+            None
+        }
+    }
+}
+
+/// As `opened`, where it has to be.
+fn gathering<K: Settles>(
+    alloc: Global,
+    keep: K,
+    commit: Commit,
+    hasher: RandomState,
+) -> Result<Engine<Gathered<K>>, Fail> {
+    match opened(alloc, keep, commit, hasher) {
+        Some(engine) => Ok(engine),
+        None => Err(Fail::from("the broker can't be opened")),
+    }
+}
+
+/// So many stretches, a millisecond each; whether each was had.
+fn turns<K: Settles>(links: &mut Held, engine: &mut Engine<K>, count: u64) -> bool {
+    let mut goes_on = true;
+    for moment in 0..count {
+        goes_on = goes_on && stretch(links, engine, moment).is_ok();
+    }
+    goes_on
+}
+
+/// Clients over a broker that begins with nothing, for so many turns.
+pub(crate) fn play(
+    alloc: Global,
+    clients: Clients,
+    commit: Commit,
+    hasher: RandomState,
+    count: u64,
+) -> Result<Held, Fail> {
+    let mut links = Links::new(alloc, HeldBack::new(alloc, clients))?;
+    let mut engine = gathering(alloc, MemKeep::new(alloc)?, commit, hasher)?;
+    let goes_on = turns(&mut links, &mut engine, count);
+    drop(engine.close());
+    if goes_on {
+        return Ok(links);
+    }
+    drop(links);
+    Err(Fail::from("the engine refuses"))
+}
+
+#[test]
+fn both_handshakes_are_done_over_a_link_that_holds_back(rt: HostRuntime) -> Result<(), Fail> {
+    for commit in [Commit::Turn, Commit::Step] {
+        for chunk in [3, 4096] {
+            let clients = Clients::new(rt.alloc(), &[SUBSCRIBER, PUBLISHER], chunk, None)?;
+            let links = play(rt.alloc(), clients, commit, RandomState::new(&rt)?, 90)?;
+            let is_received = are(links.link().link().taken(0), CONNACK, SUBSCRIBED);
+            let is_published = are(links.link().link().taken(1), CONNACK, PUBLISHED);
+            drop(links);
+            assert!(rt; is_received, "{commit:?} {chunk}");
+            assert!(rt; is_published, "{commit:?} {chunk}");
+        }
+    }
+    Ok(())
+}
+
+/// A broker over a store that fails from one of its calls on serves a subscriber and a publisher; what came of it, and its store.
+fn fails(
+    alloc: Global,
+    hasher: RandomState,
+    until: u64,
+    failure: Failure,
+) -> Result<(Ended, FaultyKeep), Fail> {
+    let keep = FaultyKeep::new(alloc, until, failure)?;
+    let mut engine = gathering(alloc, keep, Commit::Turn, hasher)?;
+    let ended = serves(alloc, &mut engine, &[SUBSCRIBER, PUBLISHER]);
+    let keep = engine.close().into_inner();
+    match ended {
+        Ok(ended) => Ok((ended, keep)),
+        Err(fail) => {
+            drop(keep);
+            Err(fail)
+        }
+    }
+}
+
+/// How many publications a broker counts that begins with this store.
+fn counted(alloc: Global, keep: FaultyKeep, hasher: RandomState) -> Result<u64, Fail> {
+    let engine = gathering(alloc, keep, Commit::Turn, hasher)?;
+    let count = engine.publications();
+    drop(engine.close());
+    Ok(count)
+}
+
+/// Whether a broker over a store that fails from one of its calls on broke off; whether nothing of the turn went out in which it
+/// did, and the publication whose PUBREC went out is stored.
+fn fails_silently(rt: &HostRuntime, until: u64, failure: Failure) -> Result<(bool, bool), Fail> {
+    let (ended, keep) = fails(rt.alloc(), RandomState::new(rt)?, until, failure)?;
+    let count = counted(rt.alloc(), keep, RandomState::new(rt)?)?;
+    let (_, to_publisher) = ended.sent;
+    let is_stored = to_publisher <= CONNACK.len() || count == 1;
+    Ok((ended.broke_off, ended.is_silent && is_stored))
+}
+
+#[test]
+fn nothing_of_a_turn_that_is_not_stored_goes_out(rt: HostRuntime) -> Result<(), Fail> {
+    for failure in [Failure::BeforeChanges, Failure::AfterChanges] {
+        let mut is_swept = false;
+        for until in 0..60 {
+            let (broke_off, is_right) = fails_silently(&rt, until, failure)?;
+            assert!(rt; is_right, "{failure:?} {until}");
+            if !broke_off {
+                is_swept = until > 5;
+                break;
+            }
+        }
+        assert!(rt; is_swept, "{failure:?}");
+    }
+    Ok(())
+}
+
+/// A store that wants memory seven times serves a subscriber and a publisher: whether it was asked in each of 47 turns, and whether
+/// nothing went out in the first seven.
+fn wants_memory(
+    links: &mut Held,
+    alloc: Global,
+    hasher: RandomState,
+) -> Result<(bool, bool), Fail> {
+    let mut engine = gathering(alloc, WantingKeep::new(alloc, 7)?, Commit::Turn, hasher)?;
+    let first = turns(links, &mut engine, 7);
+    let is_silent = taken(links) == (0, 0);
+    let then = turns(links, &mut engine, 40);
+    drop(engine.close());
+    Ok((first && then, is_silent))
+}
+
+#[test]
+fn a_store_that_wants_memory_is_told_again_in_the_next_turn(rt: HostRuntime) -> Result<(), Fail> {
+    let clients = Clients::new(rt.alloc(), &[SUBSCRIBER, PUBLISHER], 4096, None)?;
+    let mut links = Links::new(rt.alloc(), HeldBack::new(rt.alloc(), clients))?;
+    let wants = wants_memory(&mut links, rt.alloc(), RandomState::new(&rt)?);
+    let is_received = are(links.link().link().taken(0), CONNACK, SUBSCRIBED);
+    let is_published = are(links.link().link().taken(1), CONNACK, PUBLISHED);
+    drop(links);
+    let (goes_on, is_silent) = wants?;
+    assert!(rt; goes_on);
+    assert!(rt; is_silent);
+    assert!(rt; is_received);
+    assert!(rt; is_published);
+    Ok(())
+}
+
+/// Whether a store behind one that gathers has a step at once, with each of both ways to commit.
+fn has_at_once(alloc: Global, commit: Commit) -> Result<bool, Fail> {
+    let mut keep = Gathered::new(alloc, MemKeep::new(alloc)?, commit);
+    let change = [Change::SetCounter {
+        counter: Counter::Publications,
+        value: 1,
+    }];
+    let was_taken = keep.load(alloc).is_ok() && keep.apply(&change).is_ok();
+    let mut store = keep.into_inner();
+    let has = match store.load(alloc) {
+        Ok(records) => records.publications == 1,
+        Err(_) => false,
+    };
+    drop(store);
+    if was_taken {
+        return Ok(has);
+    }
+    Err(Fail::from("the store refuses"))
+}
+
+#[test]
+fn a_step_is_stored_at_once_where_each_is_stored_by_itself(rt: HostRuntime) -> Result<(), Fail> {
+    assert!(rt; has_at_once(rt.alloc(), Commit::Step)?);
+    assert!(rt; !has_at_once(rt.alloc(), Commit::Turn)?);
+    Ok(())
+}
+
+/// As `fails_apart` of turns that store each step, over a link that holds back: whether no call went wrong, and whether each other
+/// client is served.
+fn fails_apart(alloc: Global, hasher: RandomState, fault: Fault) -> Result<(bool, bool), Fail> {
+    let clients = Clients::new(alloc, &PINGING, 7, Some(fault))?;
+    let links = play(alloc, clients, Commit::Turn, hasher, 30)?;
+    let clients = links.link().link();
+    let is_well = clients.is_well();
+    let is_lost = clients.failed().is_some() && fault.gives != Wrong::Nothing;
+    let is_apart = is_apart(clients, 0) && is_apart(clients, 1);
+    let is_dropped = links.len() == if is_lost { 1 } else { 2 };
+    drop(links);
+    Ok((is_well, is_apart && is_dropped))
+}
+
+#[test]
+fn a_call_that_fails_changes_no_byte_of_another_held_line(rt: HostRuntime) -> Result<(), Fail> {
+    for call in [Call::Accept, Call::Read, Call::Write] {
+        for gives in [Wrong::Nothing, Wrong::End, Wrong::Failure] {
+            let mut is_swept = false;
+            for number in 0..200 {
+                let fault = Fault {
+                    call,
+                    number,
+                    gives,
+                };
+                let (is_well, is_right) = fails_apart(rt.alloc(), RandomState::new(&rt)?, fault)?;
+                assert!(rt; is_right, "{fault:?}");
+                if is_well {
+                    is_swept = true;
+                    break;
+                }
+            }
+            assert!(rt; is_swept, "{call:?} {gives:?}");
+        }
+    }
+    Ok(())
+}
