@@ -1,7 +1,6 @@
 //! Tests of `mqtt_serve::turns` over its public calls: turns over clients in memory and at sockets (MQTT 5.0, 4.2).
 
 mod clients;
-mod cut;
 mod full;
 mod groups;
 mod order;

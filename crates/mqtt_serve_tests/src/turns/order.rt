@@ -1,8 +1,7 @@
-//! In which order clients are answered, and what comes to them where memory is wanting (MQTT 5.0, 4.6).
+//! In which order a client is answered (MQTT 5.0, 4.6).
 use crate::turns::clients::{Clients, Stage};
 use crate::turns::settled::play;
-use crate::turns::stretches::Held;
-use crate::turns::turns::{CONNACK, PUBLISHED, PUBLISHER, SUBSCRIBED, SUBSCRIBER, are};
+use crate::turns::turns::{CONNACK, are};
 use mqtt_link::Commit;
 use std::hash::RandomState;
 use std::test::Fail;
@@ -28,35 +27,5 @@ fn what_one_read_brings_is_answered_in_order(rt: HostRuntime) -> Result<(), Fail
         drop(links);
         assert!(rt; is_in_order, "{commit:?}");
     }
-    Ok(())
-}
-
-/// Whether these bytes are a beginning of those two behind each other.
-fn begin(bytes: &[u8], first: &[u8], second: &[u8]) -> bool {
-    match bytes.strip_prefix(first) {
-        Some(rest) => second.starts_with(rest),
-        None => first.starts_with(bytes),
-    }
-}
-
-/// Whether what came to both clients is a beginning of their answers.
-fn began(links: &Held) -> bool {
-    let clients = links.link().link();
-    begin(clients.taken(0), CONNACK, SUBSCRIBED) && begin(clients.taken(1), CONNACK, PUBLISHED)
-}
-
-#[test]
-fn want_of_memory_adds_no_byte_to_an_answer(rt: HostRuntime) -> Result<(), Fail> {
-    let clients = Clients::new(rt.alloc(), &[SUBSCRIBER, PUBLISHER], 4096, None)?;
-    let links = play(
-        rt.alloc(),
-        clients,
-        Commit::Turn,
-        RandomState::new(&rt)?,
-        40,
-    )?;
-    let began = began(&links);
-    drop(links);
-    assert!(rt; began);
     Ok(())
 }

@@ -1,12 +1,12 @@
 //! Turns that are stored together, before anything of them goes out (MQTT 5.0, 4.1, 4.2).
 use crate::turns::clients::{Call, Clients, Fault, Wrong};
-use crate::turns::stretches::{Ended, Held, serves, stretch, taken};
+use crate::turns::stretches::{Held, stretch, taken};
 use crate::turns::turns::{
     CONNACK, LIMITS, PINGING, PUBLISHED, PUBLISHER, SUBSCRIBED, SUBSCRIBER, are, is_apart,
 };
 use crate::turns::wanting::WantingKeep;
 use mqtt_broker::Engine;
-use mqtt_keep::{Failure, FaultyKeep, Keep, MemKeep, Settles};
+use mqtt_keep::{Keep, MemKeep, Settles};
 use mqtt_link::{Commit, HeldBack};
 use mqtt_records::{Change, Counter};
 use mqtt_serve::{Gathered, Links};
@@ -15,7 +15,7 @@ use std::hash::RandomState;
 use std::test::Fail;
 
 /// A broker over a store that gathers the steps of a turn, or settles each of them; none if it can't be opened.
-pub(crate) fn opened<K: Settles>(
+fn opened<K: Settles>(
     alloc: Global,
     keep: K,
     commit: Commit,
@@ -83,61 +83,6 @@ fn both_handshakes_are_done_over_a_link_that_holds_back(rt: HostRuntime) -> Resu
             assert!(rt; is_received, "{commit:?} {chunk}");
             assert!(rt; is_published, "{commit:?} {chunk}");
         }
-    }
-    Ok(())
-}
-
-/// A broker over a store that fails from one of its calls on serves a subscriber and a publisher; what came of it, and its store.
-fn fails(
-    alloc: Global,
-    hasher: RandomState,
-    until: u64,
-    failure: Failure,
-) -> Result<(Ended, FaultyKeep), Fail> {
-    let keep = FaultyKeep::new(alloc, until, failure)?;
-    let mut engine = gathering(alloc, keep, Commit::Turn, hasher)?;
-    let ended = serves(alloc, &mut engine, &[SUBSCRIBER, PUBLISHER]);
-    let keep = engine.close().into_inner();
-    match ended {
-        Ok(ended) => Ok((ended, keep)),
-        Err(fail) => {
-            drop(keep);
-            Err(fail)
-        }
-    }
-}
-
-/// How many publications a broker counts that begins with this store.
-fn counted(alloc: Global, keep: FaultyKeep, hasher: RandomState) -> Result<u64, Fail> {
-    let engine = gathering(alloc, keep, Commit::Turn, hasher)?;
-    let count = engine.publications();
-    drop(engine.close());
-    Ok(count)
-}
-
-/// Whether a broker over a store that fails from one of its calls on broke off; whether nothing of the turn went out in which it
-/// did, and the publication whose PUBREC went out is stored.
-fn fails_silently(rt: &HostRuntime, until: u64, failure: Failure) -> Result<(bool, bool), Fail> {
-    let (ended, keep) = fails(rt.alloc(), RandomState::new(rt)?, until, failure)?;
-    let count = counted(rt.alloc(), keep, RandomState::new(rt)?)?;
-    let (_, to_publisher) = ended.sent;
-    let is_stored = to_publisher <= CONNACK.len() || count == 1;
-    Ok((ended.broke_off, ended.is_silent && is_stored))
-}
-
-#[test]
-fn nothing_of_a_turn_that_is_not_stored_goes_out(rt: HostRuntime) -> Result<(), Fail> {
-    for failure in [Failure::BeforeChanges, Failure::AfterChanges] {
-        let mut is_swept = false;
-        for until in 0..60 {
-            let (broke_off, is_right) = fails_silently(&rt, until, failure)?;
-            assert!(rt; is_right, "{failure:?} {until}");
-            if !broke_off {
-                is_swept = until > 5;
-                break;
-            }
-        }
-        assert!(rt; is_swept, "{failure:?}");
     }
     Ok(())
 }

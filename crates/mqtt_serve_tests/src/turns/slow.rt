@@ -137,7 +137,7 @@ fn backlog(
 }
 
 /// A client that resumes its session over a line that takes 30,000 bytes a turn.
-fn slow(alloc: Global) -> Slow {
+fn over_a_slow_line(alloc: Global) -> Slow {
     Slow {
         says: RESUMING,
         takes: 30_000,
@@ -157,7 +157,7 @@ fn comes_whole(
 ) -> Result<bool, Fail> {
     let (mut engine, packets) = backlog(alloc, hasher, copies, payload)?;
     let mut comes = false;
-    if let Ok(mut links) = Links::new(alloc, slow(alloc)) {
+    if let Ok(mut links) = Links::new(alloc, over_a_slow_line(alloc)) {
         let mut goes_on = true;
         for moment in 0..turns {
             goes_on = goes_on && serve_turn(&mut links, &mut engine, moment).is_ok();
@@ -179,7 +179,7 @@ fn comes_whole_held(
 ) -> Result<bool, Fail> {
     let (mut engine, packets) = backlog(alloc, hasher, copies, payload)?;
     let mut comes = false;
-    if let Ok(mut links) = Links::new(alloc, HeldBack::new(alloc, slow(alloc))) {
+    if let Ok(mut links) = Links::new(alloc, HeldBack::new(alloc, over_a_slow_line(alloc))) {
         let mut goes_on = true;
         for moment in 0..turns {
             goes_on = goes_on && stretch(&mut links, &mut engine, moment).is_ok();
