@@ -5,6 +5,7 @@ ghost use Rattle.mqtt_link.specs.Links.{and_then, ended_unless, one_more_if_any}
 use crate::link::{Got, Link};
 use crate::waiting::Waiting;
 use std::alloc::Global;
+use std::net::SocketAddr;
 
 /// A connection, with what was written to it and is held back.
 #[derive(Drop)]
@@ -94,6 +95,10 @@ impl<L: Link + Drop> Link for HeldBack<L> {
             Got::End => Got::End,
             Got::Failure => Got::Failure,
         }
+    }
+
+    fn address(&self, peer: &HeldPeer<L>) -> Option<SocketAddr> {
+        self.link.address(&peer.peer)
     }
 
     fn wait(&mut self) {

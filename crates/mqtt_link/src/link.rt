@@ -2,6 +2,8 @@
 ghost use Rattle.std.specs.Prelude.{◌≡◌, ℕ, Bool, List, [], Option, None, length};
 ghost use Rattle.mqtt_link.specs.Links.{AtFirst, Calls, GivesAtMost, IfGiven, IsNew, handed, and_then, one_more, now_told, ended_by, is_given, asked, waited};
 
+use std::net::SocketAddr;
+
 /// What a call on a link gives.
 #[derive(Clone, Copy, Debug, PartialEq, Eq)]
 pub enum Got<T> {
@@ -54,6 +56,11 @@ pub trait Link {
         ensures new { IfGiven result (λ peer.
             IsNew (reads peer) (writes peer) (was_read peer) (written peer) (ended peer)) }
         ensures unsent { IfGiven result (λ peer. AtFirst [] (out peer) × AtFirst 0 (outs peer)) };
+
+    /// The address of the other side of a connection, if it is known.
+    fn address(&self, _peer: &Self::Peer) -> Option<SocketAddr> {
+        None
+    }
 
     /// Waits a little, or until a connection changes.
     fn wait(&mut self)
