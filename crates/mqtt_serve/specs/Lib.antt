@@ -3,3 +3,4 @@ pub mod turns
 pub mod gathered
 pub mod database
 pub mod serving
+pub mod journal

@@ -4,12 +4,17 @@
 mod causes;
 mod database;
 mod gathered;
+mod journal;
 mod serving;
 mod turns;
 
 pub use causes::{Cause, CauseLine, SocketCause, StoreCause};
 pub use database::{MakeFault, PAGE_SIZE, make_database, make_over};
 pub use gathered::{GATHERED_LIMIT, Gathered};
+pub use journal::{
+    Call, Client, Close, CopyEvent, CopyLoss, End, Journal, LineEvent, Loss, Peer, Present, Quiet,
+    ServerEvent, ServerLog, Terms,
+};
 pub use mqtt_link::{Commit, ServeFault};
 pub use mqtt_rules::Limits;
 pub use serving::{SteadyClock, serve, serve_over};

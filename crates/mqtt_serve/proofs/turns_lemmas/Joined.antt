@@ -1,10 +1,10 @@
 -- Bytes that join what is told.
-use Rattle.std.proofs.Common.{◌≡◌, ◌≤◌, ℕ, Bool, true, false, List, ◌++◌, Option, Some, None, refl, sym, ap, ap₂, inl, inr, take}
+use Rattle.std.proofs.Common.{◌≡◌, ℕ, true, List, ◌++◌, Option, Some, None, refl, sym, ap, ap₂, inl, inr}
 use Rattle.std.proofs.lemmas.List.{append_assoc}
 use Rattle.mqtt_link.specs.Links.{and_then}
 use Rattle.mqtt_serve.specs.declared.turns.connection.Fate.{Fate}
 use Rattle.mqtt_serve.specs.declared.turns.connection.Fate.TheVariants.{Stands, Lost, Closed}
-use Rattle.mqtt_serve.specs.turns.Wires.{Wire, Hears, IsCutOff, bytes_to, hearing_more, is_standing, lost}
+use Rattle.mqtt_serve.specs.turns.Wires.{Wire, Hears, IsCutOff, bytes_to, hearing_more, is_standing}
 
 -- bytes join one part after the other
 pub and_then_append : (told : Option (List ℕ)) (a b : List ℕ) → and_then told (a ++ b) ≡ and_then (and_then told a) b

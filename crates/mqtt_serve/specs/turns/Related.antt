@@ -1,5 +1,5 @@
 -- Lists whose members are related in pairs.
-use Rattle.std.specs.Prelude.{◌≡◌, ◌≢◌, ℕ, ◌<◌, ◌≤◌, List, length, Option, Some, slice_get}
+use Rattle.std.specs.Prelude.{◌≡◌, ◌≢◌, ℕ, ◌<◌, ◌≤◌, List, length, Some, slice_get}
 
 -- the lists have one length; their members below n are related, place by place, and the others are the same
 pub record RelatedBelow {A : Type 0} (R : A → A → Type 0) (n : ℕ) (xs ys : List A) : Type 0 where

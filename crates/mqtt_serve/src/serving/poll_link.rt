@@ -17,8 +17,11 @@ const TOKENS: usize = 1024;
 /// The listener's token.
 const LISTENER: usize = TOKENS;
 
-/// How long a wait takes in the kernel at most, in milliseconds (ours).
+/// How long a wait takes in the kernel at most, in milliseconds, if the wait before it ended by a change of a socket (ours).
 const WAIT: u64 = 10;
+
+/// The most that it takes (ours). Each wait in which no socket changed lets the next take twice as long.
+const LONGEST_WAIT: u64 = 80;
 
 /// How often the kernel has told that connections under a token are ready, modulo 2^64.
 #[derive(Clone, Copy)]
@@ -33,6 +36,7 @@ struct Told {
 #[derive(Drop)]
 pub(crate) struct Socket {
     stream: TcpStream,
+    address: SocketAddr,
     token: usize,
     /// How often its token had been told when a read would have waited.
     read_at: Option<u64>,
@@ -58,6 +62,8 @@ pub(crate) struct PollLink {
     is_blind: bool,
     /// A connection has ended since the last wait: what that brings for others is not to wait.
     has_ended: bool,
+    /// How long the next wait takes at most, in milliseconds.
+    pause: u64,
 }
 
 /// Whether a call would have waited.
@@ -96,6 +102,7 @@ impl PollLink {
             has_looked: false,
             is_blind: false,
             has_ended: false,
+            pause: WAIT,
         })
     }
 
@@ -150,8 +157,8 @@ impl Link for PollLink {
         if !self.may_come && !self.is_blind {
             return Got::Nothing;
         }
-        let mut stream = match self.listener.accept() {
-            Ok((stream, _)) => stream,
+        let (mut stream, address) = match self.listener.accept() {
+            Ok(came) => came,
             Err(fault) => {
                 return match fault.kind() {
                     ErrorKind::WouldBlock => {
@@ -175,6 +182,7 @@ impl Link for PollLink {
         {
             Ok(()) => Got::Given(Socket {
                 stream,
+                address,
                 token,
                 read_at: None,
                 written_at: None,
@@ -183,11 +191,21 @@ impl Link for PollLink {
         }
     }
 
-    /// Waits until a socket changes or the time is up; not at all where a connection has ended. A wait that fails is none.
+    fn address(&self, peer: &Socket) -> Option<SocketAddr> {
+        Some(peer.address)
+    }
+
+    /// Waits until a socket changes or the time is up; not at all where a connection has ended. A wait that fails is none. While
+    /// no socket changes the clock has its turns in ever longer steps, up to 80 ms.
     fn wait(&mut self) {
-        let limit = if self.has_ended { 0 } else { WAIT };
+        let limit = if self.has_ended { 0 } else { self.pause };
         self.has_ended = false;
         self.look(limit);
+        self.pause = if limit == 0 || !self.events.is_empty() {
+            WAIT
+        } else {
+            limit.saturating_mul(2).min(LONGEST_WAIT)
+        };
     }
 
     fn read(&mut self, peer: &mut Socket, buffer: &mut [u8]) -> Got<usize> {

@@ -1,87 +1,88 @@
 //! The store of the server: a database in a file (MQTT 5.0, 4.1).
-ghost use Rattle.std.specs.Prelude.{◌≡◌, ◌≢◌, codes, IfErr, IfOk};
+ghost use Rattle.std.specs.Prelude.{◌≡◌, codes, IfErr, IfOk};
+ghost use Rattle.sqlite_wal.specs.Reads.{tally_of_files};
+ghost use Rattle.sqlite_store.specs.FileStore.{files};
 ghost use Rattle.sqlite.specs.WalFiles.{image_at};
 ghost use Rattle.sqlite.specs.State.{HasCleanDisk};
 ghost use Rattle.sqlite.specs.Held.{IsNew, state};
 ghost use Rattle.sqlite.specs.Files.{file_state, IsOpened};
 ghost use Rattle.sqlite.specs.Start.{FindsIn};
 ghost use Rattle.mqtt_rules.specs.step.Laws.{AreWithin};
+ghost use Rattle.mqtt_serve.specs.declared.causes.cause.StoreCause.TheVariants.{NoName};
+ghost use Rattle.mqtt_serve.specs.causes.Causes.{IsOfSocket};
+ghost use Rattle.mqtt_serve.specs.causes.Reports.{by_tally};
 ghost use Rattle.mqtt_serve.specs.turns.Turns.{Begins};
 ghost use Rattle.mqtt_serve.specs.serving.Database.{IsAsked, IsStoreOver};
 
+use crate::causes::{Cause, of_database, of_load, of_tally, why_not};
 use crate::database::make_database;
 use mqtt_broker::Engine;
-use mqtt_broker_step::EngineError;
-use mqtt_keep::{Keep, KeepError};
-use mqtt_link::ServeFault;
+use mqtt_keep::Keep;
 use mqtt_rules::Limits;
 use mqtt_store::SqlKeep;
-use sqlite::{Alter, Connection, Error, ErrorCode, FileFrom, FileStore, Start};
+use sqlite::{Alter, Connection, FileFrom, FileStore, Start};
+use sqlite_disk::Disk;
 use std::alloc::Global;
 use std::hash::RandomState;
 
 /// A database in files that held what `S` says.
 pub(crate) type Database<S> = Connection<FileStore<FileFrom<S>>>;
 
-/// What a failure of the database is to the server.
-fn fault_of(error: &Error) -> ServeFault
-    ensures memory { error.now ≡ Error.SqliteFailure ErrorCode.OutOfMemory → result ≡ ServeFault.Memory }
-    ensures store { error.now ≢ Error.SqliteFailure ErrorCode.OutOfMemory → result ≡ ServeFault.Store }
-    ensures other { result ≢ ServeFault.Socket }
-{
-    match error {
-        Error::SqliteFailure(ErrorCode::OutOfMemory) => ServeFault::Memory,
-        _ => ServeFault::Store,
-    }
-}
-
 /// Opens the database in the file at a path, or makes it. `S` stands for what its files held. `:memory:` is no file.
 pub(crate) fn open_database<S: Start>(
     rt: &HostRuntime,
     path: &str,
     start: S,
-) -> Result<Database<S>, ServeFault>
+) -> Result<Database<S>, Cause>
     ensures fresh { IfOk result IsNew }
     ensures opened { IfOk result (λ conn. HasCleanDisk (file_state conn) → IsOpened conn) }
     ensures found { IfOk result (λ conn. HasCleanDisk (file_state conn) → FindsIn (image_at S.Start) (file_state conn)) }
-    ensures no_file { path.now ≡ codes ":memory:" → result ≡ Err ServeFault.Store }
-    ensures fault { IfErr result (λ fault. fault ≢ ServeFault.Socket) }
+    ensures no_file { path.now ≡ codes ":memory:" → result ≡ Err (Cause.Store NoName) }
+    ensures store { IfErr result (λ cause. ¬ IsOfSocket cause) }
 {
     // A new database gets smaller pages than the kit's. If it was not made so, the opening makes it, or says what is wrong.
     let _ = make_database(rt, path);
     match Connection::open_from(rt, path, false, start) {
         Ok(conn) => Ok(conn),
         Err((error, left)) => {
+            // The look opens the files once more, so they are let go first.
             drop(left);
-            Err(fault_of(&error))
+            Err(why_not(rt, path, &error))
         }
     }
 }
 
 /// Closes the database: the log beside it goes into its file.
-pub(crate) fn close_database<S: Start>(conn: Database<S>) -> Result<(), ServeFault>
-    ensures fault { IfErr result (λ fault. fault ≢ ServeFault.Socket) }
+pub(crate) fn close_database<S: Start>(conn: Database<S>) -> Result<(), Cause>
+    ensures store { IfErr result (λ cause. ¬ IsOfSocket cause) }
 {
     match conn.close() {
         Ok(()) => Ok(()),
-        Err(error) => Err(fault_of(&error)),
+        Err(error) => Err(of_database(&error)),
     }
 }
 
-/// A store over a connection.
+/// What a cause is by what the calls on the files of a store met. The store is let go.
+pub(crate) fn told_apart<D: Disk + Drop>(cause: Cause, store: FileStore<D>) -> Cause
+    ensures told { result ≡ by_tally (tally_of_files D.Disk (files store)) cause }
+    ensures socket { IsOfSocket result → IsOfSocket cause }
+{
+    let tally = store.tally();
+    drop(store);
+    of_tally(cause, tally)
+}
+
+/// A store over a connection, or that connection's store.
 pub(crate) fn store_over<S: Alter + Drop>(
     alloc: Global,
     conn: Connection<S>,
-) -> Result<SqlKeep<S>, ServeFault>
+) -> Result<SqlKeep<S>, (Cause, S)>
     ensures over { IfOk result (λ keep. IsStoreOver (state S.Store conn) (state S.Store keep.conn)) }
-    ensures fault { IfErr result (λ fault. fault ≢ ServeFault.Socket) }
+    ensures store { IfErr result (λ left. ¬ IsOfSocket left.0) }
 {
     match SqlKeep::new(alloc, conn) {
         Ok(keep) => Ok(keep),
-        Err((error, store)) => {
-            drop(store);
-            Err(fault_of(&error))
-        }
+        Err((error, store)) => Err((of_database(&error), store)),
     }
 }
 
@@ -97,40 +98,22 @@ pub(crate) fn stored_moment<S: Alter + Drop>(conn: &mut Connection<S>) -> u64
     u64::try_from(moment).unwrap_or(0)
 }
 
-/// Opens the broker over what a store holds, at a moment in milliseconds, with these limits.
+/// Opens the broker over what a store holds, at a moment in milliseconds, with these limits; a refusal gives the store back.
 pub(crate) fn open_engine<K: Keep>(
     rt: &HostRuntime,
     keep: K,
     moment: u64,
     limits: Limits,
-) -> Result<Engine<K>, ServeFault>
+) -> Result<Engine<K>, (Cause, K)>
     requires { AreWithin limits }
     ensures begun { IfOk result (λ engine. Begins K.Keep limits moment keep engine) }
-    ensures fault { IfErr result (λ fault. fault ≢ ServeFault.Socket) }
+    ensures store { IfErr result (λ left. ¬ IsOfSocket left.0) }
 {
     let Ok(hasher) = RandomState::new(rt) else {
-        return Err(ServeFault::Memory);
+        return Err((Cause::Memory, keep));
     };
     match Engine::open(rt.alloc(), keep, moment, limits, hasher) {
         Ok(engine) => Ok(engine),
-        Err((keep, error)) => {
-            drop(keep);
-            match error {
-                KeepError::Memory => Err(ServeFault::Memory),
-                _ => Err(ServeFault::Store),
-            }
-        }
-    }
-}
-
-/// What a refusal of the engine is to the server.
-pub(crate) fn stopped_by(error: EngineError) -> ServeFault
-    ensures memory { error ≡ EngineError.Memory → result ≡ ServeFault.Memory }
-    ensures store { error ≢ EngineError.Memory → result ≡ ServeFault.Store }
-    ensures other { result ≢ ServeFault.Socket }
-{
-    match error {
-        EngineError::Memory => ServeFault::Memory,
-        EngineError::Stopped | EngineError::Spent => ServeFault::Store,
+        Err((keep, error)) => Err((of_load(error), keep)),
     }
 }

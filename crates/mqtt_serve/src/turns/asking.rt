@@ -4,6 +4,7 @@ ghost use Rattle.mqtt_rules.specs.step.Step.{Lost, Pump, Tick};
 ghost use Rattle.mqtt_serve.specs.turns.Breaks.{Refused};
 ghost use Rattle.mqtt_serve.specs.turns.Turns.{server, may_send_at, stands_at, is_lost_at, Tells, LosesIf, PumpsIf, IsTicked};
 
+use crate::journal::{Call, Journal, Loss};
 use crate::turns::connection::Connection;
 use crate::turns::telling::{deliver, lose};
 use mqtt_broker::{Engine, Outcome};
@@ -43,6 +44,13 @@ fn is_lost_at<L: Link>(lines: &[Connection<L>], place: usize) -> bool
     lines[place].is_lost()
 }
 
+/// Why the connection at a place is lost.
+fn loss_at<L: Link>(lines: &[Connection<L>], place: usize) -> Loss
+    requires place { place < length lines.now }
+{
+    lines[place].loss()
+}
+
 /// An answer reaches the connections; if memory was wanting, the connection on the line that was asked for is lost.
 /// Another refusal is handed on.
 pub(crate) fn tell<L: Link>(
@@ -70,12 +78,13 @@ pub(crate) fn tell<L: Link>(
 
 /// A turn of sending for the line at a place, if it stands and the last write took all that waited: so what a slow
 /// connection is sent waits in the broker, and not here.
-pub(crate) fn pump_at<L: Link, K: Keep>(
+pub(crate) fn pump_at<L: Link, K: Keep, J: Journal>(
     lines: &mut [Connection<L>],
     engine: &mut Engine<K>,
     place: usize,
     number: u64,
     moment: u64,
+    journal: &mut J,
 ) -> Result<(), EngineError>
     requires place { place < length lines.old }
     ensures pumps { OnOk result (PumpsIf K.Keep moment number (may_send_at place lines.old)
@@ -89,16 +98,18 @@ pub(crate) fn pump_at<L: Link, K: Keep>(
         return Ok(());
     }
     let answer = engine.pump(number, moment);
+    journal.answered(moment, Call::Pump { line: number }, engine, &answer);
     tell(lines, number, &answer)
 }
 
 /// The broker is told of the line at a place, if it is lost. If memory is wanting it is told again in the next turn.
-pub(crate) fn report_at<L: Link, K: Keep>(
+pub(crate) fn report_at<L: Link, K: Keep, J: Journal>(
     lines: &mut [Connection<L>],
     engine: &mut Engine<K>,
     place: usize,
     number: u64,
     moment: u64,
+    journal: &mut J,
 ) -> Result<(), EngineError>
     requires place { place < length lines.old }
     ensures loses { OnOk result (LosesIf K.Keep moment number (is_lost_at place lines.old)
@@ -111,15 +122,18 @@ pub(crate) fn report_at<L: Link, K: Keep>(
     if !is_lost_at(lines, place) {
         return Ok(());
     }
+    let why = loss_at(lines, place);
     let answer = engine.lost(number, moment);
+    journal.answered(moment, Call::Lost { line: number, why }, engine, &answer);
     tell(lines, number, &answer)
 }
 
 /// A turn of the clock: whether more may be due.
-pub(crate) fn tick<L: Link, K: Keep>(
+pub(crate) fn tick<L: Link, K: Keep, J: Journal>(
     lines: &mut [Connection<L>],
     engine: &mut Engine<K>,
     moment: u64,
+    journal: &mut J,
 ) -> Result<bool, EngineError>
     ensures ticks { IfOk result (λ again. IsTicked K.Keep moment again
         (server engine.old lines.old) (server engine.new lines.new)) }
@@ -127,7 +141,9 @@ pub(crate) fn tick<L: Link, K: Keep>(
     ensures breaks { IfErr result (λ error. Refused K.Keep moment Tick error
         (server engine.old lines.old) (server engine.new lines.new)) }
 {
-    match engine.tick(moment) {
+    let answer = engine.tick(moment);
+    journal.answered(moment, Call::Tick, engine, &answer);
+    match answer {
         Ok(out) => {
             deliver(lines, &out);
             Ok(out.again)

@@ -2,6 +2,7 @@
 ghost use Rattle.std.specs.Prelude.{◌≡◌, ◌≤◌, ◌++◌, [], ℕ, false, length, take, OnOk, IfErr};
 ghost use Rattle.mqtt_serve.specs.turns.Wires.{FindsNoRoom, Reads, Hears, LetsGo, WritesAnd, WritesLast, bytes_to, closing, is_standing, is_lost, is_closed, lost_if, may_send};
 
+use crate::journal::Loss;
 use bytes::Bytes;
 use mqtt_link::{Got, HeldBack, Link, WAITING_LIMIT, Waiting, WaitingFault};
 use std::alloc::Global;
@@ -28,6 +29,8 @@ pub struct Connection<L: Link> {
     /// Whether the last read filled its buffer.
     has_more: bool,
     fate: Fate,
+    /// Why it is lost, if it is.
+    loss: Loss,
 }
 
 impl<L: Link> Model for Connection<L> {
@@ -73,6 +76,14 @@ fn push_all(
     Ok(())
 }
 
+/// Why a connection is lost on which outputs found no room.
+fn loss_of(pushed: Result<(), WaitingFault>) -> Loss {
+    match pushed {
+        Ok(()) | Err(WaitingFault::Full) => Loss::Full,
+        Err(WaitingFault::Memory) => Loss::Memory,
+    }
+}
+
 impl<L: Link> Connection<L> {
     /// A connection that the broker has linked as a line of this number. Takes no memory.
     pub fn new(alloc: Global, number: u64, peer: L::Peer) -> Connection<L>
@@ -91,6 +102,7 @@ impl<L: Link> Connection<L> {
             is_clear: false,
             has_more: false,
             fate: Fate::Stands,
+            loss: Loss::Closed,
         }
     }
 
@@ -122,6 +134,11 @@ impl<L: Link> Connection<L> {
         matches!(self.fate, Fate::Lost)
     }
 
+    /// Why it is lost, if it is.
+    pub fn loss(&self) -> Loss {
+        self.loss
+    }
+
     /// Whether the broker has closed its line.
     pub fn is_closed(&self) -> bool
         ensures { result ≡ is_closed self.now.fate }
@@ -148,11 +165,16 @@ impl<L: Link> Connection<L> {
         if !self.is_standing() {
             return 0;
         }
-        let count = match link.read(&mut self.peer, buffer) {
+        let given = link.read(&mut self.peer, buffer);
+        let count = match given {
             Got::Given(count) => count,
             Got::Nothing => 0,
             Got::End | Got::Failure => {
                 self.fate = Fate::Lost;
+                self.loss = match given {
+                    Got::End => Loss::Closed,
+                    _ => Loss::Failed,
+                };
                 0
             }
         };
@@ -171,6 +193,7 @@ impl<L: Link> Connection<L> {
         let before = self.waiting.len();
         if !self.waiting.write(link, &mut self.peer) && self.is_standing() {
             self.fate = Fate::Lost;
+            self.loss = Loss::Failed;
         }
         if before > 0 {
             self.is_clear = self.waiting.is_empty();
@@ -196,8 +219,10 @@ impl<L: Link> Connection<L> {
         if !self.is_standing() {
             return;
         }
-        if push_all(&mut self.waiting, self.number, outputs).is_err() {
+        let pushed = push_all(&mut self.waiting, self.number, outputs);
+        if pushed.is_err() {
             self.fate = Fate::Lost;
+            self.loss = loss_of(pushed);
         }
     }
 
@@ -210,12 +235,13 @@ impl<L: Link> Connection<L> {
         }
     }
 
-    /// It is lost if it is on this line, and the broker is to be told.
+    /// It is lost for want of memory if it is on this line, and the broker is to be told.
     pub fn lose_if(&mut self, number: u64)
         ensures { self.new ≡ lost_if number self.old }
     {
         if self.number == number {
             self.fate = Fate::Lost;
+            self.loss = Loss::Memory;
         }
     }
 }
@@ -229,6 +255,7 @@ impl<L: Link + Drop> Connection<HeldBack<L>> {
         let before = self.peer.held();
         if !link.let_go(&mut self.peer) && self.is_standing() {
             self.fate = Fate::Lost;
+            self.loss = Loss::Failed;
         }
         self.peer.held() < before
     }

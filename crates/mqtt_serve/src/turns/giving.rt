@@ -3,6 +3,7 @@ ghost use Rattle.std.specs.Prelude.{◌≡◌, ◌≢◌, ◌≤◌, ◌<◌, []
 ghost use Rattle.mqtt_serve.specs.turns.Breaks.{BreaksGiving, PieceRefused};
 ghost use Rattle.mqtt_serve.specs.turns.Turns.{server, goes_on, Gives, GivesIf, IsPieced};
 
+use crate::journal::{Call, Journal};
 use crate::turns::asking::{stands_at, tell};
 use crate::turns::connection::Connection;
 use crate::turns::telling::lose;
@@ -15,12 +16,13 @@ use mqtt_link::Link;
 const PIECE_LIMIT: u64 = u64::MAX;
 
 /// A piece is given to the broker: how many of its bytes were taken, and whether more is whole.
-fn give_piece<L: Link, K: Keep>(
+fn give_piece<L: Link, K: Keep, J: Journal>(
     lines: &mut [Connection<L>],
     engine: &mut Engine<K>,
     number: u64,
     bytes: &[u8],
     moment: u64,
+    journal: &mut J,
 ) -> Result<(usize, bool), EngineError>
     ensures bound { IfOk result (λ told. told.0 ≤ length bytes.now) }
     ensures piece { IfOk result (λ told. IsPieced K.Keep moment number bytes.now told.0 told.1
@@ -31,6 +33,7 @@ fn give_piece<L: Link, K: Keep>(
         (server engine.old lines.old) (server engine.new lines.new)) }
 {
     let answer = engine.piece(number, bytes, moment);
+    journal.answered(moment, Call::Piece { line: number }, engine, &answer);
     tell(lines, number, &answer)?;
     match answer {
         Ok(out) => Ok((out.taken, out.again)),
@@ -55,13 +58,14 @@ fn goes_on(again: bool, rest: &[u8]) -> bool
 
 /// Bytes of the line at a place are given to the broker, until all are taken and nothing more is whole, or the line stands
 /// no longer.
-fn give<L: Link, K: Keep>(
+fn give<L: Link, K: Keep, J: Journal>(
     lines: &mut [Connection<L>],
     engine: &mut Engine<K>,
     place: usize,
     number: u64,
     bytes: &[u8],
     moment: u64,
+    journal: &mut J,
 ) -> Result<(), EngineError>
     requires place { place < length lines.old }
     ensures gives { OnOk result (Gives K.Keep moment place number bytes.now
@@ -73,7 +77,7 @@ fn give<L: Link, K: Keep>(
 {
     let mut rest = bytes;
     for _ in 0..PIECE_LIMIT {
-        let (taken, again) = give_piece(lines, engine, number, rest, moment)?;
+        let (taken, again) = give_piece(lines, engine, number, rest, moment, journal)?;
         rest = after(rest, taken);
         if !stands_at(lines, place) {
             return Ok(());
@@ -87,13 +91,14 @@ fn give<L: Link, K: Keep>(
 }
 
 /// If bytes came on the line at a place, they are given to the broker.
-pub(crate) fn give_at<L: Link, K: Keep>(
+pub(crate) fn give_at<L: Link, K: Keep, J: Journal>(
     lines: &mut [Connection<L>],
     engine: &mut Engine<K>,
     place: usize,
     number: u64,
     bytes: &[u8],
     moment: u64,
+    journal: &mut J,
 ) -> Result<(), EngineError>
     requires place { place < length lines.old }
     ensures gives { OnOk result (GivesIf K.Keep moment place number bytes.now
@@ -105,6 +110,6 @@ pub(crate) fn give_at<L: Link, K: Keep>(
 {
     match bytes {
         [] => Ok(()),
-        [_, ..] => give(lines, engine, place, number, bytes, moment),
+        [_, ..] => give(lines, engine, place, number, bytes, moment, journal),
     }
 }

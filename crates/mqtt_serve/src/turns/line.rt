@@ -3,6 +3,7 @@ ghost use Rattle.std.specs.Prelude.{◌≡◌, ◌≢◌, ◌≤◌, ◌<◌, le
 ghost use Rattle.mqtt_serve.specs.turns.Breaks.{BreaksLine};
 ghost use Rattle.mqtt_serve.specs.turns.Turns.{server, ReadsAt, WritesAt, ServesLine};
 
+use crate::journal::Journal;
 use crate::turns::asking::{number_at, pump_at, report_at};
 use crate::turns::connection::Connection;
 use crate::turns::giving::give_at;
@@ -40,13 +41,14 @@ fn write_at<L: Link>(link: &mut L, lines: &mut [Connection<L>], place: usize) ->
 
 /// The turn of the connection at a place: it is read once, the broker is given what came, and sends; what waits is
 /// written once; and if it is lost the broker is told. Whether bytes went in or out.
-pub(crate) fn serve_line<L: Link, K: Keep>(
+pub(crate) fn serve_line<L: Link, K: Keep, J: Journal>(
     link: &mut L,
     lines: &mut [Connection<L>],
     engine: &mut Engine<K>,
     place: usize,
     moment: u64,
     buffer: &mut [u8; READ_LIMIT],
+    journal: &mut J,
 ) -> Result<bool, EngineError>
     requires place { place < length lines.old }
     ensures serves { IfOk result (λ moved. ServesLine K.Keep moment place moved
@@ -59,9 +61,17 @@ pub(crate) fn serve_line<L: Link, K: Keep>(
 {
     let number = number_at(lines, place);
     let count = read_at(link, lines, place, buffer);
-    give_at(lines, engine, place, number, &buffer[..count], moment)?;
-    pump_at(lines, engine, place, number, moment)?;
+    give_at(
+        lines,
+        engine,
+        place,
+        number,
+        &buffer[..count],
+        moment,
+        journal,
+    )?;
+    pump_at(lines, engine, place, number, moment, journal)?;
     let wrote = write_at(link, lines, place);
-    report_at(lines, engine, place, number, moment)?;
+    report_at(lines, engine, place, number, moment, journal)?;
     Ok(wrote | (count > 0))
 }

@@ -7,6 +7,7 @@ ghost use Rattle.mqtt_serve.specs.turns.Settled.{IsStoredOrPutOff, LetsGoBelow, 
 ghost use Rattle.mqtt_serve.specs.turns.Turns.{server, hosting};
 ghost use Rattle.mqtt_serve.specs.turns.Wires.{LetsGo};
 
+use crate::journal::Journal;
 use crate::turns::accepting::accept;
 use crate::turns::connection::Connection;
 use crate::turns::running::{Timer, rest};
@@ -85,10 +86,11 @@ fn store_turn<L: Link + Drop, K: Settles>(
 
 /// A turn whose steps are not stored yet: that of `serve_turn` over a link that holds back what is written, but that connections
 /// that the broker closed aren't dropped. Whether a connection or bytes came or went. `Stopped` (2) and `Spent` (3) are the engine's.
-fn serve_unstored<L: Link + Drop, K: Settles>(
+fn serve_unstored<L: Link + Drop, K: Settles, J: Journal>(
     links: &mut Links<HeldBack<L>>,
     engine: &mut Engine<K>,
     moment: u64,
+    journal: &mut J,
 ) -> Result<bool, EngineError>
     ensures turn { IfOk result (λ busy. ServedTurn K.Keep moment busy
         (hosting engine.old links.old) (hosting engine.new links.new)) }
@@ -97,8 +99,8 @@ fn serve_unstored<L: Link + Drop, K: Settles>(
         (hosting engine.old links.old) (hosting engine.new links.new)) }
 {
     let (alloc, link, lines) = (links.alloc, &mut links.link, &mut links.lines);
-    let came = accept(alloc, link, lines, engine, moment);
-    let moved = serve_all(link, lines, engine, moment)?;
+    let came = accept(alloc, link, lines, engine, moment, journal);
+    let moved = serve_all(link, lines, engine, moment, journal)?;
     Ok(came | moved)
 }
 
@@ -127,12 +129,13 @@ fn goes_on<L: Link + Drop>(links: &Links<HeldBack<L>>, busy: bool, before: u32) 
 }
 
 /// At least one turn, and at most so many, none of which is stored yet, each at the greatest moment that the clock has told.
-fn serve_together<L: Link + Drop, K: Settles, T: Timer>(
+fn serve_together<L: Link + Drop, K: Settles, T: Timer, J: Journal>(
     links: &mut Links<HeldBack<L>>,
     engine: &mut Engine<K>,
     timer: &mut T,
     limit: u32,
     begin: u64,
+    journal: &mut J,
 ) -> Result<Had, EngineError>
     requires some { 0 < limit }
     requires few { limit ≤ TURNS_TOGETHER }
@@ -146,7 +149,7 @@ fn serve_together<L: Link + Drop, K: Settles, T: Timer>(
     let mut last = begin;
     for before in 0..limit {
         last = last.max(timer.now());
-        let busy = serve_unstored(links, engine, last)?;
+        let busy = serve_unstored(links, engine, last, journal)?;
         if !goes_on(links, busy, before) {
             return Ok(Had {
                 turns: before + 1,
@@ -166,12 +169,13 @@ fn serve_together<L: Link + Drop, K: Settles, T: Timer>(
 /// together, before anything of them goes out; and connections that the broker closed are dropped after that. For want of memory
 /// nothing goes out, and the next stretch tries again. `Stopped` (2) and `Spent` (3) are the engine's; nothing of such a stretch
 /// goes out.
-pub fn serve_stretch<L: Link + Drop, K: Settles, T: Timer>(
+pub fn serve_stretch<L: Link + Drop, K: Settles, T: Timer, J: Journal>(
     links: &mut Links<HeldBack<L>>,
     engine: &mut Engine<K>,
     timer: &mut T,
     limit: u32,
     begin: u64,
+    journal: &mut J,
 ) -> Result<Had, EngineError>
     requires some { 0 < limit }
     ensures stretch { IfOk result (λ had. RunsStretch K.Keep begin had.turns had.last had.busy (T.told timer.old) (T.told timer.new)
@@ -181,7 +185,14 @@ pub fn serve_stretch<L: Link + Drop, K: Settles, T: Timer>(
     ensures breaks { IfErr result (λ error. RunsStretchUntil K.Keep begin limit error (T.told timer.old) (T.told timer.new)
         (hosting engine.old links.old) (hosting engine.new links.new)) }
 {
-    let had = serve_together(links, engine, timer, limit.min(TURNS_TOGETHER), begin)?;
+    let had = serve_together(
+        links,
+        engine,
+        timer,
+        limit.min(TURNS_TOGETHER),
+        begin,
+        journal,
+    )?;
     let went = store_all(links, engine)?;
     Ok(Had {
         turns: had.turns,
@@ -192,12 +203,13 @@ pub fn serve_stretch<L: Link + Drop, K: Settles, T: Timer>(
 
 /// Runs so many turns in stretches, the first from a moment on. After a stretch in which nothing came or went the link is asked to wait.
 /// `Stopped` (2) and `Spent` (3) are the engine's.
-pub fn run_settled_turns<L: Link + Drop, K: Settles, T: Timer>(
+pub fn run_settled_turns<L: Link + Drop, K: Settles, T: Timer, J: Journal>(
     links: &mut Links<HeldBack<L>>,
     engine: &mut Engine<K>,
     timer: &mut T,
     turns: u32,
     begin: u64,
+    journal: &mut J,
 ) -> Result<(), EngineError>
     ensures ran { OnOk result (RunsSettledFor K.Keep begin turns (T.told timer.old) (T.told timer.new)
         (hosting engine.old links.old) (hosting engine.new links.new)) }
@@ -208,7 +220,8 @@ pub fn run_settled_turns<L: Link + Drop, K: Settles, T: Timer>(
     let mut left = turns;
     let mut last = begin;
     while left > 0 {
-        let had = serve_stretch(links, engine, timer, left, last)?;
+        let had = serve_stretch(links, engine, timer, left, last, journal)?;
+        journal.rested(had.last, engine);
         rest(links, had.busy);
         last = had.last;
         left -= had.turns;

@@ -7,6 +7,7 @@ ghost use Rattle.mqtt_serve.specs.turns.Related.{Related};
 ghost use Rattle.mqtt_serve.specs.turns.Wires.{WritesLast};
 ghost use Rattle.mqtt_serve.specs.turns.Turns.{server, hosting, without_closed, HasTurn, ServesAll, ServesBelow, Ticks};
 
+use crate::journal::{Journal, Quiet};
 use crate::turns::accepting::accept;
 use crate::turns::asking::tick;
 use crate::turns::connection::Connection;
@@ -79,11 +80,12 @@ impl<L: Link + Drop> Links<L> {
 }
 
 /// Each connection has its turn, in order. Whether bytes went in or out.
-fn serve_lines<L: Link, K: Keep>(
+fn serve_lines<L: Link, K: Keep, J: Journal>(
     link: &mut L,
     lines: &mut [Connection<L>],
     engine: &mut Engine<K>,
     moment: u64,
+    journal: &mut J,
 ) -> Result<bool, EngineError>
     ensures serves { IfOk result (λ moved. ServesBelow K.Keep moment (length lines.old) moved
         (server engine.old lines.old) (server engine.new lines.new)) }
@@ -95,16 +97,17 @@ fn serve_lines<L: Link, K: Keep>(
     let mut buffer = [0_u8; READ_LIMIT];
     let mut busy = false;
     for place in 0..lines.len() {
-        busy |= serve_line(link, lines, engine, place, moment, &mut buffer)?;
+        busy |= serve_line(link, lines, engine, place, moment, &mut buffer, journal)?;
     }
     Ok(busy)
 }
 
 /// Turns of the clock, while more may be due.
-fn tick_all<L: Link, K: Keep>(
+fn tick_all<L: Link, K: Keep, J: Journal>(
     lines: &mut [Connection<L>],
     engine: &mut Engine<K>,
     moment: u64,
+    journal: &mut J,
 ) -> Result<(), EngineError>
     ensures ticks { OnOk result (Ticks K.Keep moment TICK_LIMIT
         (server engine.old lines.old) (server engine.new lines.new)) }
@@ -113,7 +116,7 @@ fn tick_all<L: Link, K: Keep>(
         (server engine.old lines.old) (server engine.new lines.new)) }
 {
     for _ in 0..TICK_LIMIT {
-        if !tick(lines, engine, moment)? {
+        if !tick(lines, engine, moment, journal)? {
             return Ok(());
         }
     }
@@ -140,11 +143,12 @@ pub(crate) fn drop_closed<L: Link>(lines: &mut Vec<Connection<L>>)
 
 /// Each connection has its turn, then the clock; what waits on connections that the broker closed is written once more.
 /// Whether bytes went in or out.
-pub(crate) fn serve_all<L: Link, K: Keep>(
+pub(crate) fn serve_all<L: Link, K: Keep, J: Journal>(
     link: &mut L,
     lines: &mut [Connection<L>],
     engine: &mut Engine<K>,
     moment: u64,
+    journal: &mut J,
 ) -> Result<bool, EngineError>
     ensures serves { IfOk result (λ moved. ServesAll K.Keep moment moved
         (server engine.old lines.old) (server engine.new lines.new)) }
@@ -153,8 +157,8 @@ pub(crate) fn serve_all<L: Link, K: Keep>(
     ensures breaks { IfErr result (λ error. BreaksAll K.Keep moment error
         (server engine.old lines.old) (server engine.new lines.new)) }
 {
-    let moved = serve_lines(link, lines, engine, moment)?;
-    tick_all(lines, engine, moment)?;
+    let moved = serve_lines(link, lines, engine, moment, journal)?;
+    tick_all(lines, engine, moment, journal)?;
     write_closed(link, lines);
     Ok(moved)
 }
@@ -174,8 +178,8 @@ pub fn serve_turn<L: Link + Drop, K: Keep>(
         (hosting engine.old links.old) (hosting engine.new links.new)) }
 {
     let (alloc, link, lines) = (links.alloc, &mut links.link, &mut links.lines);
-    let came = accept(alloc, link, lines, engine, moment);
-    let moved = serve_all(link, lines, engine, moment)?;
+    let came = accept(alloc, link, lines, engine, moment, &mut Quiet);
+    let moved = serve_all(link, lines, engine, moment, &mut Quiet)?;
     drop_closed(lines);
     Ok(came | moved)
 }
