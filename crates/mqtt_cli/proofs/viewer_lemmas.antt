@@ -3,5 +3,6 @@ pub mod Added
 pub mod Examples
 pub mod Lines
 pub mod OneView
+pub mod ReadBack
 pub mod RightVectors
 pub mod Texts

@@ -1,4 +1,6 @@
 -- The text of the viewer, and of the report on the vectors.
+pub mod JsonPacket
+pub mod JsonValues
 pub mod PacketText
 pub mod PropertyText
 pub mod Vectors

@@ -13,5 +13,5 @@ pub use mqtt_rules::Limits;
 pub use mqtt_script::{Played, ReplayFault};
 pub use viewer::{
     Details, Gives, Status, Vector, VectorsFault, ViewFault, is_right, known_vectors, one_view,
-    vectors, view,
+    texts_read_back, vectors, view,
 };

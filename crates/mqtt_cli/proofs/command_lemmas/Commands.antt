@@ -119,40 +119,40 @@ replay_rows_in-other m name found named with_rows is_other =
 
 -- matches that aren't there ask for no server
 pub no_server : AsksNoServer None
-no_server listen db turns limits commit asks = cc asks.db_is
+no_server listen db turns limits commit log asks = cc asks.db_is
 
 -- without an address, or with one that isn't of its form, no server is asked for
 pub no_server-listen : (rows : Option (List Row)) → value_in (codes "listen") rows ≡ None → AsksNoServer rows
-no_server-listen rows none listen db turns limits commit asks = cc (sym none ∙ asks.listen_is)
+no_server-listen rows none listen db turns limits commit log asks = cc (sym none ∙ asks.listen_is)
 
 -- an address that is none asks for no server
 pub no_server-address : (rows : Option (List Row)) (text : Text) → value_in (codes "listen") rows ≡ Some text
     → ((address : SocketAddrV4) → ¬ (IsAddress text address)) → AsksNoServer rows
-no_server-address rows text is none listen db turns limits commit asks =
+no_server-address rows text is none listen db turns limits commit log asks =
     none listen (subst (λ (t : Text). IsAddress t listen) (ap (λ o. unwrap_or o text) (sym asks.listen_is ∙ is)) asks.address)
 
 -- without a database
 pub no_server-db : (rows : Option (List Row)) → value_in (codes "db") rows ≡ None → AsksNoServer rows
-no_server-db rows none listen db turns limits commit asks = cc (sym none ∙ asks.db_is)
+no_server-db rows none listen db turns limits commit log asks = cc (sym none ∙ asks.db_is)
 
 -- without a number of turns, or with one that isn't of its form
 pub no_server-turns : (rows : Option (List Row)) → value_in (codes "turns") rows ≡ None → AsksNoServer rows
-no_server-turns rows none listen db turns limits commit asks = cc (sym none ∙ asks.turns_is)
+no_server-turns rows none listen db turns limits commit log asks = cc (sym none ∙ asks.turns_is)
 
 -- nor does a count that is none
 pub no_server-count : (rows : Option (List Row)) (text : Text) → value_in (codes "turns") rows ≡ Some text
     → ((count : ℕ) → ¬ (IsCount text count)) → AsksNoServer rows
-no_server-count rows text is none listen db turns limits commit asks =
+no_server-count rows text is none listen db turns limits commit log asks =
     none turns (subst (λ (t : Text). IsCount t turns) (ap (λ o. unwrap_or o text) (sym asks.turns_is ∙ is)) asks.count)
 
 -- or with limits that there are none
 pub no_server-limits : (rows : Option (List Row)) → ((limits : Limits) → ¬ (AsksForLimits rows limits)) → AsksNoServer rows
-no_server-limits rows none listen db turns limits commit asks = none limits asks.limits_are
+no_server-limits rows none listen db turns limits commit log asks = none limits asks.limits_are
 
 -- or with a commit that is none
 pub no_server-commit : (rows : Option (List Row)) → ((commit : Commit) → ¬ (IsCommitGiven (value_in (codes "commit") rows) commit))
     → AsksNoServer rows
-no_server-commit rows none listen db turns limits commit asks = none commit asks.commit_is
+no_server-commit rows none listen db turns limits commit log asks = none commit asks.commit_is
 
 -- matches that aren't there ask for no replay
 pub no_replay : AsksNoReplay None
@@ -182,8 +182,8 @@ pub asks_to_serve : (command : Option (Text × List Row)) (rows : List Row) (ask
     → is_vectors command ≡ false → AskToServe rows asked → AskFor command asked
 asks_to_serve command rows None is file script other asks =
     (file, subst AsksNoReplay (sym script) no_replay, other, subst AsksNoServer (sym is) asks)
-asks_to_serve command rows (Some (Serve listen db turns limits commit)) is file script other asks =
-    subst (λ (r : Option (List Row)). AsksToServe r listen db.now turns limits commit) (sym is) asks
+asks_to_serve command rows (Some (Serve listen db turns limits commit log)) is file script other asks =
+    subst (λ (r : Option (List Row)). AsksToServe r listen db.now turns limits commit log) (sym is) asks
 asks_to_serve command rows (Some Vectors) is file script other asks = absurd asks
 asks_to_serve command rows (Some (View path details)) is file script other asks = absurd asks
 asks_to_serve command rows (Some (Replay path limits)) is file script other asks = absurd asks
@@ -198,7 +198,7 @@ asks_to_replay command rows (Some (Replay path limits)) is file no_rows other as
     subst (λ (r : Option (List Row)). AsksToReplay r path.now limits) (sym is) asks
 asks_to_replay command rows (Some Vectors) is file no_rows other asks = absurd asks
 asks_to_replay command rows (Some (View path details)) is file no_rows other asks = absurd asks
-asks_to_replay command rows (Some (Serve listen db turns limits commit)) is file no_rows other asks = absurd asks
+asks_to_replay command rows (Some (Serve listen db turns limits commit log)) is file no_rows other asks = absurd asks
 
 -- whether it is `vectors`
 pub is_vectors-met : (m : ArgMatches) (name : Text) (found : Found) (b : Bool) → Some name ≡ subcommand_name_of m

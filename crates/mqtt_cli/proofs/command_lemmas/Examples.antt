@@ -42,6 +42,10 @@ with_properties : flag_in (codes "properties") (rows_in (command_of (line_of (co
 unfolding clap_on_literals
 with_properties = refl
 
+with_json : flag_in (codes "json") (rows_in (command_of (line_of (codes "view" ∷ codes "--json" ∷ codes "f" ∷ [])))) ≡ Some (codes "true")
+unfolding clap_on_literals
+with_json = refl
+
 no_command : command_of (line_of []) ≡ None
 unfolding clap_on_literals
 no_command = refl
@@ -134,6 +138,23 @@ by_step-commit = refl
 commit_of_replay : command_of (line_of (codes "replay" ∷ codes "--commit" ∷ codes "step" ∷ codes "a" ∷ [])) ≡ None
 unfolding clap_on_literals
 commit_of_replay = refl
+
+-- ---- a log
+
+served-log : flag_in (codes "log") (serve_rows_in (command_of served)) ≡ Some (codes "false")
+unfolding clap_on_literals
+served-log = refl
+
+abbrev with_log : List Text
+with_log = line_of (codes "serve" ∷ codes "--log" ∷ codes "--turns" ∷ codes "3" ∷ codes "--listen" ∷ codes "1.2.3.4:5" ∷ codes "--db" ∷ codes "a" ∷ [])
+
+with_log-log : flag_in (codes "log") (serve_rows_in (command_of with_log)) ≡ Some (codes "true")
+unfolding clap_on_literals
+with_log-log = refl
+
+log_of_replay : command_of (line_of (codes "replay" ∷ codes "--log" ∷ codes "a" ∷ [])) ≡ None
+unfolding clap_on_literals
+log_of_replay = refl
 
 -- ---- the version
 

@@ -34,7 +34,7 @@ escapes : view_text fields_alone (record { place = 0; size = 9; packet = Publish
     ≡ codes "0 PUBLISH 9 qos=0 retain topic=a%20%25 payload=0" ++ line_feed ∷ codes "9 short" ++ line_feed ∷ []
 escapes = rw (decimal_digit 0 (omega arith), decimal_digit 9 (omega arith)) refl
 
-heads : view_text (record { payload = true; properties = false }) (publish ∷ []) (fault_at 9 TooLarge)
+heads : view_text (record { payload = true; properties = false; json = false }) (publish ∷ []) (fault_at 9 TooLarge)
     ≡ codes "2 PUBLISH 9 qos=0 topic=a/b payload=1 head=21" ++ line_feed ∷ codes "9 fault TooLarge" ++ line_feed ∷ []
 unfolding encode_with
 heads = rw (decimal_digit 1 (omega arith), decimal_digit 2 (omega arith), decimal_digit 9 (omega arith)) refl

@@ -112,7 +112,7 @@ front_of details f (Some xs) (Some ys) before after longer so kept =
 
 -- the input is at its end
 pub views_end : (details : Details) (f : Framing) (input left less before after longer : Option (List ℕ)) (status : Status)
-    → ViewsSoFar details f input left before after → Consumes left less [] → IsAtEnd less → Appends after longer (rest_line f.place (length f.held))
+    → ViewsSoFar details f input left before after → Consumes left less [] → IsAtEnd less → Appends after longer (rest_line details f.place (length f.held))
     → status ≡ status_of (short_at f.place f.held) → IfSome input (λ xs. Views details xs before longer status)
 views_end details f None left less before after longer status v took end wrote is = tt
 views_end details f (Some xs) None less before after longer status v took end wrote is = absurd v.so_far.read
@@ -131,7 +131,7 @@ views_end details f (Some xs) (Some ys) (Some zs) before after longer status v t
 
 -- a fault stands in what was read
 pub views_fault : (details : Details) (f : Framing) (input left before after longer : Option (List ℕ)) (fault : Fault) (place : ℕ)
-    → FedSoFar details f input left before after → first_of f.held ≡ Err fault → place ≡ f.place → Appends after longer (fault_line place fault)
+    → FedSoFar details f input left before after → first_of f.held ≡ Err fault → place ≡ f.place → Appends after longer (fault_line details place fault)
     → IfSome input (λ xs. Views details xs before longer Faulty)
 views_fault details f None left before after longer fault place so first at wrote = tt
 views_fault details f (Some xs) None before after longer fault place so first at wrote = absurd so.read

@@ -51,7 +51,7 @@ text_begins : (details : Details) (xs more : List Item) (ending : Ending) (befor
     → before ++ view_text details (xs ++ more) ending ≡ (before ++ flat_map (line details) xs) ++ view_text details more ending
 text_begins details xs more ending before =
     let f = line details in
-    let last = last_line ending in
+    let last = last_line details ending in
     ap (λ (t : List ℕ). before ++ (t ++ last)) (flat_map-append f xs more)
     ∙ ap (λ (t : List ℕ). before ++ t) (append_assoc (flat_map f xs) (flat_map f more) last)
     ∙ sym (append_assoc before (flat_map f xs) (flat_map f more ++ last))

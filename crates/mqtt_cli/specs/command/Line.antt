@@ -23,10 +23,12 @@ flag_rule name = record (new_rule name) { long = Some name; action = Some SetTru
 abbrev pub file_rule : Rule
 file_rule = record (new_rule (codes "file")) { value_names = 1; required = true }
 
--- `view [--payload] [--properties] FILE`
+-- `view [--payload] [--properties] [--json] FILE`
 abbrev pub view_app : App
 view_app =
-    with_rule (with_rule (with_rule (new_app (codes "view")) (flag_rule (codes "payload"))) (flag_rule (codes "properties")))
+    with_rule
+    (with_rule (with_rule (with_rule (new_app (codes "view")) (flag_rule (codes "payload"))) (flag_rule (codes "properties")))
+    (flag_rule (codes "json")))
     file_rule
 
 -- `replay FILE`, with the options for limits
@@ -41,14 +43,16 @@ vectors_app = new_app (codes "vectors")
 abbrev pub option_rule : Text → Rule
 option_rule name = record (new_rule name) { long = Some name; value_names = 1; required = true }
 
--- `serve --listen ADDR --db FILE --turns N [--commit turn|step]`, with the options for limits
+-- `serve --listen ADDR --db FILE --turns N [--commit turn|step] [--log]`, with the options for limits
 abbrev pub serve_app : App
 serve_app =
     with_limits
     (with_rule
+    (with_rule
     (with_rule (with_rule (with_rule (new_app (codes "serve")) (option_rule (codes "listen"))) (option_rule (codes "db")))
     (option_rule (codes "turns")))
     (choice_rule (codes "commit")))
+    (flag_rule (codes "log")))
 
 -- the program, which has to be given a command, or asked for its version
 abbrev pub program_app : App
@@ -110,14 +114,15 @@ pub record AsksForView (rows : Option (List Row)) (file : Text) (details : Detai
   pub file_is : file_in rows ≡ Some file
   pub payload : IsFlag (flag_in (codes "payload") rows) details.payload
   pub properties : IsFlag (flag_in (codes "properties") rows) details.properties
+  pub json : IsFlag (flag_in (codes "json") rows) details.json
 
 -- when the steps are stored: those of a turn together, if nothing is said
 abbrev pub IsCommitGiven : Option Text → Commit → Type 0
 IsCommitGiven None commit = commit ≡ Turn
 IsCommitGiven (Some text) commit = IsCommit text commit
 
--- `serve` is asked for at this address, over this database, for so many turns, with these limits and this commit
-pub record AsksToServe (rows : Option (List Row)) (listen : SocketAddrV4) (db : Text) (turns : ℕ) (limits : Limits) (commit : Commit) : Type 0 where
+-- `serve` is asked for at this address, over this database, for so many turns, with these limits and this commit, with a log or without
+pub record AsksToServe (rows : Option (List Row)) (listen : SocketAddrV4) (db : Text) (turns : ℕ) (limits : Limits) (commit : Commit) (log : Bool) : Type 0 where
   pub listen_text : Text
   pub turns_text : Text
   pub listen_is : value_in (codes "listen") rows ≡ Some listen_text
@@ -127,12 +132,13 @@ pub record AsksToServe (rows : Option (List Row)) (listen : SocketAddrV4) (db : 
   pub count : IsCount turns_text turns
   pub limits_are : AsksForLimits rows limits
   pub commit_is : IsCommitGiven (value_in (codes "commit") rows) commit
+  pub log_is : IsFlag (flag_in (codes "log") rows) log
 
 -- nothing that `serve` may be given is asked for
 abbrev pub AsksNoServer : Option (List Row) → Type 0
 AsksNoServer rows =
-    (listen : SocketAddrV4) (db : Text) (turns : ℕ) (limits : Limits) (commit : Commit)
-    → ¬ (AsksToServe rows listen db turns limits commit)
+    (listen : SocketAddrV4) (db : Text) (turns : ℕ) (limits : Limits) (commit : Commit) (log : Bool)
+    → ¬ (AsksToServe rows listen db turns limits commit log)
 
 -- `replay` is asked for, of this file, with these limits
 pub record AsksToReplay (rows : Option (List Row)) (file : Text) (limits : Limits) : Type 0 where
@@ -146,7 +152,7 @@ AsksNoReplay rows = (file : Text) (limits : Limits) → ¬ (AsksToReplay rows fi
 -- these matches of `serve` ask for this, or for nothing
 abbrev pub AskToServe : List Row → Option Action → Type 0
 AskToServe rows None = AsksNoServer (Some rows)
-AskToServe rows (Some (Serve listen db turns limits commit)) = AsksToServe (Some rows) listen db.now turns limits commit
+AskToServe rows (Some (Serve listen db turns limits commit log)) = AsksToServe (Some rows) listen db.now turns limits commit log
 AskToServe rows (Some Vectors) = ⊥
 AskToServe rows (Some (View file details)) = ⊥
 AskToServe rows (Some (Replay file limits)) = ⊥
@@ -157,7 +163,7 @@ AskToReplay rows None = AsksNoReplay (Some rows)
 AskToReplay rows (Some (Replay file limits)) = AsksToReplay (Some rows) file.now limits
 AskToReplay rows (Some Vectors) = ⊥
 AskToReplay rows (Some (View file details)) = ⊥
-AskToReplay rows (Some (Serve listen db turns limits commit)) = ⊥
+AskToReplay rows (Some (Serve listen db turns limits commit log)) = ⊥
 
 -- this command asks for this, or for nothing
 abbrev pub AskFor : Option (Text × List Row) → Option Action → Type 0
@@ -167,4 +173,4 @@ AskFor command None =
 AskFor command (Some Vectors) = is_vectors command ≡ true
 AskFor command (Some (View file details)) = AsksForView (rows_in command) file.now details
 AskFor command (Some (Replay file limits)) = AsksToReplay (replay_rows_in command) file.now limits
-AskFor command (Some (Serve listen db turns limits commit)) = AsksToServe (serve_rows_in command) listen db.now turns limits commit
+AskFor command (Some (Serve listen db turns limits commit log)) = AsksToServe (serve_rows_in command) listen db.now turns limits commit log

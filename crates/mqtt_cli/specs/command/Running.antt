@@ -1,5 +1,5 @@
 -- What the program answers to a command line, and what it writes: each outcome, and when alone it comes (ours).
-use Rattle.std.specs.Prelude.{◌≡◌, ◌≢◌, ◌⊎◌, ⊤, ℕ, true, List, Option, None, Some, Result, Ok, Err, codes}
+use Rattle.std.specs.Prelude.{◌≡◌, ◌≢◌, ◌⊎◌, ⊤, ℕ, Bool, true, List, Option, None, Some, Result, Ok, Err, codes}
 use Rattle.std.specs.Io.KnownBytes.{Appends, Keeps}
 use Rattle.std.specs.declared.net.socket_addr.SocketAddrV4.{SocketAddrV4}
 use Rattle.clap.specs.Words.{Row, Text}
@@ -20,9 +20,10 @@ use Rattle.mqtt_cli.specs.declared.viewer.vectors_checker.VectorsFault.TheVarian
 abbrev pub Asked : Type 0
 Asked = Option (Text × List Row)
 
--- what serving at an address, over the database at a path, for so many turns, with limits and a commit, may come to
+-- what serving at an address, over the database at a path, for so many turns, with limits and a commit, with a log or without, may
+-- come to
 abbrev pub Serving : Type 1
-Serving = SocketAddrV4 → Text → ℕ → Limits → Commit → Result ⊤ ServeFault → Type 0
+Serving = SocketAddrV4 → Text → ℕ → Limits → Commit → Bool → Result ⊤ ServeFault → Type 0
 
 -- what the replay of the script at a path, with limits, may come to
 abbrev pub Replaying : Type 1
@@ -42,8 +43,9 @@ pub record HasServed (serves : Serving) (command : Asked) (ended : Result ⊤ Se
   pub turns : ℕ
   pub limits : Limits
   pub commit : Commit
-  pub asks : AsksToServe (serve_rows_in command) listen db turns limits commit
-  pub came : serves listen db turns limits commit ended
+  pub log : Bool
+  pub asks : AsksToServe (serve_rows_in command) listen db turns limits commit log
+  pub came : serves listen db turns limits commit log ended
 
 -- the command asks for the view of a file
 pub record AsksToView (command : Asked) : Type 0 where

@@ -139,9 +139,9 @@ abbrev pub payload_text : Bool → Packet → List ℕ
 payload_text with_payload (packets.Publish p) = head_text with_payload p.payload
 payload_text with_payload p = []
 
--- no more than the fields, and how many properties there are
+-- in words, no more than the fields, and how many properties there are
 abbrev pub fields_alone : Details
-fields_alone = record { payload = false; properties = false }
+fields_alone = record { payload = false; properties = false; json = false }
 
 -- a packet of this size, without its place
 abbrev pub packet_text : Details → ℕ → Packet → List ℕ

@@ -12,7 +12,7 @@ use thiserror::Error;
 /// What a command line asks for. Its texts lie in the words.
 #[derive(Clone, Copy, Debug, PartialEq, Eq)]
 pub enum Action<'a> {
-    /// `view [--payload] [--properties] FILE`
+    /// `view [--payload] [--properties] [--json] FILE`
     View {
         /// The path of the input; `-` is standard input.
         file: &'a str,
@@ -28,7 +28,8 @@ pub enum Action<'a> {
     },
     /// `vectors`
     Vectors,
-    /// `serve --listen ADDR --db FILE --turns N [--commit turn|step] [--full refuse|drop] [--queue N] [--sessions N] [--retained N]`
+    /// `serve --listen ADDR --db FILE --turns N [--commit turn|step] [--log] [--full refuse|drop] [--queue N] [--sessions N]
+    /// [--retained N]`
     Serve {
         /// Where to listen.
         listen: SocketAddrV4,
@@ -40,6 +41,8 @@ pub enum Action<'a> {
         limits: Limits,
         /// When the steps are stored.
         commit: Commit,
+        /// Whether standard error tells more than the one line of the exit status.
+        log: bool,
     },
 }
 

@@ -46,18 +46,19 @@ fn view_of<I: Read + Drop, W: Write>(
 }
 
 /// Serves as it was handed in; a function of its own, which asks for this one call.
-fn served<F: Fn(SocketAddrV4, &str, u32, Limits, Commit) -> Result<(), ServeFault>>(
+fn served<F: Fn(SocketAddrV4, &str, u32, Limits, Commit, bool) -> Result<(), ServeFault>>(
     serve: &F,
     listen: SocketAddrV4,
     db: &str,
     turns: u32,
     limits: Limits,
     commit: Commit,
+    log: bool,
 ) -> Result<(), ServeFault>
-    requires callable { F.pre serve.now listen db turns limits commit }
-    ensures { F.post serve.now listen db.entry turns limits commit result }
+    requires callable { F.pre serve.now listen db turns limits commit log }
+    ensures { F.post serve.now listen db.entry turns limits commit log result }
 {
-    serve(listen, db, turns, limits, commit)
+    serve(listen, db, turns, limits, commit, log)
 }
 
 /// Replays as it was handed in; a function of its own, which asks for this one call.
@@ -75,19 +76,19 @@ fn replayed<G: Fn(&str, Limits) -> Result<Played, ReplayFault>>(
 /// Does what these words ask for, the first of which names the program. The command line is looked at first, then
 /// the file or the database, then the socket. What files, sockets and standard input hold no contract can say; `view`
 /// and `vectors` say what is written. What serves at an address, over the database at a path, for so many turns, storing by
-/// the turn or by the step, and what replays the script at a path, each with limits within those of the tables, are handed in:
+/// the turn or by the step, with or without a log on standard error, and what replays the script at a path, each with limits within those of the tables, are handed in:
 /// so nothing of the command line stands on the server or the world.
 pub fn perform<
     S: AsStr,
     W: Write,
-    F: Fn(SocketAddrV4, &str, u32, Limits, Commit) -> Result<(), ServeFault>,
+    F: Fn(SocketAddrV4, &str, u32, Limits, Commit, bool) -> Result<(), ServeFault>,
     G: Fn(&str, Limits) -> Result<Played, ReplayFault>,
 >(rt: &HostRuntime, words: &[S], writer: &mut W, serve: &F, replay: &G) -> Outcome
-    requires serves { (listen : _) (db : _) (turns : _) (limits : _) (commit : _) → AreWithin limits
-        → F.pre serve.now listen db turns limits commit }
+    requires serves { (listen : _) (db : _) (turns : _) (limits : _) (commit : _) (log : _) → AreWithin limits
+        → F.pre serve.now listen db turns limits commit log }
     requires replays { (file : _) (limits : _) → AreWithin limits → G.pre replay.now file limits }
-    ensures answers { Answers (λ listen db turns limits commit ended. (text : _) × (text.now ≡ db)
-        × F.post serve.now listen text turns limits commit ended)
+    ensures answers { Answers (λ listen db turns limits commit log ended. (text : _) × (text.now ≡ db)
+        × F.post serve.now listen text turns limits commit log ended)
         (λ file limits ended. (text : _) × (text.now ≡ file) × G.post replay.now text limits ended)
         (command_of (map S.text words.now)) result }
     ensures version { TellsVersion result → AskForVersion (map S.text words.now) }
@@ -111,8 +112,9 @@ pub fn perform<
                 turns,
                 limits,
                 commit,
+                log,
             },
-        ) => match served(serve, listen, db, turns, limits, commit) {
+        ) => match served(serve, listen, db, turns, limits, commit, log) {
             Ok(()) => Outcome::Served,
             Err(fault) => Outcome::Serve(fault),
         },
@@ -135,14 +137,14 @@ pub fn perform<
 
 /// Does what the process's arguments ask for, and writes it to standard output.
 pub fn run<
-    F: Fn(SocketAddrV4, &str, u32, Limits, Commit) -> Result<(), ServeFault>,
+    F: Fn(SocketAddrV4, &str, u32, Limits, Commit, bool) -> Result<(), ServeFault>,
     G: Fn(&str, Limits) -> Result<Played, ReplayFault>,
 >(rt: &HostRuntime, serve: &F, replay: &G) -> Outcome
-    requires serves { (listen : _) (db : _) (turns : _) (limits : _) (commit : _) → AreWithin limits
-        → F.pre serve.now listen db turns limits commit }
+    requires serves { (listen : _) (db : _) (turns : _) (limits : _) (commit : _) (log : _) → AreWithin limits
+        → F.pre serve.now listen db turns limits commit log }
     requires replays { (file : _) (limits : _) → AreWithin limits → G.pre replay.now file limits }
-    ensures { AnswersWords (λ listen db turns limits commit ended. (text : _) × (text.now ≡ db)
-        × F.post serve.now listen text turns limits commit ended)
+    ensures { AnswersWords (λ listen db turns limits commit log ended. (text : _) × (text.now ≡ db)
+        × F.post serve.now listen text turns limits commit log ended)
         (λ file limits ended. (text : _) × (text.now ≡ file) × G.post replay.now text limits ended) result }
 {
     let words = match env::args(rt) {

@@ -98,6 +98,7 @@ fn action_in<'a>(matches: &ArgMatches<'a>) -> Option<Action<'a>>
     let details = Details {
         payload: view.get_flag("payload"),
         properties: view.get_flag("properties"),
+        json: view.get_flag("json"),
     };
     Some(Action::View { file, details })
 }
@@ -113,12 +114,14 @@ fn serve_in<'a>(matches: &ArgMatches<'a>) -> Option<Action<'a>>
     let turns = count_read(turns)?;
     let limits = limits_in(matches)?;
     let commit = commit_in(matches)?;
+    let log = matches.get_flag("log");
     Some(Action::Serve {
         listen,
         db,
         turns,
         limits,
         commit,
+        log,
     })
 }
 
@@ -168,7 +171,7 @@ fn program<'a>(alloc: Global) -> Result<Command<'a>, AllocError>
         .subcommand(serve)
 }
 
-/// `view [--payload] [--properties] FILE`
+/// `view [--payload] [--properties] [--json] FILE`
 fn view_command<'a>(alloc: Global) -> Result<Command<'a>, AllocError>
     ensures app { IfOk result (λ command. app_of command ≡ view_app) }
     ensures local { IfOk result (λ command. (fields_of command).has_globals ≡ false) }
@@ -184,6 +187,11 @@ fn view_command<'a>(alloc: Global) -> Result<Command<'a>, AllocError>
             alloc,
             "properties",
             "Show each property; of a CONNECT its Will and its User Name too",
+        ))?
+        .arg(flag_arg(
+            alloc,
+            "json",
+            "Write each line as a JSON object, which has all that --properties shows",
         ))?
         .arg(file_arg(alloc, "The bytes to view; - is standard input"))
 }
@@ -229,7 +237,7 @@ fn vectors_command<'a>(alloc: Global) -> Command<'a>
     Command::new(alloc, "vectors").about("Checks frames whose meaning is known")
 }
 
-/// `serve --listen ADDR --db FILE --turns N [--commit turn|step]`, with the options for limits.
+/// `serve --listen ADDR --db FILE --turns N [--commit turn|step] [--log]`, with the options for limits.
 fn serve_command<'a>(alloc: Global) -> Result<Command<'a>, AllocError>
     ensures app { IfOk result (λ command. app_of command ≡ serve_app) }
     ensures local { IfOk result (λ command. (fields_of command).has_globals ≡ false) }
@@ -259,6 +267,11 @@ fn serve_command<'a>(alloc: Global) -> Result<Command<'a>, AllocError>
             "commit",
             "turn|step",
             "When steps are stored: those of a turn as one transaction, or each as one of its own [default: turn]",
+        ))?
+        .arg(flag_arg(
+            alloc,
+            "log",
+            "Tell on standard error why the server ends early",
         ))?;
     limited(alloc, command)
 }

@@ -7,4 +7,6 @@ pub struct Details {
     pub payload: bool,
     /// Each property; of a CONNECT its Will and its User Name too.
     pub properties: bool,
+    /// One JSON object a line, which has each property, the Will and the User Name in any case.
+    pub json: bool,
 }

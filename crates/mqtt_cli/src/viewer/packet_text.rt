@@ -47,7 +47,7 @@ pub(crate) fn push_field(text: &mut Vec<u8>, name: &[u8], number: u64) -> Result
 }
 
 /// A hexadecimal digit.
-fn hex_digit(value: u8) -> u8
+pub(crate) fn hex_digit(value: u8) -> u8
     requires { value < 16 }
     ensures { result ≡ digit_glyph false value }
 {
@@ -319,26 +319,26 @@ fn push_notice(text: &mut Vec<u8>, notice: &NoticeRef<'_>) -> Result<(), AllocEr
     push_code(text, notice.reason.0)
 }
 
-/// The standard's name of a packet (2.1.2), a space before and behind it.
-fn spaced_name(packet: &PacketRef<'_>) -> &'static [u8]
-    ensures { result.now ≡ codes " " ++ name_text (packet_of packet.now) ++ codes " " }
+/// The standard's name of a packet (2.1.2).
+pub(crate) fn packet_name(packet: &PacketRef<'_>) -> &'static [u8]
+    ensures { result.now ≡ name_text (packet_of packet.now) }
 {
     match packet {
-        PacketRef::Connect(_) => b" CONNECT ",
-        PacketRef::Connack(_) => b" CONNACK ",
-        PacketRef::Publish(_) => b" PUBLISH ",
-        PacketRef::Puback(_) => b" PUBACK ",
-        PacketRef::Pubrec(_) => b" PUBREC ",
-        PacketRef::Pubrel(_) => b" PUBREL ",
-        PacketRef::Pubcomp(_) => b" PUBCOMP ",
-        PacketRef::Subscribe(_) => b" SUBSCRIBE ",
-        PacketRef::Suback(_) => b" SUBACK ",
-        PacketRef::Unsubscribe(_) => b" UNSUBSCRIBE ",
-        PacketRef::Unsuback(_) => b" UNSUBACK ",
-        PacketRef::Pingreq => b" PINGREQ ",
-        PacketRef::Pingresp => b" PINGRESP ",
-        PacketRef::Disconnect(_) => b" DISCONNECT ",
-        PacketRef::Auth(_) => b" AUTH ",
+        PacketRef::Connect(_) => b"CONNECT",
+        PacketRef::Connack(_) => b"CONNACK",
+        PacketRef::Publish(_) => b"PUBLISH",
+        PacketRef::Puback(_) => b"PUBACK",
+        PacketRef::Pubrec(_) => b"PUBREC",
+        PacketRef::Pubrel(_) => b"PUBREL",
+        PacketRef::Pubcomp(_) => b"PUBCOMP",
+        PacketRef::Subscribe(_) => b"SUBSCRIBE",
+        PacketRef::Suback(_) => b"SUBACK",
+        PacketRef::Unsubscribe(_) => b"UNSUBSCRIBE",
+        PacketRef::Unsuback(_) => b"UNSUBACK",
+        PacketRef::Pingreq => b"PINGREQ",
+        PacketRef::Pingresp => b"PINGRESP",
+        PacketRef::Disconnect(_) => b"DISCONNECT",
+        PacketRef::Auth(_) => b"AUTH",
     }
 }
 
@@ -422,6 +422,17 @@ fn push_payload(
     }
 }
 
+/// Adds the name of a packet and its size.
+#[tactic(auto, using(std::proofs::lemmas::List::append_assoc))]
+fn push_name(text: &mut Vec<u8>, size: usize, packet: &PacketRef<'_>) -> Result<(), AllocError>
+    ensures { OnOk result (text.new.items
+        ≡ text.old.items ++ codes " " ++ name_text (packet_of packet.now) ++ codes " " ++ decimal size) }
+{
+    text.extend_from_slice(b" ")?;
+    text.extend_from_slice(packet_name(packet))?;
+    push_field(text, b" ", size as u64)
+}
+
 /// Adds what is shown of a packet of this size, without its place.
 #[tactic(auto, using(std::proofs::lemmas::List::append_assoc))]
 pub fn push_packet_text(
@@ -434,7 +445,7 @@ pub fn push_packet_text(
     ensures { OnOk result (text.new.items
         ≡ text.old.items ++ packet_text details size (packet_of packet.now)) }
 {
-    push_field(text, spaced_name(packet), size as u64)?;
+    push_name(text, size, packet)?;
     push_fields(text, packet)?;
     push_count(text, packet.properties().len())?;
     push_details(alloc, text, details.properties, packet)?;

@@ -19,7 +19,7 @@ use mqtt_props::{PropName, PropRef, PropsRef, ValueRef};
 use std::alloc::{AllocError, Global};
 
 /// The standard's name of a property, in small letters with hyphens.
-fn property_name(name: PropName) -> &'static [u8]
+pub(crate) fn property_name(name: PropName) -> &'static [u8]
     ensures { result.now ≡ property_name name }
 {
     match name {
@@ -165,7 +165,7 @@ fn push_will_retain(text: &mut Vec<u8>, retain: bool) -> Result<(), AllocError>
 }
 
 /// The number of a QoS (4.3).
-fn qos_number(qos: Qos) -> u64
+pub(crate) fn qos_number(qos: Qos) -> u64
     ensures { result ≡ qos_number qos }
 {
     qos as u64

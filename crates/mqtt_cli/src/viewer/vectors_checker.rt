@@ -190,6 +190,7 @@ fn has_line(alloc: Global, packet: &Packet, size: usize, line: &[u8]) -> Result<
     let details = Details {
         payload: false,
         properties: false,
+        json: false,
     };
     let pushed = push_packet_text(alloc, &mut text, details, size, &packet.lend());
     let is_line = text.as_slice() == line;

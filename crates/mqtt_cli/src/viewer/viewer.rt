@@ -102,11 +102,11 @@ fn view_by<R: Read, W: Write>(
             Err(_) => return Err(ViewFault::Read),
         };
         if count == 0 {
-            return end_view(alloc, writer, framer);
+            return end_view(alloc, writer, details, framer);
         }
         let piece = &chunk[..count];
         if let Some((fault, place)) = write_packets(alloc, framer, piece, writer, details)? {
-            write_fault(alloc, writer, place, fault)?;
+            write_fault(alloc, writer, details, place, fault)?;
             return Ok(Status::Faulty);
         }
     }
@@ -114,16 +114,21 @@ fn view_by<R: Read, W: Write>(
 }
 
 /// Writes the line of what is left at the end of the input, and tells how the stream ended.
-fn end_view<W: Write>(alloc: Global, writer: &mut W, framer: &Framer) -> Result<Status, ViewFault>
+fn end_view<W: Write>(
+    alloc: Global,
+    writer: &mut W,
+    details: Details,
+    framer: &Framer,
+) -> Result<Status, ViewFault>
     ensures ok { OnOk result (Appends (W.contents writer.old) (W.contents writer.new)
-        (rest_line framer.now.place (length framer.now.held))) }
+        (rest_line details framer.now.place (length framer.now.held))) }
     ensures status { IfOk result (λ status. status
         ≡ (if length framer.now.held == 0 then Status.Whole else Status.Faulty)) }
     ensures memory { IfErr result (λ e. e ≢ ViewFault.Write
         → Keeps (W.contents writer.old) (W.contents writer.new)) }
 {
     let left = framer.held();
-    write_rest(alloc, writer, framer.place(), left)?;
+    write_rest(alloc, writer, details, framer.place(), left)?;
     Ok(status_of(left))
 }
 
@@ -182,16 +187,17 @@ fn push_packets(
 fn write_fault<W: Write>(
     alloc: Global,
     writer: &mut W,
+    details: Details,
     place: u64,
     fault: Fault,
 ) -> Result<(), ViewFault>
     ensures ok { OnOk result (Appends (W.contents writer.old) (W.contents writer.new)
-        (fault_line place fault)) }
+        (fault_line details place fault)) }
     ensures memory { IfErr result (λ e. e ≢ ViewFault.Write
         → Keeps (W.contents writer.old) (W.contents writer.new)) }
 {
     let mut text = Vec::new(alloc);
-    push_fault(&mut text, place, fault)?;
+    push_fault(&mut text, details, place, fault)?;
     write_text(writer, text.as_slice())
 }
 
@@ -199,16 +205,17 @@ fn write_fault<W: Write>(
 fn write_rest<W: Write>(
     alloc: Global,
     writer: &mut W,
+    details: Details,
     place: u64,
     left: usize,
 ) -> Result<(), ViewFault>
     ensures ok { OnOk result (Appends (W.contents writer.old) (W.contents writer.new)
-        (rest_line place left)) }
+        (rest_line details place left)) }
     ensures memory { IfErr result (λ e. e ≢ ViewFault.Write
         → Keeps (W.contents writer.old) (W.contents writer.new)) }
 {
     let mut text = Vec::new(alloc);
-    push_rest(&mut text, place, left)?;
+    push_rest(&mut text, details, place, left)?;
     write_text(writer, text.as_slice())
 }
 

@@ -8,9 +8,9 @@ use Rattle.mqtt_cli.proofs.command.program.perform.Goals as goal
 pub served-requires : goal.served-requires
 served-requires g c =
     let met = c.in-Ok-Serve in
-    let asks : AsksToServe (serve_rows_in (command_of (map g.S.AsStr.text c.args.words.now))) met.listen met.db.now met.turns met.limits met.commit =
+    let asks : AsksToServe (serve_rows_in (command_of (map g.S.AsStr.text c.args.words.now))) met.listen met.db.now met.turns met.limits met.commit met.log =
     rw met.field-0-is at met.ensures.ok in
-    record { callable = c.requires.serves met.listen met.db met.turns met.limits met.commit (limits_within _ met.limits asks.limits_are) }
+    record { callable = c.requires.serves met.listen met.db met.turns met.limits met.commit met.log (limits_within _ met.limits asks.limits_are) }
 
 pub replayed-requires : goal.replayed-requires
 replayed-requires g c =

@@ -35,6 +35,8 @@ returns c =
     let payload_is = one_text-rows found (codes "payload") in
     let properties = c.get_flag-2.ensures in
     let properties_is = one_text-rows found (codes "properties") in
+    let json = c.get_flag-3.ensures in
+    let json_is = one_text-rows found (codes "json") in
     rw rows_are (record {
       file_is = sym (c.in_ok-file.ensures ∙ first_value-rows found (codes "file"));
       payload = record {
@@ -46,6 +48,11 @@ returns c =
         none = λ e. properties.none (properties_is ∙ e);
         is_true = λ e. properties.value (properties_is ∙ e);
         is_false = λ e. properties.other (properties_is ∙ e);
+      };
+      json = record {
+        none = λ e. json.none (json_is ∙ e);
+        is_true = λ e. json.value (json_is ∙ e);
+        is_false = λ e. json.other (json_is ∙ e);
       };
     })
 

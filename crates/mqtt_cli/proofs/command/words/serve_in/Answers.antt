@@ -1,12 +1,14 @@
 use Rattle.std.proofs.Common.{Some, codes, sym, ◌∙◌}
 use Rattle.clap.specs.Words.{found_of, rows_of}
-use Rattle.clap.proofs.WalkLemmas.{first_value-rows}
+use Rattle.clap.proofs.WalkLemmas.{first_value-rows, one_text-rows}
 use Rattle.mqtt_cli.proofs.command_lemmas.Commands.{asks_no_server, no_server-address, no_server-commit, no_server-count, no_server-db, no_server-limits, no_server-listen, no_server-turns}
 use Rattle.mqtt_cli.proofs.command.words.serve_in.Goals as goal
 
 pub returns : goal.returns
 returns c =
     let found = found_of c.args.matches.now in
+    let log = c.get_flag-log.ensures in
+    let log_is = one_text-rows found (codes "log") in
     record {
       listen_text = c.in_ok-listen.listen.now;
       turns_text = c.in_ok-turns.turns.now;
@@ -17,6 +19,11 @@ returns c =
       count = c.in_ok-turns-2.ensures.read;
       limits_are = c.in_ok-limits.ensures;
       commit_is = c.in_ok-commit.ensures.read;
+      log_is = record {
+        none = λ e. log.none (log_is ∙ e);
+        is_true = λ e. log.value (log_is ∙ e);
+        is_false = λ e. log.other (log_is ∙ e);
+      };
     }
 
 pub returns-in_err-listen : goal.returns-in_err-listen

@@ -1,0 +1,10 @@
+use Rattle.std.proofs.Common.{◌≡◌, ◌++◌, length}
+use Rattle.std.specs.List.{flat_map}
+use Rattle.mqtt_cli.specs.viewer.JsonValues.{json_next_property}
+use Rattle.mqtt_cli.proofs.viewer.json_values.push_json_next_properties.Given as goal
+
+abbrev pub invariant-loop-first : goal.invariant-loop-first
+invariant-loop-first l = l.text.items ++ flat_map json_next_property l.rest ≡ l.fn.text.items ++ flat_map json_next_property l.properties
+
+abbrev pub decreases-loop-first : goal.decreases-loop-first
+decreases-loop-first l = length l.rest
