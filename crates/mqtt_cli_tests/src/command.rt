@@ -5,6 +5,7 @@ mod failures;
 mod files;
 mod limits;
 mod lines;
+mod objects;
 mod properties;
 mod streams;
 mod words;

@@ -35,7 +35,7 @@ fn help_has_the_version_an_example_and_the_exit_statuses(rt: HostRuntime) -> Res
         is_help(
             rt.alloc(),
             &["mqtt5", "serve", "--help"],
-            &["--commit <turn|step>"]
+            &["--commit <turn|step>", "--log"]
         )?
     );
     Ok(())
@@ -49,7 +49,7 @@ fn the_version_is_written(rt: HostRuntime) {
             &rt,
             &["mqtt5", word],
             &mut written,
-            &|_, _, _, _, _| Err(ServeFault::Socket),
+            &|_, _, _, _, _, _| Err(ServeFault::Socket),
             &|_, _| Err(ReplayFault::Store),
         );
         let is_told = matches!(outcome, Outcome::Line(LineFault::Version));

@@ -16,7 +16,14 @@ const BYTES: &[u8] = b"\xc0\x00\x30\x07\x00\x03a/b\x00!";
 const WITH_PROPERTY: &[u8] = b"\x30\x0e\x00\x03a/b\x07\x26\x00\x01k\x00\x01v!";
 
 /// Stands for what serves, and is not called for a view.
-fn not_served(_: SocketAddrV4, _: &str, _: u32, _: Limits, _: Commit) -> Result<(), ServeFault> {
+fn not_served(
+    _: SocketAddrV4,
+    _: &str,
+    _: u32,
+    _: Limits,
+    _: Commit,
+    _: bool,
+) -> Result<(), ServeFault> {
     Err(ServeFault::Socket)
 }
 
@@ -66,10 +73,16 @@ fn a_file_is_viewed_as_the_words_of_a_command_line_ask(rt: HostRuntime) -> Resul
         &["mqtt5", "view", "--properties", "--payload", FILE],
         "0 PUBLISH 16 qos=0 topic=a/b payload=1 props=1 user-property=k:v head=21\n",
     );
+    let is_object = shows(
+        &rt,
+        &["mqtt5", "view", "--json", FILE],
+        "{\"place\":0,\"type\":\"PUBLISH\",\"size\":16,\"qos\":0,\"id\":null,\"dup\":false,\"retain\":false,\"topic\":\"a/b\",\"payload\":1,\"properties\":[{\"name\":\"user-property\",\"value\":[\"k\",\"v\"]}]}\n",
+    );
     fs::remove_file(&rt, FILE).map_err(|_| "the file can't be removed")?;
     assert!(rt; is_shown, "without payloads");
     assert!(rt; has_head, "with payloads");
     assert!(rt; has_property, "with properties and payloads");
+    assert!(rt; is_object, "as an object");
     assert!(rt;
         finds_nothing(&rt, &["mqtt5", "view", FILE]),
         "a file that is gone"

@@ -168,6 +168,7 @@ fn limits_are_those_of_the_options(rt: HostRuntime) -> Result<(), Fail> {
             turns: 3,
             limits,
             commit: Commit::Turn,
+            log: false,
         };
         assert!(rt;
             is_asked(rt.alloc(), &REPLAY, options, replay)?,
@@ -197,8 +198,8 @@ fn a_limit_that_is_out_of_range_is_usage(rt: HostRuntime) -> Result<(), Fail> {
 }
 
 #[test]
-fn a_commit_is_that_of_its_option(rt: HostRuntime) -> Result<(), Fail> {
-    for (options, commit) in COMMITS {
+fn a_commit_and_a_log_are_those_of_their_options(rt: HostRuntime) -> Result<(), Fail> {
+    for (options, commit, log) in ASKED {
         let serve = Action::Serve {
             listen: SocketAddrV4::new(Ipv4Addr::from([127, 0, 0, 1]), 1_883),
             db: "a.db",
@@ -210,6 +211,7 @@ fn a_commit_is_that_of_its_option(rt: HostRuntime) -> Result<(), Fail> {
                 retained: 1_000,
             },
             commit,
+            log,
         };
         assert!(rt;
             is_asked(rt.alloc(), &SERVE, options, serve)?,
@@ -219,12 +221,14 @@ fn a_commit_is_that_of_its_option(rt: HostRuntime) -> Result<(), Fail> {
     Ok(())
 }
 
-/// Options, and when the steps are stored by them.
-const COMMITS: [(&[&str], Commit); 4] = [
-    (&[], Commit::Turn),
-    (&["--commit", "turn"], Commit::Turn),
-    (&["--commit", "step"], Commit::Step),
-    (&["--commit=step"], Commit::Step),
+/// Options, when the steps are stored by them, and whether there is a log.
+const ASKED: [(&[&str], Commit, bool); 6] = [
+    (&[], Commit::Turn, false),
+    (&["--commit", "turn"], Commit::Turn, false),
+    (&["--commit", "step"], Commit::Step, false),
+    (&["--commit=step"], Commit::Step, false),
+    (&["--log"], Commit::Turn, true),
+    (&["--log", "--commit", "step"], Commit::Step, true),
 ];
 
 #[test]

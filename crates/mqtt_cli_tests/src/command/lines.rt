@@ -10,12 +10,14 @@ use std::test::Fail;
 pub(crate) const FIELDS: Details = Details {
     payload: false,
     properties: false,
+    json: false,
 };
 
 /// The first bytes of payloads too.
 const PAYLOADS: Details = Details {
     payload: true,
     properties: false,
+    json: false,
 };
 
 /// Why there is no view. If an allocation is refused, nothing but want of memory may be told.

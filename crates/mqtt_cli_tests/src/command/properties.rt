@@ -8,6 +8,7 @@ use std::test::Fail;
 const PROPERTIES: Details = Details {
     payload: false,
     properties: true,
+    json: false,
 };
 
 /// Publications, each with its line.
@@ -131,6 +132,7 @@ fn a_payload_stands_behind_the_properties(rt: HostRuntime) -> Result<(), Fail> {
     let details = Details {
         payload: true,
         properties: true,
+        json: false,
     };
     assert_shown(
         &rt,

@@ -9,28 +9,48 @@ use std::net::{Ipv4Addr, SocketAddrV4};
 use std::process::Abort;
 use std::test::Fail;
 
-/// Command lines that ask for a view, each with its FILE, and whether payloads and properties are shown.
-fn view_words() -> &'static [(&'static [&'static str], &'static str, bool, bool)] {
+/// Command lines that ask for a view, each with its FILE, and whether payloads, properties and objects are asked for.
+fn view_words() -> &'static [(&'static [&'static str], &'static str, [bool; 3])] {
     &[
-        (&["mqtt5", "view", "-"], "-", false, false),
-        (&["mqtt5", "view", "a b"], "a b", false, false),
-        (&["mqtt5", "view", "--payload", "f"], "f", true, false),
-        (&["mqtt5", "view", "f", "--payload"], "f", true, false),
-        (&["mqtt5", "view", "--properties", "f"], "f", false, true),
+        (&["mqtt5", "view", "-"], "-", [false, false, false]),
+        (&["mqtt5", "view", "a b"], "a b", [false, false, false]),
+        (
+            &["mqtt5", "view", "--payload", "f"],
+            "f",
+            [true, false, false],
+        ),
+        (
+            &["mqtt5", "view", "f", "--payload"],
+            "f",
+            [true, false, false],
+        ),
+        (
+            &["mqtt5", "view", "--properties", "f"],
+            "f",
+            [false, true, false],
+        ),
         (
             &["mqtt5", "view", "--properties", "f", "--payload"],
             "f",
-            true,
-            true,
+            [true, true, false],
         ),
-        (&["x", "view", "--", "--payload"], "--payload", false, false),
+        (&["mqtt5", "view", "--json", "f"], "f", [false, false, true]),
+        (
+            &["mqtt5", "view", "f", "--json", "--payload", "--properties"],
+            "f",
+            [true, true, true],
+        ),
+        (
+            &["x", "view", "--", "--payload"],
+            "--payload",
+            [false, false, false],
+        ),
         (
             &["x", "view", "--", "--properties"],
             "--properties",
-            false,
-            false,
+            [false, false, false],
         ),
-        (&["mqtt5", "view", ""], "", false, false),
+        (&["mqtt5", "view", ""], "", [false, false, false]),
     ]
 }
 
@@ -54,12 +74,14 @@ fn assert_asks(
 #[test]
 fn a_lawful_command_line_is_its_action(rt: HostRuntime) -> Result<(), Fail> {
     assert_asks(&rt, rt.alloc(), &["mqtt5", "vectors"], Action::Vectors)?;
-    for (words, file, payload, properties) in view_words() {
+    for (words, file, details) in view_words() {
+        let [payload, properties, json] = *details;
         let wanted = Action::View {
             file: *file,
             details: Details {
-                payload: *payload,
-                properties: *properties,
+                payload,
+                properties,
+                json,
             },
         };
         assert_asks(&rt, rt.alloc(), words, wanted)?;
@@ -77,6 +99,7 @@ fn a_server_is_asked_for(rt: HostRuntime) -> Result<(), Fail> {
             turns: count,
             limits: GREATEST,
             commit: Commit::Turn,
+            log: false,
         };
         let words = [
             "mqtt5", "serve", "--listen", listen, "--db", "a.db", "--turns", turns,
@@ -114,14 +137,15 @@ fn what_serves_is_called_as_asked(rt: HostRuntime) {
         "3",
         "--commit",
         "step",
+        "--log",
     ];
     let mut written: Vec<u8> = Vec::new(rt.alloc());
     let outcome = perform(
         &rt,
         &words,
         &mut written,
-        &|_, db: &str, turns, limits, commit| {
-            if db == "a.db" && turns == 3 && limits == GREATEST && commit == Commit::Step {
+        &|_, db: &str, turns, limits, commit, log| {
+            if db == "a.db" && turns == 3 && limits == GREATEST && commit == Commit::Step && log {
                 Ok(())
             } else {
                 Err(ServeFault::Socket)
@@ -149,7 +173,7 @@ fn what_replays_is_called_as_asked(rt: HostRuntime) -> Result<(), Fail> {
         &rt,
         &["mqtt5", "replay", "-", "--queue", "7"],
         &mut written,
-        &|_, _, _, _, _| Err(ServeFault::Socket),
+        &|_, _, _, _, _, _| Err(ServeFault::Socket),
         &|file: &str, limits: Limits| {
             if file == "-" && limits.queue == 7 {
                 Ok(Played::Bad)
@@ -243,6 +267,7 @@ fn other_words() -> &'static [(&'static [&'static str], &'static str)] {
             &["mqtt5", "replay", "--commit", "step", "a"],
             "an option of serve",
         ),
+        (&["mqtt5", "replay", "--log", "a"], "the flag of serve"),
         (&["mqtt5", "help"], "the command for help"),
         (&["mqtt5", "view", "--help"], "a call for help with view"),
     ]

@@ -8,6 +8,7 @@ use std::io::{self, Read};
 const FIELDS: Details = Details {
     payload: false,
     properties: false,
+    json: false,
 };
 
 /// A reader that gives a byte a read.
