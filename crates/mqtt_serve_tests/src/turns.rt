@@ -1,12 +1,17 @@
 //! Tests of `mqtt_serve::turns` over its public calls: turns over clients in memory and at sockets (MQTT 5.0, 4.2).
 
+mod apart;
 mod clients;
+mod course;
+mod failing;
 mod full;
 mod groups;
+mod journal;
 mod order;
 mod settled;
 mod slow;
 mod sockets;
+mod stopping;
 mod stretches;
 mod turns;
-mod wanting;
+mod want;

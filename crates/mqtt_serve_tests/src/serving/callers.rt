@@ -2,7 +2,7 @@
 ghost use Rattle.mqtt_rules.specs.step.Laws.{AreWithin};
 
 use mqtt_flow::Full;
-use mqtt_serve::{Commit, Limits, ServeFault, Unknown, serve};
+use mqtt_serve::{Cause, Commit, Limits, Quiet, Unknown, serve};
 use std::io::{ErrorKind, Read, Write};
 use std::net::{Ipv4Addr, SocketAddr, TcpStream};
 use std::test::Fail;
@@ -72,7 +72,7 @@ pub fn is_answered(
     limits: Limits,
     sends: &[u8],
     answer: &[u8],
-) -> Result<bool, ServeFault>
+) -> Result<bool, Cause>
     requires { AreWithin limits }
 {
     let mut caller = Caller {
@@ -91,12 +91,13 @@ pub fn is_answered(
         limits,
         Commit::Turn,
         Unknown,
+        &mut Quiet,
     );
     let is_it = caller.came.as_slice() == answer && caller.told.ends_with(b"\ndone\n");
     drop(caller);
     match ran {
         Ok(()) => Ok(is_it),
-        Err(fault) => Err(fault),
+        Err(cause) => Err(cause),
     }
 }
 

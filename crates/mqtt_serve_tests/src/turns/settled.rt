@@ -1,10 +1,8 @@
 //! Turns that are stored together, before anything of them goes out (MQTT 5.0, 4.1, 4.2).
-use crate::turns::clients::{Call, Clients, Fault, Wrong};
+use crate::turns::clients::Clients;
+use crate::turns::failing::{FailingKeep, Lack};
 use crate::turns::stretches::{Held, stretch, taken};
-use crate::turns::turns::{
-    CONNACK, LIMITS, PINGING, PUBLISHED, PUBLISHER, SUBSCRIBED, SUBSCRIBER, are, is_apart,
-};
-use crate::turns::wanting::WantingKeep;
+use crate::turns::turns::{CONNACK, LIMITS, PUBLISHED, PUBLISHER, SUBSCRIBED, SUBSCRIBER, are};
 use mqtt_broker::Engine;
 use mqtt_keep::{Keep, MemKeep, Settles};
 use mqtt_link::{Commit, HeldBack};
@@ -94,7 +92,8 @@ fn wants_memory(
     alloc: Global,
     hasher: RandomState,
 ) -> Result<(bool, bool), Fail> {
-    let mut engine = gathering(alloc, WantingKeep::new(alloc, 7)?, Commit::Turn, hasher)?;
+    let keep = FailingKeep::new(alloc, 0, 7, Lack::Memory)?;
+    let mut engine = gathering(alloc, keep, Commit::Turn, hasher)?;
     let first = turns(links, &mut engine, 7);
     let is_silent = taken(links) == (0, 0);
     let then = turns(links, &mut engine, 40);
@@ -142,43 +141,5 @@ fn has_at_once(alloc: Global, commit: Commit) -> Result<bool, Fail> {
 fn a_step_is_stored_at_once_where_each_is_stored_by_itself(rt: HostRuntime) -> Result<(), Fail> {
     assert!(rt; has_at_once(rt.alloc(), Commit::Step)?);
     assert!(rt; !has_at_once(rt.alloc(), Commit::Turn)?);
-    Ok(())
-}
-
-/// As `fails_apart` of turns that store each step, over a link that holds back: whether no call went wrong, and whether each other
-/// client is served.
-fn fails_apart(alloc: Global, hasher: RandomState, fault: Fault) -> Result<(bool, bool), Fail> {
-    let clients = Clients::new(alloc, &PINGING, 7, Some(fault))?;
-    let links = play(alloc, clients, Commit::Turn, hasher, 30)?;
-    let clients = links.link().link();
-    let is_well = clients.is_well();
-    let is_lost = clients.failed().is_some() && fault.gives != Wrong::Nothing;
-    let is_apart = is_apart(clients, 0) && is_apart(clients, 1);
-    let is_dropped = links.len() == if is_lost { 1 } else { 2 };
-    drop(links);
-    Ok((is_well, is_apart && is_dropped))
-}
-
-#[test]
-fn a_call_that_fails_changes_no_byte_of_another_held_line(rt: HostRuntime) -> Result<(), Fail> {
-    for call in [Call::Accept, Call::Read, Call::Write] {
-        for gives in [Wrong::Nothing, Wrong::End, Wrong::Failure] {
-            let mut is_swept = false;
-            for number in 0..200 {
-                let fault = Fault {
-                    call,
-                    number,
-                    gives,
-                };
-                let (is_well, is_right) = fails_apart(rt.alloc(), RandomState::new(&rt)?, fault)?;
-                assert!(rt; is_right, "{fault:?}");
-                if is_well {
-                    is_swept = true;
-                    break;
-                }
-            }
-            assert!(rt; is_swept, "{call:?} {gives:?}");
-        }
-    }
     Ok(())
 }

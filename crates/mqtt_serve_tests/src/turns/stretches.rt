@@ -1,13 +1,23 @@
 //! Stretches of turns over clients in memory, on a link that holds back what is written.
-use crate::turns::clients::Clients;
+use crate::turns::clients::{Clients, Stage};
 use mqtt_broker::Engine;
 use mqtt_broker_step::EngineError;
 use mqtt_keep::Settles;
 use mqtt_link::{HeldBack, Link};
-use mqtt_serve::{Links, Timer, serve_stretch};
+use mqtt_serve::{Links, Quiet, Timer, serve_stretch};
+use std::alloc::{AllocError, Global};
 
 /// Connections to clients in memory that hold back what is written.
 pub(crate) type Held = Links<HeldBack<Clients>>;
+
+/// No connection yet, and clients that will come over a link that holds back what is written.
+pub(crate) fn clients_held(
+    alloc: Global,
+    clients: &[&'static [Stage]],
+) -> Result<Held, AllocError> {
+    let clients = Clients::new(alloc, clients, 4096, None)?;
+    Links::new(alloc, HeldBack::new(alloc, clients))
+}
 
 /// How many bytes came to the first two clients.
 pub(crate) fn taken(links: &Held) -> (usize, usize) {
@@ -33,6 +43,13 @@ pub(crate) fn stretch<L: Link + Drop, K: Settles>(
     engine: &mut Engine<K>,
     moment: u64,
 ) -> Result<(), EngineError> {
-    serve_stretch(links, engine, &mut Standing { moment }, 1_000, moment)?;
+    serve_stretch(
+        links,
+        engine,
+        &mut Standing { moment },
+        1_000,
+        moment,
+        &mut Quiet,
+    )?;
     Ok(())
 }

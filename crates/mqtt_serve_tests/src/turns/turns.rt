@@ -1,6 +1,6 @@
 //! What clients are answered, turn by turn (MQTT 5.0, 3.1, 3.3, 3.8, 3.12, 4.3.3).
 
-use crate::turns::clients::{Call, Clients, Fault, Stage, Wrong};
+use crate::turns::clients::{Clients, Stage};
 use mqtt_broker::Engine;
 use mqtt_flow::Full;
 use mqtt_keep::{Keep, MemKeep};
@@ -55,7 +55,7 @@ pub(crate) const PINGING: [&[Stage]; 2] = [
 ];
 
 /// PINGRESP behind the CONNACK (3.13).
-const PINGRESP: &[u8] = b"\xd0\x00";
+pub(crate) const PINGRESP: &[u8] = b"\xd0\x00";
 
 /// A CONNECT whose client is given an identifier (3.1.3.1).
 const NAMELESS: &[Stage] = &[(0, b"\x10\x0d\x00\x04MQTT\x05\x02\x00\x3c\x00\x00\x00")];
@@ -99,7 +99,7 @@ fn turns<K: Keep>(
 }
 
 /// So many turns over a broker that begins with nothing.
-fn play(
+pub(crate) fn play(
     links: &mut Links<Clients>,
     alloc: Global,
     hasher: RandomState,
@@ -174,56 +174,6 @@ fn the_will_of_a_client_that_closes_is_sent(rt: HostRuntime) -> Result<(), Fail>
     done?;
     assert!(rt; is_told);
     assert_eq!(rt; count, 1);
-    Ok(())
-}
-
-/// Whether each client but the one whose call went wrong gets all its answers, and that one a beginning of them.
-pub(crate) fn is_apart(clients: &Clients, place: usize) -> bool {
-    let taken = clients.taken(place);
-    if clients.failed() == Some(place) {
-        return CONNACK.starts_with(taken)
-            || are(taken, CONNACK, PINGRESP)
-            || are(taken, CONNACK, &PINGRESP[..1]);
-    }
-    are(taken, CONNACK, PINGRESP)
-}
-
-/// What comes of it if a call goes wrong: whether none did, and whether each other client is served, and the connection of
-/// that client is lost if the call gave the end or a failure.
-fn fails_apart(alloc: Global, hasher: RandomState, fault: Fault) -> Result<(bool, bool), Fail> {
-    let clients = Clients::new(alloc, &PINGING, 7, Some(fault))?;
-    let mut links = Links::new(alloc, clients)?;
-    let done = play(&mut links, alloc, hasher, 30);
-    let is_well = links.link().is_well();
-    let is_lost = links.link().failed().is_some() && fault.gives != Wrong::Nothing;
-    let is_apart = is_apart(links.link(), 0) && is_apart(links.link(), 1);
-    let is_dropped = links.len() == if is_lost { 1 } else { 2 };
-    drop(links);
-    done?;
-    Ok((is_well, is_apart && is_dropped))
-}
-
-#[test]
-fn a_call_that_fails_changes_no_byte_of_another_line(rt: HostRuntime) -> Result<(), Fail> {
-    for call in [Call::Accept, Call::Read, Call::Write] {
-        for gives in [Wrong::Nothing, Wrong::End, Wrong::Failure] {
-            let mut is_swept = false;
-            for number in 0..200 {
-                let fault = Fault {
-                    call,
-                    number,
-                    gives,
-                };
-                let (is_well, is_right) = fails_apart(rt.alloc(), RandomState::new(&rt)?, fault)?;
-                assert!(rt; is_right, "{fault:?}");
-                if is_well {
-                    is_swept = true;
-                    break;
-                }
-            }
-            assert!(rt; is_swept, "{call:?} {gives:?}");
-        }
-    }
     Ok(())
 }
 
