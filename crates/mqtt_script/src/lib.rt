@@ -2,6 +2,7 @@
 //! (ours).
 #![tactic(auto)]
 
+mod bad_line;
 mod event;
 mod fault;
 mod laws;
@@ -10,6 +11,7 @@ mod replay_fault;
 mod telling;
 mod words;
 
+pub use bad_line::{BadLine, BadReason, why_no_event};
 pub use event::{Asking, Content, Draft, Event, Wish};
 pub use fault::ScriptFault;
 pub use laws::one_event;

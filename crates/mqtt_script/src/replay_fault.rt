@@ -2,6 +2,7 @@
 
 ghost use Rattle.std.specs.Prelude.{◌≡◌};
 
+use crate::bad_line::BadLine;
 use std::alloc::{AllocError, AllocFailed};
 use thiserror::Error;
 
@@ -11,7 +12,7 @@ pub enum Played {
     /// Its last line: each of its events happened.
     Whole,
     /// A line that is no event, or an event that can't happen there.
-    Bad,
+    Bad(BadLine),
 }
 
 /// Why a replay stopped early.
