@@ -4,3 +4,4 @@ pub mod Asking
 pub mod Cut
 pub mod Opening
 pub mod Framers
+pub mod Looks

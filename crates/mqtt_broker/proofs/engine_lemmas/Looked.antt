@@ -1,12 +1,16 @@
 -- What may be looked at of a broker doesn't depend on what its waiting copies say.
-use Rattle.std.proofs.Common.{◌≡◌, ℕ, Bool, true, false, cond, List, [], ◌∷◌, map, length, Option, Some, refl, sym, ap, ◌∙◌}
+use Rattle.std.proofs.Common.{◌≡◌, ℕ, Bool, true, false, cond, List, [], ◌∷◌, map, nat_eq, length, Option, Some, None, refl, sym, ap, ◌∙◌}
 use Rattle.std.specs.Prelude.{bytes_eq, find, option_map}
 use Rattle.std.proofs.lemmas.List.{length-map}
 use Rattle.mqtt_records.specs.messages.Filling.{Fillings, filled_row}
+use Rattle.mqtt_records.specs.lists.Order.{row_at}
+use Rattle.mqtt_records.specs.state.Session.{birth_of}
 use Rattle.mqtt_records.specs.declared.state.session.Session.{Session}
+use Rattle.mqtt_rules.specs.step.Lines.{session_on}
 use Rattle.mqtt_rules.specs.step.State.{Broker, session_named}
 use Rattle.mqtt_rules.specs.step.Step.{can_link}
 use Rattle.mqtt_rules.specs.filling.Filling.{filled, filled_session}
+use Rattle.mqtt_broker.specs.engine.Looks.{copies_on, queue_on_line}
 
 -- how many copies stand in a queue, if the session is there
 abbrev pub queue_length : Option Session → Option ℕ
@@ -28,11 +32,25 @@ module _ (fillings : Fillings) where
       if_named (bytes_eq s.client client) s (find (λ s. bytes_eq s.client client) (map (filled_session fillings) ss)) (find (λ s. bytes_eq s.client client) ss)
       (named_long client ss)
 
+  born_long : (birth : ℕ) (ss : List Session) → queue_length (row_at birth_of birth (map (filled_session fillings) ss)) ≡ queue_length (row_at birth_of birth ss)
+  born_long birth [] = refl
+  born_long birth (s ∷ ss) =
+      if_named (nat_eq s.birth birth) s (row_at birth_of birth (map (filled_session fillings) ss)) (row_at birth_of birth ss) (born_long birth ss)
+
+  linked_long : (o : Option (Option ℕ)) (b : Broker) → copies_on o (filled fillings b) ≡ copies_on o b
+  linked_long None b = refl
+  linked_long (Some None) b = refl
+  linked_long (Some (Some birth)) b = born_long birth b.records.sessions
+
 -- a broker that is another one with its rows filled has as many copies in the queue of each client
 pub queues_long : (fillings : Fillings) (client : List ℕ) (some whole : Broker) → filled fillings some ≡ whole
     → queue_length (session_named client some.records) ≡ queue_length (session_named client whole.records)
 queues_long fillings client some whole is =
     sym (named_long fillings client some.records.sessions) ∙ ap (λ (b : Broker). queue_length (session_named client b.records)) is
+
+-- and in the queue of the session on each line
+pub lines_long : (fillings : Fillings) (line : ℕ) (some whole : Broker) → filled fillings some ≡ whole → queue_on_line line some ≡ queue_on_line line whole
+lines_long fillings line some whole is = sym (linked_long fillings (session_on line some) some) ∙ ap (queue_on_line line) is
 
 -- as many sessions
 pub sessions_long : (fillings : Fillings) (some whole : Broker) → filled fillings some ≡ whole

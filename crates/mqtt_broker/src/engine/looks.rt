@@ -2,9 +2,35 @@
 ghost use Rattle.std.specs.Prelude.{◌≡◌, is_some, length, option_map};
 ghost use Rattle.mqtt_rules.specs.step.State.{line_at, session_named};
 ghost use Rattle.mqtt_rules.specs.step.Step.{can_link};
+ghost use Rattle.mqtt_broker.specs.engine.Looks.{copies_for, queue_on_line};
 
 use crate::engine::engine::Engine;
+use mqtt_broker_step::Step;
 use mqtt_keep::Keep;
+
+/// How many copies there are for the session with a birth. Takes no memory.
+fn copies_for(step: &Step, session: Option<u64>) -> Option<usize>
+    ensures { result ≡ copies_for session step.now.broker }
+{
+    match session {
+        Some(birth) => match step.session(birth) {
+            Some(session) => Some(session.queue.len()),
+            None => None,
+        },
+        None => None,
+    }
+}
+
+/// How many copies there are for the session that is connected on a line. Takes no memory.
+#[tactic(auto, using(crate::proofs::stored_lemmas::Holders::row_of))]
+fn copies_on(step: &Step, line: u64) -> Option<usize>
+    ensures { result ≡ queue_on_line line step.now.broker }
+{
+    match step.line(line) {
+        Some(state) => copies_for(step, state.session()),
+        None => None,
+    }
+}
 
 impl<K: Keep> Engine<K> {
     /// Whether a line is linked. Takes no memory.
@@ -32,6 +58,14 @@ impl<K: Keep> Engine<K> {
             Some(session) => Some(session.queue.len()),
             None => None,
         }
+    }
+
+    /// How many copies wait for the session that is connected on a line, or are in flight to it; None if the line is not
+    /// linked, or no session is connected on it. Takes no memory.
+    pub fn queue_on(&self, line: u64) -> Option<usize>
+        ensures { result ≡ queue_on_line line self.now.running.broker }
+    {
+        copies_on(self.inner.step(), line)
     }
 
     /// How many sessions stand. Takes no memory.
