@@ -89,7 +89,7 @@ module _ {K : Type 0} (g : Ghosts K) (limits : Limits) (now : ℕ) (first : K) w
       → g.leaves loaded after ⊎ ((after ≡ r) ⊎ IsStoredAfter limits now r after) → g.leaves first after ⊎ IsStoredOpening g limits now first after
   opening_left r loaded begun after device (inl before) = inl (begun.crash after before)
   opening_left r loaded begun after device (inr (inl is)) = inl (subst (λ (x : Records). g.leaves first x) (sym is) (begun.load.found device))
-  opening_left r loaded begun after device (inr (inr stored)) = inr (record { loaded = loaded; records = r; load = begun.load; is = stored })
+  opening_left r loaded begun after device (inr (inr stored)) = inr (record { loaded = loaded; records = r; load = begun.load; sound = device; is = stored })
 
   -- or the store refuses the opening
   pub refused_store : (r : Records) (loaded left : K) (error : KeepError) → IsBegun g first r loaded → (error ≡ Corrupt → SpentOpening limits r now) → (error ≡ Schema → ⊥)

@@ -27,11 +27,12 @@ pub record IsBegun {K : Type 0} (g : Ghosts K) (keep : K) (r : Records) (loaded 
   pub same : (h : Records) → g.holds keep h → g.holds loaded h
   pub crash : (after : Records) → g.leaves loaded after → g.leaves keep after
 
--- what is stored after an opening of what a load answered
+-- what is stored after an opening of what a load answered, whose device returned what was written
 pub record IsStoredOpening {K : Type 0} (g : Ghosts K) (limits : Limits) (now : ℕ) (keep : K) (after : Records) : Type 0 where
   pub loaded : K
   pub records : Records
   pub load : IsLoad g keep records loaded
+  pub sound : g.is_sound loaded
   pub is : IsStoredAfter limits now records after
 
 -- ---- Ok: the engine begins with the opening of lawful records that a load answered, and its store holds what that leaves. What
