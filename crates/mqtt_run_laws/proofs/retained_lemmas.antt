@@ -1,2 +1,5 @@
 pub mod Quiet
 pub mod EachAct
+pub mod Tables
+pub mod Brought
+pub mod Steps
