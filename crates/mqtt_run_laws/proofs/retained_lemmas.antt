@@ -3,3 +3,4 @@ pub mod EachAct
 pub mod Tables
 pub mod Brought
 pub mod Steps
+pub mod Runs

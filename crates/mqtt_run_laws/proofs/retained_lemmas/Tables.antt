@@ -16,8 +16,8 @@ use Rattle.mqtt_rules.proofs.step_lemmas.acts.Leads.{found_among, found_passes}
 
 not_less : (m n : ℕ) → n ≤ m → nat_lt m n ≡ false
 not_less m n le = elim (cases_Bool (nat_lt m n)) [
-  | inl yes ↦ absurd (let lt = ltb-true m n yes in omega (arith, lt, le))
-  | inr no ↦ no
+  | inl so ↦ absurd (let lt = ltb-true m n so in omega (arith, lt, le))
+  | inr is_not ↦ is_not
 ]
 
 -- a number is the same as one that it equals
@@ -78,7 +78,7 @@ module _ (P : RetainedMessage → Bool) where
   pub none_found : (ks : List RetainedMessage) → find P ks ≡ None → AllByRecursion (λ (k : RetainedMessage). P k ≡ false) ks
   none_found [] is = tt
   none_found (x ∷ xs) is = elim (cases_Bool (P x)) [
-    | inl here ↦ let no : Some x ≡ None = rw here at is in absurd cc
+    | inl here ↦ let is_not : Some x ≡ None = rw here at is in absurd cc
     | inr fails ↦ (fails, none_found xs (rw fails at is))
   ]
 
@@ -116,13 +116,13 @@ module _ (P : RetainedMessage → Bool) where
   -- of which it fails
   pub put_other : (row : RetainedMessage) (ks : List RetainedMessage) → P row ≡ false
       → AllByRecursion (λ (k : RetainedMessage). nat_eq row.place k.place ≡ true → P k ≡ false) ks → filter P (insert_row kept_place row ks) ≡ filter P ks
-  put_other row [] no h = rw no refl
-  put_other row (x ∷ xs) no h =
-      let more = put_other row xs no h.1 in
+  put_other row [] is_not h = rw is_not refl
+  put_other row (x ∷ xs) is_not h =
+      let more = put_other row xs is_not h.1 in
       elim (cases_Bool (nat_lt row.place x.place)) [
-        | inl below ↦ rw below (rw no refl)
+        | inl below ↦ rw below (rw is_not refl)
         | inr beyond ↦ elim (cases_Bool (nat_eq row.place x.place)) [
-          | inl same ↦ let gone = h.0 same in rw (beyond, same) (rw (no, gone) refl)
+          | inl same ↦ let gone = h.0 same in rw (beyond, same) (rw (is_not, gone) refl)
           | inr other ↦ rw (beyond, other) (ap (λ (ys : List RetainedMessage). cond (P x) (x ∷ ys) ys) more)
         ]
       ]
@@ -130,23 +130,23 @@ module _ (P : RetainedMessage → Bool) where
   -- of which it holds, where it held of none
   pub put_new : (row : RetainedMessage) (ks : List RetainedMessage) → P row ≡ true → AllByRecursion (λ (k : RetainedMessage). P k ≡ false) ks
       → filter P (insert_row kept_place row ks) ≡ row ∷ []
-  put_new row [] yes h = rw yes refl
-  put_new row (x ∷ xs) yes h =
+  put_new row [] so h = rw so refl
+  put_new row (x ∷ xs) so h =
       let gone = h.0 in
       let rest = ap (λ (ys : List RetainedMessage). row ∷ ys) (none_pass xs h.1) in
-      let more = put_new row xs yes h.1 in
+      let more = put_new row xs so h.1 in
       elim (cases_Bool (nat_lt row.place x.place)) [
-        | inl below ↦ rw below (rw (yes, gone) rest)
+        | inl below ↦ rw below (rw (so, gone) rest)
         | inr beyond ↦ elim (cases_Bool (nat_eq row.place x.place)) [
-          | inl same ↦ rw (beyond, same) (rw yes rest)
+          | inl same ↦ rw (beyond, same) (rw so rest)
           | inr other ↦ rw (beyond, other) (rw gone more)
         ]
       ]
 
   put_over : (row k : RetainedMessage) (ks : List RetainedMessage) → IsAscending kept_place ks → filter P ks ≡ k ∷ [] → row.place ≡ k.place → P row ≡ true
       → filter P (insert_row kept_place row ks) ≡ row ∷ []
-  put_over row k [] up one here yes = absurd cc
-  put_over row k (x ∷ xs) up one here yes = elim (cases_Bool (P x)) [
+  put_over row k [] up one here so = absurd cc
+  put_over row k (x ∷ xs) up one here so = elim (cases_Bool (P x)) [
     | inl is ↦
         let both : x ∷ filter P xs ≡ k ∷ [] = rw is at one in
         let it : x ≡ k = cc in
@@ -154,21 +154,21 @@ module _ (P : RetainedMessage → Bool) where
         let equal : row.place ≡ x.place = here ∙ ap (λ (y : RetainedMessage). y.place) (sym it) in
         let beyond : nat_lt row.place x.place ≡ false = not_less row.place x.place (omega (arith, equal)) in
         let same : nat_eq row.place x.place ≡ true = same_number row.place x.place equal in
-        rw (beyond, same) (rw yes (ap (λ (ys : List RetainedMessage). row ∷ ys) none))
+        rw (beyond, same) (rw so (ap (λ (ys : List RetainedMessage). row ∷ ys) none))
     | inr fails ↦
         let rest : filter P xs ≡ k ∷ [] = rw fails at one in
         let less = above_one x.place k xs (first_among xs [] k rest) up.0 in
         let beyond : nat_lt row.place x.place ≡ false = not_less row.place x.place (omega (arith, here, less)) in
         let other : nat_eq row.place x.place ≡ false = apart row.place x.place (λ is. omega (arith, is, here, less)) in
-        rw (beyond, other) (rw fails (put_over row k xs up.1 rest here yes))
+        rw (beyond, other) (rw fails (put_over row k xs up.1 rest here so))
   ]
 
   -- in the place of the one of which it held, if there was one
   pub put_its : (row : RetainedMessage) (ks : List RetainedMessage) (o : Option RetainedMessage) → find P ks ≡ o → IsAscending kept_place ks → AtMostOne (filter P ks)
       → row.place ≡ place_of_kept o ks → P row ≡ true → filter P (insert_row kept_place row ks) ≡ row ∷ []
-  put_its row ks None found up one here yes = put_new row ks yes (none_found ks found)
-  put_its row ks (Some k) found up one here yes =
-      put_over row k ks up (the_one k ks one (found_among P k ks found) (found_passes P k ks found)) here yes
+  put_its row ks None found up one here so = put_new row ks so (none_found ks found)
+  put_its row ks (Some k) found up one here so =
+      put_over row k ks up (the_one k ks one (found_among P k ks found) (found_passes P k ks found)) here so
 
   -- ---- a message is taken out
 

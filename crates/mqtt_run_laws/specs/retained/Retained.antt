@@ -1,6 +1,6 @@
 -- What is retained for a topic, and what a subscription brings of it: the last publication with RETAIN 1 (MQTT 5.0, 3.3.1.3, 3.3.2.3.3,
 -- 3.8.3.1, 4.7, 4.8.2).
-use Rattle.std.specs.Prelude.{◌≡◌, ⊤, ⊥, ℕ, Bool, true, cond, not, ◌&&◌, List, [], ◌∷◌, ◌++◌, bytes_eq, filter, flat_map, Option, Some, None, option_to_list}
+use Rattle.std.specs.Prelude.{◌≡◌, ⊤, ℕ, Bool, true, cond, not, ◌&&◌, List, [], ◌∷◌, ◌++◌, bytes_eq, filter, flat_map, Option, Some, None, option_to_list}
 use Rattle.std.specs.List.{last_or}
 use Rattle.mqtt_topic.specs.names.Filters.{begins_share}
 use Rattle.mqtt_topic.specs.names.Matching.{is_match}
