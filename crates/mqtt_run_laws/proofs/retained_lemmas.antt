@@ -4,3 +4,4 @@ pub mod Tables
 pub mod Brought
 pub mod Steps
 pub mod Runs
+pub mod Examples

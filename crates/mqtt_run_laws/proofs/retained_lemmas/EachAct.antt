@@ -20,7 +20,7 @@ use Rattle.mqtt_records.specs.messages.PassedOn.{number_at}
 use Rattle.mqtt_rules.proofs.step_lemmas.fit.StandLaw.{Orders, ordered_all}
 use Rattle.mqtt_rules.specs.step.Closing.{close, close_connected, close_session, drop_line, end_session, has_due_end, has_due_will, publish_or_refuse, publish_will, settle, will_deeds, will_message}
 use Rattle.mqtt_rules.specs.step.Connect.{begin_named, clear, connect_by, joins, of_client, prepare, refusal, refused, resume, take_over}
-use Rattle.mqtt_rules.specs.step.Deeds.{Act, At, Close, Deed, DropWill, Forget, FromClient, FromWill, Gone, Hear, Link, Message, On, Origin, RefuseWill, Send, Subscribe, Whose, after_all, always, of_session, only_if, series, whose, with_line, with_session}
+use Rattle.mqtt_rules.specs.step.Deeds.{Act, At, Close, Deed, DropWill, Forget, FromClient, FromWill, Gone, Hear, Link, Message, On, Origin, RefuseWill, Send, Whose, after_all, always, of_session, only_if, series, whose, with_line, with_session}
 use Rattle.mqtt_rules.specs.step.Fitting.{pump_turns}
 use Rattle.mqtt_rules.specs.step.Inbound.{Meaning, Means, Wrong, answer, code_accepted, code_again, leave_by, meaning, message_of, new_expiry, on_answer, opens, publish_by, publish_meant, publish_new, pump_deeds, sets_alias, standing}
 use Rattle.mqtt_rules.specs.step.Laws.{IsAmong}
@@ -31,7 +31,7 @@ use Rattle.mqtt_rules.specs.step.State.{Broker, Env, Line, line_at, line_of, que
 use Rattle.mqtt_rules.specs.step.Step.{BadInput, Call, Input, Lost, NewLine, Pump, Tick, can_link, connected_in, deeds_of, first_packet, late_code, next_packet, on_fault, on_packet, on_pump, opening, settles, settles_all, shuts, shuts_all}
 use Rattle.mqtt_rules.specs.step.Tick.{due, first_due, has_lapsed, is_silent, is_stale, lapse_deeds, lapses, on_tick, silence}
 use Rattle.mqtt_topic.specs.names.Names.{is_empty}
-use Rattle.std.proofs.Common.{[], Bool, List, None, Option, Some, cond, false, length, map, not, refl, suc, true, ℕ, ◌++◌, ◌+◌, ◌∷◌, ◌≡◌}
+use Rattle.std.proofs.Common.{[], Bool, List, None, Option, Some, cond, false, length, map, not, refl, suc, true, ℕ, ◌++◌, ◌∷◌, ◌≡◌}
 use Rattle.std.specs.List.{AllByRecursion}
 use Rattle.std.specs.Prelude.{Err, Ok, find, nat_lt, option_map, ⊤}
 use Rattle.mqtt_rules.proofs.step_lemmas.acts.Leads.{found_among, found_passes}

@@ -33,10 +33,9 @@ use Rattle.mqtt_rules.specs.step.Outbound.{all_turn_deeds, enter_deeds, leave_de
 use Rattle.mqtt_rules.specs.step.Packets.{connack, publish_of, suback, unsuback}
 use Rattle.mqtt_rules.specs.step.Routing.{CopyTo, deliver, deliver_by, is_queued}
 use Rattle.mqtt_rules.specs.step.State.{Broker, Env, Line, line_at, line_of, queue_on, session_at}
-use Rattle.mqtt_rules.specs.step.Step.{deeds}
 use Rattle.mqtt_rules.specs.step.Subscribe as sub
 use Rattle.mqtt_topic.specs.names.Filters.{is_filter}
-use Rattle.std.proofs.Common.{[], Bool, List, None, Option, Some, cond, false, filter, map, true, ℕ, ◌++◌, ◌+◌, ◌∷◌}
+use Rattle.std.proofs.Common.{[], Bool, List, None, Option, Some, cond, false, filter, map, true, ℕ, ◌++◌, ◌∷◌}
 use Rattle.std.specs.List.{AllByRecursion}
 use Rattle.std.specs.Prelude.{flat_map, nat_lt, ⊤}
 

@@ -1,10 +1,9 @@
 -- Over any calls and openings: what is retained for a topic is what was published last, and each subscription brings it.
-use Rattle.std.proofs.Common.{◌≡◌, ℕ, ◌≤◌, ◌-◌, ◌/◌, Bool, true, false, cond, List, [], ◌∷◌, ◌++◌, map, filter, Option, Some, None, refl, sym, ap, subst, ◌∙◌, inl, inr, arith}
-use Rattle.std.specs.Prelude.{find, nat_le, flat_map, option_map, option_to_list}
-use Rattle.std.specs.List.{AllByRecursion, cons_option, last_or}
+use Rattle.std.proofs.Common.{◌≡◌, ℕ, ◌≤◌, ◌-◌, ◌/◌, Bool, true, false, List, [], ◌∷◌, ◌++◌, filter, Option, Some, None, refl, sym, ap, subst, ◌∙◌, inl, inr, arith}
+use Rattle.std.specs.Prelude.{find, option_map, option_to_list}
+use Rattle.std.specs.List.{cons_option}
 use Rattle.std.proofs.lemmas.Bool.{cases_Bool, le-leb, leb-true}
 use Rattle.std.proofs.Math.Nat.{le-max_left, le-min}
-use Rattle.mqtt_base.specs.declared.limits.TheConstants.{LAST_NUMBER}
 use Rattle.mqtt_props.specs.declared.table.PropName.TheVariants.{MessageExpiryInterval}
 use Rattle.mqtt_flow.specs.outbound.Outbound.{is_past}
 use Rattle.mqtt_records.specs.declared.messages.message.RetainedMessage.{RetainedMessage}
@@ -15,7 +14,7 @@ use Rattle.mqtt_records.specs.declared.messages.message.Content.{Content}
 use Rattle.mqtt_records.specs.messages.PassedOn.{number_at}
 use Rattle.mqtt_records.specs.state.Records.{changed_all, kept_place}
 use Rattle.mqtt_rules.specs.step.Deeds.{Accept, Deed, after, after_all, rows_of, rows_of_all, stored_after}
-use Rattle.mqtt_rules.specs.step.Laws.{Asked as calls, Event, IsAmong, IsCoherent, IsUnique, Reopened, after_event, after_events, blank, topic_at}
+use Rattle.mqtt_rules.specs.step.Laws.{Asked as calls, Event, IsAmong, IsCoherent, Reopened, after_event, after_events, blank}
 use Rattle.mqtt_rules.specs.step.Packets.{is_expired, seconds_waited}
 use Rattle.mqtt_rules.specs.step.Routing.{is_topic, retained_of}
 use Rattle.mqtt_rules.specs.step.State.{Broker, Env, capped}
@@ -24,13 +23,12 @@ use Rattle.std.proofs.lemmas.Slice.Eq.{bytes_eq-Decides}
 use Rattle.mqtt_rules.proofs.step_lemmas.acts.Leads.{found_among, found_passes}
 use Rattle.mqtt_rules.proofs.step_lemmas.fit.FitLaw.{all_among}
 use Rattle.mqtt_rules.proofs.step_lemmas.flight.FlightRows.{all_found}
-use Rattle.mqtt_rules.proofs.step_lemmas.numbers.Counters.{moment_stays, now_stays}
 use Rattle.mqtt_world_model.specs.model.Run.{Acceptance, accepted_by, acceptances_of}
 use Rattle.mqtt_world_laws.specs.acceptance.Entries.{Moment, moments_of}
 use Rattle.mqtt_world_laws.specs.acceptance.Fair.{IsSteady}
 use Rattle.mqtt_world_laws.specs.of_calls.Calls.{BeginsInOrder, SpendNone, SpendsNone, asked_at, course_of}
 use Rattle.mqtt_world_laws.proofs.of_calls_lemmas.Events.{event_steady, events_steady}
-use Rattle.mqtt_world_laws.proofs.of_calls_lemmas.Keeping.{blank_in_order}
+use Rattle.mqtt_world_laws.proofs.of_calls_lemmas.Keeping.{blank_in_order, keeps_all}
 use Rattle.mqtt_run_laws.specs.retained.Retained.{EachBringsIts, IsWhatIsLeft, RetainsTheLast, is_retained_for, left_by, moments_over, retained_for}
 use Rattle.mqtt_run_laws.proofs.retained_lemmas.EachAct.{call_says, opening_says}
 use Rattle.mqtt_run_laws.proofs.retained_lemmas.Steps.{Goes, Holds, Keeps, kept_by_all, last_in}
@@ -83,11 +81,11 @@ begins_alone topic r (Some k) coherent found n =
     let up = coherent.ordered.retained.ascending in
     let there = λ (x : RetainedMessage) (among : IsAmong x ks). all_among (λ (y : RetainedMessage). row_at kept_place y.place ks ≡ Some y) x ks (all_found kept_place ks up) among in
     let named = λ (x : RetainedMessage) (among : IsAmong x ks) (its : is_topic topic x ≡ true).
-        ap (option_map (λ (y : RetainedMessage). y.content.topic)) (there x among) ∙ ap Some ((bytes_eq-Decides x.content.topic topic).0 its) in
+    ap (option_map (λ (y : RetainedMessage). y.content.topic)) (there x among) ∙ ap Some ((bytes_eq-Decides x.content.topic topic).0 its) in
     let among = found_among (is_topic topic) k ks found in
     let its = found_passes (is_topic topic) k ks found in
     let alone : retained_for topic r ≡ k ∷ [] = all_alone (is_topic topic) ks k found up (λ x here is.
-        same_place x k ks up here among (coherent.topics x.place k.place topic (named x here is) (named k among its))) in
+    same_place x k ks up here among (coherent.topics x.place k.place topic (named x here is) (named k among its))) in
     subst (λ (xs : List RetainedMessage). IsWhatIsLeft (Some k) n xs) (sym alone) refl
 
 -- ---- rows that are written
@@ -125,7 +123,7 @@ module _ (topic : List ℕ) (before : Option RetainedMessage) where
       let same : stored_after d b.records ≡ b.records = ap (λ (rows : List Change). changed_all rows b.records) none.0 in
       let rest = still env o ds (after d b) none.1 in
       let nothing : acceptances_of env (d ∷ ds) b ≡ acceptances_of env ds (after d b) =
-          ap (λ (a : Option Acceptance). cons_option a (acceptances_of env ds (after d b))) (none_accepted env d b none.0) in
+      ap (λ (a : Option Acceptance). cons_option a (acceptances_of env ds (after d b))) (none_accepted env d b none.0) in
       (rest.0 ∙ same, ap (last o) nothing ∙ rest.1)
 
   -- ---- behind the deeds of a step
@@ -142,8 +140,7 @@ module _ (topic : List ℕ) (before : Option RetainedMessage) where
       → EachBringsIts topic before (last o (acceptances_of env ds b)) more → EachBringsIts topic before o (moments_of env ds b ++ more)
   goes_each env o [] b more g h = h
   goes_each env o (d ∷ ds) b more g h =
-      let a = accepted_by env d b in
-      (
+      let a = accepted_by env d b in (
         g.0,
         goes_each env (last o (option_to_list a)) ds (after d b) more g.1
             (subst (λ (x : Option Acceptance). EachBringsIts topic before x more) (last_first o a (acceptances_of env ds (after d b))) h),
@@ -230,6 +227,7 @@ retains_the_last es b begins fair =
           (over_stores topic before es b None fair s (begins_alone topic b.records before s.coherent refl b.records.moment));
       brought = λ topic. let before = retained_of topic b.records in
           over_brings topic before es b None fair s (begins_alone topic b.records before s.coherent refl b.records.moment);
+      entering = (keeps_all es b begins fair).entering.brought;
     }
 
 -- from nothing

@@ -1,7 +1,7 @@
 -- Deed by deed: what is retained for a topic is what was published last.
-use Rattle.std.proofs.Common.{◌≡◌, ℕ, ◌≤◌, Bool, true, false, cond, not, ◌&&◌, ◌||◌, List, [], ◌∷◌, ◌++◌, map, filter, length, Option, Some, None, refl, sym, ap, subst, ◌∙◌, inl, inr, arith}
-use Rattle.std.specs.Prelude.{bytes_eq, find, is_some, nat_eq, nat_lt, option_map, option_to_list}
-use Rattle.std.specs.List.{AllByRecursion, cons_option, last_or}
+use Rattle.std.proofs.Common.{◌≡◌, ℕ, ◌≤◌, Bool, true, false, ◌||◌, List, [], ◌∷◌, ◌++◌, map, filter, length, Option, Some, None, refl, sym, ap, subst, ◌∙◌, inl, inr, arith}
+use Rattle.std.specs.Prelude.{bytes_eq, find, is_some, nat_eq, nat_lt, option_to_list}
+use Rattle.std.specs.List.{last_or}
 use Rattle.std.proofs.lemmas.Bool.{cases_Bool, lt-ltb, ltb-true}
 use Rattle.std.proofs.lemmas.Bool.Decides.{nat_tests}
 use Rattle.std.proofs.lemmas.Slice.Eq.{bytes_eq-Decides}
@@ -9,21 +9,21 @@ use Rattle.mqtt_base.specs.declared.limits.TheConstants.{RETAINED_LIMIT}
 use Rattle.mqtt_topic.specs.names.Names.{is_empty}
 use Rattle.mqtt_records.specs.declared.messages.message.RetainedMessage.{RetainedMessage}
 use Rattle.mqtt_records.specs.declared.state.records.Records.{Records}
-use Rattle.mqtt_records.specs.lists.Order.{HasRoomFor, IsAscending, IsBelow, has_row, insert_row, put_row, remove_row}
+use Rattle.mqtt_records.specs.lists.Order.{HasRoomFor, IsAscending, IsBelow, has_row, insert_row, put_row}
 use Rattle.mqtt_records.specs.state.Records.{kept_place}
 use Rattle.mqtt_records.proofs.lists_lemmas.OrderLemmas.{apart}
 use Rattle.mqtt_rules.specs.step.Deeds.{Accept, At, Begin, Deed, Forget, Keep, Message, Origin, after, after_all, series, stored_after}
 use Rattle.mqtt_rules.specs.step.Laws.{AreWithin, IsAmong}
 use Rattle.mqtt_rules.specs.step.Packets.{is_expired}
-use Rattle.mqtt_rules.specs.step.Routing.{CopyTo, accepted_copies, accepted_if, copies_to, deliver, finds_place, forgets, is_topic, kept_message, next_publication, place_of_kept, publish, retain_by, retained_of, routing_of}
+use Rattle.mqtt_rules.specs.step.Routing.{CopyTo, accepted_copies, accepted_if, deliver, finds_place, forgets, is_topic, kept_message, next_publication, place_of_kept, publish, retain_by, retained_of}
 use Rattle.mqtt_rules.specs.step.State.{Broker, Env, next_of, session_at}
 use Rattle.mqtt_rules.specs.step.Tick.{is_stale}
 use Rattle.mqtt_rules.proofs.step_lemmas.acts.Leads.{found_among, found_passes}
 use Rattle.mqtt_rules.proofs.step_lemmas.fit.StandLaw.{Orders}
 use Rattle.mqtt_rules.proofs.step_lemmas.numbers.NumberBirths.{below_next}
 use Rattle.mqtt_rules.proofs.step_lemmas.order.OrderedRoom.{at_retained, begin_retained, found_place, place_is_fit}
-use Rattle.mqtt_world_model.specs.model.Run.{Acceptance, accepted_by, acceptances_of}
-use Rattle.mqtt_run_laws.specs.retained.Retained.{BringsIts, IsWhatIsLeft, as_retained, is_retained_for, left_by, retained_for}
+use Rattle.mqtt_world_model.specs.model.Run.{Acceptance, accepted_by}
+use Rattle.mqtt_run_laws.specs.retained.Retained.{BringsIts, IsWhatIsLeft, is_retained_for, left_by, retained_for}
 use Rattle.mqtt_run_laws.proofs.retained_lemmas.Brought.{brings_its}
 use Rattle.mqtt_run_laws.proofs.retained_lemmas.EachAct.{Says}
 use Rattle.mqtt_run_laws.proofs.retained_lemmas.Quiet.{AreQuiet, IsQuiet, quiet_deliveries}
@@ -115,8 +115,7 @@ module _ (topic : List ℕ) (before : Option RetainedMessage) where
   quietly env [] b q last h = h
   quietly env (d ∷ ds) b q last h =
       let holds : Holds last (after d b) = subst (λ (ks : List RetainedMessage). IsWhatIsLeft (left_by before last) b.now (filter (is_topic topic) ks)) (sym (table d q.0 b.records)) h in
-      let rest : Goes env last ds (after d b) = quietly env ds (after d b) q.1 last holds in
-      (
+      let rest : Goes env last ds (after d b) = quietly env ds (after d b) q.1 last holds in (
         brings_its topic (left_by before last) d b h,
         subst (λ (o : Option Acceptance). Goes env (last_in last (option_to_list o)) ds (after d b)) (sym (accepts_none env d b q.0)) rest,
       )
@@ -173,7 +172,7 @@ module _ (topic : List ℕ) (before : Option RetainedMessage) where
     keeps_other last h other =
         let ks = b.records.retained in
         let none = all_of (λ (x : RetainedMessage). nat_eq kept.place x.place ≡ true → is_topic topic x ≡ false) ks
-            (no_other (is_topic m.topic) (is_topic topic) ks (retained_of m.topic b.records) refl up (another_topic other)) in
+        (no_other (is_topic m.topic) (is_topic topic) ks (retained_of m.topic b.records) refl up (another_topic other)) in
         subst (λ (xs : List RetainedMessage). IsWhatIsLeft (left_by before last) b.now xs) (sym (put_other (is_topic topic) kept ks other none)) h
 
     topic_found : (o : Option RetainedMessage) → bytes_eq m.topic topic ≡ true → retained_of m.topic b.records ≡ o → find (is_topic topic) b.records.retained ≡ o
@@ -241,8 +240,7 @@ module _ (topic : List ℕ) (before : Option RetainedMessage) where
         let next = retain_by m.retain (is_empty m.payload) number m c in
         let all = series (map (deliver env) ds) (after_all next c) in
         let found : finds_place env m b.records ≡ true = was_found (finds_place env m b.records) _ ds is in
-        let a : Acceptance = record { number = number; message = m; env = env; broker = b } in
-        (
+        let a : Acceptance = record { number = number; message = m; env = env; broker = b } in (
           tt,
           goes_on env (last_in last (a ∷ [])) next all c
               (retains env within number m b orders.retained.ascending origin m.retain (is_empty m.payload) last refl refl found h)

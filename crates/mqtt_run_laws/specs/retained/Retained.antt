@@ -1,6 +1,6 @@
 -- What is retained for a topic, and what a subscription brings of it: the last publication with RETAIN 1 (MQTT 5.0, 3.3.1.3, 3.3.2.3.3,
 -- 3.8.3.1, 4.7, 4.8.2).
-use Rattle.std.specs.Prelude.{◌≡◌, ⊤, ℕ, Bool, true, cond, not, ◌&&◌, List, [], ◌∷◌, ◌++◌, bytes_eq, filter, flat_map, Option, Some, None, option_to_list}
+use Rattle.std.specs.Prelude.{◌≡◌, ⊤, ℕ, Bool, true, cond, not, ◌&&◌, List, [], ◌∷◌, bytes_eq, filter, flat_map, Option, Some, None, option_to_list}
 use Rattle.std.specs.List.{last_or}
 use Rattle.mqtt_topic.specs.names.Filters.{begins_share}
 use Rattle.mqtt_topic.specs.names.Matching.{is_match}
@@ -15,8 +15,8 @@ use Rattle.mqtt_rules.specs.step.Routing.{CopyTo, is_topic, kept_message, retain
 use Rattle.mqtt_rules.specs.step.State.{Broker, session_at}
 use Rattle.mqtt_rules.specs.step.Subscribe.{brought, has_filter, is_brought, retained_copy_to, wants_retained}
 use Rattle.mqtt_world_model.specs.model.Run.{Acceptance, accepted_by}
-use Rattle.mqtt_world_laws.specs.acceptance.Entries.{Moment, wish_in}
-use Rattle.mqtt_world_laws.specs.headline_in_forms.Reading.{Course}
+use Rattle.mqtt_world_laws.specs.acceptance.Entries.{Moment, brought_in, wish_in}
+use Rattle.mqtt_world_laws.specs.headline_in_forms.Reading.{Course, entered}
 use Rattle.mqtt_world_laws.specs.unasked.Unasked.{moments_in}
 
 -- ---- what was published last
@@ -97,8 +97,9 @@ abbrev pub moments_over : Course → List Moment
 moments_over c = flat_map moments_in c.asked
 
 -- For each topic: what is retained at the end is what was published last, or what was retained at the beginning; and each subscription
--- brought what was published last by then
+-- brought what was published last by then. Of QoS 1 and 2 exactly these copies, and those of publications, entered queues, each once
 pub record RetainsTheLast (c : Course) : Type 0 where
   pub retained : (topic : List ℕ)
       → IsWhatIsLeft (left_by (retained_of topic c.begin.records) (last_for topic c.acceptances)) c.end.now (retained_for topic c.end.records)
   pub brought : (topic : List ℕ) → EachBringsIts topic (retained_of topic c.begin.records) None (moments_over c)
+  pub entering : entered c ≡ flat_map brought_in c.steps
