@@ -1,5 +1,6 @@
 pub mod Quiet
 pub mod EachAct
+pub mod EachCall
 pub mod Tables
 pub mod Brought
 pub mod Steps

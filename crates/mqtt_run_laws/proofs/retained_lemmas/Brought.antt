@@ -40,7 +40,8 @@ copied topic c same (k ∷ ks) =
     ]
 
 -- one message, or none
-one_copy : (c : RetainedMessage → CopyTo) (m b : RetainedMessage → Bool) (k : RetainedMessage) → map c (filter b (filter m (k ∷ []))) ≡ cond (m k && b k) (c k ∷ []) []
+one_copy : (c : RetainedMessage → CopyTo) (m b : RetainedMessage → Bool) (k : RetainedMessage)
+    → map c (filter b (filter m (k ∷ []))) ≡ cond (m k && b k) (c k ∷ []) []
 one_copy c m b k = elim (cases_Bool (m k)) [
   | inl matches ↦ elim (cases_Bool (b k)) [
     | inl is ↦ rw matches (rw is refl)
@@ -78,7 +79,8 @@ module _ (now number : ℕ) (s : Session) (x : Subscription) where
       let past : is_expired now last.content ≡ true = h in
       rw past (none_due (fits last) (not (x.options.no_local && bytes_eq s.client last.sender)) (make last ∷ []))
   of_these (Some last) (k ∷ []) h =
-      subst (λ (y : RetainedMessage). map make (filter its (filter fits (y ∷ []))) ≡ due_if true (Some last)) (sym h) (one_copy make fits its (record last { place = k.place }))
+      subst (λ (y : RetainedMessage). map make (filter its (filter fits (y ∷ []))) ≡ due_if true (Some last)) (sym h)
+      (one_copy make fits its (record last { place = k.place }))
   of_these (Some last) (k ∷ j ∷ ks) h = absurd h
 
   never : (o : Option RetainedMessage) → [] ≡ due_if false o
@@ -104,6 +106,7 @@ module _ (now number : ℕ) (s : Session) (x : Subscription) where
   brings_due topic o ks h = brings topic o ks h may ∙ due_is o
 
 -- whatever is done, a subscription that is granted brings what is due
-pub brings_its : (topic : List ℕ) (o : Option RetainedMessage) (d : Deed) (b : Broker) → IsWhatIsLeft o b.now (retained_for topic b.records) → BringsIts topic o d b
+pub brings_its : (topic : List ℕ) (o : Option RetainedMessage) (d : Deed) (b : Broker) → IsWhatIsLeft o b.now (retained_for topic b.records)
+    → BringsIts topic o d b
 brings_its topic o (At who (Subscribe x)) b h = λ s there. brings_due b.now b.records.subscribes s x topic o b.records.retained h
 brings_its topic o d b h = tt

@@ -108,7 +108,8 @@ pub it_is_not_brought : brought_numbers (published [] ++ subscribed 0 (handled D
 unfolding varint is_utf8 chars encode
 it_is_not_brought = refl
 
-pub it_is_brought_to_a_new_filter_alone : brought_numbers (published [] ++ subscribed 0 (handled SendIfNew) ++ asked 0 (Input 2 (handled SendIfNew)) ∷ []) ≡ 2 ∷ []
+pub it_is_brought_to_a_new_filter_alone
+    : brought_numbers (published [] ++ subscribed 0 (handled SendIfNew) ++ asked 0 (Input 2 (handled SendIfNew)) ∷ []) ≡ 2 ∷ []
 unfolding varint is_utf8 chars encode
 it_is_brought_to_a_new_filter_alone = refl
 

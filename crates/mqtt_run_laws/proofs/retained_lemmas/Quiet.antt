@@ -100,7 +100,8 @@ pub quiet_deliveries : (env : Env) (ds : List CopyTo) (b : Broker) → AreQuiet 
 quiet_deliveries env [] b = tt
 quiet_deliveries env (d ∷ ds) b =
     let first = deliver env d b in
-    each_append IsQuiet first (series (map (deliver env) ds) (after_all first b)) (quiet_deliver (is_queued d) env d b) (quiet_deliveries env ds (after_all first b))
+    each_append IsQuiet first (series (map (deliver env) ds) (after_all first b)) (quiet_deliver (is_queued d) env d b)
+    (quiet_deliveries env ds (after_all first b))
 
 -- ---- answers, turns, ends and beginnings
 
@@ -157,8 +158,10 @@ quiet_expiry (Some n) s = (tt, tt)
 pub quiet_unsubscribe : (t : Bool) (line : ℕ) (s : Session) (p : GivingUp) (b : Broker) → AreQuiet (sub.unsubscribe_by t line s p b)
 quiet_unsubscribe true line s p b = quiet_offer (line_at line b) (unsuback p.identifier (map (λ f. identifier_in_use) p.filters))
 quiet_unsubscribe false line s p b =
-    each_append IsQuiet (flat_map (sub.unsubscribes s) (filter (λ f. sub.has_filter f s) p.filters)) (offer (line_at line b) (unsuback p.identifier (sub.drop_codes s [] p.filters)))
-    (each_flat IsQuiet (sub.unsubscribes s) (λ f. (tt, tt)) (filter (λ f. sub.has_filter f s) p.filters)) (quiet_offer (line_at line b) (unsuback p.identifier (sub.drop_codes s [] p.filters)))
+    each_append IsQuiet (flat_map (sub.unsubscribes s) (filter (λ f. sub.has_filter f s) p.filters))
+    (offer (line_at line b) (unsuback p.identifier (sub.drop_codes s [] p.filters)))
+    (each_flat IsQuiet (sub.unsubscribes s) (λ f. (tt, tt)) (filter (λ f. sub.has_filter f s) p.filters))
+    (quiet_offer (line_at line b) (unsuback p.identifier (sub.drop_codes s [] p.filters)))
 
 -- ---- SUBSCRIBE
 
@@ -189,7 +192,8 @@ quiet_late : (line : ℕ) (ds : List CopyTo) (b : Broker) → AreQuiet (series (
 quiet_late line [] b = tt
 quiet_late line (d ∷ ds) b =
     let first = sub.late_send line d b in
-    each_append IsQuiet first (series (map (sub.late_send line) ds) (after_all first b)) (quiet_copy (line_at line b) d.copy b) (quiet_late line ds (after_all first b))
+    each_append IsQuiet first (series (map (sub.late_send line) ds) (after_all first b)) (quiet_copy (line_at line b) d.copy b)
+    (quiet_late line ds (after_all first b))
 
 -- a SUBSCRIBE
 pub quiet_subscribe : (t : Bool) (env : Env) (line : ℕ) (s : Session) (p : Asking) (b : Broker) → AreQuiet (sub.subscribe_by t env line s p b)

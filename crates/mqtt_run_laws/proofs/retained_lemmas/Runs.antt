@@ -30,7 +30,7 @@ use Rattle.mqtt_world_laws.specs.of_calls.Calls.{BeginsInOrder, SpendNone, Spend
 use Rattle.mqtt_world_laws.proofs.of_calls_lemmas.Events.{event_steady, events_steady}
 use Rattle.mqtt_world_laws.proofs.of_calls_lemmas.Keeping.{blank_in_order, keeps_all}
 use Rattle.mqtt_run_laws.specs.retained.Retained.{EachBringsIts, IsWhatIsLeft, RetainsTheLast, is_retained_for, left_by, moments_over, retained_for}
-use Rattle.mqtt_run_laws.proofs.retained_lemmas.EachAct.{call_says, opening_says}
+use Rattle.mqtt_run_laws.proofs.retained_lemmas.EachCall.{call_says, opening_says}
 use Rattle.mqtt_run_laws.proofs.retained_lemmas.Steps.{Goes, Holds, Keeps, kept_by_all, last_in}
 use Rattle.mqtt_run_laws.proofs.retained_lemmas.Tables.{above_one, all_of, none_found, none_pass, same_place}
 
@@ -74,12 +74,15 @@ all_alone P (x ∷ xs) k found up only = elim (cases_Bool (P x)) [
         omega (arith, less, same)
 
 -- each topic has one message at most
-begins_alone : (topic : List ℕ) (r : Records) (o : Option RetainedMessage) → IsCoherent r → retained_of topic r ≡ o → (n : ℕ) → IsWhatIsLeft o n (retained_for topic r)
+begins_alone : (topic : List ℕ) (r : Records) (o : Option RetainedMessage) → IsCoherent r → retained_of topic r ≡ o → (n : ℕ)
+    → IsWhatIsLeft o n (retained_for topic r)
 begins_alone topic r None coherent found n = none_pass (is_topic topic) r.retained (none_found (is_topic topic) r.retained found)
 begins_alone topic r (Some k) coherent found n =
     let ks = r.retained in
     let up = coherent.ordered.retained.ascending in
-    let there = λ (x : RetainedMessage) (among : IsAmong x ks). all_among (λ (y : RetainedMessage). row_at kept_place y.place ks ≡ Some y) x ks (all_found kept_place ks up) among in
+    let there =
+    λ (x : RetainedMessage) (among : IsAmong x ks). all_among (λ (y : RetainedMessage). row_at kept_place y.place ks ≡ Some y) x ks
+    (all_found kept_place ks up) among in
     let named = λ (x : RetainedMessage) (among : IsAmong x ks) (its : is_topic topic x ≡ true).
     ap (option_map (λ (y : RetainedMessage). y.content.topic)) (there x among) ∙ ap Some ((bytes_eq-Decides x.content.topic topic).0 its) in
     let among = found_among (is_topic topic) k ks found in
@@ -128,7 +131,8 @@ module _ (topic : List ℕ) (before : Option RetainedMessage) where
 
   -- ---- behind the deeds of a step
 
-  goes_end : (env : Env) (o : Option Acceptance) (ds : List Deed) (b : Broker) → Goes topic before env o ds b → Holds topic before (last o (acceptances_of env ds b)) (after_all ds b)
+  goes_end : (env : Env) (o : Option Acceptance) (ds : List Deed) (b : Broker) → Goes topic before env o ds b
+      → Holds topic before (last o (acceptances_of env ds b)) (after_all ds b)
   goes_end env o [] b g = g
   goes_end env o (d ∷ ds) b g =
       let a = accepted_by env d b in
@@ -154,7 +158,8 @@ module _ (topic : List ℕ) (before : Option RetainedMessage) where
   stored_by [] o b still_so h = still_so refl
   stored_by (row ∷ rows) o b still_so h = h
 
-  step_stores : (env : Env) (o : Option Acceptance) (ds : List Deed) (b : Broker) → Goes topic before env o ds b → Stored o b → Stored (last o (acceptances_of env ds b)) (done ds b)
+  step_stores : (env : Env) (o : Option Acceptance) (ds : List Deed) (b : Broker) → Goes topic before env o ds b → Stored o b
+      → Stored (last o (acceptances_of env ds b)) (done ds b)
   step_stores env o ds b g h =
       let o' = last o (acceptances_of env ds b) in
       stored_by (rows_of_all ds b.records) o' (after_all ds b)
@@ -196,7 +201,8 @@ module _ (topic : List ℕ) (before : Option RetainedMessage) where
 
   -- ---- and of many
 
-  pub over_stores : (es : List Event) (b : Broker) (o : Option Acceptance) → SpendNone es b → IsSteady b → Stored o b → Stored (last o (course_of es b).acceptances) (after_events es b)
+  pub over_stores : (es : List Event) (b : Broker) (o : Option Acceptance) → SpendNone es b → IsSteady b → Stored o b
+      → Stored (last o (course_of es b).acceptances) (after_events es b)
   over_stores [] b o fair s h = h
   over_stores (e ∷ es) b o fair s h =
       let c = after_event e b in
@@ -205,7 +211,8 @@ module _ (topic : List ℕ) (before : Option RetainedMessage) where
       subst (λ (x : Option Acceptance). Stored x (after_events es c)) (sym (last_append o first (course_of es c).acceptances))
       (over_stores es c (last o first) fair.1 (event_steady e b fair.0 s) (stores e b o g h))
 
-  pub over_brings : (es : List Event) (b : Broker) (o : Option Acceptance) → SpendNone es b → IsSteady b → Stored o b → EachBringsIts topic before o (moments_over (course_of es b))
+  pub over_brings : (es : List Event) (b : Broker) (o : Option Acceptance) → SpendNone es b → IsSteady b → Stored o b
+      → EachBringsIts topic before o (moments_over (course_of es b))
   over_brings [] b o fair s h = tt
   over_brings (e ∷ es) b o fair s h =
       let c = after_event e b in
@@ -223,7 +230,8 @@ retains_the_last es b begins fair =
     let end = events_steady es b fair s in
     record {
       retained = λ topic. let before = retained_of topic b.records in
-          left_later (left_by before (last_in topic before None (course_of es b).acceptances)) (after_events es b).records.moment (after_events es b).now (retained_for topic (after_events es b).records) end.timed
+          left_later (left_by before (last_in topic before None (course_of es b).acceptances)) (after_events es b).records.moment (after_events es b).now
+          (retained_for topic (after_events es b).records) end.timed
           (over_stores topic before es b None fair s (begins_alone topic b.records before s.coherent refl b.records.moment));
       brought = λ topic. let before = retained_of topic b.records in
           over_brings topic before es b None fair s (begins_alone topic b.records before s.coherent refl b.records.moment);

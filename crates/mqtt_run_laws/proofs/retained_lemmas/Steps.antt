@@ -39,7 +39,8 @@ below_one n k (x ∷ xs) among h = elim among [
 ]
 
 -- a message goes to a new place, or to that of one with its topic: for no other topic anything is there
-no_other : (test : RetainedMessage → Bool) (P : RetainedMessage → Bool) (ks : List RetainedMessage) (o : Option RetainedMessage) → find test ks ≡ o → IsAscending kept_place ks
+no_other : (test : RetainedMessage → Bool) (P : RetainedMessage → Bool) (ks : List RetainedMessage) (o : Option RetainedMessage) → find test ks ≡ o
+    → IsAscending kept_place ks
     → ((k : RetainedMessage) → test k ≡ true → P k ≡ false) → (x : RetainedMessage) → IsAmong x ks → nat_eq (place_of_kept o ks) x.place ≡ true → P x ≡ false
 no_other test P ks None found up apart_from x among same =
     let no : true ≡ false = sym same ∙ below_one (next_of kept_place ks) x ks among (below_next kept_place ks) in absurd cc
@@ -50,7 +51,8 @@ no_other test P ks (Some k) found up apart_from x among same =
     number_of : (m n : ℕ) → nat_eq m n ≡ true → m ≡ n
     number_of m n is = grind (arith, nat_tests)
 
-put_there : (row : RetainedMessage) (ks : List RetainedMessage) → HasRoomFor kept_place RETAINED_LIMIT row.place ks → put_row kept_place RETAINED_LIMIT row ks ≡ insert_row kept_place row ks
+put_there : (row : RetainedMessage) (ks : List RetainedMessage) → HasRoomFor kept_place RETAINED_LIMIT row.place ks
+    → put_row kept_place RETAINED_LIMIT row ks ≡ insert_row kept_place row ks
 put_there row ks room = rw room refl
 
 room_more : (x : Bool) (n l m : ℕ) → l ≤ m → (x || nat_lt n l) ≡ true → (x || nat_lt n m) ≡ true
@@ -105,7 +107,8 @@ module _ (topic : List ℕ) (before : Option RetainedMessage) where
   abbrev pub Keeps : Env → List Deed → Broker → Type 0
   Keeps env ds b = (last : Option Acceptance) → Holds last b → Goes env last ds b
 
-  goes_on : (env : Env) (last : Option Acceptance) (xs ys : List Deed) (b : Broker) → Goes env last xs b → Keeps env ys (after_all xs b) → Goes env last (xs ++ ys) b
+  goes_on : (env : Env) (last : Option Acceptance) (xs ys : List Deed) (b : Broker) → Goes env last xs b → Keeps env ys (after_all xs b)
+      → Goes env last (xs ++ ys) b
   goes_on env last [] ys b g h = h last g
   goes_on env last (x ∷ xs) ys b g h = (g.0, goes_on env (last_in last (option_to_list (accepted_by env x b))) xs ys (after x b) g.1 h)
 
@@ -114,7 +117,8 @@ module _ (topic : List ℕ) (before : Option RetainedMessage) where
   quietly : (env : Env) (ds : List Deed) (b : Broker) → AreQuiet ds → Keeps env ds b
   quietly env [] b q last h = h
   quietly env (d ∷ ds) b q last h =
-      let holds : Holds last (after d b) = subst (λ (ks : List RetainedMessage). IsWhatIsLeft (left_by before last) b.now (filter (is_topic topic) ks)) (sym (table d q.0 b.records)) h in
+      let holds : Holds last (after d b) =
+      subst (λ (ks : List RetainedMessage). IsWhatIsLeft (left_by before last) b.now (filter (is_topic topic) ks)) (sym (table d q.0 b.records)) h in
       let rest : Goes env last ds (after d b) = quietly env ds (after d b) q.1 last holds in (
         brings_its topic (left_by before last) d b h,
         subst (λ (o : Option Acceptance). Goes env (last_in last (option_to_list o)) ds (after d b)) (sym (accepts_none env d b q.0)) rest,
@@ -146,12 +150,14 @@ module _ (topic : List ℕ) (before : Option RetainedMessage) where
     another_topic other k is = subst (λ (t : List ℕ). bytes_eq t topic ≡ false) (sym ((bytes_eq-Decides k.content.topic m.topic).0 is)) other
 
     -- where a message goes there is room
-    room : m.retain ≡ true → is_empty m.payload ≡ false → finds_place env m b.records ≡ true → HasRoomFor kept_place RETAINED_LIMIT kept.place b.records.retained
+    room : m.retain ≡ true → is_empty m.payload ≡ false → finds_place env m b.records ≡ true
+        → HasRoomFor kept_place RETAINED_LIMIT kept.place b.records.retained
     room is full found =
         let r = b.records in
         let o = retained_of m.topic r in
         let fits = found_place m.retain (is_empty m.payload) (is_some o || nat_lt (length r.retained) env.limits.retained) is full found in
-        room_more (has_row kept_place kept.place r.retained) (length r.retained) env.limits.retained RETAINED_LIMIT within.retained (place_is_fit env m number b.now r o refl fits)
+        room_more (has_row kept_place kept.place r.retained) (length r.retained) env.limits.retained RETAINED_LIMIT within.retained
+        (place_is_fit env m number b.now r o refl fits)
 
     abbrev Left : Option Acceptance → List RetainedMessage → Type 0
     Left last ks = IsWhatIsLeft (left_by before last) b.now (filter (is_topic topic) ks)
@@ -164,18 +170,21 @@ module _ (topic : List ℕ) (before : Option RetainedMessage) where
         let same : m.topic ≡ topic = same_topic is in
         let one : AtMostOne (filter (is_topic topic) ks) = at_most_one (left_by before last) b.now (filter (is_topic topic) ks) h in
         let found : find (is_topic topic) ks ≡ retained_of m.topic b.records = ap (λ (t : List ℕ). find (is_topic t) ks) (sym same) in
-        let alone : filter (is_topic topic) (insert_row kept_place kept ks) ≡ kept ∷ [] = put_its (is_topic topic) kept ks (retained_of m.topic b.records) found up one refl is in
+        let alone : filter (is_topic topic) (insert_row kept_place kept ks) ≡ kept ∷ [] =
+        put_its (is_topic topic) kept ks (retained_of m.topic b.records) found up one refl is in
         let left : IsWhatIsLeft (left_by before (Some its)) b.now (kept ∷ []) = rw full refl in
         subst (λ (xs : List RetainedMessage). IsWhatIsLeft (left_by before (Some its)) b.now xs) (sym alone) left
 
-    keeps_other : (last : Option Acceptance) → Left last b.records.retained → is_topic topic kept ≡ false → Left last (insert_row kept_place kept b.records.retained)
+    keeps_other : (last : Option Acceptance) → Left last b.records.retained → is_topic topic kept ≡ false
+        → Left last (insert_row kept_place kept b.records.retained)
     keeps_other last h other =
         let ks = b.records.retained in
         let none = all_of (λ (x : RetainedMessage). nat_eq kept.place x.place ≡ true → is_topic topic x ≡ false) ks
         (no_other (is_topic m.topic) (is_topic topic) ks (retained_of m.topic b.records) refl up (another_topic other)) in
         subst (λ (xs : List RetainedMessage). IsWhatIsLeft (left_by before last) b.now xs) (sym (put_other (is_topic topic) kept ks other none)) h
 
-    topic_found : (o : Option RetainedMessage) → bytes_eq m.topic topic ≡ true → retained_of m.topic b.records ≡ o → find (is_topic topic) b.records.retained ≡ o
+    topic_found : (o : Option RetainedMessage) → bytes_eq m.topic topic ≡ true → retained_of m.topic b.records ≡ o
+        → find (is_topic topic) b.records.retained ≡ o
     topic_found o is found = subst (λ (t : List ℕ). find (is_topic t) b.records.retained ≡ o) (same_topic is) found
 
     -- an empty one takes away what there is
@@ -201,7 +210,8 @@ module _ (topic : List ℕ) (before : Option RetainedMessage) where
         (tt, subst (λ (xs : List RetainedMessage). IsWhatIsLeft (left_by before last) b.now xs) (sym same) h)
 
     -- what RETAIN does
-    retains : (origin : Origin) (t e : Bool) (last : Option Acceptance) → m.retain ≡ t → is_empty m.payload ≡ e → finds_place env m b.records ≡ true → Left last b.records.retained
+    retains : (origin : Origin) (t e : Bool) (last : Option Acceptance) → m.retain ≡ t → is_empty m.payload ≡ e → finds_place env m b.records ≡ true
+        → Left last b.records.retained
         → Goes env (now_last last) (retain_by t e number m (after (Accept number origin m) b)) (after (Accept number origin m) b)
     retains origin false e last is empty found h =
         let other : is_retained_for topic its ≡ false = rw is refl in
@@ -213,7 +223,8 @@ module _ (topic : List ℕ) (before : Option RetainedMessage) where
           | inl same ↦
               let its_own : is_retained_for topic its ≡ true = rw (is, same) refl in
               let one = at_most_one (left_by before last) b.now (filter (is_topic topic) b.records.retained) h in
-              subst (λ (x : Option Acceptance). Goes env x (forgets o) c) (sym (becomes_last last its_own)) (takes_it origin o (topic_found o same refl) empty one)
+              subst (λ (x : Option Acceptance). Goes env x (forgets o) c) (sym (becomes_last last its_own))
+              (takes_it origin o (topic_found o same refl) empty one)
           | inr other ↦
               let not_its : is_retained_for topic its ≡ false = rw (is, other) refl in
               subst (λ (x : Option Acceptance). Goes env x (forgets o) c) (sym (stays_last last not_its)) (takes_other origin last o refl other h)
@@ -233,7 +244,8 @@ module _ (topic : List ℕ) (before : Option RetainedMessage) where
         ]
 
   module _ (env : Env) (within : AreWithin env.limits) where
-    publishes : (origin : Origin) (m : Message) (ds : List CopyTo) (b : Broker) → Orders b → accepted_copies env m b ≡ Some ds → Keeps env (publish env origin m ds b) b
+    publishes : (origin : Origin) (m : Message) (ds : List CopyTo) (b : Broker) → Orders b → accepted_copies env m b ≡ Some ds
+        → Keeps env (publish env origin m ds b) b
     publishes origin m ds b orders is last h =
         let number = next_publication b.records in
         let c = after (Accept number origin m) b in
@@ -259,7 +271,9 @@ module _ (topic : List ℕ) (before : Option RetainedMessage) where
               let alone = the_one (is_topic topic) k ks one among its in
               let goes : IsWhatIsLeft left b.now [] = gone left b.now k past (subst (λ (xs : List RetainedMessage). IsWhatIsLeft left b.now xs) alone h) in
               (tt, subst (λ (xs : List RetainedMessage). IsWhatIsLeft left b.now xs) (sym (take_its (is_topic topic) k ks alone)) goes)
-          | inr other ↦ (tt, subst (λ (xs : List RetainedMessage). IsWhatIsLeft left b.now xs) (sym (take_other (is_topic topic) k ks orders.retained.ascending among other one)) h)
+          | inr other ↦
+              let same = take_other (is_topic topic) k ks orders.retained.ascending among other one in
+              (tt, subst (λ (xs : List RetainedMessage). IsWhatIsLeft left b.now xs) (sym same) h)
         ]
 
     -- so it is said of every act

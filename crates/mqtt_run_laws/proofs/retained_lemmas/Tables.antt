@@ -164,7 +164,8 @@ module _ (P : RetainedMessage → Bool) where
   ]
 
   -- in the place of the one of which it held, if there was one
-  pub put_its : (row : RetainedMessage) (ks : List RetainedMessage) (o : Option RetainedMessage) → find P ks ≡ o → IsAscending kept_place ks → AtMostOne (filter P ks)
+  pub put_its : (row : RetainedMessage) (ks : List RetainedMessage) (o : Option RetainedMessage) → find P ks ≡ o → IsAscending kept_place ks
+      → AtMostOne (filter P ks)
       → row.place ≡ place_of_kept o ks → P row ≡ true → filter P (insert_row kept_place row ks) ≡ row ∷ []
   put_its row ks None found up one here so = put_new row ks so (none_found ks found)
   put_its row ks (Some k) found up one here so =
