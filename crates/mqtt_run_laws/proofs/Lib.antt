@@ -1,1 +1,2 @@
+pub mod retained_lemmas
 pub mod wills_lemmas

@@ -1,1 +1,2 @@
+pub mod retained
 pub mod wills
