@@ -12,5 +12,8 @@ returns-in-Ok-clause-ok g c =
     c.play_event-played.ensures.ok
 
 pub returns-in_ok-play_bad-in-Err-NoEvent-clause-ok : goal.returns-in_ok-play_bad-in-Err-NoEvent-clause-ok
-returns-in_ok-play_bad-in-Err-NoEvent-clause-ok g c =
-    ((search rules, inl (c.in-Err-NoEvent.ensures.refused (search rules))), c.in_ok-play_bad-in-Err-NoEvent.ensures.ok)
+returns-in_ok-play_bad-in-Err-NoEvent-clause-ok g c = (
+  (search rules, inl (c.in-Err-NoEvent.ensures.refused (search rules), c.in_ok-bad.ensures.reason)),
+  c.in_ok-bad.ensures.number,
+  c.in_ok-bad.ensures.ok,
+)
