@@ -6,6 +6,7 @@ mod course;
 mod failing;
 mod full;
 mod groups;
+mod journal;
 mod order;
 mod settled;
 mod slow;

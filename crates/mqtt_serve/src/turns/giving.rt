@@ -33,7 +33,11 @@ fn give_piece<L: Link, K: Keep, J: Journal>(
         (server engine.old lines.old) (server engine.new lines.new)) }
 {
     let answer = engine.piece(number, bytes, moment);
-    journal.answered(moment, Call::Piece { line: number }, engine, &answer);
+    let call = Call::Piece {
+        line: number,
+        bytes,
+    };
+    journal.answered(moment, call, engine, &answer);
     tell(lines, number, &answer)?;
     match answer {
         Ok(out) => Ok((out.taken, out.again)),
