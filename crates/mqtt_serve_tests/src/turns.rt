@@ -7,6 +7,7 @@ mod failing;
 mod full;
 mod groups;
 mod holding;
+mod journal;
 mod order;
 mod settled;
 mod slow;

@@ -36,7 +36,11 @@ fn give_piece<L: Link, K: Keep, J: Journal>(
         (server engine.old lines.old) (server engine.new lines.new)) }
 {
     let answer = engine.piece(number, bytes, moment);
-    journal.answered(moment, Call::Piece { line: number }, engine, &answer);
+    let call = Call::Piece {
+        line: number,
+        bytes,
+    };
+    journal.answered(moment, call, engine, &answer);
     note_at(lines, place, &answer, moment);
     tell(lines, number, &answer)?;
     match answer {

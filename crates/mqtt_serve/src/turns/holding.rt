@@ -34,13 +34,6 @@ fn has_acknowledged(out: &Outcome) -> bool {
     false
 }
 
-/// How many copies there are for the session that is connected on a line; None if none is.
-fn queue_on<K: Keep>(engine: &Engine<K>, line: u64) -> Option<usize> {
-    let step = engine.inner().step();
-    let birth = step.line(line)?.session()?;
-    Some(step.session(birth)?.queue.len())
-}
-
 impl<L: Link> Connection<L> {
     /// What came on its line is noted, by what the broker answered.
     fn note(&mut self, out: &Outcome, moment: u64)
@@ -99,7 +92,7 @@ fn look_at<L: Link + Drop, K: Keep>(
     requires place { place < length lines.old }
     ensures same { lines.new ≡ lines.old }
 {
-    let waits = queue_on(engine, lines[place].number());
+    let waits = engine.queue_on(lines[place].number());
     lines[place].look(mark, waits, moment)
 }
 
