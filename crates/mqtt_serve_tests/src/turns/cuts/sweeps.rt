@@ -237,7 +237,11 @@ fn a_power_cut_at_a_call_of_the_disk_leaves_what_was_settled(rt: HostRuntime) ->
             swept.last, swept.later
         )?;
         assert!(rt; swept.wrong.is_none(), "{swept:?}");
-        assert!(rt; swept.last > 20 && swept.later > 0, "{swept:?}");
+        // A sync that fails may have brought its bytes to the disk; where they are lost, nothing of it is there.
+        assert!(rt;
+            swept.last > 10 && (is_lost || swept.later > 0),
+            "{swept:?}"
+        );
     }
     Ok(())
 }
