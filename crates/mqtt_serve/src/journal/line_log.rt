@@ -51,16 +51,17 @@ impl<W: io::Write + Drop> ServerLog<W> {
         };
         known.client = String::from_str(self.alloc, session.client.as_str()).ok();
         known.birth = Some(session.birth);
+        let terms = Terms {
+            clean_start: known.came.clean_start(),
+            session_present,
+            keep_alive,
+            expiry: session.expiry,
+        };
         let event = LineEvent::Connect {
             line,
             peer: known.peer,
             client: known.client(),
-            terms: Terms {
-                clean_start: known.came.clean_start(),
-                session_present,
-                keep_alive,
-                expiry: session.expiry,
-            },
+            terms,
         };
         self.lines.write(moment, &event);
     }
