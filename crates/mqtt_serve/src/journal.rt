@@ -22,6 +22,6 @@ pub use self::call::{Call, Loss};
 pub use self::copy_event::{CopyEvent, CopyLoss, FullQueue};
 pub use self::hearing::{Journal, Quiet};
 pub use self::line_event::{CleanStart, Client, Close, LineEvent, Peer, Present, Terms};
-pub use self::server_event::{Bounds, End, ServerEvent, WhenFull};
+pub use self::server_event::{Bounds, End, ServerEvent, SessionCount, Traffic, WhenFull};
 pub use self::server_log::ServerLog;
 pub use self::session_event::{SessionEnd, SessionEvent, WillCause};

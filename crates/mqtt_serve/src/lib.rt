@@ -13,8 +13,8 @@ pub use database::{MakeFault, PAGE_SIZE, make_database, make_over};
 pub use gathered::{GATHERED_LIMIT, Gathered};
 pub use journal::{
     Bounds, Call, CleanStart, Client, Close, CopyEvent, CopyLoss, End, FullQueue, Journal,
-    LineEvent, Loss, Peer, Present, Quiet, ServerEvent, ServerLog, SessionEnd, SessionEvent, Terms,
-    WhenFull, WillCause,
+    LineEvent, Loss, Peer, Present, Quiet, ServerEvent, ServerLog, SessionCount, SessionEnd,
+    SessionEvent, Terms, Traffic, WhenFull, WillCause,
 };
 pub use mqtt_link::{Commit, ServeFault};
 pub use mqtt_rules::Limits;

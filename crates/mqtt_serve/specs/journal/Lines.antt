@@ -33,6 +33,8 @@ use Rattle.mqtt_serve.specs.declared.journal.session_event.SessionEvent.TheVaria
 use Rattle.mqtt_serve.specs.declared.journal.server_event.WhenFull.{WhenFull}
 use Rattle.mqtt_serve.specs.declared.journal.server_event.WhenFull.TheVariants as full
 use Rattle.mqtt_serve.specs.declared.journal.server_event.Bounds.{Bounds}
+use Rattle.mqtt_serve.specs.declared.journal.server_event.Traffic.{Traffic}
+use Rattle.mqtt_serve.specs.declared.journal.server_event.SessionCount.{SessionCount}
 use Rattle.mqtt_serve.specs.declared.journal.server_event.ServerEvent.{ServerEvent}
 use Rattle.mqtt_serve.specs.declared.journal.server_event.ServerEvent.TheVariants as server
 
@@ -110,8 +112,15 @@ when_full_text full.Refuse = codes "refuse"
 when_full_text full.Drop = codes "drop"
 
 unfoldable pub bounds_text : Bounds → List ℕ
-bounds_text bounds = codes " queue=" ++ decimal bounds.queue ++ codes " full=" ++ when_full_text bounds.full
+bounds_text bounds = codes "queue=" ++ decimal bounds.queue ++ codes " full=" ++ when_full_text bounds.full
     ++ codes " retained=" ++ decimal bounds.retained
+
+unfoldable pub session_count_text : SessionCount → List ℕ
+session_count_text count = codes "sessions=" ++ decimal count.sessions ++ codes " of=" ++ decimal count.limit
+
+unfoldable pub traffic_text : Traffic → List ℕ
+traffic_text traffic = codes "accepted=" ++ decimal traffic.accepted ++ codes " sent=" ++ decimal traffic.sent
+    ++ codes " packets=" ++ decimal traffic.packets
 
 abbrev pub end_text : Option Cause → List ℕ
 end_text (Some cause) = text_of cause
@@ -144,10 +153,9 @@ session_text (session.Will client why) = codes "will" ++ name_text client ++ cod
 -- ---- the server
 
 abbrev pub server_text : ServerEvent → List ℕ
-server_text (server.Start address db sessions session_limit copies bounds) = codes "start " ++ address_text address ++ codes " db=" ++ escaped db.now
-    ++ codes " sessions=" ++ decimal sessions ++ codes " of=" ++ decimal session_limit ++ codes " copies=" ++ decimal copies ++ bounds_text bounds
+server_text (server.Start address db count copies bounds) = codes "start " ++ address_text address ++ codes " db=" ++ escaped db.now
+    ++ codes " " ++ session_count_text count ++ codes " copies=" ++ decimal copies ++ codes " " ++ bounds_text bounds
 server_text (server.End why) = codes "end cause=" ++ end_text why.0
-server_text (server.Counts connections sessions copies accepted sent packets) = codes "counts connections=" ++ decimal connections
-    ++ codes " sessions=" ++ decimal sessions ++ codes " copies=" ++ decimal copies ++ codes " accepted=" ++ decimal accepted
-    ++ codes " sent=" ++ decimal sent ++ codes " packets=" ++ decimal packets
+server_text (server.Counts connections sessions copies traffic) = codes "counts connections=" ++ decimal connections
+    ++ codes " sessions=" ++ decimal sessions ++ codes " copies=" ++ decimal copies ++ codes " " ++ traffic_text traffic
 server_text (server.Unwritten lines) = codes "unwritten lines=" ++ decimal lines

@@ -1,5 +1,5 @@
 //! The counts of a minute (ours).
-use crate::journal::server_event::ServerEvent;
+use crate::journal::server_event::{ServerEvent, Traffic};
 use mqtt_broker::Engine;
 use mqtt_keep::Keep;
 
@@ -101,9 +101,11 @@ impl Counting {
             connections: now.connections,
             sessions: now.sessions,
             copies: now.copies,
-            accepted: now.publications.saturating_sub(before.publications),
-            sent,
-            packets,
+            traffic: Traffic {
+                accepted: now.publications.saturating_sub(before.publications),
+                sent,
+                packets,
+            },
         })
     }
 }

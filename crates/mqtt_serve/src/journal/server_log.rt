@@ -6,7 +6,7 @@ use crate::journal::counting::Counting;
 use crate::journal::hearing::Journal;
 use crate::journal::line_event::{LineEvent, Peer};
 use crate::journal::seldom::Kinds;
-use crate::journal::server_event::{Bounds, End, ServerEvent, WhenFull};
+use crate::journal::server_event::{Bounds, End, ServerEvent, SessionCount, WhenFull};
 use crate::journal::stamped::LineWriter;
 use crate::journal::tables::Table;
 use mqtt_base::LINE_LIMIT;
@@ -75,8 +75,10 @@ impl<W: io::Write + Drop> Journal for ServerLog<W> {
         let event = ServerEvent::Start {
             address,
             db: &self.db,
-            sessions: now.sessions,
-            session_limit: limits.sessions,
+            count: SessionCount {
+                sessions: now.sessions,
+                limit: limits.sessions,
+            },
             copies: now.copies,
             bounds: bounds_of(limits),
         };
