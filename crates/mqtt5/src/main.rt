@@ -1,7 +1,7 @@
 //! The program `mqtt5`: an MQTT 5.0 broker, a viewer of its packets, and scripts of what may become of them.
 #![tactic(auto)]
 
-use mqtt_cli::{ending, run};
+use mqtt_cli::{exit_status, run};
 use mqtt_replay::replay_at;
 use mqtt_serve::{Cause, CauseLine, ServeFault, ServerLog, Unknown, serve};
 use std::alloc::AllocError;
@@ -59,7 +59,6 @@ fn main(rt: HostRuntime) -> ExitCode {
         },
         &|file, limits| replay_at(&rt, file, &mut io::writer(&rt), limits),
     );
-    let (status, text) = ending(&outcome);
-    let _ = eprint!(rt; "{text}");
-    ExitCode::from(status)
+    let _ = eprint!(rt; "{outcome}");
+    ExitCode::from(exit_status(&outcome))
 }

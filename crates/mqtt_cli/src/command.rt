@@ -10,7 +10,7 @@ mod words;
 mod wrong_values;
 
 pub use self::line::{Action, LineFault};
-pub use self::outcome::{DONE, FAILED, FAULTY, Outcome, USAGE, ending};
+pub use self::outcome::{DONE, FAILED, FAULTY, Outcome, USAGE, exit_status};
 pub use self::program::{perform, run};
 pub use self::version::VERSION;
 pub use self::words::action;

@@ -1,1 +1,2 @@
 mod Constants
+mod Told

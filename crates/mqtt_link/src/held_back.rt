@@ -1,6 +1,6 @@
-//! A link whose connections hold back what is written to them until it is let go (MQTT 5.0, 4.2).
-ghost use Rattle.std.specs.Prelude.{◌≡◌, length};
-ghost use Rattle.mqtt_link.specs.Links.{and_then, ended_unless, one_more_if_any};
+//! A link whose connections hold back what is written to them until it is let go, and can be left unread (MQTT 5.0, 4.2).
+ghost use Rattle.std.specs.Prelude.{◌≡◌, length, true};
+ghost use Rattle.mqtt_link.specs.Links.{GivesAtMost, and_then, ended_by, ended_unless, handed, now_told, one_more, one_more_if_any};
 
 use crate::link::{Got, Link};
 use crate::waiting::Waiting;
@@ -14,10 +14,16 @@ pub struct HeldPeer<L: Link> {
     held: Waiting,
     /// Whether not all that was let go last went out.
     is_stuck: bool,
+    /// Whether it is left unread.
+    is_unread: bool,
+    /// How often it was read, or left unread instead, modulo 2^64.
+    reads: u64,
+    /// For how many bytes the last read of it had room.
+    room: usize,
 }
 
 /// A link in front of a link. What is written to a connection is taken at once, and goes out when it is let go; nothing is
-/// taken while not all went out that was let go before.
+/// taken while not all went out that was let go before. A read of a connection that is left unread gives nothing.
 #[derive(Drop)]
 pub struct HeldBack<L: Link + Drop> {
     alloc: Global,
@@ -30,6 +36,13 @@ impl<L: Link> HeldPeer<L> {
         ensures { result ≡ length self.now.held }
     {
         self.held.len()
+    }
+
+    /// It is left unread from now on, or read again. Takes no memory.
+    pub fn leave_unread(&mut self, unread: bool)
+        ensures { self.new ≡ record self.old { is_unread = unread } }
+    {
+        self.is_unread = unread;
     }
 }
 
@@ -54,24 +67,49 @@ impl<L: Link + Drop> HeldBack<L> {
         ensures counted { L.writes peer.new.peer ≡ one_more_if_any peer.old.held (L.writes peer.old.peer) }
         ensures ended { L.ended peer.new.peer ≡ ended_unless result (L.ended peer.old.peer) }
         ensures uncounted { (L.reads peer.new.peer ≡ L.reads peer.old.peer) × (L.room peer.new.peer ≡ L.room peer.old.peer) }
+        ensures unasked { (peer.new.reads ≡ peer.old.reads) × (peer.new.room ≡ peer.old.room) }
         ensures same { L.calls self.new.link ≡ L.calls self.old.link }
     {
         let stands = peer.held.write(&mut self.link, &mut peer.peer);
         peer.is_stuck = !peer.held.is_empty();
         stands
     }
+
+    /// Reads a connection, unless it is left unread: then nothing comes, and the link is not asked. Takes no memory.
+    #[tactic(auto, using(crate::proofs::Told::read_more, crate::proofs::Told::left_more, crate::proofs::Told::read_room, crate::proofs::Told::left_room))]
+    fn read_unless(&mut self, peer: &mut HeldPeer<L>, buffer: &mut [u8]) -> Got<usize>
+        ensures bound { GivesAtMost result (length buffer.new) }
+        ensures unread { peer.old.is_unread ≡ true → (result ≡ Got.Nothing) × (peer.new.peer ≡ peer.old.peer) }
+        ensures counted { now_told peer.new.reads (L.reads peer.new.peer) ≡ one_more (now_told peer.old.reads (L.reads peer.old.peer)) }
+        ensures room { now_told peer.new.room (L.room peer.new.peer)
+            ≡ now_told (length buffer.new) (now_told peer.old.room (L.room peer.old.peer)) }
+        ensures bytes { L.was_read peer.new.peer ≡ and_then (L.was_read peer.old.peer) (handed result buffer.new) }
+        ensures ended { L.ended peer.new.peer ≡ ended_by result (L.ended peer.old.peer) }
+        ensures kept { L.written peer.new.peer ≡ L.written peer.old.peer }
+        ensures unwritten { L.writes peer.new.peer ≡ L.writes peer.old.peer }
+        ensures unsent { peer.new.held ≡ peer.old.held }
+        ensures same { L.calls self.new.link ≡ L.calls self.old.link }
+    {
+        peer.reads = peer.reads.wrapping_add(1);
+        peer.room = buffer.len();
+        if peer.is_unread {
+            return Got::Nothing;
+        }
+        self.link.read(&mut peer.peer, buffer)
+    }
 }
 
 impl<L: Link + Drop> Link for HeldBack<L> {
     type Peer = HeldPeer<L>;
 
-    ghost use Rattle.mqtt_link.specs.Links.{and_then};
+    ghost use Rattle.mqtt_link.specs.Links.{and_then, now_told};
 
     ghost calls = { λ l. L.calls l.link };
 
-    ghost reads = { λ p. L.reads p.peer };
+    // Also where it was left unread.
+    ghost reads = { λ p. now_told p.reads (L.reads p.peer) };
 
-    ghost room = { λ p. L.room p.peer };
+    ghost room = { λ p. now_told p.room (L.room p.peer) };
 
     ghost was_read = { λ p. L.was_read p.peer };
 
@@ -90,6 +128,9 @@ impl<L: Link + Drop> Link for HeldBack<L> {
                 peer,
                 held: Waiting::new(self.alloc),
                 is_stuck: false,
+                is_unread: false,
+                reads: 0,
+                room: 0,
             }),
             Got::Nothing => Got::Nothing,
             Got::End => Got::End,
@@ -105,8 +146,12 @@ impl<L: Link + Drop> Link for HeldBack<L> {
         self.link.wait();
     }
 
+    fn hurry(&mut self) {
+        self.link.hurry();
+    }
+
     fn read(&mut self, peer: &mut HeldPeer<L>, buffer: &mut [u8]) -> Got<usize> {
-        self.link.read(&mut peer.peer, buffer)
+        self.read_unless(peer, buffer)
     }
 
     fn write(&mut self, peer: &mut HeldPeer<L>, bytes: &[u8]) -> Got<usize> {

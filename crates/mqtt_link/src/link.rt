@@ -66,6 +66,11 @@ pub trait Link {
     fn wait(&mut self)
         ensures counted { calls self.new ≡ waited (calls self.old) };
 
+    /// Something has come about that is to go out soon: the next wait is to take no time.
+    fn hurry(&mut self)
+        ensures same { calls self.new ≡ calls self.old }
+    {}
+
     /// Reads at most as many bytes as the buffer has, and puts them at its front.
     fn read(&mut self, peer: &mut Self::Peer, buffer: &mut [u8]) -> Got<usize>
         ensures bound { GivesAtMost result (length buffer.new) }

@@ -12,8 +12,9 @@ pub use causes::{Cause, CauseLine, SocketCause, StoreCause};
 pub use database::{MakeFault, PAGE_SIZE, make_database, make_over};
 pub use gathered::{GATHERED_LIMIT, Gathered};
 pub use journal::{
-    Call, Client, Close, CopyEvent, CopyLoss, End, Journal, LineEvent, Loss, Peer, Present, Quiet,
-    ServerEvent, ServerLog, Terms,
+    Bounds, Call, CleanStart, Client, Close, CopyEvent, CopyLoss, End, FullQueue, Journal,
+    LineEvent, Loss, Peer, Present, Quiet, ServerEvent, ServerLog, SessionCount, SessionEnd,
+    SessionEvent, Terms, Traffic, WhenFull, WillCause,
 };
 pub use mqtt_link::{Commit, ServeFault};
 pub use mqtt_rules::Limits;

@@ -5,6 +5,7 @@ mod accepting;
 mod asking;
 mod connection;
 mod giving;
+mod holding;
 mod keeping;
 mod laws;
 mod line;

@@ -3,9 +3,12 @@
 mod apart;
 mod clients;
 mod course;
+mod cuts;
 mod failing;
 mod full;
 mod groups;
+mod holding;
+mod journal;
 mod order;
 mod settled;
 mod slow;

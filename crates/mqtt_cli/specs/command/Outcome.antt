@@ -1,11 +1,13 @@
 -- How the program ends (ours): 0 done, 1 a fault in the input, 2 a wrong command line, 3 a file, a socket, the store or
 -- memory that failed.
-use Rattle.std.specs.Prelude.{ℕ, List, [], ◌++◌, ◌∷◌, codes}
+use Rattle.std.specs.Prelude.{ℕ, List, [], ◌++◌, ◌∷◌, codes, decimal}
 use Rattle.std.specs.String.{string_bytes}
 use Rattle.mqtt_cli.specs.declared.command.outcome.TheConstants.{DONE, FAULTY, USAGE, FAILED}
 use Rattle.mqtt_cli.specs.declared.command.line.LineFault.TheVariants as line
 use Rattle.mqtt_cli.specs.declared.command.outcome.Outcome.{Outcome}
 use Rattle.mqtt_cli.specs.declared.command.outcome.Outcome.TheVariants.{Done, Line, Unwritten, NoFile, View, Vectors, Replayed, Replay, Served, Serve}
+use Rattle.mqtt_script.specs.BadLines.{reason_text}
+use Rattle.mqtt_script.specs.declared.bad_line.BadLine.{BadLine}
 use Rattle.mqtt_script.specs.declared.replay_fault.Played.TheVariants as played
 use Rattle.mqtt_script.specs.declared.replay_fault.ReplayFault.TheVariants as replay
 use Rattle.mqtt_link.specs.declared.serve_fault.ServeFault.TheVariants as serve
@@ -31,7 +33,7 @@ exit_status (View Memory) = FAILED
 exit_status (Vectors vectors.Write) = FAILED
 exit_status (Vectors vectors.Memory) = FAILED
 exit_status (Replayed played.Whole) = DONE
-exit_status (Replayed played.Bad) = FAULTY
+exit_status (Replayed (played.Bad bad)) = FAULTY
 exit_status (Replay fault) = FAILED
 exit_status Served = DONE
 exit_status (Serve fault) = FAILED
@@ -40,6 +42,11 @@ exit_status (Serve fault) = FAILED
 abbrev pub failure_line : List ℕ → List ℕ
 failure_line why = codes "mqtt5: " ++ why ++ 10 ∷ []
 
+-- which line of a script is bad, and why
+abbrev pub bad_line_text : BadLine → List ℕ
+bad_line_text bad = codes "line " ++ decimal bad.number ++ codes ": " ++ reason_text bad.reason
+
+-- what is told on standard error
 abbrev pub error_text : Outcome → List ℕ
 error_text (Done status) = []
 error_text (Line (line.Usage text)) = string_bytes text
@@ -52,7 +59,8 @@ error_text (View Write) = failure_line (codes "file")
 error_text (View Memory) = failure_line (codes "memory")
 error_text (Vectors vectors.Write) = failure_line (codes "file")
 error_text (Vectors vectors.Memory) = failure_line (codes "memory")
-error_text (Replayed how) = []
+error_text (Replayed played.Whole) = []
+error_text (Replayed (played.Bad bad)) = failure_line (bad_line_text bad)
 error_text (Replay replay.Read) = failure_line (codes "file")
 error_text (Replay replay.Write) = failure_line (codes "file")
 error_text (Replay replay.Memory) = failure_line (codes "memory")

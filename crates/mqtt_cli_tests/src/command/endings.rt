@@ -1,8 +1,8 @@
 //! How the program ends, its help and its version (ours).
 
 use mqtt_cli::{
-    LineFault, Outcome, Played, ReplayFault, ServeFault, Status, VERSION, VectorsFault, ViewFault,
-    action, ending, perform,
+    BadLine, BadReason, LineFault, Outcome, Played, ReplayFault, ServeFault, Status, VERSION,
+    VectorsFault, ViewFault, action, exit_status, perform,
 };
 use std::alloc::Global;
 use std::test::Fail;
@@ -42,7 +42,7 @@ fn help_has_the_version_an_example_and_the_exit_statuses(rt: HostRuntime) -> Res
 }
 
 #[test]
-fn the_version_is_written(rt: HostRuntime) {
+fn the_version_is_written(rt: HostRuntime) -> Result<(), Fail> {
     for word in ["--version", "-V"] {
         let mut written: Vec<u8> = Vec::new(rt.alloc());
         let outcome = perform(
@@ -53,34 +53,41 @@ fn the_version_is_written(rt: HostRuntime) {
             &|_, _| Err(ReplayFault::Store),
         );
         let is_told = matches!(outcome, Outcome::Line(LineFault::Version));
-        let is_done = ends_with(outcome, 0, "");
         let is_line = written.as_slice() == "mqtt5 0.1.0\n".as_bytes();
         drop(written);
-        assert!(rt; is_told && is_done && is_line, "{word}");
+        assert!(rt; is_told && is_line, "{word}");
+        assert!(rt; ends_with(rt.alloc(), outcome, 0, "")?, "{word}");
     }
+    Ok(())
 }
 
 /// Whether the program ends so.
-fn ends_with(outcome: Outcome, status: u8, text: &str) -> bool {
-    let found = ending(&outcome);
-    let ends = found.0 == status && found.1 == text;
+fn ends_with(alloc: Global, outcome: Outcome, status: u8, text: &str) -> Result<bool, Fail> {
+    let found = exit_status(&outcome);
+    let shown = format!(in alloc; "{outcome}");
     drop(outcome);
-    ends
+    let shown = shown?;
+    let is_text = shown.as_str() == text;
+    drop(shown);
+    Ok(found == status && is_text)
 }
 
 #[test]
 fn each_outcome_has_its_status_and_text(rt: HostRuntime) -> Result<(), Fail> {
     let usage = LineFault::Usage(String::from_str(rt.alloc(), "wrong\n")?);
-    assert!(rt; ends_with(Outcome::Line(usage), 2, "wrong\n"));
-    assert!(rt; ends_with(Outcome::Done(Status::Whole), 0, ""));
-    assert!(rt; ends_with(Outcome::Done(Status::Faulty), 1, ""));
-    assert!(rt; ends_with(Outcome::NoFile, 3, "mqtt5: file\n"));
-    assert!(rt; ends_with(Outcome::Line(LineFault::Version), 0, ""));
-    assert!(rt; ends_with(Outcome::Unwritten, 3, "mqtt5: file\n"));
-    assert!(rt; ends_with(Outcome::Replayed(Played::Whole), 0, ""));
-    assert!(rt; ends_with(Outcome::Replayed(Played::Bad), 1, ""));
-    assert!(rt; ends_with(Outcome::Served, 0, ""));
+    assert!(rt; ends_with(rt.alloc(), Outcome::Line(usage), 2, "wrong\n")?);
+    for (outcome, status) in [
+        (Outcome::Done(Status::Whole), 0),
+        (Outcome::Done(Status::Faulty), 1),
+        (Outcome::Line(LineFault::Version), 0),
+        (Outcome::Replayed(Played::Whole), 0),
+        (Outcome::Served, 0),
+    ] {
+        assert!(rt; ends_with(rt.alloc(), outcome, status, "")?);
+    }
     for (outcome, text) in [
+        (Outcome::NoFile, "mqtt5: file\n"),
+        (Outcome::Unwritten, "mqtt5: file\n"),
         (Outcome::Line(LineFault::Memory), "mqtt5: memory\n"),
         (Outcome::View(ViewFault::Read), "mqtt5: file\n"),
         (Outcome::View(ViewFault::Write), "mqtt5: file\n"),
@@ -96,7 +103,34 @@ fn each_outcome_has_its_status_and_text(rt: HostRuntime) -> Result<(), Fail> {
         (Outcome::Serve(ServeFault::Store), "mqtt5: store\n"),
         (Outcome::Serve(ServeFault::Socket), "mqtt5: socket\n"),
     ] {
-        assert!(rt; ends_with(outcome, 3, text));
+        assert!(rt; ends_with(rt.alloc(), outcome, 3, text)?);
+    }
+    Ok(())
+}
+
+#[test]
+fn a_bad_line_is_told_with_its_number_and_reason(rt: HostRuntime) -> Result<(), Fail> {
+    for (number, reason, text) in [
+        (
+            1,
+            BadReason::CarriageReturn,
+            "mqtt5: line 1: it ends with a carriage return; lines end with a line feed alone\n",
+        ),
+        (
+            20,
+            BadReason::SpaceTooMany,
+            "mqtt5: line 20: a space too many; words have one space between them\n",
+        ),
+        (333, BadReason::NoEvent, "mqtt5: line 333: it is no event\n"),
+        (
+            u64::MAX,
+            BadReason::CannotHappen,
+            "mqtt5: line 18446744073709551615: this event can't happen here\n",
+        ),
+    ] {
+        let bad = BadLine { number, reason };
+        let outcome = Outcome::Replayed(Played::Bad(bad));
+        assert!(rt; ends_with(rt.alloc(), outcome, 1, text)?);
     }
     Ok(())
 }

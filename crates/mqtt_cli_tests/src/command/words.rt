@@ -1,8 +1,8 @@
 //! Command lines (ours).
 
 use mqtt_cli::{
-    Action, Commit, Details, Full, Limits, LineFault, Outcome, Played, ReplayFault, ServeFault,
-    action, perform,
+    Action, BadLine, BadReason, Commit, Details, Full, Limits, LineFault, Outcome, Played,
+    ReplayFault, ServeFault, action, perform,
 };
 use std::alloc::Global;
 use std::net::{Ipv4Addr, SocketAddrV4};
@@ -161,6 +161,12 @@ fn what_serves_is_called_as_asked(rt: HostRuntime) {
     assert!(rt; is_silent);
 }
 
+/// A line that is bad.
+const BAD: BadLine = BadLine {
+    number: 3,
+    reason: BadReason::NoEvent,
+};
+
 #[test]
 fn what_replays_is_called_as_asked(rt: HostRuntime) -> Result<(), Fail> {
     let wanted = Action::Replay {
@@ -176,18 +182,17 @@ fn what_replays_is_called_as_asked(rt: HostRuntime) -> Result<(), Fail> {
         &|_, _, _, _, _, _| Err(ServeFault::Socket),
         &|file: &str, limits: Limits| {
             if file == "-" && limits.queue == 7 {
-                Ok(Played::Bad)
+                Ok(Played::Bad(BAD))
             } else {
                 Err(ReplayFault::Read)
             }
         },
     );
-    let is_replayed = matches!(outcome, Outcome::Replayed(Played::Bad));
+    let is_replayed = matches!(outcome, Outcome::Replayed(Played::Bad(bad)) if bad == BAD);
     let is_silent = written.is_empty();
     drop(outcome);
     drop(written);
-    assert!(rt; is_replayed);
-    assert!(rt; is_silent);
+    assert!(rt; is_replayed && is_silent);
     Ok(())
 }
 

@@ -19,11 +19,12 @@ use Rattle.mqtt_script.specs.Telling.{bad_text, publisher_text, receiver_text, b
 use Rattle.mqtt_world.specs.script_laws.Scripted.{IsBad, RunsTo}
 use Rattle.mqtt_world.proofs.script_drains_lemmas.Done.{delivers_once}
 use Rattle.mqtt_world_laws.specs.acceptance.Fair.{opened_world}
+use Rattle.mqtt_script.specs.declared.bad_line.BadReason.{BadReason}
 use Rattle.mqtt_script.specs.declared.replay_fault.Played.{Played}
 use Rattle.mqtt_script.specs.declared.replay_fault.Played.TheVariants.{Whole, Bad}
 use Rattle.mqtt_replay.specs.declared.playing.ends.End.{End}
 use Rattle.mqtt_replay.specs.declared.playing.ends.End.TheVariants.{Publisher, Receiver}
-use Rattle.mqtt_replay.specs.playing.Playing.{Happened, Standing, end_line, last_lines, made_by, start}
+use Rattle.mqtt_replay.specs.playing.Playing.{Happened, Standing, end_line, last_lines, made_by, passed_over, start}
 use Rattle.mqtt_replay.specs.playing.Replaying.{IsBadLine, LinePlays, LinesPlay, Replays, ReplaysFront, Shows, ShowsFront, lines_of}
 use Rattle.mqtt_world.specs.world.Stages.{IsSoundAt, Staged, world_at}
 use Rattle.mqtt_world.specs.world.Worlds.{CantHappen, Happen, HasCome, Lasting, Starts, done_in, handed_in, publications_in, queue_in, seen_at, sent_in, sessions_in}
@@ -38,6 +39,10 @@ ok_is r a b is same = cc
 from_none : (a n : ℕ) → a ≡ 0 + n → a ≡ n
 from_none a n is = omega (arith, is)
 
+-- one, and then so many
+counts : (a b d n : ℕ) → b ≡ a + 1 → d ≡ b + n → d ≡ a + suc n
+counts a b d n first more = omega (arith, first, more)
+
 -- ---- lines that play in a world that stands
 
 record Comes {K : Type 0} (g : Ghosts K) (lines : List (List ℕ)) (s : Standing (Lasting K)) (text : List ℕ) (end : Standing (Lasting K)) : Type 0 where
@@ -46,6 +51,7 @@ record Comes {K : Type 0} (g : Ghosts K) (lines : List (List ℕ)) (s : Standing
   are : AreEventsOf lines events
   told : text ≡ lines_told s.number events tells
   number : end.number ≡ s.number + length events
+  count : end.lines ≡ s.lines + length lines
   ends : end.ends ≡ s.ends ++ ends_made events
   happen : Happen g events tells s.world end.world
 
@@ -58,19 +64,21 @@ module _ {K : Type 0} (g : Ghosts K) where
     are = refl;
     told = refl;
     number = omega arith;
+    count = omega arith;
     ends = sym (append-nil s.ends);
     happen = happen_none g from s.world is;
   }
 
   -- one that is passed over, and others
   comes_passed : (line : List ℕ) (lines : List (List ℕ)) (s end : Standing (Lasting K)) (text : List ℕ) → is_passed_over line ≡ true
-      → Comes g lines s text end → Comes g (line ∷ lines) s text end
+      → Comes g lines (passed_over s) text end → Comes g (line ∷ lines) s text end
   comes_passed line lines s end text passed c = record {
     events = c.events;
     tells = c.tells;
     are = inl (passed, c.are);
     told = c.told;
     number = c.number;
+    count = counts s.lines (s.lines + 1) end.lines (length lines) refl c.count;
     ends = c.ends;
     happen = c.happen;
   }
@@ -85,13 +93,11 @@ module _ {K : Type 0} (g : Ghosts K) where
     are = inr (kept, e, c.events, is, refl, c.are);
     told = ap₂ (λ (a b : List ℕ). a ++ b) h.line (c.told ∙ ap (λ (n : ℕ). lines_told n c.events c.tells) h.number);
     number = counts s.number mid.number end.number (length c.events) h.number c.number;
+    count = counts s.lines mid.lines end.lines (length lines) h.lines c.count;
     ends = c.ends ∙ (ap (λ (xs : List End). xs ++ ends_made c.events) h.ends
         ∙ append_assoc s.ends (option_to_list (made_by e)) (ends_made c.events));
     happen = happen_more g (e ∷ []) c.events (h.told ∷ []) c.tells s.world mid.world end.world h.happens c.happen;
   }
-    where
-      counts : (a b d n : ℕ) → b ≡ a + 1 → d ≡ b + n → d ≡ a + suc n
-      counts a b d n first more = omega (arith, first, more)
 
   -- a line, and others behind it
   line_comes : (line : List ℕ) (lines : List (List ℕ)) (s mid end : Standing (Lasting K)) (first rest : List ℕ) (from : Staged K) → s.world.stage ≡ Ok from
@@ -202,21 +208,22 @@ module _ {K : Type 0} (g : Ghosts K) where
         (cant.is_bad begun come sound starts.alone starts.sends)
 
     -- what a bad line leaves of the store
-    abbrev left_by : (bad : List ℕ) (end : Standing (Lasting K)) → Staged K → IsBadLine (play_of g) bad end → Staged K
-    left_by bad end s (kept, inl none) = s
-    left_by bad end s (kept, inr (e, is, (after, cant))) = cant.nothing.to
+    abbrev left_by : (line : List ℕ) (end : Standing (Lasting K)) (reason : BadReason) → Staged K → IsBadLine (play_of g) line end reason → Staged K
+    left_by line end reason s (kept, inl (none, why)) = s
+    left_by line end reason s (kept, inr (e, is, (after, cant), why)) = cant.nothing.to
 
-    left_sound : (bad : List ℕ) (end : Standing (Lasting K)) (es : List Event) (ts : List Telling) → (h : Happen g es ts w end.world)
-        → (isbad : IsBadLine (play_of g) bad end) → IsSoundAt g (left_by bad end h.to isbad) → IsSoundAt g h.to
-    left_sound bad end es ts h (kept, inl none) sound = sound
-    left_sound bad end es ts h (kept, inr (e, is, (after, cant))) sound =
+    left_sound : (line : List ℕ) (end : Standing (Lasting K)) (reason : BadReason) (es : List Event) (ts : List Telling) → (h : Happen g es ts w end.world)
+        → (isbad : IsBadLine (play_of g) line end reason) → IsSoundAt g (left_by line end reason h.to isbad) → IsSoundAt g h.to
+    left_sound line end reason es ts h (kept, inl (none, why)) sound = sound
+    left_sound line end reason es ts h (kept, inr (e, is, (after, cant), why)) sound =
         subst (λ (s : Staged K). IsSoundAt g s) (ok_is end.world.stage cant.nothing.from h.to cant.nothing.was h.is) (cant.nothing.runs.sound sound)
 
     -- a bad line is one in the definitions' world
-    bad_here : (bad : List ℕ) (end : Standing (Lasting K)) (es : List Event) (ts : List Telling) → (h : Happen g es ts w end.world)
-        → (isbad : IsBadLine (play_of g) bad end) → IsSoundAt g (left_by bad end h.to isbad) → IsBadLineIn bad (world_at h.to)
-    bad_here bad end es ts h (kept, inl none) sound = (kept, inl none)
-    bad_here bad end es ts h (kept, inr (e, is, (after, cant))) sound = (kept, inr (e, is, cant_here e end.world after es ts h cant sound))
+    bad_here : (line : List ℕ) (end : Standing (Lasting K)) (reason : BadReason) (es : List Event) (ts : List Telling) → (h : Happen g es ts w end.world)
+        → (isbad : IsBadLine (play_of g) line end reason) → IsSoundAt g (left_by line end reason h.to isbad) → IsBadLineIn line (world_at h.to) reason
+    bad_here line end reason es ts h (kept, inl (none, why)) sound = (kept, inl (none, why))
+    bad_here line end reason es ts h (kept, inr (e, is, (after, cant), why)) sound =
+        (kept, inr (e, is, cant_here e end.world after es ts h cant sound, why))
 
     text_of : (lines : List (List ℕ)) (before after : Option (List ℕ)) (played : Played) → Shows (play_of g) lines (start w) before after played
         → OpensOver g limits keep (λ v. Wrote (λ text. ReplayText limits v lines text played) before after)
@@ -234,22 +241,24 @@ module _ {K : Type 0} (g : Ghosts K) where
           ),
           wrote,
         ))
-    text_of lines before after Bad (good, bad, rest, front, end, are, plays, isbad, wrote) =
+    text_of lines before after (Bad bad) (good, line, rest, front, end, are, plays, isbad, number, wrote) =
         let c = comes good (start w) end front starts.at starts.stage plays in
-        let was = left_sound bad end c.events c.tells c.happen isbad in
-        opens_left (λ v. Wrote (λ text. ReplayText limits v lines text Bad) before after) c.events c.tells end.world (left_by bad end c.happen.to isbad) c.happen was
+        let was = left_sound line end bad.reason c.events c.tells c.happen isbad in
+        opens_left (λ v. Wrote (λ text. ReplayText limits v lines text (Bad bad)) before after) c.events c.tells end.world
+        (left_by line end bad.reason c.happen.to isbad) c.happen was
         (λ sound. (
           front ++ bad_text (end.number + 1),
           (
             good,
-            bad,
+            line,
             rest,
             front,
             c.events,
             world_at c.happen.to,
             are,
             runs_lines good front end c (was sound),
-            bad_here bad end c.events c.tells c.happen isbad sound,
+            number ∙ ap (λ (n : ℕ). n + 1) (from_none end.lines (length good) c.count),
+            bad_here line end bad.reason c.events c.tells c.happen isbad sound,
             ap (λ (n : ℕ). front ++ bad_text (n + 1)) (from_none end.number (length c.events) c.number),
           ),
           wrote,

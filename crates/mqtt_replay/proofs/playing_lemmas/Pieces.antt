@@ -5,6 +5,7 @@ use Rattle.std.proofs.lemmas.List.Splits.{slice_split_none, slice_split_at}
 use Rattle.std.specs.Io.KnownBytes.{Keeps, Consumes, IsAtEnd}
 use Rattle.std.proofs.KnownBytes.{Appends-trans, Appends-nil, Consumes-trans, Consumes-nil}
 use Rattle.mqtt_script.specs.Telling.{line_feed}
+use Rattle.mqtt_script.specs.declared.bad_line.BadLine.{BadLine}
 use Rattle.mqtt_script.specs.declared.replay_fault.Played.{Played}
 use Rattle.mqtt_script.specs.declared.replay_fault.Played.TheVariants.{Whole, Bad}
 use Rattle.mqtt_replay.specs.playing.Playing.{Play, Standing}
@@ -73,13 +74,14 @@ feeds_line p held piece left s mid end before now after f shows =
     }
 
 -- a line feed came, and the line before it is bad
-pub feeds_bad : {W : Type 0} (p : Play W) (held piece left rest : List ℕ) (s mid end : Standing W) (before now after : Option (List ℕ))
-    → Feeds p held piece left s mid before now → LineShows p left mid end now after Bad
-    → (more : List ℕ) → Shows p (lines_of (held ++ ((piece ++ line_feed ∷ rest) ++ more))) s before after Bad
-feeds_bad p held piece left rest s mid end before now after f shows more =
+pub feeds_bad : {W : Type 0} (p : Play W) (held piece left rest : List ℕ) (s mid end : Standing W) (before now after : Option (List ℕ)) (bad : BadLine)
+    → Feeds p held piece left s mid before now → LineShows p left mid end now after (Bad bad)
+    → (more : List ℕ) → Shows p (lines_of (held ++ ((piece ++ line_feed ∷ rest) ++ more))) s before after (Bad bad)
+feeds_bad p held piece left rest s mid end before now after bad f shows more =
     let cut = ap lines_of (ap (λ (l : List ℕ). held ++ l) (append_assoc piece (line_feed ∷ rest) more)) ∙ ended p held piece left (rest ++ more) s mid before now f in
-    subst (λ (l : List (List ℕ)). Shows p l s before after Bad) (sym cut)
-    (shows_behind p f.lines (left ∷ lines_of (rest ++ more)) s mid before now after f.text Bad f.play f.wrote (shows_bad p left (lines_of (rest ++ more)) mid end now after shows))
+    subst (λ (l : List (List ℕ)). Shows p l s before after (Bad bad)) (sym cut)
+    (shows_behind p f.lines (left ∷ lines_of (rest ++ more)) s mid before now after f.text (Bad bad) f.play f.wrote
+    (shows_bad p left (lines_of (rest ++ more)) mid end now after bad shows))
 
 -- what was shown so far, whatever follows
 pub feeds_front : {W : Type 0} (p : Play W) (held piece left rest : List ℕ) (s mid : Standing W) (before now after : Option (List ℕ))
@@ -112,13 +114,13 @@ step_line p held piece taken rest after left byte s mid end before now later all
     (taken ++ line_feed ∷ [], one_more piece taken rest after line_feed all (first ∙ ap (λ (b : ℕ). b ∷ after) is), feeds_line p held taken left s mid end before now later f shows)
 
 -- or ends the replay, if it is bad
-pub step_bad : {W : Type 0} (p : Play W) (held piece taken rest after left : List ℕ) (byte : ℕ) (s mid end : Standing W) (before now later : Option (List ℕ))
-    → piece ≡ taken ++ rest → rest ≡ byte ∷ after → byte ≡ line_feed → Feeds p held taken left s mid before now → LineShows p left mid end now later Bad
-    → (more : List ℕ) → Shows p (lines_of (held ++ (piece ++ more))) s before later Bad
-step_bad p held piece taken rest after left byte s mid end before now later all first is f shows more =
+pub step_bad : {W : Type 0} (p : Play W) (held piece taken rest after left : List ℕ) (byte : ℕ) (s mid end : Standing W) (before now later : Option (List ℕ)) (bad : BadLine)
+    → piece ≡ taken ++ rest → rest ≡ byte ∷ after → byte ≡ line_feed → Feeds p held taken left s mid before now → LineShows p left mid end now later (Bad bad)
+    → (more : List ℕ) → Shows p (lines_of (held ++ (piece ++ more))) s before later (Bad bad)
+step_bad p held piece taken rest after left byte s mid end before now later bad all first is f shows more =
     let ends = ap (λ (l : List ℕ). taken ++ l) (first ∙ ap (λ (b : ℕ). b ∷ after) is) in
-    subst (λ (l : List ℕ). Shows p (lines_of (held ++ (l ++ more))) s before later Bad) (sym (all ∙ ends))
-    (feeds_bad p held taken left after s mid end before now later f shows more)
+    subst (λ (l : List ℕ). Shows p (lines_of (held ++ (l ++ more))) s before later (Bad bad)) (sym (all ∙ ends))
+    (feeds_bad p held taken left after s mid end before now later bad f shows more)
 
 -- what was played of a piece was played of all
 pub step_front : {W : Type 0} (p : Play W) (held piece taken rest left : List ℕ) (s mid : Standing W) (before now later : Option (List ℕ))
@@ -216,11 +218,12 @@ came P (Some ys) None piece took all = absurd took
 came P (Some ys) (Some zs) piece took all = subst P (sym took) (all zs)
 
 -- a bad line in a piece ends the script
-pub bad_piece : {W : Type 0} (p : Play W) (held piece : List ℕ) (input left less : Option (List ℕ)) (s mid : Standing W) (before now after : Option (List ℕ))
-    → FedSoFar p held input left s mid before now → Consumes left less piece → ((more : List ℕ) → Shows p (lines_of (held ++ (piece ++ more))) mid now after Bad)
-    → IfSome input (λ xs. Shows p (lines_of xs) s before after Bad)
-bad_piece p held piece input left less s mid before now after so took all =
-    shows_fed p held input left s mid before now after Bad so (came (λ (ys : List ℕ). Shows p (lines_of (held ++ ys)) mid now after Bad) left less piece took all)
+pub bad_piece : {W : Type 0} (p : Play W) (held piece : List ℕ) (input left less : Option (List ℕ)) (s mid : Standing W) (before now after : Option (List ℕ)) (bad : BadLine)
+    → FedSoFar p held input left s mid before now → Consumes left less piece
+    → ((more : List ℕ) → Shows p (lines_of (held ++ (piece ++ more))) mid now after (Bad bad)) → IfSome input (λ xs. Shows p (lines_of xs) s before after (Bad bad))
+bad_piece p held piece input left less s mid before now after bad so took all =
+    shows_fed p held input left s mid before now after (Bad bad) so
+    (came (λ (ys : List ℕ). Shows p (lines_of (held ++ ys)) mid now after (Bad bad)) left less piece took all)
 
 -- what was played of a piece is a front of the script
 pub front_piece : {W : Type 0} (p : Play W) (held piece : List ℕ) (input left less : Option (List ℕ)) (s mid : Standing W) (before now after : Option (List ℕ))

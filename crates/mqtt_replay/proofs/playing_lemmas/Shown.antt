@@ -5,6 +5,7 @@ use Rattle.std.proofs.KnownBytes.{Appends-trans, Appends-nil, Appends-kept}
 use Rattle.mqtt_script.specs.declared.event.Event.{Event}
 use Rattle.mqtt_script.specs.Lines.{IsLineOf, is_passed_over}
 use Rattle.mqtt_script.specs.Telling.{bad_text}
+use Rattle.mqtt_script.specs.declared.bad_line.BadLine.{BadLine}
 use Rattle.mqtt_script.specs.declared.replay_fault.Played.{Played}
 use Rattle.mqtt_script.specs.declared.replay_fault.Played.TheVariants.{Whole, Bad}
 use Rattle.mqtt_replay.specs.playing.Playing.{Play, Standing, last_lines}
@@ -14,7 +15,7 @@ use Rattle.mqtt_replay.specs.playing.Replaying.{LinePlays, LinesPlay, Shows, Sho
 pub event_line : {W : Type 0} (p : Play W) (line : List ℕ) (e : Event) (s end : Standing W) (before after : Option (List ℕ)) (played : Played)
     → is_passed_over line ≡ false → IsLineOf e line → EventShows p e s end before after played → LineShows p line s end before after played
 event_line p line e s end before after Whole kept is shows = (shows.0, inr (kept, e, is, shows.1), shows.2)
-event_line p line e s end before after Bad kept is shows = ((kept, inr (e, is, shows.0)), shows.1)
+event_line p line e s end before after (Bad bad) kept is shows = ((kept, inr (e, is, shows.0, shows.1)), shows.2, shows.3)
 
 -- lines play, and then others
 pub lines_join : {W : Type 0} (p : Play W) (xs ys : List (List ℕ)) (s mid end : Standing W) (t u : List ℕ)
@@ -40,16 +41,17 @@ shows_behind p lines more s mid before now after text Whole plays wrote shows =
       lines_join p lines more s mid end text rest plays play,
       subst (Appends before after) (sym (append_assoc text rest (last_lines p end))) (Appends-trans before now after text (rest ++ last_lines p end) wrote last),
     )
-shows_behind p lines more s mid before now after text Bad plays wrote shows =
-    let (good, bad, rest, behind, end, is, play, isbad, last) = shows in (
+shows_behind p lines more s mid before now after text (Bad bad) plays wrote shows =
+    let (good, line, rest, behind, end, is, play, isbad, number, last) = shows in (
       lines ++ good,
-      bad,
+      line,
       rest,
       text ++ behind,
       end,
-      ap (λ (l : List (List ℕ)). lines ++ l) is ∙ sym (append_assoc lines good (bad ∷ rest)),
+      ap (λ (l : List (List ℕ)). lines ++ l) is ∙ sym (append_assoc lines good (line ∷ rest)),
       lines_join p lines good s mid end text behind plays play,
       isbad,
+      number,
       subst (Appends before after) (sym (append_assoc text behind (bad_text (end.number + 1)))) (Appends-trans before now after text (behind ++ bad_text (end.number + 1)) wrote last),
     )
 
@@ -73,9 +75,9 @@ front_none p lines s before after kept =
     ([], lines, [], s, refl, (refl, refl), Appends-kept before before after [] (Appends-nil before) kept)
 
 -- a bad line ends what is shown, whatever follows it
-pub shows_bad : {W : Type 0} (p : Play W) (line : List ℕ) (more : List (List ℕ)) (s end : Standing W) (before after : Option (List ℕ))
-    → LineShows p line s end before after Bad → Shows p (line ∷ more) s before after Bad
-shows_bad p line more s end before after shows = ([], line, more, [], s, refl, (refl, refl), shows.0, shows.1)
+pub shows_bad : {W : Type 0} (p : Play W) (line : List ℕ) (more : List (List ℕ)) (s end : Standing W) (before after : Option (List ℕ)) (bad : BadLine)
+    → LineShows p line s end before after (Bad bad) → Shows p (line ∷ more) s before after (Bad bad)
+shows_bad p line more s end before after bad shows = ([], line, more, [], s, refl, (refl, refl), shows.0, shows.1, shows.2)
 
 -- a last line plays, and what the world came to is written behind it
 pub shows_last : {W : Type 0} (p : Play W) (line : List ℕ) (s end : Standing W) (before now after : Option (List ℕ))

@@ -13,6 +13,9 @@ use Rattle.mqtt_rules.specs.step.State.{MemberChoice}
 use Rattle.mqtt_rules.specs.step.Step.{is_opening_spent}
 use Rattle.mqtt_rules.specs.declared.step.Limits.{Limits}
 use Rattle.mqtt_script.specs.declared.event.Event.{Event}
+use Rattle.mqtt_script.specs.BadLines.{why_no_event}
+use Rattle.mqtt_script.specs.declared.bad_line.BadReason.{BadReason}
+use Rattle.mqtt_script.specs.declared.bad_line.BadReason.TheVariants.{CannotHappen}
 use Rattle.mqtt_script.specs.Lines.{IsLineOf, IsNoLine, first_word, is_passed_over}
 use Rattle.mqtt_script.specs.Telling.{bad_text, broker_text, publisher_text, receiver_text}
 use Rattle.mqtt_world.specs.script_laws.Cleanly.{ScriptDelivers}
@@ -37,9 +40,11 @@ AreEventsOf (line ∷ lines) es =
     ⊎ ((is_passed_over line ≡ false) × (e : Event) × (rest : List Event) × IsLineOf e line × (es ≡ e ∷ rest)
     × AreEventsOf lines rest)
 
--- a line is that of no event, or of one that is bad there
-abbrev pub IsBadLineIn : List ℕ → World → Type 0
-IsBadLineIn line w = (is_passed_over line ≡ false) × (IsNoLine line ⊎ ((e : Event) × IsLineOf e line × IsBad e w))
+-- a line is bad there, for this reason: it is that of no event, or of one that is bad there
+abbrev pub IsBadLineIn : List ℕ → World → BadReason → Type 0
+IsBadLineIn line w reason =
+    (is_passed_over line ≡ false)
+    × ((IsNoLine line × (reason ≡ why_no_event line)) ⊎ ((e : Event) × IsLineOf e line × IsBad e w × (reason ≡ CannotHappen)))
 
 -- ---- a line for each event that happened, numbered on from here, with what it tells
 
@@ -73,15 +78,16 @@ pub record RunsLines (limits : Limits) (lines : List (List ℕ)) (w : World) (te
   pub delivers : BeginsWell limits w → ScriptDelivers limits events w after
 
 -- ---- the text of a script from a world on: all its lines run, and what they came to stands behind; or those before a bad line do,
--- and the number that this would have
+-- and the number that its event would have. Of the bad line the number is answered, counted from 1 among all lines, and the reason
 
 abbrev pub ReplayText : Limits → World → List (List ℕ) → List ℕ → Played → Type 0
 ReplayText limits w lines text Whole =
     (front : List ℕ) × (events : List Event) × (after : World) × RunsLines limits lines w front events after
     × (text ≡ front ++ last_lines_in events after)
-ReplayText limits w lines text Bad =
-    (good : List (List ℕ)) × (bad : List ℕ) × (rest : List (List ℕ)) × (front : List ℕ) × (events : List Event) × (after : World)
-    × (lines ≡ good ++ bad ∷ rest) × RunsLines limits good w front events after × IsBadLineIn bad after
+ReplayText limits w lines text (Bad bad) =
+    (good : List (List ℕ)) × (line : List ℕ) × (rest : List (List ℕ)) × (front : List ℕ) × (events : List Event) × (after : World)
+    × (lines ≡ good ++ line ∷ rest) × RunsLines limits good w front events after
+    × (bad.number ≡ length good + 1) × IsBadLineIn line after bad.reason
     × (text ≡ front ++ bad_text (length events + 1))
 
 -- a beginning of it: that of lines with which the script begins

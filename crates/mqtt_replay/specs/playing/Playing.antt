@@ -7,6 +7,7 @@ use Rattle.mqtt_script.specs.declared.event.Event.TheVariants.{Publisher, Receiv
 use Rattle.mqtt_script.specs.Lines.{first_word}
 use Rattle.mqtt_script.specs.Telling.{publisher_text, receiver_text, broker_text, bad_text}
 use Rattle.mqtt_replay.specs.playing.Told.{told_text}
+use Rattle.mqtt_script.specs.declared.bad_line.BadReason.TheVariants.{CannotHappen}
 use Rattle.mqtt_script.specs.declared.replay_fault.Played.{Played}
 use Rattle.mqtt_script.specs.declared.replay_fault.Played.TheVariants.{Whole, Bad}
 use Rattle.mqtt_script.specs.declared.replay_fault.ReplayFault.{ReplayFault}
@@ -39,15 +40,21 @@ IsDue p Write = ⊤
 IsDue p Memory = ⊤
 IsDue p Store = p.due
 
--- how many events of a script happened, the ends that they made, in order, and the world
+-- how many lines of a script were played, those that are passed over among them, how many of its events happened, the ends that
+-- they made, in order, and the world
 pub record Standing (W : Type 0) : Type 0 where
+  pub lines : ℕ
   pub number : ℕ
   pub ends : List End
   pub world : W
 
--- none happened
+-- none was played
 abbrev pub start : {W : Type 0} → W → Standing W
-start w = record { number = 0; ends = []; world = w }
+start w = record { lines = 0; number = 0; ends = []; world = w }
+
+-- a line was passed over
+abbrev pub passed_over : {W : Type 0} → Standing W → Standing W
+passed_over s = record s { lines = s.lines + 1 }
 
 -- the end that an event makes
 abbrev pub made_by : Event → Option End
@@ -60,6 +67,7 @@ made_by e = None
 pub record Happened {W : Type 0} (p : Play W) (e : Event) (s : Standing W) (text : List ℕ) (after : Standing W) : Type 0 where
   pub told : Telling
   pub happens : p.happens s.world e told after.world
+  pub lines : after.lines ≡ s.lines + 1
   pub number : after.number ≡ s.number + 1
   pub ends : after.ends ≡ s.ends ++ option_to_list (made_by e)
   pub line : text ≡ told_text (s.number + 1) (first_word e) told.reports told.out
@@ -67,7 +75,8 @@ pub record Happened {W : Type 0} (p : Play W) (e : Event) (s : Standing W) (text
 -- A text grew by the line of an event that happened, or of one that can't happen there.
 abbrev pub AddsLine : {W : Type 0} → Play W → Event → Standing W → Standing W → List ℕ → List ℕ → Played → Type 0
 AddsLine p e s after old new Whole = (line : List ℕ) × Happened p e s line after × (new ≡ old ++ line)
-AddsLine p e s after old new Bad = p.is_bad s.world e × (new ≡ old ++ bad_text (s.number + 1))
+AddsLine p e s after old new (Bad bad) =
+    p.is_bad s.world e × (bad.reason ≡ CannotHappen) × (bad.number ≡ s.lines + 1) × (new ≡ old ++ bad_text (s.number + 1))
 
 -- ---- what a world came to: a line for each end, in the order in which they were made, and one for the broker
 

@@ -31,9 +31,9 @@ fn fault_of(fault: RunFault) -> ReplayFault
 
 /// Replays the script that a reader gives to its end, on a world whose broker is opened over what a store holds, at moment 0
 /// (4.1). What is written is the text of a run of the script's events: a line for each, and one for each end and one for the
-/// broker behind the last. A line that is no event, or an event that can't happen where it comes, ends it (`Bad`). `Read` (1),
-/// `Write` (2), `Memory` (3) and `Store` (4) end it early. Of the script at most a line is held; the world keeps its events.
-/// The broker runs with these limits.
+/// broker behind the last. A line that is no event, or an event that can't happen where it comes, ends it: `Bad` has the number
+/// of the line, counted from 1 among all lines, and why it is bad. `Read` (1), `Write` (2), `Memory` (3) and `Store` (4) end it
+/// early. Of the script at most a line is held; the world keeps its events. The broker runs with these limits.
 pub fn replay_over<K: Keep, R: Read, W: Write>(
     alloc: Global,
     keep: K,

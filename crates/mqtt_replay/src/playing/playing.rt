@@ -2,13 +2,16 @@
 
 ghost use Rattle.std.specs.Prelude.{◌≡◌, ◌≢◌, ◌+◌, [], ◌∷◌, OnOk, IfOk, IfErr};
 ghost use Rattle.std.specs.Io.KnownBytes.{Appends, Keeps};
+ghost use Rattle.mqtt_script.specs.BadLines.{why_no_event};
 ghost use Rattle.mqtt_script.specs.Telling.{bad_text};
 ghost use Rattle.mqtt_replay.specs.playing.Playing.{IsDue, last_lines};
 ghost use Rattle.mqtt_replay.specs.playing.Replaying.{EventShows, LineShows, Shows, ShowsFront};
 
 use crate::playing::runs::Runs;
 use crate::playing::script::Script;
-use mqtt_script::{Event, Played, ReplayFault, ScriptFault, event_of, is_passed_over};
+use mqtt_script::{
+    BadLine, Event, Played, ReplayFault, ScriptFault, event_of, is_passed_over, why_no_event,
+};
 use std::alloc::Global;
 use std::io::Write;
 
@@ -42,12 +45,15 @@ fn play_event<P: Runs, W: Write>(
     Ok(played)
 }
 
-/// Writes the line of what is no event.
+/// Writes the line of what is no event, and answers which line of the script is bad, and why.
 fn play_bad<P: Runs, W: Write>(
     alloc: Global,
     script: &Script<P>,
+    line: &[u8],
     writer: &mut W,
-) -> Result<(), ReplayFault>
+) -> Result<BadLine, ReplayFault>
+    ensures number { IfOk result (λ bad. bad.number ≡ script.now.lines + 1) }
+    ensures reason { IfOk result (λ bad. bad.reason ≡ why_no_event line.now) }
     ensures ok { OnOk result (Appends (W.contents writer.old) (W.contents writer.new)
         (bad_text (script.now.number + 1))) }
     ensures err { IfErr result (λ fault. fault ≢ ReplayFault.Write
@@ -55,8 +61,9 @@ fn play_bad<P: Runs, W: Write>(
     ensures cause { IfErr result (IsDue P.play) }
 {
     let mut text = String::new(alloc);
-    script.push_bad(&mut text)?;
-    write_text(writer, text.as_bytes())
+    let bad = script.push_bad(&mut text, why_no_event(line))?;
+    write_text(writer, text.as_bytes())?;
+    Ok(bad)
 }
 
 /// Plays a line: it is passed over, or its event happens, or it is bad.
@@ -73,6 +80,7 @@ pub fn play_line<P: Runs, W: Write>(
     ensures cause { IfErr result (IsDue P.play) }
 {
     if is_passed_over(line) {
+        script.pass_over()?;
         return Ok(Played::Whole);
     }
     match event_of(alloc, line) {
@@ -82,8 +90,8 @@ pub fn play_line<P: Runs, W: Write>(
             played
         }
         Err(ScriptFault::NoEvent) => {
-            play_bad(alloc, script, writer)?;
-            Ok(Played::Bad)
+            let bad = play_bad(alloc, script, line, writer)?;
+            Ok(Played::Bad(bad))
         }
         Err(ScriptFault::Memory) => Err(ReplayFault::Memory),
     }
@@ -125,6 +133,6 @@ pub fn play_last<P: Runs, W: Write>(
             write_last(alloc, script, writer)?;
             Ok(Played::Whole)
         }
-        Played::Bad => Ok(Played::Bad),
+        Played::Bad(bad) => Ok(Played::Bad(bad)),
     }
 }

@@ -16,8 +16,8 @@ const CHUNK_SIZE: usize = 4_096;
 
 /// Replays the script that a reader gives to its end on a world, and writes the text of it: a line for each event, and
 /// one for each end and one for the broker behind the last; a line that is no event, or an event that can't happen
-/// there, ends it. A read that was interrupted is tried again. However long the script is, at most a line of it is
-/// held, and the ends that it makes.
+/// there, ends it: `Bad` has the number of the line, and why it is bad. A read that was interrupted is tried again.
+/// However long the script is, at most a line of it is held, and the ends that it makes.
 pub fn replay<P: Runs, R: Read, W: Write>(
     alloc: Global,
     world: P,
@@ -70,7 +70,7 @@ fn replay_by<P: Runs, R: Read, W: Write>(
         }
         match play_piece(alloc, script, held, &chunk[..count], writer)? {
             Played::Whole => {}
-            Played::Bad => return Ok(Played::Bad),
+            Played::Bad(bad) => return Ok(Played::Bad(bad)),
         }
     }
     Err(ReplayFault::Read)
@@ -98,7 +98,7 @@ fn play_piece<P: Runs, W: Write>(
         if *byte == b'\n' {
             match play_line(alloc, script, held.as_slice(), writer)? {
                 Played::Whole => held.clear(),
-                Played::Bad => return Ok(Played::Bad),
+                Played::Bad(bad) => return Ok(Played::Bad(bad)),
             }
         } else {
             held.push(*byte)?;

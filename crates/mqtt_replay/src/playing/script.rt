@@ -5,19 +5,20 @@ ghost use Rattle.std.specs.String.{string_bytes};
 ghost use Rattle.mqtt_script.specs.Lines.{first_word};
 ghost use Rattle.mqtt_script.specs.Telling.{bad_text};
 ghost use Rattle.mqtt_replay.specs.playing.Told.{told_text};
-ghost use Rattle.mqtt_replay.specs.playing.Playing.{AddsLine, IsDue, last_lines, made_by, start};
+ghost use Rattle.mqtt_replay.specs.playing.Playing.{AddsLine, IsDue, last_lines, made_by, passed_over, start};
 
 use crate::playing::ends::{End, push_ends, push_made};
 use crate::playing::runs::Runs;
 use crate::playing::told::push_told;
-use mqtt_script::{Event, Played, ReplayFault, push_bad, push_broker};
+use mqtt_script::{BadLine, BadReason, Event, Played, ReplayFault, push_bad, push_broker};
 use mqtt_world_ends::peers::{RunFault, Told};
 use std::alloc::{AllocError, Global};
 use std::marker::Model;
 
-/// A world, how many events of a script happened there, and the ends that they made, in order.
+/// A world, how many lines of a script were played there, how many events happened, and the ends that they made, in order.
 #[derive(Drop)]
 pub struct Script<P: Runs> {
+    lines: u64,
     number: u64,
     ends: Vec<End>,
     world: P,
@@ -28,7 +29,7 @@ impl<P: Runs> Model for Script<P> {
 
     ghost Value = { Standing P };
 
-    ghost view = { λ s. record { number = s.number; ends = s.ends.items; world = s.world } };
+    ghost view = { λ s. record { lines = s.lines; number = s.number; ends = s.ends.items; world = s.world } };
 }
 
 /// The number behind this one; what doesn't fit is want of memory.
@@ -42,15 +43,24 @@ fn next_number(number: u64) -> Result<u64, AllocError>
 }
 
 impl<P: Runs> Script<P> {
-    /// None of a script's events happened. Takes no memory.
+    /// None of a script's lines was played. Takes no memory.
     pub fn new(alloc: Global, world: P) -> Script<P>
         ensures { result ≡ start world }
     {
         Script {
+            lines: 0,
             number: 0,
             ends: Vec::new(alloc),
             world,
         }
+    }
+
+    /// Counts a line that is passed over. Takes no memory; fails only if the count doesn't fit into 64 bits.
+    pub fn pass_over(&mut self) -> Result<(), AllocError>
+        ensures { OnOk result (self.new ≡ passed_over self.old) }
+    {
+        self.lines = next_number(self.lines)?;
+        Ok(())
     }
 
     /// An event happens, and its line is added; or the line of one that can't happen there.
@@ -59,17 +69,19 @@ impl<P: Runs> Script<P> {
             (string_bytes text.old) (string_bytes text.new) played) }
         ensures cause { IfErr result (IsDue P.play) }
     {
+        let lines = next_number(self.lines)?;
         let number = next_number(self.number)?;
         match self.world.happen(event) {
             Ok(told) => {
+                self.lines = lines;
                 let added = self.tell(text, number, event, &told);
                 drop(told);
                 added?;
                 Ok(Played::Whole)
             }
             Err(RunFault::BadEvent { .. }) => {
-                push_bad(text, number)?;
-                Ok(Played::Bad)
+                let bad = self.push_bad(text, BadReason::CannotHappen)?;
+                Ok(Played::Bad(bad))
             }
             Err(RunFault::Memory) => Err(ReplayFault::Memory),
             Err(RunFault::Store) => Err(ReplayFault::Store),
@@ -84,6 +96,7 @@ impl<P: Runs> Script<P> {
         event: &Event,
         told: &Told,
     ) -> Result<(), AllocError>
+        ensures lines { OnOk result (self.new.lines ≡ self.old.lines) }
         ensures number { OnOk result (self.new.number ≡ number) }
         ensures ends { OnOk result (self.new.ends ≡ self.old.ends ++ option_to_list (made_by event.now)) }
         ensures world { OnOk result (self.new.world ≡ self.old.world) }
@@ -101,12 +114,16 @@ impl<P: Runs> Script<P> {
         )
     }
 
-    /// Adds the line of the next event, if that is none.
-    pub fn push_bad(&self, text: &mut String) -> Result<(), AllocError>
-        ensures { OnOk result (string_bytes text.new
+    /// Adds the line of the next event, if that is none or can't happen, and answers the next line of the script as bad.
+    pub fn push_bad(&self, text: &mut String, reason: BadReason) -> Result<BadLine, AllocError>
+        ensures number { IfOk result (λ bad. bad.number ≡ self.now.lines + 1) }
+        ensures reason { IfOk result (λ bad. bad.reason ≡ reason) }
+        ensures text { OnOk result (string_bytes text.new
             ≡ string_bytes text.old ++ bad_text (self.now.number + 1)) }
     {
-        push_bad(text, next_number(self.number)?)
+        let number = next_number(self.lines)?;
+        push_bad(text, next_number(self.number)?)?;
+        Ok(BadLine { number, reason })
     }
 
     /// Adds what the world came to: a line for each end, and one for the broker.

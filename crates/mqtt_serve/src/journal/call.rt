@@ -31,12 +31,14 @@ impl fmt::Display for Loss {
 }
 
 /// A call of the broker.
-#[derive(Clone, Copy, Debug, PartialEq, Eq)]
-pub enum Call {
-    /// It was given bytes that came on a line.
+#[derive(Clone, Copy, Debug)]
+pub enum Call<'a> {
+    /// It was given bytes that came on a line. It may have taken fewer: the others are given again.
     Piece {
         /// The number of the line.
         line: u64,
+        /// The bytes.
+        bytes: &'a [u8],
     },
     /// It was to send to a line.
     Pump {

@@ -1,8 +1,9 @@
 //! What comes about with publications and copies, a line an event (MQTT 5.0, 3.1.2.5, 3.3, 4.6).
 ghost use Rattle.std.specs.Prelude.{◌≡◌, Some};
-ghost use Rattle.mqtt_serve.specs.journal.Lines.{copy_text, copy_loss_text};
+ghost use Rattle.mqtt_serve.specs.journal.Lines.{copy_text, copy_loss_text, queue_text};
 
 use crate::journal::line_event::Client;
+use mqtt_base::Escaped;
 use std::fmt;
 
 /// Why a copy did not reach its client.
@@ -28,6 +29,21 @@ impl fmt::Display for CopyLoss {
     }
 }
 
+/// A client whose queue is full, if one is.
+#[derive(Clone, Copy, Debug, PartialEq, Eq)]
+pub struct FullQueue<'a>(pub Option<&'a str>);
+
+impl fmt::Display for FullQueue<'_> {
+    ghost output = { λ queue. Some (queue_text queue) };
+
+    fn fmt<W: fmt::Write>(&self, f: &mut fmt::Formatter<W>) -> fmt::Result {
+        match self.0 {
+            Some(name) => write!(f, " queue={}", Escaped(name)),
+            None => Ok(()),
+        }
+    }
+}
+
 /// What comes about with a publication or a copy. Of each kind at most one is told a second, with the count of those that were not.
 #[derive(Clone, Copy, Debug)]
 pub enum CopyEvent<'a> {
@@ -35,6 +51,8 @@ pub enum CopyEvent<'a> {
     Full {
         /// Its publisher.
         client: Client<'a>,
+        /// A client whose queue is full, if a full queue refuses; none: there are as many retained messages as may be.
+        queue: FullQueue<'a>,
         /// How many were not told.
         untold: u64,
     },
@@ -61,10 +79,11 @@ impl fmt::Display for CopyEvent<'_> {
 
     fn fmt<W: fmt::Write>(&self, f: &mut fmt::Formatter<W>) -> fmt::Result {
         match self {
-            CopyEvent::Full { client, untold } => write!(
-                f,
-                "full{client} code=0x97 untold={untold}"
-            ),
+            CopyEvent::Full {
+                client,
+                queue,
+                untold,
+            } => write!(f, "full{client} code=0x97{queue} untold={untold}"),
             CopyEvent::Copy {
                 client,
                 why,

@@ -1,5 +1,5 @@
 //! The counts of a minute (ours).
-use crate::journal::server_event::ServerEvent;
+use crate::journal::server_event::{ServerEvent, Traffic};
 use mqtt_broker::Engine;
 use mqtt_keep::Keep;
 
@@ -38,6 +38,9 @@ fn counts_of<K: Keep>(engine: &Engine<K>) -> Now {
 #[derive(Clone, Copy, Debug)]
 pub(crate) struct Counting {
     told: Now,
+    /// PUBLISH packets that went out.
+    sent: u64,
+    /// All packets that went out.
     packets: u64,
     next: u64,
 }
@@ -52,6 +55,7 @@ impl Counting {
                 copies: 0,
                 publications: 0,
             },
+            sent: 0,
             packets: 0,
             next: MINUTE,
         }
@@ -65,8 +69,13 @@ impl Counting {
     }
 
     /// So many packets went out.
-    pub fn sent(&mut self, count: usize) {
+    pub fn packets(&mut self, count: usize) {
         self.packets = self.packets.saturating_add(count as u64);
+    }
+
+    /// One of them was a PUBLISH.
+    pub fn publish(&mut self) {
+        self.sent = self.sent.saturating_add(1);
     }
 
     /// The counts, if a minute has passed and something has changed.
@@ -81,18 +90,22 @@ impl Counting {
         self.next = moment.saturating_add(MINUTE);
         let now = counts_of(engine);
         let before = self.told;
-        let packets = self.packets;
+        let (sent, packets) = (self.sent, self.packets);
         if now == before && packets == 0 {
             return None;
         }
         self.told = now;
+        self.sent = 0;
         self.packets = 0;
         Some(ServerEvent::Counts {
             connections: now.connections,
             sessions: now.sessions,
             copies: now.copies,
-            accepted: now.publications.saturating_sub(before.publications),
-            packets,
+            traffic: Traffic {
+                accepted: now.publications.saturating_sub(before.publications),
+                sent,
+                packets,
+            },
         })
     }
 }

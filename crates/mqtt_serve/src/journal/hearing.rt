@@ -22,7 +22,7 @@ pub trait Journal {
     fn answered<K: Keep>(
         &mut self,
         moment: u64,
-        call: Call,
+        call: Call<'_>,
         engine: &Engine<K>,
         answer: &Result<Outcome, EngineError>,
     );
@@ -48,7 +48,7 @@ impl Journal for Quiet {
     fn answered<K: Keep>(
         &mut self,
         _: u64,
-        _: Call,
+        _: Call<'_>,
         _: &Engine<K>,
         _: &Result<Outcome, EngineError>,
     ) {}
@@ -81,7 +81,7 @@ impl<J: Journal> Journal for Option<J> {
     fn answered<K: Keep>(
         &mut self,
         moment: u64,
-        call: Call,
+        call: Call<'_>,
         engine: &Engine<K>,
         answer: &Result<Outcome, EngineError>,
     ) {

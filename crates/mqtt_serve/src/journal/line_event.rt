@@ -1,6 +1,6 @@
 //! What comes about with connections, a line an event (MQTT 5.0, 3.1, 3.2, 3.14).
 ghost use Rattle.std.specs.Prelude.{◌≡◌, Some};
-ghost use Rattle.mqtt_serve.specs.journal.Lines.{close_text, line_text, name_text, present_text, side_text, terms_text};
+ghost use Rattle.mqtt_serve.specs.journal.Lines.{clean_text, close_text, line_text, name_text, present_text, side_text, terms_text};
 
 use crate::journal::call::Loss;
 use mqtt_base::Escaped;
@@ -37,6 +37,26 @@ impl fmt::Display for Client<'_> {
     }
 }
 
+/// Clean Start of a CONNECT (3.1.2.4).
+#[derive(Clone, Copy, Debug, PartialEq, Eq)]
+pub enum CleanStart {
+    /// 0: the session goes on, if one stands.
+    No = 0,
+    /// 1: the session ends, if one stands, and another begins.
+    Yes = 1,
+}
+
+impl fmt::Display for CleanStart {
+    ghost output = { λ start. Some (clean_text start) };
+
+    fn fmt<W: fmt::Write>(&self, f: &mut fmt::Formatter<W>) -> fmt::Result {
+        match self {
+            CleanStart::No => f.write_str("0"),
+            CleanStart::Yes => f.write_str("1"),
+        }
+    }
+}
+
 /// Session Present of a CONNACK (3.2.2.1.1).
 #[derive(Clone, Copy, Debug, PartialEq, Eq)]
 pub enum Present {
@@ -60,8 +80,8 @@ impl fmt::Display for Present {
 /// Why a connection closed.
 #[derive(Clone, Copy, Debug, PartialEq, Eq)]
 pub enum Close {
-    /// By the client's DISCONNECT (3.14).
-    Disconnect,
+    /// By the client's DISCONNECT, with this Reason Code (3.14.2.1).
+    Disconnect(u8),
     /// By the server, with a DISCONNECT of this Reason Code (3.14.2.1).
     Code(u8),
     /// It was lost.
@@ -77,7 +97,7 @@ impl fmt::Display for Close {
 
     fn fmt<W: fmt::Write>(&self, f: &mut fmt::Formatter<W>) -> fmt::Result {
         match self {
-            Close::Disconnect => f.write_str("disconnect"),
+            Close::Disconnect(code) => write!(f, "disconnect code=0x{code:x}"),
             Close::Code(code) => write!(f, "0x{code:x}"),
             Close::Lost(loss) => write!(f, "{loss}"),
             Close::Server => f.write_str("server"),
@@ -89,6 +109,8 @@ impl fmt::Display for Close {
 /// What a client and the server agreed on.
 #[derive(Clone, Copy, Debug, PartialEq, Eq)]
 pub struct Terms {
+    /// Whether its CONNECT ends a session that stands.
+    pub clean_start: CleanStart,
     /// Whether its session stood before.
     pub session_present: Present,
     /// Seconds; 0 turns it off (3.1.2.10).
@@ -104,8 +126,8 @@ impl fmt::Display for Terms {
     fn fmt<W: fmt::Write>(&self, f: &mut fmt::Formatter<W>) -> fmt::Result {
         write!(
             f,
-            " session-present={} keep-alive={} expiry={}",
-            self.session_present, self.keep_alive, self.expiry
+            " clean-start={} session-present={} keep-alive={} expiry={}",
+            self.clean_start, self.session_present, self.keep_alive, self.expiry
         )
     }
 }

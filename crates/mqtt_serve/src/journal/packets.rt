@@ -20,6 +20,8 @@ pub(crate) enum Told {
         /// The Reason Code.
         code: u8,
     },
+    /// PUBLISH (3.3).
+    Publish,
     /// PUBACK or PUBREC with 0x97 (3.4, 3.5).
     Full,
     /// Nothing that is told.
@@ -41,6 +43,7 @@ fn body_of(packet: &[u8]) -> &[u8] {
 pub(crate) fn told_by(packet: &[u8]) -> Told {
     let body = body_of(packet);
     match (packet.first(), body) {
+        (Some(0x30..=0x3f), _) => Told::Publish,
         (Some(0x20), [flags, code, ..]) => Told::Connack {
             session_present: if *flags == 1 {
                 Present::Yes

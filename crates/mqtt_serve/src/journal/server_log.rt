@@ -1,21 +1,20 @@
 //! The journal that writes a line an event (ours).
 use crate::causes::Cause;
+use crate::journal::away::Away;
 use crate::journal::call::Call;
-use crate::journal::copy_event::{CopyEvent, CopyLoss};
 use crate::journal::counting::Counting;
 use crate::journal::hearing::Journal;
-use crate::journal::line_event::{Client, LineEvent, Peer, Present, Terms};
-use crate::journal::packets::{Told, told_by};
+use crate::journal::line_event::{LineEvent, Peer};
 use crate::journal::seldom::Kinds;
-use crate::journal::server_event::{End, ServerEvent};
+use crate::journal::server_event::{Bounds, End, ServerEvent, SessionCount, WhenFull};
 use crate::journal::stamped::LineWriter;
-use crate::journal::tables::{Said, Table};
-use mqtt_base::{Ending, LINE_LIMIT};
+use crate::journal::tables::Table;
+use mqtt_base::LINE_LIMIT;
 use mqtt_broker::{Engine, Outcome};
 use mqtt_broker_step::EngineError;
+use mqtt_flow::Full;
 use mqtt_keep::Keep;
-use mqtt_records::Session;
-use mqtt_rules::Report;
+use mqtt_rules::Limits;
 use std::alloc::{AllocError, Global};
 use std::io;
 use std::net::SocketAddr;
@@ -23,34 +22,28 @@ use std::net::SocketAddr;
 /// A journal that writes a line an event, with its time.
 #[derive(Drop)]
 pub struct ServerLog<W: io::Write + Drop> {
-    alloc: Global,
-    lines: LineWriter<W>,
+    pub(crate) alloc: Global,
+    pub(crate) lines: LineWriter<W>,
     /// The path of the database.
     db: String,
-    table: Table,
-    kinds: Kinds,
-    counting: Counting,
+    pub(crate) table: Table,
+    pub(crate) away: Away,
+    pub(crate) kinds: Kinds,
+    pub(crate) counting: Counting,
     /// The last moment that was heard; 0 if none was.
     last: u64,
 }
 
-/// The session that is connected on a line, and its Keep Alive.
-#[derive(Clone, Copy)]
-struct Connected<'a> {
-    session: &'a Session,
-    keep_alive: u16,
-}
-
-/// The session that is connected on a line.
-fn session_on<K: Keep>(engine: &Engine<K>, line: u64) -> Option<Connected<'_>> {
-    let step = engine.inner().step();
-    let state = step.line(line)?;
-    let session = step.session(state.session()?)?;
-    let keep_alive = state.keep_alive();
-    Some(Connected {
-        session,
-        keep_alive,
-    })
+/// What queues and retained messages are held to by the limits of a broker.
+fn bounds_of(limits: Limits) -> Bounds {
+    Bounds {
+        queue: limits.queue,
+        full: match limits.full {
+            Full::Refuse => WhenFull::Refuse,
+            Full::Drop => WhenFull::Drop,
+        },
+        retained: limits.retained,
+    }
 }
 
 impl<W: io::Write + Drop> ServerLog<W> {
@@ -61,6 +54,7 @@ impl<W: io::Write + Drop> ServerLog<W> {
             lines: LineWriter::new(alloc, writer),
             db: String::from_str(alloc, db)?,
             table: Table::new(alloc, LINE_LIMIT)?,
+            away: Away::new(alloc),
             kinds: Kinds::new(),
             counting: Counting::new(),
             last: 0,
@@ -70,141 +64,6 @@ impl<W: io::Write + Drop> ServerLog<W> {
     /// Gives the writer back.
     pub fn into_writer(self) -> W {
         self.lines.into_writer()
-    }
-
-    /// A client is connected on a line.
-    fn connect<K: Keep>(
-        &mut self,
-        moment: u64,
-        line: u64,
-        session_present: Present,
-        engine: &Engine<K>,
-    ) {
-        let Some(
-            Connected {
-                session,
-                keep_alive,
-            },
-        ) = session_on(engine, line)
-        else {
-            return;
-        };
-        let Some(known) = self.table.get_mut(line) else {
-            return;
-        };
-        known.client = String::from_str(self.alloc, session.client.as_str()).ok();
-        let event = LineEvent::Connect {
-            line,
-            peer: known.peer,
-            client: known.client(),
-            terms: Terms {
-                session_present,
-                keep_alive,
-                expiry: session.expiry,
-            },
-        };
-        self.lines.write(moment, &event);
-    }
-
-    /// A CONNECT on a line is refused.
-    fn refuse(&mut self, moment: u64, line: u64, code: u8) {
-        let Some(known) = self.table.get_mut(line) else {
-            return;
-        };
-        known.said = Some(Said::Refused);
-        let peer = known.peer;
-        self.lines
-            .write(moment, &LineEvent::Refuse { line, peer, code });
-    }
-
-    /// A publication that came on a line is refused with 0x97.
-    fn full(&mut self, moment: u64, line: u64) {
-        if let Some(untold) = self.kinds.full.tell(moment) {
-            let client = match self.table.get(line) {
-                Some(known) => known.client(),
-                None => Client(None),
-            };
-            self.lines
-                .write(moment, &CopyEvent::Full { client, untold });
-        }
-    }
-
-    /// A packet goes out on a line.
-    fn packet<K: Keep>(&mut self, moment: u64, line: u64, packet: &[u8], engine: &Engine<K>) {
-        match told_by(packet) {
-            Told::Connack {
-                session_present,
-                code,
-            } if code < 0x80 => {
-                self.connect(moment, line, session_present, engine);
-            }
-            Told::Connack { code, .. } => self.refuse(moment, line, code),
-            Told::Disconnect { code } => {
-                if let Some(known) = self.table.get_mut(line) {
-                    known.said = Some(Said::Code(code));
-                }
-            }
-            Told::Full => self.full(moment, line),
-            Told::Other => {}
-        }
-    }
-
-    /// A copy ended before its client took it.
-    fn copy(&mut self, moment: u64, name: &str, why: CopyLoss) {
-        if let Some(untold) = self.kinds.tell_copy(moment, why) {
-            let client = Client(Some(name));
-            self.lines.write(
-                moment,
-                &CopyEvent::Copy {
-                    client,
-                    why,
-                    untold,
-                },
-            );
-        }
-    }
-
-    /// A Will was not accepted.
-    fn will(&mut self, moment: u64, name: &str) {
-        if let Some(untold) = self.kinds.will.tell(moment) {
-            let client = Client(Some(name));
-            self.lines
-                .write(moment, &CopyEvent::Will { client, untold });
-        }
-    }
-
-    /// What a call told beside its packets.
-    fn report(&mut self, moment: u64, report: &Report) {
-        match report {
-            Report::Ended { client, ending, .. } => match ending {
-                Ending::Dropped => self.copy(moment, client.as_str(), CopyLoss::Dropped),
-                Ending::TooLarge => self.copy(moment, client.as_str(), CopyLoss::TooLarge),
-                Ending::Expired => self.copy(moment, client.as_str(), CopyLoss::Expired),
-                Ending::Taken | Ending::Refused | Ending::SessionEnded => {}
-            },
-            Report::WillRefused { client, .. } => self.will(moment, client.as_str()),
-            Report::Accepted { .. } | Report::Entered { .. } | Report::Released { .. } => {}
-        }
-    }
-
-    /// A line closed in a call.
-    fn close(&mut self, moment: u64, line: u64, call: Call) {
-        if let Some(known) = self.table.get(line) {
-            if let Some(why) = known.why(call) {
-                let peer = known.peer;
-                let client = known.client();
-                self.lines.write(
-                    moment,
-                    &LineEvent::Close {
-                        line,
-                        peer,
-                        client,
-                        why,
-                    },
-                );
-            }
-        }
-        self.table.remove(line);
     }
 }
 
@@ -216,12 +75,17 @@ impl<W: io::Write + Drop> Journal for ServerLog<W> {
         let event = ServerEvent::Start {
             address,
             db: &self.db,
-            sessions: now.sessions,
-            session_limit: limits.sessions,
+            count: SessionCount {
+                sessions: now.sessions,
+                limit: limits.sessions,
+            },
             copies: now.copies,
-            queue_limit: limits.queue,
+            bounds: bounds_of(limits),
         };
         self.lines.write(moment, &event);
+        for session in engine.inner().step().all_sessions() {
+            self.away.add(session.get());
+        }
     }
 
     fn accepted(&mut self, moment: u64, line: u64, peer: Option<SocketAddr>) {
@@ -238,7 +102,7 @@ impl<W: io::Write + Drop> Journal for ServerLog<W> {
     fn answered<K: Keep>(
         &mut self,
         moment: u64,
-        call: Call,
+        call: Call<'_>,
         engine: &Engine<K>,
         answer: &Result<Outcome, EngineError>,
     ) {
@@ -246,16 +110,14 @@ impl<W: io::Write + Drop> Journal for ServerLog<W> {
         let Ok(out) = answer else {
             return;
         };
-        self.counting.sent(out.outputs.len());
-        for (line, bytes) in &out.outputs {
-            self.packet(moment, *line, bytes, engine);
+        if let Call::Piece { line, bytes } = call {
+            self.table.take(line, bytes, out.taken);
         }
+        let connected = self.packets(moment, &out.outputs, engine);
         for report in &out.reports {
             self.report(moment, report);
         }
-        for line in &out.closed {
-            self.close(moment, *line, call);
-        }
+        self.sessions(moment, call, engine, out, connected);
     }
 
     fn rested<K: Keep>(&mut self, moment: u64, engine: &Engine<K>) {

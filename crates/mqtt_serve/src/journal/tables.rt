@@ -1,5 +1,6 @@
 //! What is known of each connection, for what is told when it has closed (ours).
 use crate::journal::call::Call;
+use crate::journal::came::Came;
 use crate::journal::line_event::{Client, Close, Peer};
 use std::alloc::{AllocError, Global};
 
@@ -19,8 +20,12 @@ pub(crate) struct Known {
     line: u64,
     /// The other side.
     pub peer: Peer,
-    /// Its client, once it is connected.
+    /// Its client, once it is connected. It isn't known for want of memory.
     pub client: Option<String>,
+    /// The birth of its client's session, once it is connected.
+    pub birth: Option<u64>,
+    /// What it has sent.
+    pub came: Came,
     /// What was said to end it.
     pub said: Option<Said>,
 }
@@ -35,13 +40,15 @@ impl Known {
     }
 
     /// Why it closed in a call; none if its CONNECT was refused, which was told.
-    pub fn why(&self, call: Call) -> Option<Close> {
+    pub fn why(&self, call: Call<'_>) -> Option<Close> {
         match (self.said, call) {
             (Some(Said::Refused), _) => None,
             (Some(Said::Code(code)), _) => Some(Close::Code(code)),
             (None, Call::Lost { line, why }) if line == self.line => Some(Close::Lost(why)),
-            (None, _) if self.client.is_none() => Some(Close::NoConnect),
-            (None, Call::Piece { line }) if line == self.line => Some(Close::Disconnect),
+            (None, _) if self.birth.is_none() => Some(Close::NoConnect),
+            (None, Call::Piece { line, .. }) if line == self.line => {
+                Some(Close::Disconnect(self.came.code()))
+            }
             (None, _) => Some(Close::Server),
         }
     }
@@ -66,6 +73,8 @@ impl Table {
             line,
             peer,
             client: None,
+            birth: None,
+            came: Came::new(),
             said: None,
         };
         let _ = self.rows.push(known);
@@ -79,6 +88,13 @@ impl Table {
     /// The same, to be changed.
     pub fn get_mut(&mut self, line: u64) -> Option<&mut Known> {
         self.rows.iter_mut().find(|known| known.line == line)
+    }
+
+    /// So many of these bytes have come on a line.
+    pub fn take(&mut self, line: u64, bytes: &[u8], count: usize) {
+        if let Some(known) = self.get_mut(line) {
+            known.came.take(bytes, count);
+        }
     }
 
     /// A connection is known no longer.

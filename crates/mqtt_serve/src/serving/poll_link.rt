@@ -60,8 +60,8 @@ pub(crate) struct PollLink {
     has_looked: bool,
     /// The last look failed, so that any socket may be ready.
     is_blind: bool,
-    /// A connection has ended since the last wait: what that brings for others is not to wait.
-    has_ended: bool,
+    /// A connection has ended since the last wait, or something is to go out: what that brings for others is not to wait.
+    is_hurried: bool,
     /// How long the next wait takes at most, in milliseconds.
     pause: u64,
 }
@@ -101,7 +101,7 @@ impl PollLink {
             may_come: true,
             has_looked: false,
             is_blind: false,
-            has_ended: false,
+            is_hurried: false,
             pause: WAIT,
         })
     }
@@ -195,17 +195,21 @@ impl Link for PollLink {
         Some(peer.address)
     }
 
-    /// Waits until a socket changes or the time is up; not at all where a connection has ended. A wait that fails is none. While
+    /// Waits until a socket changes or the time is up; not at all where it is hurried. A wait that fails is none. While
     /// no socket changes the clock has its turns in ever longer steps, up to 80 ms.
     fn wait(&mut self) {
-        let limit = if self.has_ended { 0 } else { self.pause };
-        self.has_ended = false;
+        let limit = if self.is_hurried { 0 } else { self.pause };
+        self.is_hurried = false;
         self.look(limit);
         self.pause = if limit == 0 || !self.events.is_empty() {
             WAIT
         } else {
             limit.saturating_mul(2).min(LONGEST_WAIT)
         };
+    }
+
+    fn hurry(&mut self) {
+        self.is_hurried = true;
     }
 
     fn read(&mut self, peer: &mut Socket, buffer: &mut [u8]) -> Got<usize> {
@@ -216,7 +220,7 @@ impl Link for PollLink {
         let count = peer.stream.read(buffer);
         peer.read_at = if would_wait(&count) { Some(told) } else { None };
         let given = got(count);
-        self.has_ended |= is_end(&given);
+        self.is_hurried |= is_end(&given);
         given
     }
 
@@ -228,7 +232,7 @@ impl Link for PollLink {
         let count = peer.stream.write(bytes);
         peer.written_at = if would_wait(&count) { Some(told) } else { None };
         let given = got(count);
-        self.has_ended |= is_end(&given);
+        self.is_hurried |= is_end(&given);
         given
     }
 }

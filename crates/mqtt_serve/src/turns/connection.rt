@@ -4,6 +4,7 @@ ghost use Rattle.mqtt_serve.specs.turns.Wires.{FindsNoRoom, Reads, Hears, LetsGo
 
 use crate::journal::Loss;
 use bytes::Bytes;
+use mqtt_holding::Seen;
 use mqtt_link::{Got, HeldBack, Link, WAITING_LIMIT, Waiting, WaitingFault};
 use std::alloc::Global;
 use std::marker::Model;
@@ -22,8 +23,8 @@ pub enum Fate {
 /// A connection that the broker has linked.
 #[derive(Drop)]
 pub struct Connection<L: Link> {
-    number: u64,
-    peer: L::Peer,
+    pub(crate) number: u64,
+    pub(crate) peer: L::Peer,
     waiting: Waiting,
     is_clear: bool,
     /// Whether the last read filled its buffer.
@@ -31,6 +32,8 @@ pub struct Connection<L: Link> {
     fate: Fate,
     /// Why it is lost, if it is.
     loss: Loss,
+    /// What decides whether it is left unread.
+    pub(crate) seen: Seen,
 }
 
 impl<L: Link> Model for Connection<L> {
@@ -103,6 +106,7 @@ impl<L: Link> Connection<L> {
             has_more: false,
             fate: Fate::Stands,
             loss: Loss::Closed,
+            seen: Seen::new(),
         }
     }
 
@@ -149,6 +153,11 @@ impl<L: Link> Connection<L> {
     /// Whether more may be at hand than was read: the last read filled its buffer.
     pub fn has_more(&self) -> bool {
         self.has_more
+    }
+
+    /// Whether something waits on it that was not tried to be written yet.
+    pub fn has_new(&self) -> bool {
+        self.may_send() && !self.waiting.is_empty()
     }
 
     /// Whether what waits on it can wait on: its line isn't closed, and at most half of what may wait does.

@@ -6,6 +6,7 @@ ghost use Rattle.mqtt_serve.specs.turns.Turns.{server, goes_on, Gives, GivesIf, 
 use crate::journal::{Call, Journal};
 use crate::turns::asking::{stands_at, tell};
 use crate::turns::connection::Connection;
+use crate::turns::holding::note_at;
 use crate::turns::telling::lose;
 use mqtt_broker::Engine;
 use mqtt_broker_step::EngineError;
@@ -19,11 +20,13 @@ const PIECE_LIMIT: u64 = u64::MAX;
 fn give_piece<L: Link, K: Keep, J: Journal>(
     lines: &mut [Connection<L>],
     engine: &mut Engine<K>,
+    place: usize,
     number: u64,
     bytes: &[u8],
     moment: u64,
     journal: &mut J,
 ) -> Result<(usize, bool), EngineError>
+    requires place { place < length lines.old }
     ensures bound { IfOk result (λ told. told.0 ≤ length bytes.now) }
     ensures piece { IfOk result (λ told. IsPieced K.Keep moment number bytes.now told.0 told.1
         (server engine.old lines.old) (server engine.new lines.new)) }
@@ -33,7 +36,12 @@ fn give_piece<L: Link, K: Keep, J: Journal>(
         (server engine.old lines.old) (server engine.new lines.new)) }
 {
     let answer = engine.piece(number, bytes, moment);
-    journal.answered(moment, Call::Piece { line: number }, engine, &answer);
+    let call = Call::Piece {
+        line: number,
+        bytes,
+    };
+    journal.answered(moment, call, engine, &answer);
+    note_at(lines, place, &answer, moment);
     tell(lines, number, &answer)?;
     match answer {
         Ok(out) => Ok((out.taken, out.again)),
@@ -77,7 +85,7 @@ fn give<L: Link, K: Keep, J: Journal>(
 {
     let mut rest = bytes;
     for _ in 0..PIECE_LIMIT {
-        let (taken, again) = give_piece(lines, engine, number, rest, moment, journal)?;
+        let (taken, again) = give_piece(lines, engine, place, number, rest, moment, journal)?;
         rest = after(rest, taken);
         if !stands_at(lines, place) {
             return Ok(());

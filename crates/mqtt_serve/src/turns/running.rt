@@ -20,11 +20,21 @@ pub trait Timer {
         ensures { told self.new ≡ and_then (told self.old) (result ∷ []) };
 }
 
+/// What a connection is told by the clock, or by one that had its turn behind it, is not to wait for the next wait to end.
+fn hurry<L: Link + Drop>(links: &mut Links<L>)
+    ensures { links.new ≡ links.old }
+{
+    if links.lines.iter().any(|line| line.has_new()) {
+        links.link.hurry();
+    }
+}
+
 /// Waits a little after a turn in which nothing came or went.
 pub(crate) fn rest<L: Link + Drop>(links: &mut Links<L>, busy: bool)
     ensures { links.new ≡ rested busy links.old }
 {
     if !busy {
+        hurry(links);
         links.wait();
     }
 }

@@ -10,6 +10,7 @@ ghost use Rattle.mqtt_serve.specs.turns.Wires.{LetsGo};
 use crate::journal::Journal;
 use crate::turns::accepting::accept;
 use crate::turns::connection::Connection;
+use crate::turns::holding::hold;
 use crate::turns::running::{Timer, rest};
 use crate::turns::turn::{Links, drop_closed, serve_all};
 use mqtt_broker::Engine;
@@ -104,6 +105,23 @@ fn serve_unstored<L: Link + Drop, K: Settles, J: Journal>(
     Ok(came | moved)
 }
 
+/// Such a turn, in which connections that are held are left unread.
+fn serve_chosen<L: Link + Drop, K: Settles, J: Journal>(
+    links: &mut Links<HeldBack<L>>,
+    engine: &mut Engine<K>,
+    moment: u64,
+    journal: &mut J,
+) -> Result<bool, EngineError>
+    ensures turn { IfOk result (λ busy. ServedTurn K.Keep moment busy
+        (hosting engine.old links.old) (hosting engine.new links.new)) }
+    ensures refused { IfErr result (λ error. error ≢ EngineError.Memory) }
+    ensures breaks { IfErr result (λ error. BreaksOff K.Keep moment error
+        (hosting engine.old links.old) (hosting engine.new links.new)) }
+{
+    hold(links, engine, moment);
+    serve_unstored(links, engine, moment, journal)
+}
+
 /// What the turns did is stored, as `store_turn` does.
 fn store_all<L: Link + Drop, K: Settles>(
     links: &mut Links<HeldBack<L>>,
@@ -149,7 +167,7 @@ fn serve_together<L: Link + Drop, K: Settles, T: Timer, J: Journal>(
     let mut last = begin;
     for before in 0..limit {
         last = last.max(timer.now());
-        let busy = serve_unstored(links, engine, last, journal)?;
+        let busy = serve_chosen(links, engine, last, journal)?;
         if !goes_on(links, busy, before) {
             return Ok(Had {
                 turns: before + 1,

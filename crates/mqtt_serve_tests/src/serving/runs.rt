@@ -28,7 +28,7 @@ impl Journal for Heard {
     fn answered<K: Keep>(
         &mut self,
         _: u64,
-        _: Call,
+        _: Call<'_>,
         _: &Engine<K>,
         _: &Result<Outcome, EngineError>,
     ) {}

@@ -1,7 +1,7 @@
 //! Events that can't happen where they come (MQTT 5.0, 3.1, 3.3, 3.8, 4.1).
 
-use crate::replay::playing::in_memory;
-use mqtt_replay::{Played, ReplayFault};
+use crate::replay::playing::{in_memory, is_so, is_so_in_sql};
+use mqtt_replay::{BadLine, BadReason, Played, ReplayFault};
 use std::alloc::Global;
 use std::hash::RandomState;
 use std::test::Fail;
@@ -90,14 +90,17 @@ fn is_bad(
     let played = in_memory(alloc, hasher, script.as_str(), &mut written);
     drop(script);
     let mut due = String::new(alloc);
-    let number = front.split('\n').count();
-    let told = writeln!(due, "{number} bad");
+    let bad = BadLine {
+        number: front.split('\n').count() as u64,
+        reason: BadReason::CannotHappen,
+    };
+    let told = writeln!(due, "{} bad", bad.number);
     let is_text = written.as_slice().ends_with(due.as_bytes());
     drop(due);
     drop(written);
     pushed?;
     told?;
-    Ok(is_text && played? == Played::Bad)
+    Ok(is_text && played? == Played::Bad(bad))
 }
 
 #[test]
@@ -133,5 +136,52 @@ fn a_message_that_no_packet_carries(rt: HostRuntime) -> Result<(), Fail> {
     let hasher = RandomState::new(&rt)?;
     assert!(rt; is_too_large(rt.alloc(), hasher, 65_524) == Ok(false));
     assert!(rt; is_too_large(rt.alloc(), hasher, 65_525) == Ok(true));
+    Ok(())
+}
+
+/// Scripts with a bad line behind others that are passed over: its number among all lines, why it is bad, and what is written.
+fn bad_scripts() -> &'static [(&'static str, u64, BadReason, &'static str)] {
+    &[
+        (
+            "# a\n\npublisher p1\n\npublisher p1",
+            5,
+            BadReason::CannotHappen,
+            "1 publisher\n2 bad\n",
+        ),
+        (
+            "#\r\nreceiver r1 10\r\n",
+            2,
+            BadReason::CarriageReturn,
+            "1 bad\n",
+        ),
+        (
+            "publisher p1\n\nconnect  p1 0\n",
+            3,
+            BadReason::SpaceTooMany,
+            "1 publisher\n2 bad\n",
+        ),
+        ("\n publisher p1\n", 2, BadReason::SpaceTooMany, "1 bad\n"),
+        ("publisher p1 \n", 1, BadReason::SpaceTooMany, "1 bad\n"),
+        ("#\n#\n#\npublishers p1\n", 4, BadReason::NoEvent, "1 bad\n"),
+    ]
+}
+
+#[test]
+fn a_bad_line_has_its_number_and_why(rt: HostRuntime) -> Result<(), Fail> {
+    let hasher = RandomState::new(&rt)?;
+    for (script, number, reason, text) in bad_scripts() {
+        let due = Played::Bad(BadLine {
+            number: *number,
+            reason: *reason,
+        });
+        assert!(rt;
+            is_so(rt.alloc(), hasher, script, due, text) == Ok(true),
+            "{script}"
+        );
+        assert!(rt;
+            is_so_in_sql(rt.alloc(), hasher, script, due, text) == Ok(true),
+            "{script}"
+        );
+    }
     Ok(())
 }

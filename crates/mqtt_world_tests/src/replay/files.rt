@@ -1,7 +1,7 @@
 //! A script in a file (ours).
 
 use crate::replay::playing::LIMITS;
-use mqtt_replay::{Played, ReplayFault, replay_at};
+use mqtt_replay::{BadLine, BadReason, Played, ReplayFault, replay_at};
 use std::fs;
 use std::test::Fail;
 
@@ -19,10 +19,14 @@ fn is_told(rt: &HostRuntime, due: Result<Played, ReplayFault>, text: &str) -> bo
 
 #[test]
 fn a_script_in_a_file(rt: HostRuntime) -> Result<(), Fail> {
-    fs::write(&rt, FILE, b"publisher p1\ntick\npublisher p1\n").map_err(
+    fs::write(&rt, FILE, b"# p1\npublisher p1\n\ntick\npublisher p1\n").map_err(
         |_| "the file can't be written",
     )?;
-    let is_played = is_told(&rt, Ok(Played::Bad), "1 publisher\n2 tick\n3 bad\n");
+    let bad = BadLine {
+        number: 5,
+        reason: BadReason::CannotHappen,
+    };
+    let is_played = is_told(&rt, Ok(Played::Bad(bad)), "1 publisher\n2 tick\n3 bad\n");
     fs::remove_file(&rt, FILE).map_err(|_| "the file can't be removed")?;
     assert!(rt; is_played);
     assert!(rt;

@@ -19,4 +19,4 @@ returns-in_ok-write_last-in-Whole-clause-ok g c =
     shows_last _ _ _ c.play_line.new.script _ _ _ (rw c.in-Whole.is at c.in_ok-play_line.ensures.ok) c.in_ok-write_last-in-Whole.ensures.ok
 
 pub returns-in-Bad-clause-ok : goal.returns-in-Bad-clause-ok
-returns-in-Bad-clause-ok g c = shows_bad _ _ [] _ c.play_line.new.script _ _ (rw c.in-Bad.is at c.in_ok-play_line.ensures.ok)
+returns-in-Bad-clause-ok g c = shows_bad _ _ [] _ c.play_line.new.script _ _ c.in-Bad.bad (rw c.in-Bad.is at c.in_ok-play_line.ensures.ok)

@@ -11,6 +11,9 @@ returns-in-Ok-clause-ok g c =
     (λ played shows. event_line g.P.Runs.play c.args.line.now _ c.args.script.now c.play_event-played.new.script _ _ played (sym c.is_passed_over.ensures ∙ kept) is shows)
     c.play_event-played.ensures.ok
 
-pub returns-in_ok-play_bad-in-Err-NoEvent-clause-ok : goal.returns-in_ok-play_bad-in-Err-NoEvent-clause-ok
-returns-in_ok-play_bad-in-Err-NoEvent-clause-ok g c =
-    ((search rules, inl (c.in-Err-NoEvent.ensures.refused (search rules))), c.in_ok-play_bad-in-Err-NoEvent.ensures.ok)
+pub returns-in_ok-bad-in-Err-NoEvent-clause-ok : goal.returns-in_ok-bad-in-Err-NoEvent-clause-ok
+returns-in_ok-bad-in-Err-NoEvent-clause-ok g c = (
+  (search rules, inl (c.in-Err-NoEvent.ensures.refused (search rules), c.in_ok-bad-in-Err-NoEvent.ensures.reason)),
+  c.in_ok-bad-in-Err-NoEvent.ensures.number,
+  c.in_ok-bad-in-Err-NoEvent.ensures.ok,
+)

@@ -20,7 +20,7 @@ pub returns-in-Bad-clause-ok : goal.returns-in-Bad-clause-ok
 returns-in-Bad-clause-ok g c =
     let (taken, all, feeds) = c.loop-byte.invariant in
     let shows = rw c.in-Bad.is at c.in_ok-play_line.ensures.ok in
-    step_bad _ _ _ taken c.loop-byte.rest.now c.in-Some.after.now _ c.in-Some.byte.now _ _ c.play_line.new.script _ _ _ all c.in-Some.ensures.cases.0 c.if-byte-eq10.true feeds
+    step_bad _ _ _ taken c.loop-byte.rest.now c.in-Some.after.now _ c.in-Some.byte.now _ _ c.play_line.new.script _ _ _ c.in-Bad.bad all c.in-Some.ensures.cases.0 c.if-byte-eq10.true feeds
     (rw c.as_slice.ensures.value at shows)
 
 pub loop-byte-preserved-in-Whole : goal.loop-byte-preserved-in-Whole

@@ -43,7 +43,7 @@ pub returns-in-Bad-clause-ok : goal.returns-in-Bad-clause-ok
 returns-in-Bad-clause-ok g c =
     let took = c.in-Ok.ensures.bytes.0 in
     let shows = rw c.in-Bad.is at c.in_ok-play_piece.ensures.ok in
-    bad_piece _ _ _ _ _ _ _ _ _ _ _ c.loop.invariant took shows
+    bad_piece _ _ _ _ _ _ _ _ _ _ _ c.in-Bad.bad c.loop.invariant took shows
 
 pub loop-preserved : goal.loop-preserved
 loop-preserved g c =
