@@ -23,6 +23,7 @@ both false y e = absurd cc
 pressing : (now : ℕ) (s : Seen) → is_pressing now s ≡ true → (s.is_over ≡ true) × (now < s.moved + STALL_TIME)
 pressing now s e = let it = both s.is_over (nat_lt now (s.moved + STALL_TIME)) e in (it.0, ltb-true _ _ it.1)
 
+-- whoever is held is held for the queue of some connection that is over the mark and made progress lately
 pub held_needed : (all : List Seen) (s : Seen) (now : ℕ) → is_held (is_pressed now all) now s ≡ true
     → (place : ℕ) × ((reader : Seen) × ((slice_get all place ≡ Some reader) × ((reader.is_over ≡ true) × (now < reader.moved + STALL_TIME))))
 held_needed all s now e =
@@ -49,6 +50,7 @@ held_soon s at now pressed is e =
     let under = not s.is_over in
     soon now at s.brought is (both under late (both (is_some s.waits) (under && late) (both pressed (is_some s.waits && (under && late)) e).1).1).1
 
+-- whoever brought no PUBLISH since is held for HOLD_TIME at most
 pub held_for_a_while : (events : List Event) (s : Seen) (at now : ℕ) (pressed : Bool) → s.brought ≡ Some at → BringsNothing events
     → is_held pressed now (run events s) ≡ true → now < at + HOLD_TIME
 held_for_a_while events s at now pressed is none e = held_soon (run events s) at now pressed (brought_stays events s none ∙ is) e

@@ -54,7 +54,7 @@ is_pressing now s = s.is_over && nat_lt now (s.moved + STALL_TIME)
 abbrev pub is_pressed : ℕ → List Seen → Bool
 is_pressed now all = list_any (is_pressing now) all
 
--- a moment is so little later than that of the last PUBLISH
+-- no PUBLISH came within HOLD_TIME before a moment
 abbrev pub is_late : ℕ → Option ℕ → Bool
 is_late now None = true
 is_late now (Some at) = not (nat_lt now (at + HOLD_TIME))

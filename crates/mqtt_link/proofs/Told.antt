@@ -12,10 +12,12 @@ pub left_more : (count : ℕ) (told : Option ℕ) → now_told ((count + 1) % 2 
 left_more count None = refl
 left_more count (Some n) = refl
 
+-- it had room for as many bytes as this read has
 pub read_room : (room before : ℕ) (told : Option ℕ) → now_told room (now_told room told) ≡ now_told room (now_told before told)
 read_room room before None = refl
 read_room room before (Some n) = refl
 
+-- the same where it was left unread
 pub left_room : (room before : ℕ) (told : Option ℕ) → now_told room told ≡ now_told room (now_told before told)
 left_room room before None = refl
 left_room room before (Some n) = refl

@@ -87,6 +87,7 @@ module _ (now number : ℕ) (s : Session) (x : Subscription) where
   never None = refl
   never (Some last) = refl
 
+  -- a filter that is asked for brings what is left for the topic, and any other nothing
   pub brings : (topic : List ℕ) (o : Option RetainedMessage) (ks : List RetainedMessage) → IsWhatIsLeft o now (filter (is_topic topic) ks) → (t : Bool)
       → copies_of topic (brought_if t now number s (wish_in x) ks) ≡ due_if t o
   brings topic o ks h false = never o
@@ -101,6 +102,7 @@ module _ (now number : ℕ) (s : Session) (x : Subscription) where
   due_is None = refl
   due_is (Some last) = refl
 
+  -- a granted subscription brings what is due for the topic
   pub brings_due : (topic : List ℕ) (o : Option RetainedMessage) (ks : List RetainedMessage) → IsWhatIsLeft o now (filter (is_topic topic) ks)
       → copies_of topic (brought now number s (wish_in x) ks) ≡ due now number s x o
   brings_due topic o ks h = brings topic o ks h may ∙ due_is o

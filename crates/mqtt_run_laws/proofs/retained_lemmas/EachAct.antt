@@ -47,9 +47,11 @@ module _ (env : Env) (R : List Deed → Broker → Type 0) (says : Says env R) w
   abbrev pub SaysAct : Act → Type 0
   SaysAct act = (b : Broker) → Orders b → R (act b) b
 
+  -- deeds that leave what is retained as it is do what is said
   pub quiet : (ds : List Deed) → AreQuiet ds → SaysAct (always ds)
   quiet ds q b h = says.quiet ds b q
 
+  -- the same of such deeds in one state
   pub quietly : (ds : List Deed) (b : Broker) → AreQuiet ds → R ds b
   quietly ds b q = says.quiet ds b q
 

@@ -74,14 +74,17 @@ brought_numbers es = flat_map (λ (m : Moment). brought_by m.deed m.broker) (mom
 abbrev both : List Event
 both = published [] ++ subscribed 0 (wants 1 topic AtMostOnce)
 
+-- the second publication is the last one to the topic
 pub the_second_is_the_last : last_number both ≡ Some 2
 unfolding varint is_utf8 chars encode
 the_second_is_the_last = refl
 
+-- it alone is retained
 pub the_second_is_retained : retained_numbers both ≡ 2 ∷ []
 unfolding varint is_utf8 chars encode
 the_second_is_retained = refl
 
+-- a new subscription brings it alone
 pub the_second_is_brought : brought_numbers both ≡ 2 ∷ []
 unfolding varint is_utf8 chars encode
 the_second_is_brought = refl
@@ -96,6 +99,7 @@ pub it_spends_none : SpendNone both blank
 unfolding varint is_utf8 chars encode
 it_spends_none = ((within, refl), ((within, refl), ((within, refl), ((within, refl), ((within, refl), ((within, refl), ((within, refl), tt)))))))
 
+-- the law holds of this run
 pub it_retains_the_last : RetainsTheLast (the_course both)
 it_retains_the_last = retains_from_nothing both it_spends_none
 
@@ -104,6 +108,7 @@ it_retains_the_last = retains_from_nothing both it_spends_none
 abbrev handled : RetainHandling → Packet
 handled how = with_options 1 (record (options AtMostOnce) { retain_handling = how })
 
+-- not where Retain Handling is 2
 pub it_is_not_brought : brought_numbers (published [] ++ subscribed 0 (handled DoNotSend)) ≡ []
 unfolding varint is_utf8 chars encode
 it_is_not_brought = refl
@@ -118,28 +123,34 @@ it_is_brought_to_a_new_filter_alone = refl
 abbrev emptied : List Event
 emptied = published [] ++ asked 0 (Input 1 (retains [] [])) ∷ subscribed 0 (wants 1 topic AtMostOnce)
 
+-- the empty publication is the last one
 pub the_empty_one_is_the_last : last_number emptied ≡ Some 3
 unfolding varint is_utf8 chars encode
 the_empty_one_is_the_last = refl
 
+-- behind it nothing is retained
 pub nothing_is_retained : retained_numbers emptied ≡ []
 unfolding varint is_utf8 chars encode
 nothing_is_retained = refl
 
+-- a new subscription brings nothing then
 pub nothing_is_brought : brought_numbers emptied ≡ []
 unfolding varint is_utf8 chars encode
 nothing_is_brought = refl
 
 -- ---- one that expires is not brought, and goes with the turn of the clock
 
+-- a new subscription does not bring what has expired
 pub what_has_expired_is_not_brought : brought_numbers (published (expires_in 7) ++ subscribed 7000 (wants 1 topic AtMostOnce)) ≡ []
 unfolding varint is_utf8 chars encode
 what_has_expired_is_not_brought = refl
 
+-- a turn of the clock takes it away
 pub what_has_expired_goes : retained_numbers (published (expires_in 7) ++ asked 7000 Tick ∷ []) ≡ []
 unfolding varint is_utf8 chars encode
 what_has_expired_goes = refl
 
+-- before that it stays
 pub what_has_not_expired_stays : retained_numbers (published (expires_in 7) ++ asked 6999 Tick ∷ []) ≡ 2 ∷ []
 unfolding varint is_utf8 chars encode
 what_has_not_expired_stays = refl

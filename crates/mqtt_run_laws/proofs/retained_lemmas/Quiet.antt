@@ -105,6 +105,7 @@ quiet_deliveries env (d ∷ ds) b =
 
 -- ---- answers, turns, ends and beginnings
 
+-- no turn of sending changes what is retained
 pub quiet_turn : (now line : ℕ) (s : Session) (t : Turn) → AreQuiet (turn_deeds now line s t)
 quiet_turn now line s (turns.Send place id) = quiet_entry (row_at copy_place place s.queue) _ (λ e. (tt, (tt, (tt, tt))))
 quiet_turn now line s (turns.Resend place id) = quiet_entry (row_at copy_place place s.queue) _ (λ e. (tt, (tt, tt)))
@@ -114,6 +115,7 @@ quiet_turn now line s (turns.Repeat id) = (tt, tt)
 quiet_turn now line s (turns.Unknown id) = (tt, tt)
 quiet_turn now line s (turns.Leave place ending) = quiet_leave s (turns.Leave place ending)
 
+-- nor do several
 pub quiet_turns : (now line : ℕ) (s : Session) (ts : List Turn) → AreQuiet (all_turn_deeds now line s ts)
 quiet_turns now line s ts = each_flat IsQuiet (turn_deeds now line s) (quiet_turn now line s) ts
 
@@ -121,40 +123,49 @@ quiet_ends : (s : Session) (es : List CopyRow) → AreQuiet (map (λ e. At (whos
 quiet_ends s [] = tt
 quiet_ends s (e ∷ es) = (tt, quiet_ends s es)
 
+-- nor the end of a session
 pub quiet_end : (s : Session) → AreQuiet (end_session s)
 quiet_end s = each_append IsQuiet (map (λ e. At (whose s) (Leave e SessionEnded)) s.queue) (Finish (whose s) ∷ []) (quiet_ends s s.queue) (tt, tt)
 
+-- nor a CONNECT that is refused
 pub quiet_refused : (l : Line) (c : Greeting) (code : ℕ) → AreQuiet (refused l c code)
 quiet_refused l c code = each_append IsQuiet (cond (nat_lt (largest_of c) refusal_size) [] (Send l.number (connack false code []) ∷ [])) (Gone l.number ∷ [])
     (quiet_cond (nat_lt (largest_of c) refusal_size) [] (Send l.number (connack false code []) ∷ []) tt (tt, tt)) (tt, tt)
 
+-- nor the beginning of a session
 pub quiet_begin : (t : Bool) (l : Line) (c : Greeting) (r : Records) → AreQuiet (begin_named t l c r)
 quiet_begin false l c r = (tt, (tt, (tt, tt)))
 quiet_begin true l c r = (tt, (tt, (tt, (tt, tt))))
 
+-- nor an answer to a PUBLISH
 pub quiet_answer : (line : ℕ) (d : Delivery) (code : ℕ) → AreQuiet (answer line d code)
 quiet_answer line delivery.AtMostOnce code = tt
 quiet_answer line (delivery.AtLeastOnce dup id) code = (tt, tt)
 quiet_answer line (delivery.ExactlyOnce dup id) code = (tt, tt)
 
+-- nor an identifier that is opened
 pub quiet_opens : (s : Session) (d : Delivery) → AreQuiet (opens s d)
 quiet_opens s delivery.AtMostOnce = tt
 quiet_opens s (delivery.AtLeastOnce dup id) = tt
 quiet_opens s (delivery.ExactlyOnce dup id) = (tt, tt)
 
+-- nor an alias that is set
 pub quiet_alias : (t : Bool) (alias : Option ℕ) (line : ℕ) (topic : List ℕ) → AreQuiet (sets_alias t alias line topic)
 quiet_alias true alias line topic = tt
 quiet_alias false None line topic = tt
 quiet_alias false (Some n) line topic = (tt, tt)
 
+-- nor a PUBREL
 pub quiet_release : (x : ReleaseAnswer) (l : Line) (s : Session) (id : ℕ) → AreQuiet (release_by x l s id)
 quiet_release Known l s id = (tt, (tt, tt))
 quiet_release Unknown l s id = (tt, tt)
 
+-- nor a new Session Expiry Interval
 pub quiet_expiry : (o : Option ℕ) (s : Session) → AreQuiet (new_expiry o s)
 quiet_expiry None s = tt
 quiet_expiry (Some n) s = (tt, tt)
 
+-- nor an UNSUBSCRIBE
 pub quiet_unsubscribe : (t : Bool) (line : ℕ) (s : Session) (p : GivingUp) (b : Broker) → AreQuiet (sub.unsubscribe_by t line s p b)
 quiet_unsubscribe true line s p b = quiet_offer (line_at line b) (unsuback p.identifier (map (λ f. identifier_in_use) p.filters))
 quiet_unsubscribe false line s p b =

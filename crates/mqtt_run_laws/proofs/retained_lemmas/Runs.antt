@@ -201,6 +201,7 @@ module _ (topic : List ℕ) (before : Option RetainedMessage) where
 
   -- ---- and of many
 
+  -- after any events what is retained is what was accepted last
   pub over_stores : (es : List Event) (b : Broker) (o : Option Acceptance) → SpendNone es b → IsSteady b → Stored o b
       → Stored (last o (course_of es b).acceptances) (after_events es b)
   over_stores [] b o fair s h = h
@@ -211,6 +212,7 @@ module _ (topic : List ℕ) (before : Option RetainedMessage) where
       subst (λ (x : Option Acceptance). Stored x (after_events es c)) (sym (last_append o first (course_of es c).acceptances))
       (over_stores es c (last o first) fair.1 (event_steady e b fair.0 s) (stores e b o g h))
 
+  -- in each moment of any events a subscription brings what is due
   pub over_brings : (es : List Event) (b : Broker) (o : Option Acceptance) → SpendNone es b → IsSteady b → Stored o b
       → EachBringsIts topic before o (moments_over (course_of es b))
   over_brings [] b o fair s h = tt

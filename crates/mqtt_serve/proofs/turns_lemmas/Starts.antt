@@ -1,6 +1,8 @@
 -- What starts of the server leave is stored after their calls of the broker.
 use Rattle.std.proofs.Common.{◌≡◌, ◌⊎◌, ℕ, true, false, List, [], ◌∷◌, ◌++◌, Option, Some, None, refl, sym, ap, subst, ◌∙◌, inl, inr}
+use Rattle.std.specs.Prelude.{Result, Ok, Err}
 use Rattle.mqtt_keep.specs.declared.keeping.keep.Keep.{Ghosts}
+use Rattle.mqtt_keep.specs.declared.keeping.keep.KeepError.{KeepError}
 use Rattle.mqtt_records.specs.declared.state.records.Records.{Records}
 use Rattle.mqtt_rules.specs.declared.step.Limits.{Limits}
 use Rattle.mqtt_rules.specs.step.Laws.{AreWithin, Asked, Event, Reopened, after_events, blank}
@@ -9,6 +11,8 @@ use Rattle.mqtt_rules.specs.step.Step.{Call, is_opening_spent, opened}
 use Rattle.mqtt_broker.specs.engine.Piece.{IsLeftByAny, call_by}
 use Rattle.mqtt_broker.specs.engine.Serving.{Serving}
 use Rattle.mqtt_broker.specs.stored.Calling.{IsLeftBy}
+use Rattle.mqtt_broker.specs.stored.Closing.{IsStoredAfter}
+use Rattle.mqtt_broker.specs.stored.Opening.{IsStoredOpening, Opened}
 use Rattle.mqtt_broker.specs.stored.Running.{Running}
 use Rattle.mqtt_world_laws.specs.of_calls.Calls.{BeginsInOrder, SpendNone}
 use Rattle.mqtt_world_laws.proofs.of_calls_lemmas.Ending.{still_in_order}
@@ -16,7 +20,7 @@ use Rattle.mqtt_world_laws.proofs.of_calls_lemmas.Keeping.{blank_in_order, keeps
 use Rattle.mqtt_serve.specs.turns.Events.{AreOfCalls, IsBoth}
 use Rattle.mqtt_serve.specs.turns.Leaving.{AreCalls, IsCalled, call_after, line_linked, no_call, piece_came, was_asked, was_told}
 use Rattle.mqtt_serve.specs.turns.Settled.{Runs}
-use Rattle.mqtt_serve.specs.turns.Starts.{AreOfStarts, AreStarts, HasStarted, IsLeftByStep, IsLeftOf, IsLeftWithin, KeepAllLeft, KeepAllSoFar, WasServed, no_start, only_opened, served}
+use Rattle.mqtt_serve.specs.turns.Starts.{AreOfStarts, AreStarts, HasStarted, IsLeftByStep, IsLeftOf, IsLeftWithin, KeepAllLeft, KeepAllSoFar, WasOpening, WasServed, no_start, only_opened, served, store_behind}
 use Rattle.mqtt_serve.proofs.turns_lemmas.Events.{Lead, after_both, calls_lead, limits_stay_over, running_or_not, sound_before, sound_over, spend_both}
 use Rattle.mqtt_serve.proofs.turns_lemmas.Lasting.{stretches_run}
 use Rattle.mqtt_serve.proofs.turns_lemmas.Saying.{stretches_say}
@@ -241,6 +245,18 @@ module _ {K : Type 0} (g : Ghosts K) where
   -- ---- one start after the other
 
   module _ (leaves_held : (keep : K) (left r : Records) → g.is_settled keep → g.holds keep r → g.leaves keep left → left ≡ r) where
+    -- what a crash leaves of an opening: what there was, or what is stored after it
+    crash_leaves : (limits : Limits) (now : ℕ) (keep : K) (result : Result (Running K) (K × KeepError)) (left : Records) → Opened g limits now keep result
+        → g.is_sound (store_behind result) → g.leaves (store_behind result) left → g.leaves keep left ⊎ IsStoredOpening g limits now keep left
+    crash_leaves limits now keep (Ok engine) left opened sound may = opened.opened.crash left may sound
+    crash_leaves limits now keep (Err e) left opened sound may = opened.refused.crash left may sound
+
+    opening_leaves : (limits : Limits) (now : ℕ) (r left : Records) → WasOpening g limits now r left → (left ≡ r) ⊎ IsStoredAfter limits now r left
+    opening_leaves limits now r left was = elim (crash_leaves limits now was.keep was.result left was.opened was.sound was.leaves) [
+      | inl before ↦ inl (leaves_held was.keep left r was.settled was.has before)
+      | inr after ↦ inr (subst (λ (q : Records). IsStoredAfter limits now q left) (after.load.exact r was.has after.sound) after.is)
+    ]
+
     leave_all : (r : Records) (starts : AreStarts g r) → Leave (AreOfStarts starts) blank r
     leave_all r no_start = record { events = []; are = refl; fair = tt; leave = refl }
     leave_all at (served {r} limits left within before stop) =
@@ -261,16 +277,20 @@ module _ {K : Type 0} (g : Ghosts K) where
           fair = whole_fair leaves_held limits r last stop.started within P found stop.sound its.events its.fair;
           leave = ap stored (whole_lead leaves_held limits r last stop.started within P found stop.sound its.events) ∙ its.leave;
         }
-    leave_all at (only_opened {r} limits now left within before after) =
+    leave_all at (only_opened {r} limits now left within before opening) =
         let found = leave_all r before in
-        let again = Reopened limits after.choice now ∷ [] in
-        record {
-          events = found.events ++ again;
-          are = record { before = found.events; behind = again; first = found.are; next = refl; is = refl };
-          fair = spend_both found.events again blank found.fair
-              ((within, subst (λ (q : Records). is_opening_spent limits after.choice now q ≡ false) (sym found.leave) after.unspent), tt);
-          leave = ap stored (after_both found.events again blank) ∙ ap (λ (q : Records). stored (opened limits after.choice now q)) found.leave ∙ sym after.is;
-        }
+        elim (opening_leaves limits now r left opening) [
+          | inl same ↦ record { events = found.events; are = inl (found.are, same); fair = found.fair; leave = found.leave ∙ sym same }
+          | inr after ↦
+              let again = Reopened limits after.choice now ∷ [] in
+              record {
+                events = found.events ++ again;
+                are = inr (record { before = found.events; behind = again; first = found.are; next = record { after = after; is = refl }; is = refl });
+                fair = spend_both found.events again blank found.fair
+                    ((within, subst (λ (q : Records). is_opening_spent limits after.choice now q ≡ false) (sym found.leave) after.unspent), tt);
+                leave = ap stored (after_both found.events again blank) ∙ ap (λ (q : Records). stored (opened limits after.choice now q)) found.leave ∙ sym after.is;
+              }
+        ]
 
     -- what they left keeps all
     pub starts_keep : (r : Records) (starts : AreStarts g r) → KeepAllLeft starts

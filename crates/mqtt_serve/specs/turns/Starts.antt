@@ -1,6 +1,7 @@
 -- The server over several starts: each begins with what the one before left, whenever that was stopped (MQTT 5.0, 4.1).
-use Rattle.std.specs.Prelude.{◌≡◌, ◌⊎◌, ℕ, List, [], ◌∷◌, ◌++◌, Option, Some, None, Ok, false}
+use Rattle.std.specs.Prelude.{◌≡◌, ◌⊎◌, ℕ, List, [], ◌∷◌, ◌++◌, Option, Some, None, Result, Ok, Err, false}
 use Rattle.mqtt_keep.specs.declared.keeping.keep.Keep.{Ghosts}
+use Rattle.mqtt_keep.specs.declared.keeping.keep.KeepError.{KeepError}
 use Rattle.mqtt_records.specs.declared.state.records.Records.{Records}
 use Rattle.mqtt_records.specs.state.Records.{nothing}
 use Rattle.mqtt_rules.specs.declared.step.Limits.{Limits}
@@ -11,6 +12,8 @@ use Rattle.mqtt_broker.specs.engine.Piece.{call_by}
 use Rattle.mqtt_broker.specs.engine.Serving.{Serving}
 use Rattle.mqtt_broker.specs.stored.Calling.{IsStoredNext}
 use Rattle.mqtt_broker.specs.stored.Closing.{IsStoredAfter}
+use Rattle.mqtt_broker.specs.stored.Opening.{Opened}
+use Rattle.mqtt_broker.specs.stored.Running.{Running}
 use Rattle.mqtt_world_laws.specs.of_calls.Calls.{SpendNone, course_of}
 use Rattle.mqtt_world_laws.specs.of_calls.Delivery.{KeepsAll}
 use Rattle.mqtt_serve.specs.turns.Events.{AreOfCalls, IsBoth}
@@ -61,6 +64,22 @@ pub record WasStopped {K : Type 0} (g : Ghosts K) (limits : Limits) (r left : Re
   pub sound : g.is_sound last.running.keep
   pub leaves : g.leaves last.running.keep left
 
+-- the store behind an opening
+abbrev pub store_behind : {K : Type 0} → Result (Running K) (K × KeepError) → K
+store_behind (Ok engine) = engine.keep
+store_behind (Err e) = e.0
+
+-- or it was stopped before its opening was stored for good: its store has these records, and nothing that waits to be written; the broker
+-- began, or the opening was refused; and what is opened next may have what a crash leaves then
+pub record WasOpening {K : Type 0} (g : Ghosts K) (limits : Limits) (now : ℕ) (r left : Records) : Type 0 where
+  pub keep : K
+  pub settled : g.is_settled keep
+  pub has : g.holds keep r
+  pub result : Result (Running K) (K × KeepError)
+  pub opened : Opened g limits now keep result
+  pub sound : g.is_sound (store_behind result)
+  pub leaves : g.leaves (store_behind result) left
+
 -- a store was served and given back, and has not failed: what the broker began with is what the store had, and such as a crash of it may
 -- leave
 pub record WasServed {K : Type 0} (g : Ghosts K) (limits : Limits) (keep given : K) : Type 0 where
@@ -75,12 +94,11 @@ pub record WasServed {K : Type 0} (g : Ghosts K) (limits : Limits) (keep given :
 
 -- ---- one start after the other
 
--- The first begins with nothing stored, each other with what the one before left, each with limits of its own. One that was stopped
--- before its opening was stored for good left what it found, or what is stored after the opening
+-- The first begins with nothing stored, each other with what the one before left, each with limits of its own
 pub data AreStarts {K : Type 0} (g : Ghosts K) : Records → Type 0 where
   no_start : AreStarts g nothing
   served : {r : Records} (limits : Limits) (left : Records) → AreWithin limits → AreStarts g r → WasStopped g limits r left → AreStarts g left
-  only_opened : {r : Records} (limits : Limits) (now : ℕ) (left : Records) → AreWithin limits → AreStarts g r → IsStoredAfter limits now r left
+  only_opened : {r : Records} (limits : Limits) (now : ℕ) (left : Records) → AreWithin limits → AreStarts g r → WasOpening g limits now r left
       → AreStarts g left
 
 -- ---- the events of starts
@@ -95,11 +113,16 @@ pub record IsOfStart {K : Type 0} {g : Ghosts K} {limits : Limits} {r left : Rec
   pub are_since : IsLeftOf stop.started.calls left since
   pub is : events ≡ before ++ Reopened limits choice stop.started.begin ∷ since
 
-abbrev pub AreOfStarts : {K : Type 0} {g : Ghosts K} {r : Records} → AreStarts g r → List Event → Type 0
-AreOfStarts {K} {g} {r} no_start events = events ≡ []
-AreOfStarts {K} {g} {r} (served limits left within before stop) events = IsOfStart (AreOfStarts before) stop events
-AreOfStarts {K} {g} {r} (only_opened limits now left within before after) events =
-    IsBoth (AreOfStarts before) (λ es. es ≡ Reopened limits after.choice now ∷ []) events
+-- an opening that was stored
+pub record IsOfOpening (limits : Limits) (now : ℕ) (r left : Records) (events : List Event) : Type 0 where
+  pub after : IsStoredAfter limits now r left
+  pub is : events ≡ Reopened limits after.choice now ∷ []
+
+abbrev pub AreOfStarts : {K : Type 0} {g : Ghosts K} {last : Records} → AreStarts g last → List Event → Type 0
+AreOfStarts {K} {g} {last} no_start events = events ≡ []
+AreOfStarts {K} {g} {last} (served limits left within before stop) events = IsOfStart (AreOfStarts before) stop events
+AreOfStarts {K} {g} {last} (only_opened {r} limits now left within before opening) events =
+    (AreOfStarts before events × (left ≡ r)) ⊎ IsBoth (AreOfStarts before) (IsOfOpening limits now r left) events
 
 -- ---- what holds of them
 
