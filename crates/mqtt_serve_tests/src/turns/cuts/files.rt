@@ -70,15 +70,20 @@ fn files_of(alloc: Global, image: &Image, calls: u64) -> io::Result<Files<Device
     }
 }
 
-/// A connection to the database in files, which is made as the server makes it; the files alone, if they can't be opened.
+/// The files with a database, which is made as the server makes it if they have none.
+fn made(alloc: Global, files: Files<Device>) -> Files<Device> {
+    if !files.may_be_used() {
+        return files;
+    }
+    let (_, files) = make_over(alloc, files, 1);
+    files
+}
+
+/// A connection to the database in files; the files alone, if they can't be opened.
 fn connect(
     alloc: Global,
     files: Files<Device>,
 ) -> Result<Connection<FileStore<Device>>, Files<Device>> {
-    if !files.may_be_used() {
-        return Err(files);
-    }
-    let (_, files) = make_over(alloc, files, 1);
     if !files.may_be_used() {
         return Err(files);
     }
@@ -93,10 +98,18 @@ fn store_of(
     alloc: Global,
     files: Files<Device>,
 ) -> Result<SqlKeep<FileStore<Device>>, Files<Device>> {
-    match SqlKeep::new(alloc, connect(alloc, files)?) {
-        Ok(keep) => Ok(keep),
-        Err((_, store)) => Err(store.close()),
+    match connect(alloc, files) {
+        Ok(conn) => match SqlKeep::new(alloc, conn) {
+            Ok(keep) => Ok(keep),
+            Err((_, store)) => Err(store.close()),
+        },
+        Err(files) => Err(files),
     }
+}
+
+/// The files of a store.
+fn files_under(keep: SqlKeep<FileStore<Device>>) -> Files<Device> {
+    keep.into_inner().into_store().close()
 }
 
 /// A run over the files of an image, which fail after so many calls of each; and the files that are left. Nothing is told if they
@@ -109,10 +122,10 @@ pub(crate) fn act_on(
     hasher: RandomState,
 ) -> io::Result<(Option<Told>, Files<Device>)> {
     let files = files_of(alloc, image, calls)?;
-    match store_of(alloc, files) {
+    match store_of(alloc, made(alloc, files)) {
         Ok(keep) => {
             let (told, keep) = act(alloc, keep, plan, hasher);
-            Ok((Some(told), keep.into_inner().into_store().close()))
+            Ok((Some(told), files_under(keep)))
         }
         Err(files) => Ok((None, files)),
     }
