@@ -3,7 +3,6 @@
 mod apart;
 mod clients;
 mod course;
-mod cuts;
 mod failing;
 mod full;
 mod groups;
