@@ -3,6 +3,7 @@
 mod apart;
 mod clients;
 mod course;
+mod cuts;
 mod failing;
 mod full;
 mod groups;

@@ -75,18 +75,18 @@ fn is_due(links: &Held, stretches: u64) -> bool {
 #[derive(Clone, Copy, Debug, PartialEq, Eq)]
 pub(crate) struct Seen {
     births: u64,
-    publications: u64,
+    pub(crate) publications: u64,
     subscribes: u64,
     moment: u64,
     pub(crate) sessions: usize,
     /// In all sessions.
     pub(crate) subscriptions: usize,
     /// Open identifiers, in all sessions.
-    open: usize,
+    pub(crate) open: usize,
     /// Copies, in all queues.
-    copies: usize,
+    pub(crate) copies: usize,
     /// How far the first two copies have come that the first session has.
-    phases: [Option<Phase>; 2],
+    pub(crate) phases: [Option<Phase>; 2],
 }
 
 /// What is stored after so many stretches, a millisecond each: nothing; the sessions and the subscription; two copies as sent, each
