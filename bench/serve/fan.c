@@ -2,9 +2,9 @@
  *
  * usage: fan PORT QOS BYTES SECONDS|COUNTm SHAPE
  *
- * SHAPE is N-M (N publishers and M readers of one topic), pairs-N (N publishers, each with a reader of its own), other (two clients that
- * publish to each other), self (one that publishes to itself), or stops-N and away-N: N pairs, and one pair more whose reader reads no more,
- * or goes with a session that stays, after 2 seconds. Nothing limits a publisher but the Receive Maximum of the broker's CONNACK. With
+ * SHAPE is N-M (N publishers and M readers of one topic), pairs-N (N publishers, each with a reader of its own), idle-N (a pair with one
+ * message under way, beside N clients that do nothing), other (two clients that publish to each other), self (one that publishes to itself),
+ * or stops-N and away-N: N pairs, and one pair more whose reader reads no more, or goes with a session that stays, after 2 seconds. Nothing limits a publisher but the Receive Maximum of the broker's CONNACK. With
  * COUNTm each publisher sends so many messages. All that was accepted is waited for, until nothing comes for 10 seconds. Prints one line:
  * messages that were accepted, refused, lost (accepted, but not come to each reader that reads), out of order; messages a second; the median
  * and the 99th of a hundred of their times under way in microseconds; and, of the pairs, messages a second in the second second and from the
@@ -22,7 +22,7 @@
 #include <time.h>
 #include <unistd.h>
 
-enum { HELD = 1 << 21, STAMP = 24, PATIENCE = 10, ENDS = 128, WINDOW = 20, IDS = 60000 };
+enum { HELD = 1 << 21, STAMP = 24, PATIENCE = 10, ENDS = 1024, WINDOW = 20, IDS = 60000 };
 
 typedef struct {
     int fd, number, to, from, stops, is_gone; /* topics that it publishes to and reads, or -1 */
@@ -227,6 +227,9 @@ static void open_all(int port, const char *shape) {
         if (shape[0] == 'p') return;
         end_t *reader = open_end(port, -1, n), *publisher = open_end(port, n, -1);
         reader->stops = publisher->stops = 1, away = shape[0] == 'a';
+    } else if (sscanf(shape, "idle-%d", &n) == 1) {
+        for (int i = 0; i < n; i++) open_end(port, -1, -1);
+        open_end(port, -1, 0), open_end(port, 0, -1)->window = 1;
     } else if (sscanf(shape, "%d-%d", &n, &m) == 2) {
         for (int i = 0; i < m; i++) open_end(port, -1, 0);
         for (int i = 0; i < n; i++) open_end(port, 0, -1);
