@@ -1,4 +1,5 @@
 -- Lemmas on command lines.
+pub mod Capacities
 pub mod Commands
 pub mod Examples
 pub mod Versions

@@ -10,7 +10,7 @@ pub use command::{
 };
 pub use mqtt_flow::Full;
 pub use mqtt_link::{Commit, ServeFault};
-pub use mqtt_rules::Limits;
+pub use mqtt_rules::{Capacity, Limits};
 pub use mqtt_script::{BadLine, BadReason, Played, ReplayFault};
 pub use viewer::{
     Details, Gives, Status, Vector, VectorsFault, ViewFault, is_right, known_vectors, one_view,

@@ -1,5 +1,6 @@
 //! What no clause of mqtt_cli says: printed lines, failing streams, and each call once.
 
+mod connections;
 mod endings;
 mod failures;
 mod files;

@@ -1,5 +1,5 @@
 -- The subcommand of a command line, and what it asks for.
-use Rattle.std.proofs.Common.{◌≡◌, ◌∙◌, ◌≤◌, ℕ, Bool, true, false, not, if◌then◌else◌, ap, sym, refl, List, [], ◌∷◌, Option, None, Some, codes, unwrap_or, option_map, subst, inl, inr, arith, rules}
+use Rattle.std.proofs.Common.{◌≡◌, ◌∙◌, ℕ, Bool, true, false, not, if◌then◌else◌, ap, sym, refl, List, [], ◌∷◌, Option, None, Some, codes, unwrap_or, option_map, subst, inl, inr, rules}
 use Rattle.std.specs.Str.{bytes_eq}
 use Rattle.std.specs.declared.net.socket_addr.SocketAddrV4.{SocketAddrV4}
 use Rattle.clap.specs.Walk.{is_empty}
@@ -9,13 +9,13 @@ use Rattle.clap.specs.declared.error.kind.ErrorKind.TheVariants.{OutOfMemory}
 use Rattle.clap.specs.declared.parser.matches.ArgMatches.{ArgMatches}
 use Rattle.clap.specs.declared.parser.matches.ArgMatches.TheViews.{out-ArgMatches}
 use Rattle.clap.specs.declared.parser.matches.Found.{Found}
-use Rattle.mqtt_cli.specs.command.Limits.{AsksForLimits, IsSizeGiven}
+use Rattle.mqtt_cli.specs.command.Limits.{AsksForCapacity, AsksForLimits}
 use Rattle.mqtt_cli.specs.command.Line.{AskFor, AskToReplay, AskToServe, AsksNoReplay, AsksNoServer, AsksToReplay, AsksToServe, IsCommitGiven, command_of, file_in, is_vectors, program_app, replay_rows_in, rows_in, serve_rows_in}
 use Rattle.mqtt_cli.specs.command.Values.{IsAddress, IsCount, value_in}
 use Rattle.mqtt_cli.specs.declared.command.line.Action.{Action}
 use Rattle.mqtt_cli.specs.declared.command.line.Action.TheVariants.{View, Replay, Vectors, Serve}
 use Rattle.mqtt_link.specs.declared.commit.Commit.{Commit}
-use Rattle.mqtt_rules.specs.step.Laws.{AreWithin}
+use Rattle.mqtt_rules.specs.declared.step.Capacity.{Capacity}
 use Rattle.mqtt_rules.specs.declared.step.Limits.{Limits}
 
 -- a pair that may be there, by its parts
@@ -145,8 +145,8 @@ pub no_server-count : (rows : Option (List Row)) (text : Text) → value_in (cod
 no_server-count rows text is none listen db turns limits commit log asks =
     none turns (subst (λ (t : Text). IsCount t turns) (ap (λ o. unwrap_or o text) (sym asks.turns_is ∙ is)) asks.count)
 
--- or with limits that there are none
-pub no_server-limits : (rows : Option (List Row)) → ((limits : Limits) → ¬ (AsksForLimits rows limits)) → AsksNoServer rows
+-- or with limits and lines that there are none
+pub no_server-limits : (rows : Option (List Row)) → ((limits : Capacity) → ¬ (AsksForCapacity rows limits)) → AsksNoServer rows
 no_server-limits rows none listen db turns limits commit log asks = none limits asks.limits_are
 
 -- or with a commit that is none
@@ -235,16 +235,3 @@ pub asks_nothing : (command : Option (Text × List Row)) (asked : Option Action)
 asks_nothing command None is file script other no_rows =
     (file, subst AsksNoReplay (sym script) no_replay, other, subst AsksNoServer (sym no_rows) no_server)
 asks_nothing command (Some action) is file script other no_rows = cc
-
--- a table that is asked for is within its limit
-size_within : (most : ℕ) (value : Option Text) (size : ℕ) → IsSizeGiven most value size → size ≤ most
-size_within most None size is = omega arith
-size_within most (Some text) size is = is.within
-
--- and so are the limits that are asked for
-pub limits_within : (rows : Option (List Row)) (limits : Limits) → AsksForLimits rows limits → AreWithin limits
-limits_within rows limits asks = record {
-  queue = size_within _ _ limits.queue asks.queue;
-  sessions = size_within _ _ limits.sessions asks.sessions;
-  retained = size_within _ _ limits.retained asks.retained;
-}

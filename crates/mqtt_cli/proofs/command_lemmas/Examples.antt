@@ -1,9 +1,10 @@
 -- Command lines, by computing.
-use Rattle.std.proofs.Common.{◌≡◌, true, List, [], ◌∷◌, None, Some, codes, refl}
+use Rattle.std.proofs.Common.{◌≡◌, ℕ, true, List, [], ◌∷◌, None, Some, codes, refl, arith, rules}
 use Rattle.clap.proofs.OnLiterals.{clap_on_literals}
 use Rattle.clap.specs.Words.{Text, fault_of}
 use Rattle.clap.specs.declared.error.kind.ErrorKind.TheVariants.{DisplayVersion, UnknownArgument}
 use Rattle.mqtt_cli.specs.command.Line.{command_of, file_in, flag_in, is_vectors, program_app, replay_rows_in, rows_in, serve_rows_in}
+use Rattle.mqtt_cli.specs.command.Limits.{AreLinesGiven}
 use Rattle.mqtt_cli.specs.command.Values.{value_in}
 use Rattle.mqtt_cli.specs.declared.command.outcome.TheConstants.{DONE, FAULTY, USAGE, FAILED}
 
@@ -121,6 +122,54 @@ served-queue = refl
 queue_twice : command_of (line_of (codes "replay" ∷ codes "--queue" ∷ codes "2" ∷ codes "--queue" ∷ codes "3" ∷ codes "a" ∷ [])) ≡ None
 unfolding clap_on_literals
 queue_twice = refl
+
+-- ---- connections
+
+served-connections : value_in (codes "connections") (serve_rows_in (command_of served)) ≡ None
+unfolding clap_on_literals
+served-connections = refl
+
+served-lines : AreLinesGiven (value_in (codes "connections") (serve_rows_in (command_of served))) 64
+served-lines = rw served-connections refl
+
+abbrev connected : Text → List Text
+connected number = line_of (codes "serve" ∷ codes "--turns" ∷ codes "3" ∷ codes "--connections" ∷ number ∷ codes "--listen" ∷ codes "1.2.3.4:5" ∷ codes "--db" ∷ codes "a" ∷ [])
+
+connected-connections : value_in (codes "connections") (serve_rows_in (command_of (connected (codes "1000")))) ≡ Some (codes "1000")
+unfolding clap_on_literals
+connected-connections = refl
+
+connected-lines : AreLinesGiven (value_in (codes "connections") (serve_rows_in (command_of (connected (codes "1000"))))) 1000
+connected-lines = rw connected-connections (record {
+  count = record { numeral = search rules; value = refl; some = omega arith; fits = omega arith };
+  within = omega arith;
+})
+
+none-connections : value_in (codes "connections") (serve_rows_in (command_of (connected (codes "0")))) ≡ Some (codes "0")
+unfolding clap_on_literals
+none-connections = refl
+
+none-lines : (lines : ℕ) → ¬ (AreLinesGiven (value_in (codes "connections") (serve_rows_in (command_of (connected (codes "0"))))) lines)
+none-lines lines given =
+    let is : AreLinesGiven (Some (codes "0")) lines = rw none-connections at given in
+    omega arith
+
+more-connections : value_in (codes "connections") (serve_rows_in (command_of (connected (codes "1001")))) ≡ Some (codes "1001")
+unfolding clap_on_literals
+more-connections = refl
+
+more-lines : (lines : ℕ) → ¬ (AreLinesGiven (value_in (codes "connections") (serve_rows_in (command_of (connected (codes "1001"))))) lines)
+more-lines lines given =
+    let is : AreLinesGiven (Some (codes "1001")) lines = rw more-connections at given in
+    omega arith
+
+connections_twice : command_of (line_of (codes "serve" ∷ codes "--connections" ∷ codes "2" ∷ codes "--turns" ∷ codes "3" ∷ codes "--listen" ∷ codes "1.2.3.4:5" ∷ codes "--db" ∷ codes "a" ∷ codes "--connections" ∷ codes "3" ∷ [])) ≡ None
+unfolding clap_on_literals
+connections_twice = refl
+
+connections_of_replay : command_of (line_of (codes "replay" ∷ codes "--connections" ∷ codes "2" ∷ codes "a" ∷ [])) ≡ None
+unfolding clap_on_literals
+connections_of_replay = refl
 
 -- ---- commits
 

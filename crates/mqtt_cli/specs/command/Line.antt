@@ -7,11 +7,12 @@ use Rattle.clap.specs.declared.error.kind.ErrorKind.TheVariants.{DisplayVersion}
 use Rattle.clap.specs.Words.{App, IsAmong, Row, Rule, Text, fault_of, first_of, new_app, new_rule, one_of, subcommand_of, with_rule, with_subcommand}
 use Rattle.mqtt_cli.specs.declared.command.line.Action.{Action}
 use Rattle.mqtt_cli.specs.declared.command.line.Action.TheVariants.{View, Replay, Vectors, Serve}
-use Rattle.mqtt_cli.specs.command.Limits.{AsksForLimits, choice_rule, with_limits}
+use Rattle.mqtt_cli.specs.command.Limits.{AsksForCapacity, AsksForLimits, choice_rule, with_capacity, with_limits}
 use Rattle.mqtt_cli.specs.command.Values.{IsAddress, IsCommit, IsCount, value_in}
 use Rattle.mqtt_cli.specs.declared.viewer.details.Details.{Details}
 use Rattle.mqtt_link.specs.declared.commit.Commit.{Commit}
 use Rattle.mqtt_link.specs.declared.commit.Commit.TheVariants.{Turn}
+use Rattle.mqtt_rules.specs.declared.step.Capacity.{Capacity}
 use Rattle.mqtt_rules.specs.declared.step.Limits.{Limits}
 use Rattle.std.specs.declared.net.socket_addr.SocketAddrV4.{SocketAddrV4}
 
@@ -43,10 +44,10 @@ vectors_app = new_app (codes "vectors")
 abbrev pub option_rule : Text → Rule
 option_rule name = record (new_rule name) { long = Some name; value_names = 1; required = true }
 
--- `serve --listen ADDR --db FILE --turns N [--commit turn|step] [--log]`, with the options for limits
+-- `serve --listen ADDR --db FILE --turns N [--commit turn|step] [--log]`, with the options for limits and for connections
 abbrev pub serve_app : App
 serve_app =
-    with_limits
+    with_capacity
     (with_rule
     (with_rule
     (with_rule (with_rule (with_rule (new_app (codes "serve")) (option_rule (codes "listen"))) (option_rule (codes "db")))
@@ -121,8 +122,8 @@ abbrev pub IsCommitGiven : Option Text → Commit → Type 0
 IsCommitGiven None commit = commit ≡ Turn
 IsCommitGiven (Some text) commit = IsCommit text commit
 
--- `serve` is asked for at this address, over this database, for so many turns, with these limits and this commit, with a log or without
-pub record AsksToServe (rows : Option (List Row)) (listen : SocketAddrV4) (db : Text) (turns : ℕ) (limits : Limits) (commit : Commit) (log : Bool) : Type 0 where
+-- `serve` is asked for at this address, over this database, for so many turns, with these limits, so many lines and this commit, with a log or without
+pub record AsksToServe (rows : Option (List Row)) (listen : SocketAddrV4) (db : Text) (turns : ℕ) (limits : Capacity) (commit : Commit) (log : Bool) : Type 0 where
   pub listen_text : Text
   pub turns_text : Text
   pub listen_is : value_in (codes "listen") rows ≡ Some listen_text
@@ -130,14 +131,14 @@ pub record AsksToServe (rows : Option (List Row)) (listen : SocketAddrV4) (db : 
   pub db_is : value_in (codes "db") rows ≡ Some db
   pub turns_is : value_in (codes "turns") rows ≡ Some turns_text
   pub count : IsCount turns_text turns
-  pub limits_are : AsksForLimits rows limits
+  pub limits_are : AsksForCapacity rows limits
   pub commit_is : IsCommitGiven (value_in (codes "commit") rows) commit
   pub log_is : IsFlag (flag_in (codes "log") rows) log
 
 -- nothing that `serve` may be given is asked for
 abbrev pub AsksNoServer : Option (List Row) → Type 0
 AsksNoServer rows =
-    (listen : SocketAddrV4) (db : Text) (turns : ℕ) (limits : Limits) (commit : Commit) (log : Bool)
+    (listen : SocketAddrV4) (db : Text) (turns : ℕ) (limits : Capacity) (commit : Commit) (log : Bool)
     → ¬ (AsksToServe rows listen db turns limits commit log)
 
 -- `replay` is asked for, of this file, with these limits

@@ -9,6 +9,7 @@ use Rattle.mqtt_cli.specs.declared.command.outcome.Outcome.{Outcome}
 use Rattle.mqtt_cli.specs.declared.command.outcome.Outcome.TheVariants.{Done, Line, Unwritten, NoFile, View, Vectors, Replayed, Replay, Served, Serve}
 use Rattle.mqtt_script.specs.declared.replay_fault.Played.{Played}
 use Rattle.mqtt_script.specs.declared.replay_fault.ReplayFault.{ReplayFault}
+use Rattle.mqtt_rules.specs.declared.step.Capacity.{Capacity}
 use Rattle.mqtt_rules.specs.declared.step.Limits.{Limits}
 use Rattle.mqtt_link.specs.declared.commit.Commit.{Commit}
 use Rattle.mqtt_link.specs.declared.serve_fault.ServeFault.{ServeFault}
@@ -20,10 +21,10 @@ use Rattle.mqtt_cli.specs.declared.viewer.vectors_checker.VectorsFault.TheVarian
 abbrev pub Asked : Type 0
 Asked = Option (Text × List Row)
 
--- what serving at an address, over the database at a path, for so many turns, with limits and a commit, with a log or without, may
--- come to
+-- what serving at an address, over the database at a path, for so many turns, with limits, lines and a commit, with a log or without,
+-- may come to
 abbrev pub Serving : Type 1
-Serving = SocketAddrV4 → Text → ℕ → Limits → Commit → Bool → Result ⊤ ServeFault → Type 0
+Serving = SocketAddrV4 → Text → ℕ → Capacity → Commit → Bool → Result ⊤ ServeFault → Type 0
 
 -- what the replay of the script at a path, with limits, may come to
 abbrev pub Replaying : Type 1
@@ -41,7 +42,7 @@ pub record HasServed (serves : Serving) (command : Asked) (ended : Result ⊤ Se
   pub listen : SocketAddrV4
   pub db : Text
   pub turns : ℕ
-  pub limits : Limits
+  pub limits : Capacity
   pub commit : Commit
   pub log : Bool
   pub asks : AsksToServe (serve_rows_in command) listen db turns limits commit log

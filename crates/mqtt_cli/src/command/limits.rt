@@ -1,17 +1,18 @@
-//! The options of `serve` and `replay` that say how large the broker's tables may be, and what a full queue does (ours).
+//! The options of `serve` and `replay` that say how large the broker's tables may be, and what a full queue does; and that of
+//! `serve` alone that says how many connections there may be (ours).
 
 ghost use Rattle.std.specs.Prelude.{◌≡◌, ℕ, IfNone, IfOk, IfSome, Some, codes, false};
 ghost use Rattle.clap.specs.Words.{app_of, found_of, rows_of, rule_of};
 ghost use Rattle.clap.specs.declared.builder.command.Command.TheViews.{out-Command as fields_of};
-ghost use Rattle.mqtt_cli.specs.command.Limits.{AskForLimits, IsFullGiven, IsSizeGiven, choice_rule, with_limits};
+ghost use Rattle.mqtt_cli.specs.command.Limits.{AreLinesGiven, AskForCapacity, AskForLimits, IsFullGiven, IsSizeGiven, choice_rule, with_capacity, with_limits};
 ghost use Rattle.mqtt_cli.specs.command.Values.{value_in};
 ghost use Rattle.mqtt_flow.specs.declared.outbound.entry.Full.{Full};
 
 use crate::command::values::{full_read, size_read};
 use clap::{Arg, ArgMatches, Command};
-use mqtt_base::{QUEUE_LIMIT, RETAINED_LIMIT, SESSION_LIMIT};
+use mqtt_base::{LINE_LIMIT, LINES_UNASKED, QUEUE_LIMIT, RETAINED_LIMIT, SESSION_LIMIT};
 use mqtt_flow::Full;
-use mqtt_rules::Limits;
+use mqtt_rules::{Capacity, Limits};
 use std::alloc::{AllocError, Global};
 
 /// A command with the options for limits, `[--full refuse|drop] [--queue N] [--sessions N] [--retained N]`.
@@ -47,6 +48,23 @@ pub(crate) fn limited<'a>(alloc: Global, command: Command<'a>) -> Result<Command
         ))
 }
 
+/// A command with these, and with the option for connections, `[--connections N]`.
+pub(crate) fn with_capacity<'a>(
+    alloc: Global,
+    command: Command<'a>,
+) -> Result<Command<'a>, AllocError>
+    requires local { (fields_of command).has_globals ≡ false }
+    ensures app { IfOk result (λ with. app_of with ≡ with_capacity (app_of command.entry)) }
+    ensures local { IfOk result (λ with. (fields_of with).has_globals ≡ false) }
+{
+    limited(alloc, command)?.arg(choice_arg(
+        alloc,
+        "connections",
+        "N",
+        "The most connections at one time, from 1 to 1000 [default: 64]",
+    ))
+}
+
 /// `--NAME VALUE`, which may be left out.
 pub(crate) fn choice_arg<'a>(alloc: Global, name: &'a str, value: &'a str, help: &'a str) -> Arg<'a>
     ensures rule { rule_of result ≡ choice_rule name.entry.now }
@@ -74,6 +92,15 @@ pub(crate) fn limits_in(matches: &ArgMatches<'_>) -> Option<Limits>
     })
 }
 
+/// The limits and the lines that the matches of a command ask for: nothing, if a value isn't of its form.
+pub(crate) fn capacity_in(matches: &ArgMatches<'_>) -> Option<Capacity>
+    ensures { AskForCapacity (Some (rows_of (found_of matches.now))) result }
+{
+    let limits = limits_in(matches)?;
+    let lines = lines_in(matches)?;
+    Some(limits.with_lines(lines))
+}
+
 /// What a full queue does, by the matches of a command.
 fn full_in(matches: &ArgMatches<'_>) -> Option<Full>
     ensures read { IfSome result (λ full.
@@ -97,5 +124,18 @@ fn size_in(matches: &ArgMatches<'_>, name: &str, most: u32) -> Option<u32>
     match matches.get_str(name) {
         Some(text) => size_read(text, most),
         None => Some(most),
+    }
+}
+
+/// How many lines are linked at one time, by the matches of a command: 64, if nothing is said.
+fn lines_in(matches: &ArgMatches<'_>) -> Option<u32>
+    ensures read { IfSome result (λ lines.
+        AreLinesGiven (value_in (codes "connections") (Some (rows_of (found_of matches.now)))) lines) }
+    ensures only { IfNone result ((lines : ℕ)
+        → ¬ (AreLinesGiven (value_in (codes "connections") (Some (rows_of (found_of matches.now)))) lines)) }
+{
+    match matches.get_str("connections") {
+        Some(text) => size_read(text, LINE_LIMIT as u32),
+        None => Some(LINES_UNASKED),
     }
 }

@@ -4,7 +4,7 @@ ghost use Rattle.std.specs.Prelude.{◌≡◌};
 
 use crate::viewer::Details;
 use mqtt_link::Commit;
-use mqtt_rules::Limits;
+use mqtt_rules::{Capacity, Limits};
 use std::alloc::AllocError;
 use std::net::SocketAddrV4;
 use thiserror::Error;
@@ -29,7 +29,7 @@ pub enum Action<'a> {
     /// `vectors`
     Vectors,
     /// `serve --listen ADDR --db FILE --turns N [--commit turn|step] [--log] [--full refuse|drop] [--queue N] [--sessions N]
-    /// [--retained N]`
+    /// [--retained N] [--connections N]`
     Serve {
         /// Where to listen.
         listen: SocketAddrV4,
@@ -37,8 +37,8 @@ pub enum Action<'a> {
         db: &'a str,
         /// How many turns, at least 1.
         turns: u32,
-        /// The limits of the broker's tables.
-        limits: Limits,
+        /// The limits of the broker's tables, and how many lines are linked at one time.
+        limits: Capacity,
         /// When the steps are stored.
         commit: Commit,
         /// Whether standard error tells more than the one line of the exit status.

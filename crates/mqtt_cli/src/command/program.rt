@@ -3,7 +3,7 @@
 ghost use Rattle.std.specs.Prelude.{◌≡◌, map};
 ghost use Rattle.mqtt_cli.specs.command.Line.{AskForVersion, command_of};
 ghost use Rattle.mqtt_cli.specs.command.Running.{Answers, AnswersWords, IsOfView, TellsVersion, Writes};
-ghost use Rattle.mqtt_rules.specs.step.Laws.{AreWithin};
+ghost use Rattle.mqtt_rules.specs.step.Laws.{AreWithin, unasked};
 
 use crate::command::line::{Action, LineFault};
 use crate::command::outcome::Outcome;
@@ -11,7 +11,7 @@ use crate::command::version::write_version;
 use crate::command::words::action;
 use crate::viewer::{Details, ViewFault, vectors, view};
 use mqtt_link::{Commit, ServeFault};
-use mqtt_rules::Limits;
+use mqtt_rules::{Capacity, Limits};
 use mqtt_script::{Played, ReplayFault};
 use std::alloc::{AllocError, Global};
 use std::convert::AsStr;
@@ -46,12 +46,12 @@ fn view_of<I: Read + Drop, W: Write>(
 }
 
 /// Serves as it was handed in; a function of its own, which asks for this one call.
-fn served<F: Fn(SocketAddrV4, &str, u32, Limits, Commit, bool) -> Result<(), ServeFault>>(
+fn served<F: Fn(SocketAddrV4, &str, u32, Capacity, Commit, bool) -> Result<(), ServeFault>>(
     serve: &F,
     listen: SocketAddrV4,
     db: &str,
     turns: u32,
-    limits: Limits,
+    limits: Capacity,
     commit: Commit,
     log: bool,
 ) -> Result<(), ServeFault>
@@ -81,12 +81,12 @@ fn replayed<G: Fn(&str, Limits) -> Result<Played, ReplayFault>>(
 pub fn perform<
     S: AsStr,
     W: Write,
-    F: Fn(SocketAddrV4, &str, u32, Limits, Commit, bool) -> Result<(), ServeFault>,
+    F: Fn(SocketAddrV4, &str, u32, Capacity, Commit, bool) -> Result<(), ServeFault>,
     G: Fn(&str, Limits) -> Result<Played, ReplayFault>,
 >(rt: &HostRuntime, words: &[S], writer: &mut W, serve: &F, replay: &G) -> Outcome
     requires serves { (listen : _) (db : _) (turns : _) (limits : _) (commit : _) (log : _) → AreWithin limits
         → F.pre serve.now listen db turns limits commit log }
-    requires replays { (file : _) (limits : _) → AreWithin limits → G.pre replay.now file limits }
+    requires replays { (file : _) (limits : _) → AreWithin (unasked limits) → G.pre replay.now file limits }
     ensures answers { Answers (λ listen db turns limits commit log ended. (text : _) × (text.now ≡ db)
         × F.post serve.now listen text turns limits commit log ended)
         (λ file limits ended. (text : _) × (text.now ≡ file) × G.post replay.now text limits ended)
@@ -137,12 +137,12 @@ pub fn perform<
 
 /// Does what the process's arguments ask for, and writes it to standard output.
 pub fn run<
-    F: Fn(SocketAddrV4, &str, u32, Limits, Commit, bool) -> Result<(), ServeFault>,
+    F: Fn(SocketAddrV4, &str, u32, Capacity, Commit, bool) -> Result<(), ServeFault>,
     G: Fn(&str, Limits) -> Result<Played, ReplayFault>,
 >(rt: &HostRuntime, serve: &F, replay: &G) -> Outcome
     requires serves { (listen : _) (db : _) (turns : _) (limits : _) (commit : _) (log : _) → AreWithin limits
         → F.pre serve.now listen db turns limits commit log }
-    requires replays { (file : _) (limits : _) → AreWithin limits → G.pre replay.now file limits }
+    requires replays { (file : _) (limits : _) → AreWithin (unasked limits) → G.pre replay.now file limits }
     ensures { AnswersWords (λ listen db turns limits commit log ended. (text : _) × (text.now ≡ db)
         × F.post serve.now listen text turns limits commit log ended)
         (λ file limits ended. (text : _) × (text.now ≡ file) × G.post replay.now text limits ended) result }

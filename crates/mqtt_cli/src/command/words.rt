@@ -7,7 +7,7 @@ ghost use Rattle.mqtt_cli.specs.command.Line.{AskFor, AskToReplay, AskToServe, A
 ghost use Rattle.mqtt_cli.specs.command.Values.{value_in};
 ghost use Rattle.mqtt_link.specs.declared.commit.Commit.{Commit};
 
-use crate::command::limits::{choice_arg, limited, limits_in};
+use crate::command::limits::{capacity_in, choice_arg, limited, limits_in, with_capacity};
 use crate::command::line::{Action, LineFault};
 use crate::command::values::{address_read, commit_read, count_read};
 use crate::command::version::VERSION;
@@ -112,7 +112,7 @@ fn serve_in<'a>(matches: &ArgMatches<'a>) -> Option<Action<'a>>
     let turns = matches.get_str("turns")?;
     let listen = address_read(listen)?;
     let turns = count_read(turns)?;
-    let limits = limits_in(matches)?;
+    let limits = capacity_in(matches)?;
     let commit = commit_in(matches)?;
     let log = matches.get_flag("log");
     Some(Action::Serve {
@@ -237,7 +237,7 @@ fn vectors_command<'a>(alloc: Global) -> Command<'a>
     Command::new(alloc, "vectors").about("Checks frames whose meaning is known")
 }
 
-/// `serve --listen ADDR --db FILE --turns N [--commit turn|step] [--log]`, with the options for limits.
+/// `serve --listen ADDR --db FILE --turns N [--commit turn|step] [--log]`, with the options for limits and for connections.
 fn serve_command<'a>(alloc: Global) -> Result<Command<'a>, AllocError>
     ensures app { IfOk result (λ command. app_of command ≡ serve_app) }
     ensures local { IfOk result (λ command. (fields_of command).has_globals ≡ false) }
@@ -273,7 +273,7 @@ fn serve_command<'a>(alloc: Global) -> Result<Command<'a>, AllocError>
             "log",
             "Tell on standard error why the server ends early",
         ))?;
-    limited(alloc, command)
+    with_capacity(alloc, command)
 }
 
 /// `--NAME VALUE`, which has to be there.

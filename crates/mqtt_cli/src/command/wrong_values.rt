@@ -14,11 +14,11 @@ pub(crate) struct WrongValue<'a> {
     pub(crate) form: &'static str,
 }
 
-/// What `--queue`, `--sessions` and `--retained` take.
+/// What `--queue`, `--sessions`, `--retained` and `--connections` take.
 const SIZE: &str = "a number from 1 to 1000";
 
 /// Each option that takes a value of some form, and that form.
-const FORMS: [(&str, &str); 7] = [
+const FORMS: [(&str, &str); 8] = [
     (
         "listen",
         "an IPv4 address and a port without leading zeros, as 127.0.0.1:1883",
@@ -29,6 +29,7 @@ const FORMS: [(&str, &str); 7] = [
     ("queue", SIZE),
     ("sessions", SIZE),
     ("retained", SIZE),
+    ("connections", SIZE),
 ];
 
 /// The first option in the matches of a command whose value is not of its form.

@@ -35,7 +35,7 @@ fn help_has_the_version_an_example_and_the_exit_statuses(rt: HostRuntime) -> Res
         is_help(
             rt.alloc(),
             &["mqtt5", "serve", "--help"],
-            &["--commit <turn|step>", "--log"]
+            &["--commit <turn|step>", "--log", "--connections <N>"]
         )?
     );
     Ok(())

@@ -1,6 +1,8 @@
 //! A file that a command line names (ours).
 
-use mqtt_cli::{Commit, Limits, Outcome, Played, ReplayFault, ServeFault, Status, perform};
+use mqtt_cli::{
+    Capacity, Commit, Limits, Outcome, Played, ReplayFault, ServeFault, Status, perform,
+};
 use std::fs;
 use std::net::SocketAddrV4;
 use std::process::Abort;
@@ -20,7 +22,7 @@ fn not_served(
     _: SocketAddrV4,
     _: &str,
     _: u32,
-    _: Limits,
+    _: Capacity,
     _: Commit,
     _: bool,
 ) -> Result<(), ServeFault> {

@@ -1,5 +1,6 @@
-//! The options for the limits of the broker's tables, of `serve` and of `replay` (ours).
+//! The options for the limits of the broker's tables, of `serve` and of `replay`, and for a commit and a log (ours).
 
+use crate::command::words::GREATEST;
 use mqtt_cli::{Action, Commit, Full, Limits, LineFault, action};
 use std::alloc::{AllocError, Global};
 use std::net::{Ipv4Addr, SocketAddrV4};
@@ -103,7 +104,7 @@ fn joined<'a>(
 }
 
 /// Whether words ask for this.
-fn is_asked(
+pub(crate) fn is_asked(
     alloc: Global,
     front: &[&str],
     options: &[&str],
@@ -120,7 +121,12 @@ fn is_asked(
 }
 
 /// Whether words ask for nothing, and this is told.
-fn is_refused(alloc: Global, front: &[&str], options: &[&str], told: &str) -> Result<bool, Fail> {
+pub(crate) fn is_refused(
+    alloc: Global,
+    front: &[&str],
+    options: &[&str],
+    told: &str,
+) -> Result<bool, Fail> {
     let words = joined(alloc, front, options)?;
     let found = match action(alloc, words.as_slice()) {
         Err(LineFault::Usage(text)) => {
@@ -137,7 +143,7 @@ fn is_refused(alloc: Global, front: &[&str], options: &[&str], told: &str) -> Re
 
 const REPLAY: [&str; 3] = ["mqtt5", "replay", "a.script"];
 
-const SERVE: [&str; 8] = [
+pub(crate) const SERVE: [&str; 8] = [
     "mqtt5",
     "serve",
     "--listen",
@@ -166,7 +172,7 @@ fn limits_are_those_of_the_options(rt: HostRuntime) -> Result<(), Fail> {
             listen: SocketAddrV4::new(Ipv4Addr::from([127, 0, 0, 1]), 1_883),
             db: "a.db",
             turns: 3,
-            limits,
+            limits: limits.with_lines(64),
             commit: Commit::Turn,
             log: false,
         };
@@ -204,12 +210,7 @@ fn a_commit_and_a_log_are_those_of_their_options(rt: HostRuntime) -> Result<(), 
             listen: SocketAddrV4::new(Ipv4Addr::from([127, 0, 0, 1]), 1_883),
             db: "a.db",
             turns: 3,
-            limits: Limits {
-                full: Full::Refuse,
-                queue: 1_000,
-                sessions: 1_000,
-                retained: 1_000,
-            },
+            limits: GREATEST.with_lines(64),
             commit,
             log,
         };

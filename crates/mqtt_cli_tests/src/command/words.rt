@@ -97,7 +97,7 @@ fn a_server_is_asked_for(rt: HostRuntime) -> Result<(), Fail> {
             listen: SocketAddrV4::new(Ipv4Addr::from(ip), port),
             db: "a.db",
             turns: count,
-            limits: GREATEST,
+            limits: GREATEST.with_lines(64),
             commit: Commit::Turn,
             log: false,
         };
@@ -110,7 +110,7 @@ fn a_server_is_asked_for(rt: HostRuntime) -> Result<(), Fail> {
 }
 
 /// The limits if no option is given.
-const GREATEST: Limits = Limits {
+pub(crate) const GREATEST: Limits = Limits {
     full: Full::Refuse,
     queue: 1_000,
     sessions: 1_000,
@@ -131,12 +131,11 @@ fn what_serves_is_called_as_asked(rt: HostRuntime) {
         "serve",
         "--listen",
         "0.0.0.0:0",
-        "--db",
-        "a.db",
+        "--db=a.db",
         "--turns",
         "3",
-        "--commit",
-        "step",
+        "--commit=step",
+        "--connections=7",
         "--log",
     ];
     let mut written: Vec<u8> = Vec::new(rt.alloc());
@@ -145,7 +144,8 @@ fn what_serves_is_called_as_asked(rt: HostRuntime) {
         &words,
         &mut written,
         &|_, db: &str, turns, limits, commit, log| {
-            if db == "a.db" && turns == 3 && limits == GREATEST && commit == Commit::Step && log {
+            let wanted = GREATEST.with_lines(7);
+            if db == "a.db" && turns == 3 && limits == wanted && commit == Commit::Step && log {
                 Ok(())
             } else {
                 Err(ServeFault::Socket)
@@ -279,7 +279,7 @@ fn other_words() -> &'static [(&'static [&'static str], &'static str)] {
 }
 
 /// Whether a command line asks for nothing, with lines that say what is wrong.
-fn is_usage(alloc: Global, words: &[&str]) -> Result<bool, Fail> {
+pub(crate) fn is_usage(alloc: Global, words: &[&str]) -> Result<bool, Fail> {
     match action(alloc, words) {
         Err(LineFault::Usage(text)) => {
             let is_lines = text.as_str().ends_with("\n");

@@ -1,6 +1,6 @@
 use Rattle.std.proofs.Common.{Some, map}
 use Rattle.mqtt_cli.specs.command.Line.{AskFor, AsksToReplay, AsksToServe, command_of, replay_rows_in, serve_rows_in}
-use Rattle.mqtt_cli.proofs.command_lemmas.Commands.{limits_within}
+use Rattle.mqtt_cli.proofs.command_lemmas.Capacities.{capacity_within, limits_within}
 use Rattle.mqtt_cli.proofs.command_lemmas.Views.{view_writes}
 use Rattle.mqtt_cli.specs.declared.command.line.Action.TheVariants.{View}
 use Rattle.mqtt_cli.proofs.command.program.perform.Goals as goal
@@ -10,14 +10,14 @@ served-requires g c =
     let met = c.in-Ok-Serve in
     let asks : AsksToServe (serve_rows_in (command_of (map g.S.AsStr.text c.args.words.now))) met.listen met.db.now met.turns met.limits met.commit met.log =
     rw met.field-0-is at met.ensures.ok in
-    record { callable = c.requires.serves met.listen met.db met.turns met.limits met.commit met.log (limits_within _ met.limits asks.limits_are) }
+    record { callable = c.requires.serves met.listen met.db met.turns met.limits met.commit met.log (capacity_within _ met.limits asks.limits_are) }
 
 pub replayed-requires : goal.replayed-requires
 replayed-requires g c =
     let met = c.in-Ok-Replay in
     let asks : AsksToReplay (replay_rows_in (command_of (map g.S.AsStr.text c.args.words.now))) met.file.now met.limits =
     rw met.field-0-is at met.ensures.ok in
-    record { callable = c.requires.replays met.file met.limits (limits_within _ met.limits asks.limits_are) }
+    record { callable = c.requires.replays met.file met.limits (limits_within _ _ met.limits asks.limits_are) }
 
 pub returns-in-Ok-View-text-default-clause-writes : goal.returns-in-Ok-View-text-default-clause-writes
 returns-in-Ok-View-text-default-clause-writes g c =

@@ -2,7 +2,7 @@ use Rattle.std.proofs.Common.{ap, ap₂, codes, ◌≡◌, ◌∙◌}
 use Rattle.std.proofs.lemmas.Result.{IfOk-weaker}
 use Rattle.clap.specs.Words.{app_of, new_app, with_rule}
 use Rattle.clap.specs.Simple.{app_of_fields}
-use Rattle.mqtt_cli.specs.command.Limits.{with_limits}
+use Rattle.mqtt_cli.specs.command.Limits.{with_capacity}
 use Rattle.mqtt_cli.proofs.command.words.serve_command.Goals as goal
 
 pub returns-clause-app : goal.returns-clause-app
@@ -18,4 +18,4 @@ returns-clause-app c =
     let with_turns = c.in_ok-arg-3.ensures.shape turns.local ∙ ap₂ with_rule with_db turns.rule in
     let with_commit = c.in_ok-arg-4.ensures.shape commit.local ∙ ap₂ with_rule with_turns commit.rule in
     let with_log = c.in_ok-command.ensures.shape log.local ∙ ap₂ with_rule with_commit log.rule in
-    IfOk-weaker c.limited.result _ _ (λ r is. is ∙ ap with_limits with_log) c.limited.ensures.app
+    IfOk-weaker c.with_capacity.result _ _ (λ r is. is ∙ ap with_capacity with_log) c.with_capacity.ensures.app
