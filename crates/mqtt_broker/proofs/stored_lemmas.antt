@@ -28,3 +28,4 @@ pub mod Identifiers
 pub mod Begun
 pub mod Settled
 pub mod Holders
+pub mod Empty

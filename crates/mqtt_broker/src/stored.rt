@@ -5,6 +5,7 @@
 mod calling;
 mod closing;
 mod committing;
+mod copies;
 mod engine;
 mod finishing;
 mod holding;
@@ -15,6 +16,7 @@ mod parts;
 mod pumping;
 mod settling;
 
+pub(crate) use self::copies::copies_on;
 pub use self::engine::Engine;
 pub use self::opening::open;
 pub use self::outcome::Outcome;

@@ -6,6 +6,7 @@ pub mod Silent
 pub mod Since
 pub mod Events
 pub mod Said
+pub mod Empty
 pub mod Saying
 pub mod Lasting
 pub mod Starts

@@ -5,7 +5,7 @@ use Rattle.mqtt_keep.specs.declared.keeping.keep.Keep.{Ghosts}
 use Rattle.mqtt_keep.specs.declared.keeping.keep.KeepError.{KeepError}
 use Rattle.mqtt_keep.specs.declared.keeping.keep.KeepError.TheVariants.{Memory, Disk, Size, Corrupt, Schema}
 use Rattle.mqtt_records.specs.declared.state.records.Records.{Records}
-use Rattle.mqtt_rules.specs.declared.step.Limits.{Limits}
+use Rattle.mqtt_rules.specs.declared.step.Capacity.{Capacity}
 use Rattle.mqtt_rules.specs.step.Step.{SpentOpening}
 use Rattle.mqtt_broker_step.specs.Stepping.{Stepping, at_rest}
 use Rattle.mqtt_broker.specs.stored.Closing.{IsStoredAfter, resting}
@@ -35,17 +35,17 @@ kept_unless_disk Schema memory size corrupt schema fine = absurd (schema refl)
 -- ---- the step that is at rest again
 
 -- a step at rest under these limits
-pub rest_of : (limits : Limits) (s new : Stepping) → s.limits ≡ limits → new ≡ at_rest s.limits s.broker → new ≡ at_rest limits new.broker
+pub rest_of : (limits : Capacity) (s new : Stepping) → s.limits ≡ limits → new ≡ at_rest s.limits s.broker → new ≡ at_rest limits new.broker
 rest_of limits s new same is =
-    is ∙ (ap (λ (l : Limits). at_rest l s.broker) same ∙ ap (λ (t : Stepping). at_rest limits t.broker) (sym is))
+    is ∙ (ap (λ (l : Capacity). at_rest l s.broker) same ∙ ap (λ (t : Stepping). at_rest limits t.broker) (sym is))
 
 -- is at rest under its own
-pub rest_again : (limits : Limits) (new : Stepping) → new ≡ at_rest limits new.broker → new ≡ at_rest new.limits new.broker
-rest_again limits new is = is ∙ ap (λ (l : Limits). at_rest l new.broker) (sym (ap (λ (t : Stepping). t.limits) is))
+pub rest_again : (limits : Capacity) (new : Stepping) → new ≡ at_rest limits new.broker → new ≡ at_rest new.limits new.broker
+rest_again limits new is = is ∙ ap (λ (l : Capacity). at_rest l new.broker) (sym (ap (λ (t : Stepping). t.limits) is))
 
 -- ---- answers
 
-module _ {K : Type 0} (g : Ghosts K) (limits : Limits) (now : ℕ) (first : K) where
+module _ {K : Type 0} (g : Ghosts K) (limits : Capacity) (now : ℕ) (first : K) where
   opened_err : (error : KeepError) (left : K) → IsRefused g limits now first error left → Opened g limits now first (Err (left, error))
   opened_err error left h = record { opened = tt; refused = h }
 
@@ -105,10 +105,10 @@ module _ {K : Type 0} (g : Ghosts K) (limits : Limits) (now : ℕ) (first : K) w
 -- ---- what was loaded
 
 -- an opening that begins is at rest on its records
-pub begun_of : (limits : Limits) (now : ℕ) (r : Records) (s : Stepping) → s ≡ resting limits now r → s ≡ resting s.limits now s.broker.records
+pub begun_of : (limits : Capacity) (now : ℕ) (r : Records) (s : Stepping) → s ≡ resting limits now r → s ≡ resting s.limits now s.broker.records
 begun_of limits now r s is =
     is
-    ∙ (ap (λ (l : Limits). resting l now r) (sym (ap (λ (t : Stepping). t.limits) is))
+    ∙ (ap (λ (l : Capacity). resting l now r) (sym (ap (λ (t : Stepping). t.limits) is))
     ∙ ap (λ (x : Records). resting s.limits now x) (sym (ap (λ (t : Stepping). t.broker.records) is)))
 
 -- a load that answers records has begun an opening

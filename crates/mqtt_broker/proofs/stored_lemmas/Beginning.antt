@@ -3,7 +3,7 @@ use Rattle.std.proofs.Common.{◌≡◌, ℕ, Bool, false, ap, sym, subst, ◌�
 use Rattle.std.specs.Prelude.{Result, ⊤}
 use Rattle.mqtt_keep.specs.declared.keeping.keep.Keep.{Ghosts}
 use Rattle.mqtt_routes.specs.routing.Subscriptions.{HeldSessions}
-use Rattle.mqtt_rules.specs.declared.step.Limits.{Limits}
+use Rattle.mqtt_rules.specs.declared.step.Capacity.{Capacity}
 use Rattle.mqtt_rules.specs.step.Contents.{TakesLawful}
 use Rattle.mqtt_rules.specs.step.Routing.{subscribers}
 use Rattle.mqtt_rules.specs.step.State.{Broker, MemberChoice}
@@ -26,18 +26,18 @@ use Rattle.mqtt_broker.specs.declared.stored.parts.EngineParts.{EngineParts}
 
 module _ {K : Type 0} (g : Ghosts K) (now : ℕ) (call : Call) (again : Bool) (done : Result ⊤ StepFault) (p : EngineParts K) where
   -- a step under way, from what it began on
-  pub begins : (index : HeldSessions) (some : Broker) (limits : Limits) (t : Stepping) → p.stopped ≡ false → (h : HasWhole g p.keep p.hand limits some)
+  pub begins : (index : HeldSessions) (some : Broker) (limits : Capacity) (t : Stepping) → p.stopped ≡ false → (h : HasWhole g p.keep p.hand limits some)
       → (g.is_sound p.keep → (choice : MemberChoice) → told limits choice now call some ≡ told limits choice now call h.whole) → TakesLawful call
       → (p.is_stale ≡ false → Serves index.sessions (subscribers some.records)) → AreQuietBefore p.quiet some.records
       → t.start ≡ some → t.limits ≡ limits → IsCalled now call again done t → IsUnderWay g now call again done (record p { step = t; index = index })
   begins index some limits t runs h tells taken serves quiet start same called = record {
     runs = runs;
     whole = h.whole;
-    its = subst (λ (b : Broker). HoldsWhole g p.keep t.limits b h.whole) (sym start) (subst (λ (l : Limits). HoldsWhole g p.keep l some h.whole) (sym same) h.its);
+    its = subst (λ (b : Broker). HoldsWhole g p.keep t.limits b h.whole) (sym start) (subst (λ (l : Capacity). HoldsWhole g p.keep l some h.whole) (sym same) h.its);
     at_hand = h.at_hand;
     tells = λ sound choice.
         subst (λ (b : Broker). told t.limits choice now call b ≡ told t.limits choice now call h.whole) (sym start)
-        (subst (λ (l : Limits). told l choice now call some ≡ told l choice now call h.whole) (sym same) (tells sound choice));
+        (subst (λ (l : Capacity). told l choice now call some ≡ told l choice now call h.whole) (sym same) (tells sound choice));
     taken = taken;
     goes = record {
       serves = λ fresh. subst (λ (b : Broker). Serves index.sessions (subscribers b.records)) (sym start) (serves fresh);
@@ -47,15 +47,15 @@ module _ {K : Type 0} (g : Ghosts K) (now : ℕ) (call : Call) (again : Bool) (d
   }
 
   -- a call that is no pump tells of slim rows what it tells of the whole broker
-  pub others_tell : (some : Broker) (limits : Limits) (h : HasWhole g p.keep p.hand limits some) → (IsPump call → ⊥) → (choice : MemberChoice) → told limits choice now call some ≡ told limits choice now call h.whole
+  pub others_tell : (some : Broker) (limits : Capacity) (h : HasWhole g p.keep p.hand limits some) → (IsPump call → ⊥) → (choice : MemberChoice) → told limits choice now call some ≡ told limits choice now call h.whole
   others_tell some limits h never choice = call_tells limits choice now call some h.whole never h.its.alike
 
   -- what was called where the step began was called of that engine
-  pub called_of : (index : HeldSessions) (some : Broker) (limits : Limits) (t : Stepping) (result : Result Outcome EngineError) (new : Running K) → t.start ≡ some → t.limits ≡ limits
+  pub called_of : (index : HeldSessions) (some : Broker) (limits : Capacity) (t : Stepping) (result : Result Outcome EngineError) (new : Running K) → t.start ≡ some → t.limits ≡ limits
       → Called g now call (viewed_before g (record p { step = t; index = index })) result new
       → Called g now call (record { keep = p.keep; limits = limits; broker = filled (g.fillings p.keep) some; stopped = p.stopped }) result new
   called_of index some limits t result new start same called =
-      subst (λ (l : Limits). Called g now call (record { keep = p.keep; limits = l; broker = filled (g.fillings p.keep) some; stopped = p.stopped }) result new) same
+      subst (λ (l : Capacity). Called g now call (record { keep = p.keep; limits = l; broker = filled (g.fillings p.keep) some; stopped = p.stopped }) result new) same
       (subst (λ (b : Broker). Called g now call (record { keep = p.keep; limits = t.limits; broker = filled (g.fillings p.keep) b; stopped = p.stopped }) result new) start called)
 
 -- ---- calls that are no pump, of an engine at rest that runs

@@ -6,7 +6,7 @@ use Rattle.mqtt_keep.specs.declared.keeping.keep.Keep.{Ghosts}
 use Rattle.mqtt_records.specs.declared.state.records.Records.{Records}
 use Rattle.mqtt_records.specs.state.Telling.{AreTold}
 use Rattle.mqtt_records.specs.state.PassedOn.{StoresPassedOn}
-use Rattle.mqtt_rules.specs.declared.step.Limits.{Limits}
+use Rattle.mqtt_rules.specs.declared.step.Capacity.{Capacity}
 use Rattle.mqtt_rules.specs.spelling.Sending.{HaveSentPhases}
 use Rattle.mqtt_rules.specs.step.State.{Broker}
 use Rattle.mqtt_rules.specs.alike.Slim.{slim_broker}
@@ -23,7 +23,7 @@ use Rattle.mqtt_broker.proofs.stored_lemmas.Finished.{view_is}
 
 module _ {K : Type 0} (g : Ghosts K)
     (tells : (keep : K) (r : Records) → g.is_sound keep → g.is_loaded keep → g.holds keep r → AreTold (g.fillings keep) r)
-    (limits : Limits) (now : ℕ) (first : K) (whole : Records) (loaded kept : K) (s : Stepping) (h : IsOpeningHeld g limits now whole kept s) where
+    (limits : Capacity) (now : ℕ) (first : K) (whole : Records) (loaded kept : K) (s : Stepping) (h : IsOpeningHeld g limits now whole kept s) where
   -- the engine that is made
   abbrev made : Running K
   made = record { keep = kept; limits = s.limits; broker = filled (g.fillings kept) (slim_broker s.broker); stopped = false }

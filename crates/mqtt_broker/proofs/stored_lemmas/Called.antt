@@ -1,6 +1,6 @@
 -- A step that did the deeds of a call is the broker's step of that call.
 use Rattle.std.proofs.Common.{◌≡◌, ℕ, Bool, false, List, refl, ap, sym, ◌∙◌}
-use Rattle.mqtt_rules.specs.declared.step.Limits.{Limits}
+use Rattle.mqtt_rules.specs.declared.step.Capacity.{Capacity}
 use Rattle.mqtt_rules.specs.step.Deeds.{Deed, rows_of_all, after_all}
 use Rattle.mqtt_rules.specs.step.State.{Broker}
 use Rattle.mqtt_rules.specs.step.Step.{Call, at_moment, deeds, is_spent, is_step_spent, rows_written, stamped, stepped, with_moment}
@@ -15,7 +15,7 @@ use Rattle.mqtt_broker_acts.specs.calls.Doing.{DidCall}
 use Rattle.mqtt_broker_acts.specs.calls.Ready.{HasLawfulSources, IsReady}
 
 -- what a broker that is ready has stored can be indexed
-pub ready_indexed : (limits : Limits) (b : Broker) → IsReady limits b → CanBeIndexed b.records
+pub ready_indexed : (limits : Capacity) (b : Broker) → IsReady limits b → CanBeIndexed b.records
 ready_indexed limits b ready = record {
   ordered = ready.coherent.ordered;
   filters = ready.filters;
@@ -23,7 +23,7 @@ ready_indexed limits b ready = record {
 }
 
 -- what is answered for a broker is answered for its lines
-pub answered_for_lines : (limits : Limits) (old : Broker) (now : ℕ) (call : Call) (out : Outcome) (new : Broker) → IsAnswered limits old now call out new
+pub answered_for_lines : (limits : Capacity) (old : Broker) (now : ℕ) (call : Call) (out : Outcome) (new : Broker) → IsAnswered limits old now call out new
     → IsAnsweredForLines limits old now call out new
 answered_for_lines limits old now call out new h = record { before = old; after = new; begins = (refl, refl); answered = h; ends = (refl, refl) }
 

@@ -7,7 +7,7 @@ use Rattle.mqtt_records.specs.declared.state.session.Session.{Session}
 use Rattle.mqtt_records.specs.declared.state.records.Records.{Records}
 use Rattle.mqtt_topic.specs.names.Names.{is_empty}
 use Rattle.mqtt_routes.specs.routing.Acceptance.{routed}
-use Rattle.mqtt_rules.specs.declared.step.Limits.{Limits}
+use Rattle.mqtt_rules.specs.declared.step.Capacity.{Capacity}
 use Rattle.mqtt_rules.specs.step.Closing.{end_session, has_due_end, has_due_will, publish_or_refuse, publish_will, settle, will_deeds, will_message}
 use Rattle.mqtt_rules.specs.step.Deeds.{Whose, whose, Message, FromWill, DropWill, Deed, Accept, At, after_all, always, of_session, only_if, series, then, with_session}
 use Rattle.mqtt_rules.specs.step.Laws.{client_at}
@@ -19,7 +19,7 @@ use Rattle.mqtt_broker.proofs.stored_lemmas.Own.{settle_own}
 use Rattle.mqtt_broker.proofs.stored_lemmas.Faces.{deeds_kept}
 
 -- what surrounds a step, by its choice
-abbrev pub env_by : Limits → Records → MemberChoice → Env
+abbrev pub env_by : Capacity → Records → MemberChoice → Env
 env_by limits start choice = record { limits = limits; choice = choice; start = start }
 
 -- two choices take the same members for whatever this client publishes
@@ -56,7 +56,7 @@ still_there s (x ∷ xs) env b apart there = (
 
 -- ---- the deeds under two choices
 
-module _ (limits : Limits) (start : Records) (f g : MemberChoice) where
+module _ (limits : Capacity) (start : Records) (f g : MemberChoice) where
   same_copies : (m : Message) (b : Broker) → Agree f g m.sender → accepted_copies (env_by limits start f) m b ≡ accepted_copies (env_by limits start g) m b
   same_copies m b agree =
       ap (λ (members : List ℕ). accepted_if (finds_place (env_by limits start f) m b.records)

@@ -5,7 +5,7 @@ use Rattle.mqtt_keep.specs.declared.keeping.keep.Keep.{Ghosts}
 use Rattle.mqtt_records.specs.declared.state.records.Records.{Records}
 use Rattle.mqtt_records.specs.state.Telling.{AreTold}
 use Rattle.mqtt_routes.specs.routing.Subscriptions.{HeldSessions}
-use Rattle.mqtt_rules.specs.declared.step.Limits.{Limits}
+use Rattle.mqtt_rules.specs.declared.step.Capacity.{Capacity}
 use Rattle.mqtt_rules.specs.step.Laws.{IsOrdered}
 use Rattle.mqtt_rules.specs.step.State.{Broker}
 use Rattle.mqtt_rules.specs.step.Step.{Call, SpentStep, is_spent}
@@ -76,7 +76,7 @@ untold g p index again unspent loaded runs goes = record {
 }
 
 -- rows that are alike to those of a sound broker are ready for a call
-pub of_sound_ready : (limits : Limits) (some : Broker) → IsOfSound limits some → IsReady limits some
+pub of_sound_ready : (limits : Capacity) (some : Broker) → IsOfSound limits some → IsReady limits some
 of_sound_ready limits some h = ready_alike limits some h.whole h.alike (sound_ready limits h.whole h.sound)
 
 -- the rows that a step under way began on are in order
@@ -93,7 +93,7 @@ under_way_follows g now call again p u =
 module _ {K : Type 0} (g : Ghosts K)
     (tells : (keep : K) (r : Records) → g.is_sound keep → g.is_loaded keep → g.holds keep r → AreTold (g.fillings keep) r) where
   -- what the store has fills what is alike to what it holds: that is the whole broker
-  pub view_is : (keep : K) (limits : Limits) (some whole : Broker) → HoldsWhole g keep limits some whole → g.is_sound keep → filled (g.fillings keep) some ≡ whole
+  pub view_is : (keep : K) (limits : Capacity) (some whole : Broker) → HoldsWhole g keep limits some whole → g.is_sound keep → filled (g.fillings keep) some ≡ whole
   view_is keep limits some whole h sound =
       broker_whole (g.fillings keep) some whole h.alike (told_fills (g.fillings keep) whole.records (tells keep whole.records sound h.loaded h.holds) h.sound.coherent.ordered)
 

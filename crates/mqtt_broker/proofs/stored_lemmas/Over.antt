@@ -7,7 +7,7 @@ use Rattle.mqtt_keep.specs.declared.keeping.keep.KeepError.TheVariants.{Memory, 
 use Rattle.mqtt_records.specs.declared.state.records.Records.{Records}
 use Rattle.mqtt_records.specs.state.Records.{changed_all}
 use Rattle.mqtt_records.specs.state.Slim.{all_slim}
-use Rattle.mqtt_rules.specs.declared.step.Limits.{Limits}
+use Rattle.mqtt_rules.specs.declared.step.Capacity.{Capacity}
 use Rattle.mqtt_rules.specs.step.State.{Broker}
 use Rattle.mqtt_rules.specs.step.Step.{SpentOpening, is_spent}
 use Rattle.mqtt_rules.specs.alike.Alike.{AlikeRecords}
@@ -35,7 +35,7 @@ slim_alike slim whole is =
 
 -- ---- a step begins on such rows
 
-module _ {K : Type 0} (g : Ghosts K) (limits : Limits) (now : ℕ) (whole : Records) (old : K) (s : Stepping) (u : IsUnopened g limits now whole old s) where
+module _ {K : Type 0} (g : Ghosts K) (limits : Capacity) (now : ℕ) (whole : Records) (old : K) (s : Stepping) (u : IsUnopened g limits now whole old s) where
   records_are : s.broker.records ≡ u.some
   records_are = ap (λ (t : Stepping). t.broker.records) u.is
 
@@ -83,7 +83,7 @@ module _ {K : Type 0} (g : Ghosts K) (limits : Limits) (now : ℕ) (whole : Reco
 
 -- ---- the store is told
 
-module _ {K : Type 0} (g : Ghosts K) (limits : Limits) (now : ℕ) (whole : Records) (old : K) (s : Stepping) (o : HasOpened g limits now whole old s) (unspent : is_spent s.rows ≡ false)
+module _ {K : Type 0} (g : Ghosts K) (limits : Capacity) (now : ℕ) (whole : Records) (old : K) (s : Stepping) (o : HasOpened g limits now whole old s) (unspent : is_spent s.rows ≡ false)
     (keep : K) (t : Stepping) (left : (r after : Records) → g.holds old r → CanStore s.rows r → g.leaves keep after → g.leaves old after ⊎ (after ≡ changed_all s.rows r))
     (sound : g.is_sound keep → g.is_sound old) where
   can : CanStore s.rows whole

@@ -8,7 +8,7 @@ use Rattle.mqtt_keep.specs.declared.keeping.keep.KeepError.{KeepError}
 use Rattle.mqtt_keep.specs.declared.keeping.keep.KeepError.TheVariants as keeps
 use Rattle.mqtt_records.specs.declared.state.records.Records.{Records}
 use Rattle.mqtt_records.specs.state.Telling.{AreTold}
-use Rattle.mqtt_rules.specs.declared.step.Limits.{Limits}
+use Rattle.mqtt_rules.specs.declared.step.Capacity.{Capacity}
 use Rattle.mqtt_rules.specs.step.Lines.{session_on}
 use Rattle.mqtt_rules.specs.step.State.{Broker, Line, MemberChoice, line_at}
 use Rattle.mqtt_rules.specs.step.Step.{Call, Pump, at_moment, told}
@@ -45,7 +45,7 @@ unlinked_birth line b on = by (line_at line b) on
     by (Some l) h = let same : l.session ≡ None = cc in same
 
 -- a pump on a line without a session tells the same of any rows
-pub idle_tells : (fillings : Fillings) (limits : Limits) (choice : MemberChoice) (now line : ℕ) (some whole : Broker)
+pub idle_tells : (fillings : Fillings) (limits : Capacity) (choice : MemberChoice) (now line : ℕ) (some whole : Broker)
     → AlikeBrokers some whole → AreFilledBy fillings whole.records → session_on line some ≡ Some None
     → told limits choice now (Pump line) some ≡ told limits choice now (Pump line) whole
 idle_tells fillings limits choice now line some whole alike says on =
@@ -68,10 +68,10 @@ few_asked line b places before after found h =
 
 module _ {K : Type 0} (g : Ghosts K)
     (tells : (keep : K) (r : Records) → g.is_sound keep → g.is_loaded keep → g.holds keep r → AreTold (g.fillings keep) r) where
-  abbrev on : K → Limits → Bool → Broker → Running K
+  abbrev on : K → Capacity → Bool → Broker → Running K
   on keep limits stopped some = record { keep = keep; limits = limits; broker = filled (g.fillings keep) some; stopped = stopped }
 
-  module _ (now : ℕ) (call : Call) (keep read : K) (hand : Hand) (limits : Limits) (some : Broker) (h : HasWhole g keep hand limits some)
+  module _ (now : ℕ) (call : Call) (keep read : K) (hand : Hand) (limits : Capacity) (some : Broker) (h : HasWhole g keep hand limits some)
       (device : g.is_sound read → g.is_sound keep) (crash : (r left : Records) → g.holds keep r → g.leaves read left → g.leaves keep left ⊎ (left ≡ r)) where
     -- what could be left before the read, or what is stored
     read_left : g.is_sound keep → (left : Records) → g.leaves read left → g.leaves keep left ⊎ (left ≡ (filled (g.fillings keep) some).records)

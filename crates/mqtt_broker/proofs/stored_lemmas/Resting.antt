@@ -7,7 +7,7 @@ use Rattle.mqtt_records.specs.messages.Filling.{Fillings}
 use Rattle.mqtt_keep.specs.declared.keeping.keep.Keep.{Ghosts}
 use Rattle.mqtt_records.specs.declared.state.records.Records.{Records}
 use Rattle.mqtt_records.specs.state.Telling.{AreTold}
-use Rattle.mqtt_rules.specs.declared.step.Limits.{Limits}
+use Rattle.mqtt_rules.specs.declared.step.Capacity.{Capacity}
 use Rattle.mqtt_rules.specs.step.Deeds.{Link, after_all}
 use Rattle.mqtt_rules.specs.step.Routing.{subscribers}
 use Rattle.mqtt_rules.specs.step.State.{Broker, line_at}
@@ -79,17 +79,16 @@ module _ {K : Type 0} (g : Ghosts K)
       (record { keep = p.keep; limits = p.step.limits; broker = filled (g.fillings p.keep) p.step.broker; stopped = t })) (sym runs)
       (read_refused g tells now call p.keep p.keep p.hand p.step.limits p.step.broker h (λ sound. sound) (λ r left holds may. inl may) h.its)))
 
-  -- ---- a call on a line that isn't linked: time goes on
+  -- ---- a call that does nothing: time goes on
 
   abbrev later : EngineParts K
   later = record p { step = at_rest p.step.limits (at_moment now p.step.broker) }
 
-  skipped_here : (line : ℕ) (out : Outcome) → p.stopped ≡ false → line_at line (viewed g p).broker ≡ None → Tells nothing_told out → IsOn line call
+  rested_here : (out : Outcome) → p.stopped ≡ false → IsAnswered p.step.limits (viewed g p).broker now call out (at_moment now (viewed g p).broker)
       → Called g now call (viewed g p) (Ok out) (viewed g later)
-  skipped_here line out runs none tells_nothing on =
+  rested_here out runs its =
       let h = rest.its runs in
       let b = (viewed g p).broker in
-      let its : IsAnswered p.step.limits b now call out (at_moment now b) = passed_over p.step.limits now line b (at_moment now b) out none refl tells_nothing call on in
       record {
         truly = λ sound.
             let view = view_is g tells p.keep p.step.limits p.step.broker h.whole h.its sound in
@@ -111,18 +110,25 @@ module _ {K : Type 0} (g : Ghosts K)
         sound = λ sound. sound;
       }
 
-  -- a call on a line that is not linked does nothing but that its moment comes
+  -- a call that is answered by nothing does nothing but that its moment comes
+  pub rested : (old : Running K) (out : Outcome) (t : Stepping) → viewed g p ≡ old → old.stopped ≡ false → IsAnswered old.limits old.broker now call out (at_moment now old.broker)
+      → t ≡ at_rest p.step.limits (at_moment now p.step.broker) → Called g now call old (Ok out) (viewed g (record p { step = t }))
+  rested old out t same running its is =
+      subst (λ (x : Stepping). Called g now call old (Ok out) (viewed g (record p { step = x }))) (sym is)
+      (subst (λ (r : Running _). Called g now call r (Ok out) (viewed g later)) same
+      (rested_here out (ap (λ (r : Running _). r.stopped) same ∙ running)
+      (subst (λ (r : Running _). IsAnswered r.limits r.broker now call out (at_moment now r.broker)) (sym same) its)))
+
+  -- so does one on a line that is not linked
   pub skipped : (line : ℕ) (old : Running K) (out : Outcome) (t : Stepping) → viewed g p ≡ old → old.stopped ≡ false → line_at line old.broker ≡ None → Tells nothing_told out → IsOn line call
       → t ≡ at_rest p.step.limits (at_moment now p.step.broker) → Called g now call old (Ok out) (viewed g (record p { step = t }))
   skipped line old out t same running none tells_nothing on is =
-      subst (λ (x : Stepping). Called g now call old (Ok out) (viewed g (record p { step = x }))) (sym is)
-      (subst (λ (r : Running _). Called g now call r (Ok out) (viewed g later)) same
-      (skipped_here line out (ap (λ (r : Running _). r.stopped) same ∙ running) (ap (λ (r : Running _). line_at line r.broker) same ∙ none) tells_nothing on))
+      rested old out t same running (passed_over old.limits now line old.broker (at_moment now old.broker) out none refl tells_nothing call on) is
 
 -- ---- at rest still
 
 -- a later moment alone leaves a sound broker sound
-sound_at : (limits : Limits) (now : ℕ) (b : Broker) → IsSound limits b → IsSound limits (at_moment now b)
+sound_at : (limits : Capacity) (now : ℕ) (b : Broker) → IsSound limits b → IsSound limits (at_moment now b)
 sound_at limits now b h = record {
   limited = h.limited;
   coherent = h.coherent;
@@ -173,27 +179,27 @@ module _ {K : Type 0} (g : Ghosts K) (now : ℕ) (p : EngineParts K) (rest : IsA
 
 -- ---- a line is linked
 
-abbrev after_link : ℕ → Broker → Broker
-after_link now b = after_act links (at_moment now b)
+abbrev after_link : Capacity → ℕ → Broker → Broker
+after_link limits now b = after_act (links limits) (at_moment now b)
 
 -- a line is linked in a filled broker as in its own
-pub link_fills : (fillings : Fillings) (now : ℕ) (b : Broker) → filled fillings (after_link now b) ≡ after_link now (filled fillings b)
-link_fills fillings now b = by (can_link (at_moment now b))
+pub link_fills : (limits : Capacity) (fillings : Fillings) (now : ℕ) (b : Broker) → filled fillings (after_link limits now b) ≡ after_link limits now (filled fillings b)
+link_fills limits fillings now b = by (can_link limits (at_moment now b))
   where
     by : (may : Bool) → filled fillings (after_all (cond may (Link (suc b.given) ∷ []) []) (at_moment now b)) ≡ after_all (cond may (Link (suc b.given) ∷ []) []) (at_moment now (filled fillings b))
     by true = refl
     by false = refl
 
 -- rows stay slim
-slim_stays : (now : ℕ) (b : Broker) → slim_broker b ≡ b → slim_broker (after_link now b) ≡ after_link now b
-slim_stays now b slim =
-    let c = after_link now b in
-    let kept : c.records ≡ b.records = link_records now b in
+slim_stays : (limits : Capacity) (now : ℕ) (b : Broker) → slim_broker b ≡ b → slim_broker (after_link limits now b) ≡ after_link limits now b
+slim_stays limits now b slim =
+    let c = after_link limits now b in
+    let kept : c.records ≡ b.records = link_records limits now b in
     ap (λ (r : Records). with_records r c)
     (ap (λ (r : Records). with_sessions (map slim_session r.sessions) r) kept ∙ (ap (λ (x : Broker). x.records) slim ∙ sym kept))
 
 module _ {K : Type 0} (g : Ghosts K) (now : ℕ) (p : EngineParts K) (rest : IsAtRest g p) where
-  next_alike : (whole : Broker) → AlikeBrokers p.step.broker whole → AlikeBrokers (after_link now p.step.broker) (stepped p.step.limits first_members now NewLine whole)
+  next_alike : (whole : Broker) → AlikeBrokers p.step.broker whole → AlikeBrokers (after_link p.step.limits now p.step.broker) (stepped p.step.limits first_members now NewLine whole)
   next_alike whole alike =
       subst (λ (b : Broker). AlikeBrokers b (stepped p.step.limits first_members now NewLine whole)) (sym (linked_step p.step.limits now p.step.broker))
       (step_alike p.step.limits first_members now NewLine p.step.broker whole alike)
@@ -202,9 +208,9 @@ module _ {K : Type 0} (g : Ghosts K) (now : ℕ) (p : EngineParts K) (rest : IsA
   next_sound whole sound = step_sound p.step.limits first_members now NewLine whole (link_unspent p.step.limits now whole) tt sound
 
   next_records : (whole : Broker) → (stepped p.step.limits first_members now NewLine whole).records ≡ whole.records
-  next_records whole = ap (λ (b : Broker). b.records) (sym (linked_step p.step.limits now whole)) ∙ link_records now whole
+  next_records whole = ap (λ (b : Broker). b.records) (sym (linked_step p.step.limits now whole)) ∙ link_records p.step.limits now whole
 
-  next_its : HasWhole g p.keep p.hand p.step.limits p.step.broker → HasWhole g p.keep p.hand p.step.limits (after_link now p.step.broker)
+  next_its : HasWhole g p.keep p.hand p.step.limits p.step.broker → HasWhole g p.keep p.hand p.step.limits (after_link p.step.limits now p.step.broker)
   next_its h = record {
     whole = stepped p.step.limits first_members now NewLine h.whole;
     its = record {
@@ -217,17 +223,17 @@ module _ {K : Type 0} (g : Ghosts K) (now : ℕ) (p : EngineParts K) (rest : IsA
   }
 
   -- with a line linked it is at rest still
-  pub link_rest : (t : Stepping) → t ≡ at_rest p.step.limits (after_link now p.step.broker) → IsAtRest g (record p { step = t })
+  pub link_rest : (t : Stepping) → t ≡ at_rest p.step.limits (after_link p.step.limits now p.step.broker) → IsAtRest g (record p { step = t })
   link_rest t is = subst (λ (x : Stepping). IsAtRest g (record p { step = x })) (sym is) (record {
     rest = refl;
-    slim = slim_stays now p.step.broker rest.slim;
+    slim = slim_stays p.step.limits now p.step.broker rest.slim;
     sound = record {
       whole = stepped p.step.limits first_members now NewLine rest.sound.whole;
       alike = next_alike rest.sound.whole rest.sound.alike;
       sound = next_sound rest.sound.whole rest.sound.sound;
     };
     its = λ runs. next_its (rest.its runs);
-    goes = goes_kept p.step.broker (after_link now p.step.broker) p (at_rest p.step.limits (after_link now p.step.broker)) (link_records now p.step.broker) rest.goes;
+    goes = goes_kept p.step.broker (after_link p.step.limits now p.step.broker) p (at_rest p.step.limits (after_link p.step.limits now p.step.broker)) (link_records p.step.limits now p.step.broker) rest.goes;
   })
 
 -- ---- an engine that begins, whose rows become slim
@@ -239,7 +245,7 @@ nothing_says hand r empty birth place content is =
     absurd cc
 
 -- it is at rest
-pub over_rest : {K : Type 0} (g : Ghosts K) (p : EngineParts K) (limits : Limits) (b whole : Broker) → HoldsWhole g p.keep limits b whole → Serves p.index.sessions (subscribers b.records) → p.quiet ≡ 0
+pub over_rest : {K : Type 0} (g : Ghosts K) (p : EngineParts K) (limits : Capacity) (b whole : Broker) → HoldsWhole g p.keep limits b whole → Serves p.index.sessions (subscribers b.records) → p.quiet ≡ 0
     → ((birth : ℕ) → at_hand_of birth p.hand ≡ nothing_waits) → p.step ≡ at_rest limits (slim_broker b) → IsAtRest g p
 over_rest g p limits b whole h serves zero empty is =
     let alike = slim_through b whole h.alike in

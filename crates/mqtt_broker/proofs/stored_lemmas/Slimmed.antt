@@ -4,7 +4,7 @@ use Rattle.mqtt_records.specs.declared.state.records.Records.{Records}
 use Rattle.mqtt_records.specs.state.Records.{changed_all}
 use Rattle.mqtt_records.specs.state.Slim.{all_slim}
 use Rattle.mqtt_keep.specs.by_name.Slimming.{slim_entered, slim_places}
-use Rattle.mqtt_rules.specs.declared.step.Limits.{Limits}
+use Rattle.mqtt_rules.specs.declared.step.Capacity.{Capacity}
 use Rattle.mqtt_rules.specs.step.Laws.{IsOrdered}
 use Rattle.mqtt_rules.specs.step.State.{Broker}
 use Rattle.mqtt_rules.specs.alike.Slim.{slim_broker}
@@ -14,7 +14,7 @@ use Rattle.mqtt_broker_step.specs.Stepping.{Stepping, at_rest, with_entered_slim
 use Rattle.mqtt_broker_step.specs.Undoing.{with_records}
 
 -- a step at rest is at rest under its own limits
-pub rests : (limits : Limits) (b : Broker) (t : Stepping) → t ≡ at_rest limits b → t ≡ at_rest t.limits t.broker
+pub rests : (limits : Capacity) (b : Broker) (t : Stepping) → t ≡ at_rest limits b → t ≡ at_rest t.limits t.broker
 rests limits b t is = is ∙ ap (λ (x : Stepping). at_rest x.limits x.broker) (sym is)
 
 -- no row of the broker says anything but its topic, so none of any session does, wherever it stands

@@ -7,7 +7,7 @@ use Rattle.mqtt_records.specs.state.Records.{FitAll, changed_all}
 use Rattle.mqtt_records.specs.state.Contents.{FitContents}
 use Rattle.mqtt_records.specs.state.Saying.{AllSayable}
 use Rattle.mqtt_routes.specs.routing.Subscriptions.{Subscriber}
-use Rattle.mqtt_rules.specs.declared.step.Limits.{Limits}
+use Rattle.mqtt_rules.specs.declared.step.Capacity.{Capacity}
 use Rattle.mqtt_rules.specs.step.Contents.{of_rows}
 use Rattle.mqtt_rules.specs.step.Deeds.{Deed, rows_of_all, after_all}
 use Rattle.mqtt_rules.specs.step.Laws.{AreWithin}
@@ -46,7 +46,7 @@ stamped_serves index s new is serves =
 
 -- ---- from its beginning
 
-module _ (limits : Limits) (now : ℕ) (r : Records) (old : Stepping) (begun : old ≡ resting limits now r) where
+module _ (limits : Capacity) (now : ℕ) (r : Records) (old : Stepping) (begun : old ≡ resting limits now r) where
   -- an opening that was done and has its moment is the one of the rules
   pub opened_of : (s new : Stepping) → DidSome opening old s → new ≡ with_stamp s → DidOpen limits now r new
   opened_of s new d is = record {
@@ -76,7 +76,7 @@ module _ (limits : Limits) (now : ℕ) (r : Records) (old : Stepping) (begun : o
 
 -- ---- what the store is told, which has records that are alike
 
-module _ (limits : Limits) (now : ℕ) (some whole : Records) (alike : AlikeRecords some whole) (s : Stepping) (h : DidOpen limits now some s) where
+module _ (limits : Capacity) (now : ℕ) (some whole : Records) (alike : AlikeRecords some whole) (s : Stepping) (h : DidOpen limits now some s) where
   abbrev its : List Deed
   its = opening_deeds limits h.choice now some
 

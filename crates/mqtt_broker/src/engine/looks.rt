@@ -2,35 +2,11 @@
 ghost use Rattle.std.specs.Prelude.{◌≡◌, is_some, length, option_map};
 ghost use Rattle.mqtt_rules.specs.step.State.{line_at, session_named};
 ghost use Rattle.mqtt_rules.specs.step.Step.{can_link};
-ghost use Rattle.mqtt_broker.specs.engine.Looks.{copies_for, queue_on_line};
+ghost use Rattle.mqtt_broker.specs.engine.Looks.{queue_on_line};
 
 use crate::engine::engine::Engine;
-use mqtt_broker_step::Step;
+use crate::stored::copies_on;
 use mqtt_keep::Keep;
-
-/// How many copies there are for the session with a birth. Takes no memory.
-fn copies_for(step: &Step, session: Option<u64>) -> Option<usize>
-    ensures { result ≡ copies_for session step.now.broker }
-{
-    match session {
-        Some(birth) => match step.session(birth) {
-            Some(session) => Some(session.queue.len()),
-            None => None,
-        },
-        None => None,
-    }
-}
-
-/// How many copies there are for the session that is connected on a line. Takes no memory.
-#[tactic(auto, using(crate::proofs::stored_lemmas::Holders::row_of))]
-fn copies_on(step: &Step, line: u64) -> Option<usize>
-    ensures { result ≡ queue_on_line line step.now.broker }
-{
-    match step.line(line) {
-        Some(state) => copies_for(step, state.session()),
-        None => None,
-    }
-}
 
 impl<K: Keep> Engine<K> {
     /// Whether a line is linked. Takes no memory.
@@ -40,10 +16,10 @@ impl<K: Keep> Engine<K> {
         self.inner.is_linked(line)
     }
 
-    /// Whether a further line may be linked: fewer than 64 stand, and fewer than 2^62 were linked (ours). Takes no memory.
+    /// Whether a further line may be linked: there is room for it, and fewer than 2^62 were linked (ours). Takes no memory.
     #[tactic(auto, using(crate::proofs::engine_lemmas::Looked::links_same))]
     pub fn may_link(&self) -> bool
-        ensures { result ≡ can_link self.now.running.broker }
+        ensures { result ≡ can_link self.now.running.limits self.now.running.broker }
     {
         self.inner.step().may_link()
     }

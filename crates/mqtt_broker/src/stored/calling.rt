@@ -246,6 +246,9 @@ impl<K: Keep> Engine<K> {
         ensures called { Called K.Keep moment (Pump line) self.old result self.new }
         ensures reads { AskedAtMost PUMP_LIMIT (K.read_so_far self.old.keep) (K.read_so_far self.new.keep) }
     {
+        if self.has_no_copies(line) {
+            return self.pump_nothing(line, moment);
+        }
         self.parts.pump_filled(line, birth, moment)
     }
 

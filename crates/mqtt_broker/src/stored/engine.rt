@@ -1,16 +1,18 @@
 //! The engine: a broker over a store that has what its waiting copies say, one call after the other (MQTT 5.0, 3.3, 4.1).
-ghost use Rattle.std.specs.Prelude.{◌≡◌, None, false, is_some, option_copied};
+ghost use Rattle.std.specs.Prelude.{◌≡◌, None, Some, false, true, is_some, option_copied};
 ghost use Rattle.mqtt_rules.specs.step.Routing.{subscribers};
 ghost use Rattle.mqtt_rules.specs.step.State.{Broker, line_at};
-ghost use Rattle.mqtt_rules.specs.step.Step.{BrokerStep, Call, NewLine, at_moment, copy_of, nothing_told};
+ghost use Rattle.mqtt_rules.specs.step.Step.{BrokerStep, Call, NewLine, Pump, at_moment, copy_of, nothing_told};
 ghost use Rattle.mqtt_rules.specs.alike.Slim.{slim_broker};
 ghost use Rattle.mqtt_rules.specs.filling.Filling.{filled};
 ghost use Rattle.mqtt_broker_step.specs.Doing.{next_line};
 ghost use Rattle.mqtt_broker_step.specs.Stepping.{at_rest};
 ghost use Rattle.mqtt_broker_queue.specs.subscribers.Indexing.{Serves};
+ghost use Rattle.mqtt_broker.specs.engine.Looks.{queue_on_line};
 ghost use Rattle.mqtt_broker.specs.stored.Calling.{Called, IsOn, Tells};
 ghost use Rattle.mqtt_broker.specs.stored.Finishing.{HoldsWhole};
 
+use crate::stored::copies::copies_on;
 use crate::stored::holding::copy_of;
 use crate::stored::outcome::{Outcome, nothing};
 use crate::stored::parts::EngineParts;
@@ -82,10 +84,10 @@ impl<K: Keep> Engine<K> {
         Engine { parts }
     }
 
-    /// A line is linked at a moment in milliseconds, and gets the next number, from 1. None if 64 lines
+    /// A line is linked at a moment in milliseconds, and gets the next number, from 1. None if there is no room for it
     /// stand or 2^62 were linked. Works after the store has failed too. Takes no memory.
     pub fn link(&mut self, moment: u64) -> Option<u64>
-        ensures line { result ≡ next_line self.old.broker }
+        ensures line { result ≡ next_line self.old.limits self.old.broker }
         ensures step { BrokerStep self.old.limits self.old.broker moment NewLine nothing_told
             self.new.broker }
         ensures same { self.new ≡ record self.old { broker = self.new.broker } }
@@ -151,6 +153,26 @@ impl<K: Keep> Engine<K> {
     {
         self.parts.step.rest_at(moment);
         Ok(nothing(self.parts.alloc))
+    }
+
+    /// A turn of sending on a line whose session has no copies does nothing but that the moment is the greatest handed in. Takes no
+    /// memory.
+    pub(crate) fn pump_nothing(&mut self, line: u64, moment: u64) -> Result<Outcome, EngineError>
+        requires running { self.old.stopped ≡ false }
+        requires none { queue_on_line line self.old.broker ≡ Some 0 }
+        ensures called { Called K.Keep moment (Pump line) self.old result self.new }
+        ensures keep { self.new.keep ≡ self.old.keep }
+    {
+        self.parts.step.rest_at(moment);
+        Ok(nothing(self.parts.alloc))
+    }
+
+    /// Whether a session without copies is connected on a line. Takes no memory.
+    #[tactic(auto, using(crate::proofs::stored_lemmas::Empty::none_on))]
+    pub(crate) fn has_no_copies(&self, line: u64) -> bool
+        ensures { result ≡ true → queue_on_line line self.now.broker ≡ Some 0 }
+    {
+        copies_on(&self.parts.step, line) == Some(0)
     }
 
     /// The tables, to be looked at: no step is under way on them, and filled with what the store has they are the broker's.

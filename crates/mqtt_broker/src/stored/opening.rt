@@ -5,7 +5,7 @@ ghost use Rattle.mqtt_records.specs.declared.state.records.Records.{Records as T
 ghost use Rattle.mqtt_rules.specs.spelling.Sending.{HaveSentPhases};
 ghost use Rattle.mqtt_rules.specs.step.Laws.{AreWithin};
 ghost use Rattle.mqtt_rules.specs.step.Routing.{subscribers};
-ghost use Rattle.mqtt_rules.specs.declared.step.Limits.{Limits as TheLimits};
+ghost use Rattle.mqtt_rules.specs.declared.step.Capacity.{Capacity as TheCapacity};
 ghost use Rattle.mqtt_broker_step.specs.Stepping.{at_rest};
 ghost use Rattle.mqtt_broker_queue.specs.subscribers.Indexing.{Serves};
 ghost use Rattle.mqtt_broker.specs.stored.Closing.{DidOpen, IsLeftOpen, resting};
@@ -20,13 +20,13 @@ use mqtt_broker_queue::subscribers::Index;
 use mqtt_broker_step::{Step, StepFault, commit_kept};
 use mqtt_keep::{Keep, KeepError};
 use mqtt_records::Records;
-use mqtt_rules::Limits;
+use mqtt_rules::Capacity;
 use std::alloc::Global;
 use std::hash::RandomState;
 
 /// A broker at rest over what a store was loaded with, at the greatest of its moment and the one handed in. `Memory` (1)
 /// alone refuses.
-fn unopened(alloc: Global, records: Records, now: u64, limits: Limits) -> Result<Step, KeepError>
+fn unopened(alloc: Global, records: Records, now: u64, limits: Capacity) -> Result<Step, KeepError>
     ensures step { IfOk result (λ step. step ≡ resting limits now records) }
     ensures refused { IfErr result (λ error. error ≡ KeepError.Memory) }
 {
@@ -41,9 +41,9 @@ fn unopened(alloc: Global, records: Records, now: u64, limits: Limits) -> Result
 fn open_stamped(alloc: Global, index: &mut Index, step: &mut Step) -> Result<(), StepFault>
     requires lawful { AreOfLawful step.old.broker.records }
     requires serves { Serves index.old.sessions (subscribers step.old.broker.records) }
-    ensures ok { (limits : TheLimits) (now : ℕ) (r : TheRecords) → step.old ≡ resting limits now r
+    ensures ok { (limits : TheCapacity) (now : ℕ) (r : TheRecords) → step.old ≡ resting limits now r
         → OnOk result (DidOpen limits now r step.new) }
-    ensures left { (limits : TheLimits) (now : ℕ) (r : TheRecords) → step.old ≡ resting limits now r
+    ensures left { (limits : TheCapacity) (now : ℕ) (r : TheRecords) → step.old ≡ resting limits now r
         → IfErr result (λ fault. IsLeftOpen limits now r fault step.new) }
     ensures serves { OnOk result (Serves index.new.sessions (subscribers step.new.broker.records)) }
 {
@@ -53,9 +53,9 @@ fn open_stamped(alloc: Global, index: &mut Index, step: &mut Step) -> Result<(),
 
 /// The store is told of an opening that was done on rows that may say less than it has.
 fn tell<K: Keep>(keep: &mut K, step: &mut Step) -> Result<(), KeepError>
-    requires opened { (limits : TheLimits) × (now : ℕ) × (whole : TheRecords)
+    requires opened { (limits : TheCapacity) × (now : ℕ) × (whole : TheRecords)
         × HasOpened K.Keep limits now whole keep.old step.old }
-    ensures told { (limits : TheLimits) (now : ℕ) (whole : TheRecords)
+    ensures told { (limits : TheCapacity) (now : ℕ) (whole : TheRecords)
         → HasOpened K.Keep limits now whole keep.old step.old
         → IsOpeningTold K.Keep limits now whole keep.old result keep.new step.new }
     ensures rest { OnOk result (step.new ≡ at_rest step.old.limits step.old.broker) }
@@ -76,10 +76,10 @@ fn store<K: Keep>(
     index: &mut Index,
     step: &mut Step,
 ) -> Result<(), KeepError>
-    requires begun { (limits : TheLimits) × (now : ℕ) × (whole : TheRecords)
+    requires begun { (limits : TheCapacity) × (now : ℕ) × (whole : TheRecords)
         × IsUnopened K.Keep limits now whole keep.old step.old }
     requires serves { Serves index.old.sessions (subscribers step.old.broker.records) }
-    ensures told { (limits : TheLimits) (now : ℕ) (whole : TheRecords)
+    ensures told { (limits : TheCapacity) (now : ℕ) (whole : TheRecords)
         → IsUnopened K.Keep limits now whole keep.old step.old
         → IsOpeningTold K.Keep limits now whole keep.old result keep.new step.new }
     ensures serves { OnOk result (Serves index.new.sessions (subscribers step.new.broker.records)) }
@@ -99,10 +99,10 @@ fn open_with<K: Keep>(
     mut index: Index,
     hasher: RandomState,
 ) -> Result<Engine<K>, (K, KeepError)>
-    requires begun { (limits : TheLimits) × (now : ℕ) × (whole : TheRecords)
+    requires begun { (limits : TheCapacity) × (now : ℕ) × (whole : TheRecords)
         × IsUnopened K.Keep limits now whole keep step }
     requires serves { Serves index.sessions (subscribers step.broker.records) }
-    ensures { (first : K) (limits : TheLimits) (now : ℕ) (whole : TheRecords)
+    ensures { (first : K) (limits : TheCapacity) (now : ℕ) (whole : TheRecords)
         → IsUnopened K.Keep limits now whole keep step → StoresPassedOn whole → HaveSentPhases whole
         → IsBegun K.Keep first whole keep → Opened K.Keep limits now first result }
 {
@@ -123,9 +123,9 @@ fn open_step<K: Keep>(
     step: Step,
     hasher: RandomState,
 ) -> Result<Engine<K>, (K, KeepError)>
-    requires begun { (limits : TheLimits) × (now : ℕ) × (whole : TheRecords)
+    requires begun { (limits : TheCapacity) × (now : ℕ) × (whole : TheRecords)
         × IsUnopened K.Keep limits now whole keep step }
-    ensures { (first : K) (limits : TheLimits) (now : ℕ) (whole : TheRecords)
+    ensures { (first : K) (limits : TheCapacity) (now : ℕ) (whole : TheRecords)
         → IsUnopened K.Keep limits now whole keep step → StoresPassedOn whole → HaveSentPhases whole
         → IsBegun K.Keep first whole keep → Opened K.Keep limits now first result }
 {
@@ -147,7 +147,7 @@ pub fn open<K: Keep>(
     alloc: Global,
     mut keep: K,
     now: u64,
-    limits: Limits,
+    limits: Capacity,
     hasher: RandomState,
 ) -> Result<Engine<K>, (K, KeepError)>
     requires within { AreWithin limits }

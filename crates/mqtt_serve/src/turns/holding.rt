@@ -147,7 +147,7 @@ fn choose<L: Link + Drop, K: Keep>(
     leave_all(lines, pressed, moment);
 }
 
-/// Chooses who is left unread in the next turn, as `mqtt_holding` says.
+/// Chooses who is left unread from the next turn on, as `mqtt_holding` says; once for a moment, since it looks at each connection.
 pub(crate) fn hold<L: Link + Drop, K: Keep>(
     links: &mut Links<HeldBack<L>>,
     engine: &Engine<K>,
@@ -155,5 +155,8 @@ pub(crate) fn hold<L: Link + Drop, K: Keep>(
 )
     ensures { links.new ≡ links.old }
 {
-    choose(&mut links.lines, engine, moment);
+    if links.chosen != Some(moment) {
+        links.chosen = Some(moment);
+        choose(&mut links.lines, engine, moment);
+    }
 }

@@ -2,7 +2,7 @@
 //! (MQTT 5.0, 3.3.2, 3.3.3, 3.3.4, 4.1, 4.3, 4.9).
 ghost use Rattle.std.specs.Prelude.{◌≡◌, ℕ, Bool, List, Option, false};
 ghost use Rattle.mqtt_records.specs.declared.state.records.Records.{Records};
-ghost use Rattle.mqtt_rules.specs.declared.step.Limits.{Limits};
+ghost use Rattle.mqtt_rules.specs.declared.step.Capacity.{Capacity};
 ghost use Rattle.mqtt_rules.specs.step.Laws.{AreWithin};
 ghost use Rattle.mqtt_broker_step.specs.declared.call.EngineError.{EngineError};
 ghost use Rattle.mqtt_broker.specs.engine.Serving.{Serving};
@@ -45,10 +45,10 @@ pub fn turns_keep_all_whoever_sends<K: Keep>()
 /// that was called in all starts keeps what the broker's laws say (4.1).
 pub fn starts_keep_all_whoever_sends<K: Keep>()
     ensures left { (r : Records) (starts : AreStarts K.Keep r) → KeepAllLeft starts }
-    ensures keeps { (limits : Limits) (r : Records) (last : Serving K) (starts : AreStarts K.Keep r) (started : HasStarted K.Keep limits r last)
+    ensures keeps { (limits : Capacity) (r : Records) (last : Serving K) (starts : AreStarts K.Keep r) (started : HasStarted K.Keep limits r last)
         → AreWithin limits → K.is_sound last.running.keep → last.running.stopped ≡ false → KeepAllSoFar starts started }
 
     // What `serve_over` does is such a start.
-    ensures runs { (limits : Limits) (begin turns : ℕ) (keep given : K) → Runs K.Keep limits begin turns keep given
+    ensures runs { (limits : Capacity) (begin turns : ℕ) (keep given : K) → Runs K.Keep limits begin turns keep given
         → WasServed K.Keep limits keep given }
 {}

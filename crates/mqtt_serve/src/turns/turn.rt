@@ -32,6 +32,8 @@ pub struct Links<L: Link + Drop> {
     pub(crate) alloc: Global,
     pub(crate) link: L,
     pub(crate) lines: Vec<Connection<L>>,
+    /// The moment at which the server last chose whom to leave unread.
+    pub(crate) chosen: Option<u64>,
 }
 
 impl<L: Link + Drop> Model for Links<L> {
@@ -49,13 +51,18 @@ impl<L: Link + Drop> Model for Links<L> {
 }
 
 impl<L: Link + Drop> Links<L> {
-    /// A link without connections, with room for 64 (ours). The one fault is want of memory.
+    /// A link without connections, with room for 1,000 (ours). The one fault is want of memory.
     pub fn new(alloc: Global, link: L) -> Result<Links<L>, AllocError>
         ensures calls { IfOk result (λ links. links.calls ≡ L.calls link) }
         ensures wires { IfOk result (λ links. links.wires ≡ []) }
     {
         let lines = Vec::with_capacity(alloc, LINE_LIMIT)?;
-        Ok(Links { alloc, link, lines })
+        Ok(Links {
+            alloc,
+            link,
+            lines,
+            chosen: None,
+        })
     }
 
     /// The link.

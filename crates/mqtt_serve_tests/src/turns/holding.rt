@@ -4,7 +4,7 @@ use crate::turns::stretches::{clients_held, stretch};
 use mqtt_broker::Engine;
 use mqtt_flow::Full;
 use mqtt_keep::MemKeep;
-use mqtt_serve::Limits;
+use mqtt_rules::Limits;
 use std::hash::RandomState;
 use std::test::Fail;
 
@@ -43,11 +43,11 @@ const PUBLISHING: &[Stage] = &[
     (36, b"\x32\x0a\x00\x03a/b\x00\x06\x00hi"),
 ];
 
-/// How many messages were accepted after ten stretches at each of these moments.
+/// How many messages were accepted after ten stretches, a millisecond each, and then after one more at each of these moments.
 fn accepted(
     rt: &HostRuntime,
     reader: &'static [Stage],
-    moments: [u64; 5],
+    moments: [u64; 4],
 ) -> Result<[u64; 5], Fail> {
     let alloc = rt.alloc();
     let mut links = clients_held(alloc, &[reader, PUBLISHING])?;
@@ -62,11 +62,13 @@ fn accepted(
     };
     let mut counts = [0; 5];
     let mut goes_on = true;
-    for place in 0..5 {
-        for _ in 0..10 {
-            goes_on = goes_on && stretch(&mut links, &mut engine, moments[place]).is_ok();
-        }
-        counts[place] = engine.publications();
+    for moment in 1..11 {
+        goes_on = goes_on && stretch(&mut links, &mut engine, moment).is_ok();
+    }
+    counts[0] = engine.publications();
+    for place in 0..4 {
+        goes_on = goes_on && stretch(&mut links, &mut engine, moments[place]).is_ok();
+        counts[place + 1] = engine.publications();
     }
     drop(engine.close());
     drop(links);
@@ -80,14 +82,14 @@ fn accepted(
 fn a_publisher_is_held_for_half_a_second_and_not_for_a_reader_that_stopped(
     rt: HostRuntime,
 ) -> Result<(), Fail> {
-    let counts = accepted(&rt, SILENT, [1, 500, 501, 1_000, 1_001])?;
+    let counts = accepted(&rt, SILENT, [501, 502, 1_001, 1_002])?;
     assert!(rt; counts == [4, 4, 5, 5, 6], "{counts:?}");
     Ok(())
 }
 
 #[test]
 fn a_publisher_is_read_again_once_the_reader_has_taken_enough(rt: HostRuntime) -> Result<(), Fail> {
-    let counts = accepted(&rt, READING, [1, 1, 1, 1, 1])?;
+    let counts = accepted(&rt, READING, [501, 502, 1_001, 1_002])?;
     assert!(rt; counts == [6, 6, 6, 6, 6], "{counts:?}");
     Ok(())
 }
